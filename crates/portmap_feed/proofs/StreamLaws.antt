@@ -1,0 +1,148 @@
+-- What is seen of a stream, and what is kept of it, depend on the joined bytes alone.
+use Rattle.std.proofs.Common.{◌≡◌, ◌≢◌, ℕ, suc, zero, ◌+◌, ◌-◌, ◌*◌, ◌≤◌, true, false, ltb, eqb, min, List, [], ◌∷◌, ◌++◌, length, take, drop, refl, sym, ap, ◌∙◌, arith, inl, inr}
+use Rattle.std.proofs.Math.Seq.{take-append-add}
+use Rattle.std.proofs.lemmas.Bool.{le-ltb, lt-ltb, cases_lt, cases_eq, ne_eqb, eq-eqb}
+use Rattle.std.proofs.lemmas.List.{append-nil, length-append, length-take, take_all, take-take, take_min}
+use Rattle.portmap_feed.specs.declared.feed.Seen.TheVariants as seen
+use Rattle.portmap_feed.specs.Seen.{seen_of}
+use Rattle.portmap_feed.specs.Stream.{Sight, More, Zero, TooLarge, Whole, sight_behind, first_request, awaited, reach, kept}
+
+-- ---- how far what is kept reaches
+
+-- what is kept is what lies within reach
+take-reach : (received : List ℕ) → take (reach received) received ≡ kept received
+unfolding kept reach
+take-reach [] = refl
+take-reach (high ∷ []) = refl
+take-reach (high ∷ low ∷ behind) = take-append-add (high ∷ low ∷ []) behind (awaited (high * 256 + low))
+
+-- bytes that keep all of themselves lie within the reach of any stream that they begin
+length-kept : (held piece : List ℕ) → kept held ≡ held → length held ≤ reach (held ++ piece)
+unfolding kept reach
+length-kept [] piece own = omega arith
+length-kept (high ∷ []) [] own = omega arith
+length-kept (high ∷ []) (low ∷ piece) own = omega arith
+length-kept (high ∷ low ∷ behind) piece own =
+    omega (arith, length-take (awaited (high * 256 + low)) behind, ap length own)
+
+-- behind a length of n that shows more than `More`, no further byte is awaited
+awaited_decided : (n : ℕ) (behind : List ℕ) → sight_behind n behind ≢ More → awaited n ≤ length behind
+awaited_decided n behind decided =
+    elim (cases_lt 8192 n) [
+      | inl large ↦ let test : ltb 8192 n ≡ true = lt-ltb _ _ large in rw test (omega arith)
+      | inr legal ↦
+          let test : ltb 8192 n ≡ false = le-ltb _ _ legal in
+          elim (cases_lt (length behind) n) [
+            | inl short ↦
+                let some : eqb n 0 ≡ false = ne_eqb _ _ (omega arith) in
+                let waits : ltb (length behind) n ≡ true = lt-ltb _ _ short in
+                absurd (decided (rw (some, test, waits) refl))
+            | inr enough ↦ rw test enough
+          ]
+    ]
+
+-- once the request is decided, nothing that follows is within reach
+pub reach_decided : (held piece : List ℕ) → first_request held ≢ More → reach (held ++ piece) ≤ length held
+unfolding first_request reach
+reach_decided [] piece decided = absurd (decided refl)
+reach_decided (high ∷ []) piece decided = absurd (decided refl)
+reach_decided (high ∷ low ∷ behind) piece decided =
+    omega (arith, awaited_decided (high * 256 + low) behind decided)
+
+-- held bytes and what is within reach of a piece behind them are what is kept of both
+pub kept-append : (held piece : List ℕ) (wanted : ℕ) → kept held ≡ held → wanted ≡ min (reach (held ++ piece) - length held) (length piece) → held ++ take wanted piece ≡ kept (held ++ piece)
+kept-append held piece wanted own is =
+    let left : ℕ = reach (held ++ piece) - length held in
+    let split : length held + left ≡ reach (held ++ piece) = omega (arith, length-kept held piece own) in
+    let of_piece : take wanted piece ≡ take left piece = ap (λ (n : ℕ). take n piece) is ∙ take_min left piece in
+    ap (λ (bytes : List ℕ). held ++ bytes) of_piece ∙ sym (take-append-add held piece left) ∙ ap (λ (n : ℕ). take n (held ++ piece)) split ∙ take-reach (held ++ piece)
+
+-- ---- what is kept shows the same
+
+take-append_take : (n : ℕ) (behind piece : List ℕ) → take n (take n behind ++ piece) ≡ take n (behind ++ piece)
+take-append_take zero behind piece = refl
+take-append_take (suc n) [] piece = refl
+take-append_take (suc n) (byte ∷ behind) piece = ap (λ (bytes : List ℕ). byte ∷ bytes) (take-append_take n behind piece)
+
+-- what is kept of the joined bytes needs only what was kept of the first of them
+pub kept-append_kept : (received piece : List ℕ) → kept (kept received ++ piece) ≡ kept (received ++ piece)
+unfolding kept
+kept-append_kept [] piece = refl
+kept-append_kept (high ∷ []) piece = refl
+kept-append_kept (high ∷ low ∷ behind) piece =
+    ap (λ (bytes : List ℕ). high ∷ low ∷ bytes) (take-append_take (awaited (high * 256 + low)) behind piece)
+
+pub kept-kept : (received : List ℕ) → kept (kept received) ≡ kept received
+kept-kept received = ap kept (sym (append-nil (kept received))) ∙ kept-append_kept received [] ∙ ap kept (append-nil received)
+
+ltb-length_take : (n : ℕ) (behind : List ℕ) → ltb (length (take n behind)) n ≡ ltb (length behind) n
+ltb-length_take n behind =
+    elim (cases_lt (length behind) n) [
+      | inl short ↦ ap (λ (bytes : List ℕ). ltb (length bytes) n) (take_all n behind (omega arith))
+      | inr enough ↦ le-ltb _ _ (omega (arith, length-take n behind)) ∙ sym (le-ltb _ _ enough)
+    ]
+
+sight_behind-take : (n : ℕ) (behind : List ℕ) → sight_behind n (take (awaited n) behind) ≡ sight_behind n behind
+sight_behind-take n behind =
+    elim (cases_lt 8192 n) [
+      | inl large ↦ let test : ltb 8192 n ≡ true = lt-ltb _ _ large in rw test refl
+      | inr legal ↦ let test : ltb 8192 n ≡ false = le-ltb _ _ legal in rw (test, ltb-length_take n behind, take-take n n behind (omega arith)) refl
+    ]
+
+-- the bytes kept show what all the bytes show
+pub first_request-kept : (received : List ℕ) → first_request (kept received) ≡ first_request received
+unfolding first_request kept
+first_request-kept [] = refl
+first_request-kept (high ∷ []) = refl
+first_request-kept (high ∷ low ∷ behind) = sight_behind-take (high * 256 + low) behind
+
+-- ---- while the request is not whole
+
+all_awaited : (n : ℕ) (behind : List ℕ) → sight_behind n behind ≡ More → take (awaited n) behind ≡ behind
+all_awaited n behind more =
+    elim (cases_lt 8192 n) [
+      | inl large ↦
+          let some : eqb n 0 ≡ false = ne_eqb _ _ (omega arith) in
+          let test : ltb 8192 n ≡ true = lt-ltb _ _ large in
+          let other : TooLarge n ≡ More = rw (some, test) at more in absurd cc
+      | inr legal ↦
+          let test : ltb 8192 n ≡ false = le-ltb _ _ legal in
+          elim (cases_lt (length behind) n) [
+            | inl short ↦ rw test (take_all n behind (omega arith))
+            | inr enough ↦
+                let waits : ltb (length behind) n ≡ false = le-ltb _ _ enough in
+                elim (cases_eq n 0) [
+                  | inl none ↦ let test_zero : eqb n 0 ≡ true = eq-eqb _ _ none in let other : Zero ≡ More = rw test_zero at more in absurd cc
+                  | inr some ↦ let test_zero : eqb n 0 ≡ false = ne_eqb _ _ some in let other : Whole (take n behind) ≡ More = rw (test_zero, test, waits) at more in absurd cc
+                ]
+          ]
+    ]
+
+-- while the request is not whole every byte is kept
+pub kept_more : (received : List ℕ) → first_request received ≡ More → kept received ≡ received
+unfolding first_request kept
+kept_more [] more = refl
+kept_more (high ∷ []) more = refl
+kept_more (high ∷ low ∷ behind) more =
+    ap (λ (bytes : List ℕ). high ∷ low ∷ bytes) (all_awaited (high * 256 + low) behind more)
+
+-- only `More` is answered by `More`
+pub more_seen : (sight : Sight) → seen_of sight ≡ seen.More → sight ≡ More
+more_seen More same = refl
+more_seen Zero same = absurd cc
+more_seen (TooLarge n) same = absurd cc
+more_seen (Whole body) same = absurd cc
+
+-- ---- after a cut
+
+-- a front of bytes that keep all of themselves keeps all of itself
+pub kept-take : (n : ℕ) (held : List ℕ) → kept held ≡ held → kept (take n held) ≡ take n held
+unfolding kept
+kept-take zero held own = refl
+kept-take (suc zero) [] own = refl
+kept-take (suc zero) (high ∷ held) own = refl
+kept-take (suc (suc n)) [] own = refl
+kept-take (suc (suc n)) (high ∷ []) own = refl
+kept-take (suc (suc n)) (high ∷ low ∷ behind) own =
+    let room : ℕ = awaited (high * 256 + low) in
+    ap (λ (bytes : List ℕ). high ∷ low ∷ bytes) (take_all room (take n behind) (omega (arith, length-take n behind, length-take room behind, ap length own)))

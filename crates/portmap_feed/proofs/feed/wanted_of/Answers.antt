@@ -1,0 +1,10 @@
+use Rattle.std.proofs.Common.{◌≤◌, length, ◌++◌, arith, rules}
+use Rattle.portmap_feed.specs.Stream.{reach}
+use Rattle.portmap_feed.proofs.StreamLaws.{reach_decided, kept-append}
+use Rattle.portmap_feed.proofs.feed.wanted_of.Goals as goal
+
+pub returns-clause-kept : goal.returns-clause-kept
+returns-clause-kept c = kept-append c.args.held.now c.args.piece.now c.min.result c.requires (search rules)
+
+pub returns-clause-decided : goal.returns-clause-decided
+returns-clause-decided c = λ decided. omega (arith, reach_decided c.args.held.now c.args.piece.now decided)

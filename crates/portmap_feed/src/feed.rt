@@ -1,0 +1,184 @@
+//! A request in the making: the bytes received of it so far, as far as they matter.
+
+ghost use Rattle.std.specs.Prelude.{◌≡◌, ◌≢◌, ◌≤◌, ℕ, List, [], ◌++◌, length, take, IsOk, IfOk, OnOk, OnErr, option_map};
+ghost use Rattle.portmap_feed.specs.Seen.{seen_of};
+ghost use Rattle.portmap_feed.specs.Stream.{More, first_request, reach, kept, body_in};
+
+use std::alloc::Global;
+use std::marker::Model;
+
+/// The largest length that a request may have.
+const LARGEST_LENGTH: u16 = 8192;
+
+/// Memory ran out.
+#[derive(Clone, Copy, Debug, PartialEq, Eq)]
+pub struct NoMemory;
+
+/// A length that no request may have: `Zero`, or `TooLarge` with the length, which is 8,193 or more.
+#[derive(Clone, Copy, Debug, PartialEq, Eq)]
+pub enum LengthFault {
+    Zero,
+    TooLarge(u16),
+}
+
+/// What the bytes show of their first request: not all of it yet, a length that no request may
+/// have, or all of it.
+#[derive(Clone, Copy, Debug, PartialEq, Eq)]
+pub enum Seen {
+    More,
+    Bad(LengthFault),
+    Whole,
+}
+
+/// What the bytes show. It reads the length alone, however many bytes there are.
+#[tactic(auto, unfolding(crate::specs::Stream::first_request))]
+fn seen_in(bytes: &[u8]) -> Seen
+    ensures { result ≡ seen_of (first_request bytes.now) }
+{
+    match bytes {
+        [] | [_] => Seen::More,
+        [high, low, behind @ ..] => {
+            let length = u16::from_be_bytes([*high, *low]);
+            if length == 0 {
+                Seen::Bad(LengthFault::Zero)
+            } else if length > LARGEST_LENGTH {
+                Seen::Bad(LengthFault::TooLarge(length))
+            } else if behind.len() < length as usize {
+                Seen::More
+            } else {
+                Seen::Whole
+            }
+        }
+    }
+}
+
+/// How many bytes decide what is shown, at most, where `piece` follows `held`.
+#[tactic(auto, unfolding(crate::specs::Stream::reach))]
+fn reach_of(held: &[u8], piece: &[u8]) -> usize
+    ensures { result ≡ reach (held.now ++ piece.now) }
+{
+    match (held, piece) {
+        ([high, low, ..], _) | ([high], [low, ..]) | ([], [high, low, ..]) => {
+            let length = u16::from_be_bytes([*high, *low]);
+            if length > LARGEST_LENGTH {
+                2
+            } else {
+                2 + length as usize
+            }
+        }
+        _ => 2,
+    }
+}
+
+/// How many bytes of `piece` are kept behind `held`. None once the first request is decided.
+fn wanted_of(held: &[u8], piece: &[u8]) -> usize
+    requires { kept held.now ≡ held.now }
+    ensures within { result ≤ length piece.now }
+    ensures kept { held.now ++ take result piece.now ≡ kept (held.now ++ piece.now) }
+    ensures decided { first_request held.now ≢ More → result ≡ 0 }
+{
+    reach_of(held, piece)
+        .saturating_sub(held.len())
+        .min(piece.len())
+}
+
+/// The front of a stream that decides what its first request is: every byte while the request is
+/// not whole, its length and body once it is, and the length alone where no request may have it.
+/// So it holds 8,194 bytes at most.
+#[derive(Debug, Drop)]
+pub struct Feed {
+    bytes: Vec<u8>,
+}
+
+impl Model for Feed {
+    ghost use Rattle.std.specs.Prelude.{◌≡◌, ℕ, List};
+    ghost use Rattle.portmap_feed.specs.Stream.{kept};
+
+    ghost Value = { List ℕ };
+
+    ghost view = { λ feed. feed.bytes.items };
+
+    ghost invariant = { λ feed. kept feed.bytes.items ≡ feed.bytes.items };
+}
+
+impl Feed {
+    /// A feed that has received nothing. It takes no memory.
+    #[tactic(auto, unfolding(crate::specs::Stream::kept))]
+    pub fn new(alloc: Global) -> Feed
+        ensures { result ≡ [] }
+    {
+        Feed {
+            bytes: Vec::new(alloc),
+        }
+    }
+
+    /// Takes the next piece of the stream, of any length, and says what is seen of the first
+    /// request. Bytes behind that request are not kept, and take no time and no memory.
+    pub fn push(&mut self, piece: &[u8]) -> Result<Seen, NoMemory>
+        // Whatever was received before, in whatever pieces, the answer is that to all of it.
+        ensures seen { IfOk result (λ seen. (received : List ℕ) → self.old ≡ kept received
+            → seen ≡ seen_of (first_request (received ++ piece.now))) }
+        ensures kept { OnOk result ((received : List ℕ) → self.old ≡ kept received
+            → self.new ≡ kept (received ++ piece.now)) }
+
+        // The same of the bytes kept alone.
+        ensures joined { OnOk result (first_request self.new ≡ first_request (self.old ++ piece.now)) }
+        ensures answer { IfOk result (λ seen. seen ≡ seen_of (first_request self.new)) }
+
+        // While the request is not whole no byte is dropped.
+        ensures more { result ≡ Ok Seen.More → self.new ≡ self.old ++ piece.now }
+
+        // A `cut` to the length before the push undoes it.
+        ensures front { OnOk result (take (length self.old) self.new ≡ self.old) }
+        ensures longer { length self.old ≤ length self.new }
+
+        ensures err { OnErr result (self.new ≡ self.old) }
+        // Once the request is whole, or its length is bad, a push takes no memory.
+        ensures decided { first_request self.old ≢ More → IsOk result }
+    {
+        let wanted = wanted_of(self.bytes.as_slice(), piece);
+        if self.bytes.extend_from_slice(&piece[..wanted]).is_err() {
+            return Err(NoMemory);
+        }
+        Ok(seen_in(self.bytes.as_slice()))
+    }
+
+    /// The first request's body, of 1 to 8,192 bytes, once it is whole. It lends the bytes kept,
+    /// and takes no memory.
+    #[tactic(auto, unfolding(crate::specs::Stream::first_request))]
+    pub fn body(&self) -> Option<&[u8]>
+        ensures { option_map (λ body. body.now) result ≡ body_in (first_request self.now) }
+    {
+        match self.bytes.as_slice() {
+            [high, low, behind @ ..] => {
+                let length = u16::from_be_bytes([*high, *low]);
+                if length == 0 || length > LARGEST_LENGTH {
+                    None
+                } else {
+                    behind.get(..length as usize)
+                }
+            }
+            _ => None,
+        }
+    }
+
+    /// The bytes that it keeps, 8,194 at most.
+    pub fn kept(&self) -> &[u8]
+        ensures bytes { result.now ≡ self.now }
+        ensures own { kept self.now ≡ self.now }
+    {
+        self.bytes.as_slice()
+    }
+
+    /// Forgets every byte kept but the first `len`, as if no more had been received. It takes no
+    /// memory.
+    pub fn cut(&mut self, len: usize)
+        requires { len ≤ length self.old }
+        ensures { self.new ≡ take len self.old }
+    {
+        self.bytes.truncate(len);
+    }
+}
+
+#[cfg(test)]
+mod tests;

@@ -1,0 +1,6 @@
+//! The first request of a byte stream that comes in pieces, each request preceded by its length.
+#![tactic(auto)]
+
+mod feed;
+
+pub use feed::{Feed, LengthFault, NoMemory, Seen};

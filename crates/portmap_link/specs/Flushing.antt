@@ -1,0 +1,24 @@
+-- How bytes are sent.
+use Rattle.std.specs.Prelude.{◌≡◌, ℕ, List, [], ◌∷◌, ◌++◌, map, sum, Bool, true, false}
+use Rattle.portmap_link.specs.declared.device.Put.{Put}
+use Rattle.portmap_link.specs.declared.device.Put.TheVariants.{Wrote, Later as PutLater, Fault as PutFault}
+use Rattle.portmap_link.specs.declared.outbox.Flush.{Flush}
+use Rattle.portmap_link.specs.declared.outbox.Flush.TheVariants.{Empty, Later, Fault}
+
+-- the answer that ended a flush
+abbrev pub ending_of : Flush → List Put
+ending_of Empty = []
+ending_of Later = PutLater ∷ []
+ending_of Fault = PutFault ∷ []
+
+-- whether a flush ended by a failure
+abbrev pub flush_is_fault : Flush → Bool
+flush_is_fault Empty = false
+flush_is_fault Later = false
+flush_is_fault Fault = true
+
+-- the puts since `old` wrote so many bytes together, and the flush ended with the last of them
+pub record Sends (old new : List Put) (count : ℕ) (flush : Flush) : Type 0 where
+  pub counts : List ℕ
+  pub total : sum counts ≡ count
+  pub answers : new ≡ old ++ (map Wrote counts ++ ending_of flush)

@@ -1,0 +1,12 @@
+//! Devices that give and take bytes and may answer later, and bytes that wait for one.
+#![tactic(auto)]
+
+mod adapters;
+mod device;
+mod outbox;
+mod past;
+
+pub use crate::adapters::{Both, Reading, Writing};
+pub use crate::device::{Device, Input, Output, Pull, Put};
+pub use crate::outbox::{Flush, NoMemory, Outbox, send};
+pub use crate::past::Past;

@@ -1,0 +1,121 @@
+//! Bytes that wait to be written.
+ghost use Rattle.std.specs.Prelude.{◌≡◌, ℕ, ◌+◌, ◌<◌, ◌≤◌, ◌||◌, List, [], ◌∷◌, ◌++◌, length, map, sum, take, true, false, OnOk, OnErr};
+ghost use Rattle.std.specs.Io.KnownBytes.{Keeps, Appends};
+ghost use Rattle.portmap_link.specs.Flushing.{ending_of, flush_is_fault, Sends};
+
+use crate::{Output, Put};
+use std::alloc::Global;
+use std::marker::Model;
+
+/// How a flush ended.
+#[derive(Clone, Copy, Debug, PartialEq, Eq)]
+pub enum Flush {
+    /// All was written.
+    Empty,
+    /// The output takes no more now.
+    Later,
+    /// The output has failed, for good.
+    Fault,
+}
+
+/// Memory ran out.
+#[derive(Clone, Copy, Debug, PartialEq, Eq)]
+pub struct NoMemory;
+
+/// Puts the bytes until all of them are written or the output answers otherwise, and says how many were written.
+pub fn send<W: Output>(output: &mut W, bytes: &[u8]) -> (usize, Flush)
+    ensures within { result.0 ≤ length bytes.now }
+    ensures written { Appends (W.held output.old) (W.held output.new) (take result.0 bytes.now) }
+    ensures all { result.1 ≡ Flush.Empty → result.0 ≡ length bytes.now }
+    ensures answers { Sends (W.puts output.old) (W.puts output.new) result.0 result.1 }
+    ensures calls { length (W.puts output.new) ≤ length (W.puts output.old) + length bytes.now + 1 }
+    ensures broken { W.broken output.new ≡ (flush_is_fault result.1 || W.broken output.old) }
+    ensures left { Keeps (W.left output.old) (W.left output.new) }
+    ensures pulls { W.pulls output.new ≡ W.pulls output.old }
+{
+    let mut sent = 0;
+    while sent < bytes.len() {
+        let (_, rest) = bytes.split_at(sent);
+        match output.put(rest) {
+            Put::Wrote(n) => sent += n,
+            Put::Later => return (sent, Flush::Later),
+            Put::Fault => return (sent, Flush::Fault),
+        }
+    }
+    (sent, Flush::Empty)
+}
+
+/// Bytes in the order in which they are to be written.
+#[derive(Drop)]
+pub struct Outbox {
+    bytes: Vec<u8>,
+    sent: usize,
+}
+
+impl Model for Outbox {
+    ghost use Rattle.std.specs.Prelude.{List, ℕ, drop, length, ◌≤◌};
+
+    ghost Value = { List ℕ };
+
+    ghost view = { λ o. drop o.sent o.bytes.items };
+
+    ghost invariant = { λ o. o.sent ≤ length o.bytes.items };
+}
+
+impl Outbox {
+    pub fn new(alloc: Global) -> Outbox
+        ensures { result ≡ [] }
+    {
+        Outbox {
+            bytes: Vec::new(alloc),
+            sent: 0,
+        }
+    }
+
+    /// Adds bytes at the end.
+    pub fn push(&mut self, bytes: &[u8]) -> Result<(), NoMemory>
+        ensures ok { OnOk result (self.new ≡ self.old ++ bytes.now) }
+        ensures err { OnErr result (self.new ≡ self.old) }
+    {
+        self.let_go();
+        match self.bytes.extend_from_slice(bytes) {
+            Ok(()) => Ok(()),
+            Err(_) => Err(NoMemory),
+        }
+    }
+
+    // Drops the bytes that were sent once they are as many as the rest, so that they don't pile up. A byte is moved
+    // here only for one that was sent, so that all pushes together move no more bytes than were sent.
+    fn let_go(&mut self)
+        ensures { self.new ≡ self.old }
+    {
+        if self.bytes.len() - self.sent <= self.sent {
+            self.bytes.drain(..self.sent);
+            self.sent = 0;
+        }
+    }
+
+    /// The bytes that wait, the first one first.
+    pub fn pending(&self) -> &[u8]
+        ensures { result.now ≡ self.now }
+    {
+        let (_, rest) = self.bytes.as_slice().split_at(self.sent);
+        rest
+    }
+
+    /// Puts what waits until nothing does or the output answers otherwise. What was not written waits on.
+    pub fn flush<W: Output>(&mut self, output: &mut W) -> Flush
+        ensures written { (written : List ℕ) × Appends (W.held output.old) (W.held output.new) written
+            × (written ++ self.new ≡ self.old) }
+        ensures empty { result ≡ Flush.Empty → self.new ≡ [] }
+        ensures answers { (count : ℕ) × Sends (W.puts output.old) (W.puts output.new) count result }
+        ensures calls { length (W.puts output.new) ≤ length (W.puts output.old) + length self.old + 1 }
+        ensures broken { W.broken output.new ≡ (flush_is_fault result || W.broken output.old) }
+        ensures left { Keeps (W.left output.old) (W.left output.new) }
+        ensures pulls { W.pulls output.new ≡ W.pulls output.old }
+    {
+        let (sent, flush) = send(output, self.pending());
+        self.sent += sent;
+        flush
+    }
+}

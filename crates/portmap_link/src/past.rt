@@ -1,0 +1,34 @@
+//! A history that only proofs read.
+ghost use Rattle.std.specs.Prelude.{◌≡◌, [], ◌∷◌, ◌++◌};
+
+use http_server::Log;
+use std::marker::Model;
+
+/// What was answered so far, as clauses see it: a list. It takes no bytes, and its methods do nothing at run time.
+#[derive(Drop)]
+pub struct Past<T> {
+    log: Log<T, ()>,
+}
+
+impl<T> Model for Past<T> {
+    ghost use Rattle.std.specs.Prelude.{List, map};
+
+    ghost Value = { List T };
+
+    ghost view = { λ p. map (λ q. q.0) p.log.items };
+}
+
+impl<T> Past<T> {
+    pub fn new() -> Past<T>
+        ensures { result ≡ [] }
+    {
+        Past { log: Log::new() }
+    }
+
+    /// Notes one answer more.
+    pub fn note(&mut self, answer: &T)
+        ensures { self.new ≡ self.old ++ answer.now ∷ [] }
+    {
+        self.log = self.log.and(answer, &());
+    }
+}

@@ -1,0 +1,35 @@
+-- A scan for control characters finds none exactly at a name.
+use Rattle.std.proofs.Common.{◌≡◌, ℕ, ◌<◌, ◌≤◌, Bool, true, false, List, length, get_or, Some, None, sym, arith, ltb, inl, inr}
+use Rattle.std.specs.Prelude.{position}
+use Rattle.std.specs.List.{position_or_len}
+use Rattle.std.proofs.lemmas.Bool.{cases_lt, lt-ltb}
+use Rattle.std.proofs.lemmas.Bool.Decides.{nat_tests}
+use Rattle.std.proofs.lemmas.List.Sums.{fails_before_first}
+use Rattle.std.proofs.lemmas.List.Quantifiers.{position-Some}
+use Rattle.std.proofs.lemmas.List.Elements.{All-from_get_or}
+use Rattle.portmap_wire.specs.Name.{is_control, IsNameByte, IsName}
+
+-- each element is in a byte's range
+abbrev pub IsBytes : List ℕ → Type 0
+IsBytes bytes = (i : ℕ) → get_or bytes i 0 < 256
+
+passes : (b : ℕ) → b < 256 → is_control b ≡ false → IsNameByte b
+passes b fits e = grind (arith, nat_tests)
+
+fails : (b : ℕ) → IsNameByte b → is_control b ≡ true → ⊥
+fails b name e = grind (arith, nat_tests)
+
+pub no_control : (bytes : List ℕ) (at : ℕ) → Some at ≡ position is_control bytes → IsName bytes → ⊥
+no_control bytes at e name =
+    let found = position-Some is_control bytes at 0 (sym e) in
+    fails (get_or bytes at 0) (name.each at 0 found.0) found.1
+
+-- where none is found, no byte passes
+each_fails : (p : ℕ → Bool) (bytes : List ℕ) → None ≡ position p bytes → (i : ℕ) → i < length bytes → p (get_or bytes i 0) ≡ false
+each_fails p bytes e i lt = fails_before_first p bytes i 0 (elim (cases_lt (position_or_len p bytes) (length bytes)) [
+  | inl below ↦ absurd (let t : ltb (position_or_len p bytes) (length bytes) ≡ true = lt-ltb _ _ below in let e2 = rw t at e in cc)
+  | inr above ↦ omega arith
+])
+
+pub is_name : (bytes : List ℕ) → IsBytes bytes → 0 < length bytes → length bytes ≤ 255 → None ≡ position is_control bytes → IsName bytes
+is_name bytes fits some short e = record { some = some; short = short; each = All-from_get_or IsNameByte bytes 0 (λ i lt. passes (get_or bytes i 0) (fits i) (each_fails is_control bytes e i lt)) }

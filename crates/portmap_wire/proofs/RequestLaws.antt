@@ -1,0 +1,194 @@
+-- The two laws: what is read is spelled so, and what is spelled so is read.
+use Rattle.std.proofs.Common.{◌≡◌, ◌⊎◌, ℕ, suc, ◌+◌, ◌<◌, ◌≤◌, Bool, true, false, cond, ltb, eqb, List, [], ◌∷◌, ◌++◌, length, Option, Some, None, Result, Ok, Err, refl, sym, ap, subst, ◌∙◌, arith, inl, inr}
+use Rattle.std.specs.Prelude.{IfOk, IfErr, ◌≢◌, position}
+use Rattle.std.proofs.lemmas.Bool.{ltb-false, le-ltb, eqb-true, eqb-false, ne_eqb}
+use Rattle.std.proofs.lemmas.List.{append-nil, nil_from_length, length-append}
+use Rattle.portmap_wire.specs.Name.{is_control, IsName}
+use Rattle.portmap_wire.specs.Registration.{Registration, IsRegistration, fields, be2}
+use Rattle.portmap_wire.specs.declared.name.NameFault.{NameFault}
+use Rattle.portmap_wire.specs.declared.name.NameFault.TheVariants as name_fault
+use Rattle.portmap_wire.specs.declared.request.Malformed.{Malformed}
+use Rattle.portmap_wire.specs.declared.request.Malformed.TheVariants as malformed
+use Rattle.portmap_wire.specs.declared.request.Request.{Request}
+use Rattle.portmap_wire.specs.declared.request.Request.TheVariants.{Alive, Port, Names, Dump, Kill, Stop}
+use Rattle.portmap_wire.specs.Reading.{unless_found, name_in, fields_in, named, alone, with_name, filled, alive_in, by_tag, request_in, Gives}
+use Rattle.portmap_wire.specs.Request.{body_of, IsRequest, Spells, IsMalformed, SpellsOneRequest}
+use Rattle.portmap_wire.proofs.NameLemmas.{IsBytes, is_name, no_control}
+use Rattle.portmap_wire.proofs.FieldLemmas.{FitsFields, fields_take, fields_again}
+
+-- which way a test went, where one way fails
+guard : {A E : Type 0} (b : Bool) (d : E) (r : Result A E) (y : A) → cond b (Err d) r ≡ Ok y → (b ≡ false) × (r ≡ Ok y)
+guard true d r y e = absurd cc
+guard false d r y e = (refl, e)
+
+guard_after : {A E : Type 0} (b : Bool) (d : E) (r : Result A E) (y : A) → cond b r (Err d) ≡ Ok y → (b ≡ true) × (r ≡ Ok y)
+guard_after true d r y e = (refl, e)
+guard_after false d r y e = absurd cc
+
+-- which way a test went
+chosen : {A : Type 0} (b : Bool) (x y z : A) → cond b x y ≡ z → ((b ≡ true) × (x ≡ z)) ⊎ ((b ≡ false) × (y ≡ z))
+chosen true x y z e = inl (refl, e)
+chosen false x y z e = inr (refl, e)
+
+-- ---- names
+
+scanned : (bytes n : List ℕ) (o : Option ℕ) → unless_found o bytes ≡ Ok n → (None ≡ o) × (bytes ≡ n)
+scanned bytes n None e = (refl, cc)
+scanned bytes n (Some at) e = absurd cc
+
+pub name_takes : (bytes n : List ℕ) → IsBytes bytes → name_in bytes ≡ Ok n → (bytes ≡ n) × IsName bytes
+name_takes bytes n fits e =
+    let a = guard (eqb (length bytes) 0) name_fault.Empty _ n e in
+    let b = guard (ltb 255 (length bytes)) name_fault.TooLong _ n a.1 in
+    let c = scanned bytes n (position is_control bytes) b.1 in
+    let some : length bytes ≡ 0 → ⊥ = eqb-false _ _ a.0 in
+    (c.1, is_name bytes fits (omega arith) (ltb-false _ _ b.0) c.0)
+
+unscanned : (bytes : List ℕ) (o : Option ℕ) → o ≡ position is_control bytes → IsName bytes → unless_found o bytes ≡ Ok bytes
+unscanned bytes None e name = refl
+unscanned bytes (Some at) e name = absurd (no_control bytes at e name)
+
+pub name_again : (bytes : List ℕ) → IsName bytes → name_in bytes ≡ Ok bytes
+name_again bytes name =
+    let some : 0 < length bytes = name.some in
+    let t1 : eqb (length bytes) 0 ≡ false = ne_eqb _ _ (omega arith) in
+    let t2 : ltb 255 (length bytes) ≡ false = le-ltb _ _ name.short in
+    rw (t1, t2) (unscanned bytes (position is_control bytes) refl name)
+
+-- ---- requests
+
+IsBytes-rest : (b : ℕ) (bytes : List ℕ) → IsBytes (b ∷ bytes) → IsBytes bytes
+IsBytes-rest b bytes h i = h (suc i)
+
+named_takes : (make : List ℕ → Request) (read : Result (List ℕ) NameFault) (r : Request) → named make read ≡ Ok r → (n : List ℕ) × (read ≡ Ok n) × (make n ≡ r)
+named_takes make (Ok n) r e = (n, refl, cc)
+named_takes make (Err f) r e = absurd cc
+
+alone_takes : (only r : Request) (rest : List ℕ) → alone only rest ≡ Ok r → (rest ≡ []) × (only ≡ r)
+alone_takes only r [] e = (refl, cc)
+alone_takes only r (b ∷ bs) e = absurd cc
+
+with_name_takes : (g : Registration) (read : Result (List ℕ) NameFault) (r : Request) → with_name g read ≡ Ok r → (n : List ℕ) × (read ≡ Ok n) × (Alive g ≡ r)
+with_name_takes g (Ok n) r e = (n, refl, cc)
+with_name_takes g (Err f) r e = absurd cc
+
+filled_takes : (o : Option (Registration × List ℕ)) (r : Request) → filled o ≡ Ok r → (f : Registration × List ℕ) × (o ≡ Some f) × (f.1 ≡ []) × (with_name f.0 (name_in f.0.name) ≡ Ok r)
+filled_takes None r e = absurd cc
+filled_takes (Some f) r e =
+    let g = guard_after (eqb (length f.1) 0) malformed.LengthsDisagree _ r e in
+    (f, refl, nil_from_length f.1 (eqb-true _ _ g.0), g.1)
+
+length-fields : (g : Registration) → length (fields g) ≡ 12 + length g.name + length g.extra
+length-fields g = omega (arith, length-append (g.name ++ be2 (length g.extra)) g.extra, length-append g.name (be2 (length g.extra)))
+
+pub alive_takes : (rest : List ℕ) (r : Request) → IsBytes rest → alive_in rest ≡ Ok r → Spells (120 ∷ rest) r
+unfolding alive_in
+alive_takes rest r fits e =
+    let a = guard (ltb (length rest) 12) malformed.Short _ r e in
+    let b = guard (ltb 8191 (length rest)) malformed.LengthsDisagree _ r a.1 in
+    let w = filled_takes (fields_in rest) r b.1 in
+    let g = w.0.0 in
+    let t = fields_take rest g w.0.1 fits w.1 in
+    let text : rest ≡ fields g = t.text ∙ ap (λ (z : List ℕ). fields g ++ z) w.2 ∙ append-nil (fields g) in
+    let m = with_name_takes g (name_in g.name) r w.3 in
+    let short : length rest ≤ 8191 = ltb-false _ _ b.0 in
+    let is : IsRegistration g = record {
+      port = t.fits.port;
+      kind = t.fits.kind;
+      proto = t.fits.proto;
+      high = t.fits.high;
+      low = t.fits.low;
+      name = (name_takes g.name m.0 t.name_fits m.1).1;
+      fits = omega (arith, ap length text, length-fields g);
+    } in
+    let all : Spells (120 ∷ rest) (Alive g) = record { request_is = is; text = ap (λ (z : List ℕ). 120 ∷ z) text } in
+    subst (λ (x : Request). Spells (120 ∷ rest) x) m.2 all
+
+port_takes : (rest : List ℕ) (r : Request) → IsBytes rest → named (λ n. Port n) (name_in rest) ≡ Ok r → Spells (122 ∷ rest) r
+port_takes rest r fits e =
+    let m = named_takes (λ n. Port n) (name_in rest) r e in
+    let t = name_takes rest m.0 fits m.1 in
+    let all : Spells (122 ∷ rest) (Port m.0) = record { request_is = subst IsName t.0 t.1; text = ap (λ (z : List ℕ). 122 ∷ z) t.0 } in
+    subst (λ (x : Request). Spells (122 ∷ rest) x) m.2 all
+
+stop_takes : (rest : List ℕ) (r : Request) → IsBytes rest → named (λ n. Stop n) (name_in rest) ≡ Ok r → Spells (115 ∷ rest) r
+stop_takes rest r fits e =
+    let m = named_takes (λ n. Stop n) (name_in rest) r e in
+    let t = name_takes rest m.0 fits m.1 in
+    let all : Spells (115 ∷ rest) (Stop m.0) = record { request_is = subst IsName t.0 t.1; text = ap (λ (z : List ℕ). 115 ∷ z) t.0 } in
+    subst (λ (x : Request). Spells (115 ∷ rest) x) m.2 all
+
+one_takes : (tag : ℕ) (only r : Request) (rest : List ℕ) → IsRequest only → tag ∷ [] ≡ body_of only → alone only rest ≡ Ok r → Spells (tag ∷ rest) r
+one_takes tag only r rest is text e =
+    let a = alone_takes only r rest e in
+    let all : Spells (tag ∷ rest) only = record { request_is = is; text = ap (λ (z : List ℕ). tag ∷ z) a.0 ∙ text } in
+    subst (λ (x : Request). Spells (tag ∷ rest) x) a.1 all
+
+pub request_takes : (body : List ℕ) (r : Request) → IsBytes body → request_in body ≡ Ok r → Spells body r
+unfolding by_tag
+request_takes [] r fits e = absurd cc
+request_takes (tag ∷ rest) r fits e =
+    let P : ℕ → Type 0 = λ t. Spells (t ∷ rest) r in
+    let in_rest = IsBytes-rest tag rest fits in
+    elim (chosen (eqb tag 120) (alive_in rest) _ (Ok r) e) [
+      | inl p ↦ subst P (sym (eqb-true _ _ p.0)) (alive_takes rest r in_rest p.1)
+      | inr a ↦ elim (chosen (eqb tag 122) (named (λ n. Port n) (name_in rest)) _ (Ok r) a.1) [
+        | inl p ↦ subst P (sym (eqb-true _ _ p.0)) (port_takes rest r in_rest p.1)
+        | inr b ↦ elim (chosen (eqb tag 110) (alone Names rest) _ (Ok r) b.1) [
+          | inl p ↦ subst P (sym (eqb-true _ _ p.0)) (one_takes 110 Names r rest tt refl p.1)
+          | inr d ↦ elim (chosen (eqb tag 100) (alone Dump rest) _ (Ok r) d.1) [
+            | inl p ↦ subst P (sym (eqb-true _ _ p.0)) (one_takes 100 Dump r rest tt refl p.1)
+            | inr f ↦ elim (chosen (eqb tag 107) (alone Kill rest) _ (Ok r) f.1) [
+              | inl p ↦ subst P (sym (eqb-true _ _ p.0)) (one_takes 107 Kill r rest tt refl p.1)
+              | inr g ↦ elim (chosen (eqb tag 115) (named (λ n. Stop n) (name_in rest)) _ (Ok r) g.1) [
+                | inl p ↦ subst P (sym (eqb-true _ _ p.0)) (stop_takes rest r in_rest p.1)
+                | inr h ↦ let last : ◌≡◌ {A = Result Request Malformed} (Err malformed.UnknownTag) (Ok r) = h.1 in absurd cc
+              ]
+            ]
+          ]
+        ]
+      ]
+    ]
+
+alive_again : (g : Registration) → IsRegistration g → alive_in (fields g) ≡ Ok (Alive g)
+unfolding alive_in
+alive_again g is =
+    let len = length-fields g in
+    let total : 13 + length g.name + length g.extra ≤ 8192 = is.fits in
+    let fits : FitsFields g = record { port = is.port; kind = is.kind; proto = is.proto; high = is.high; low = is.low } in
+    let read : fields_in (fields g) ≡ Some (g, []) = ap fields_in (sym (append-nil (fields g))) ∙ fields_again g [] fits (omega arith) (omega arith) in
+    let t1 : ltb (length (fields g)) 12 ≡ false = le-ltb _ _ (omega arith) in
+    let t2 : ltb 8191 (length (fields g)) ≡ false = le-ltb _ _ (omega arith) in
+    ap (λ (b : Bool). cond b (Err malformed.Short) (cond (ltb 8191 (length (fields g))) (Err malformed.LengthsDisagree) (filled (fields_in (fields g))))) t1
+    ∙ (ap (λ (b : Bool). cond b (Err malformed.LengthsDisagree) (filled (fields_in (fields g)))) t2
+    ∙ (ap filled read ∙ ap (with_name g) (name_again g.name is.name)))
+
+pub request_again : (r : Request) → IsRequest r → request_in (body_of r) ≡ Ok r
+unfolding by_tag
+request_again (Alive g) is = alive_again g is
+request_again (Port n) is = rw (name_again n is) refl
+request_again Names is = refl
+request_again Dump is = refl
+request_again Kill is = refl
+request_again (Stop n) is = rw (name_again n is) refl
+
+-- ---- what the reader answered, by what the bytes say
+
+pub found : (body : List ℕ) (answer : Result Request Malformed) → IsBytes body → Gives answer (request_in body) → IfOk answer (λ r. Spells body r)
+found body (Ok r) fits h = request_takes body r fits h
+found body (Err e) fits h = tt
+
+-- a spelled body is read
+spelled_is_read : (body : List ℕ) (r : Request) → Spells body r → request_in body ≡ Ok r
+spelled_is_read body r spells = ap request_in spells.text ∙ request_again r spells.request_is
+
+pub refused : (body : List ℕ) (answer : Result Request Malformed) → Gives answer (request_in body) → IfErr answer (λ fault. fault ≢ malformed.NoMemory → IsMalformed body)
+refused body (Ok r) h = tt
+refused body (Err malformed.NoMemory) h = λ other. absurd (other refl)
+refused body (Err malformed.Short) h = λ other r spells. let both = sym h ∙ spelled_is_read body r spells in absurd cc
+refused body (Err malformed.UnknownTag) h = λ other r spells. let both = sym h ∙ spelled_is_read body r spells in absurd cc
+refused body (Err malformed.LengthsDisagree) h = λ other r spells. let both = sym h ∙ spelled_is_read body r spells in absurd cc
+refused body (Err (malformed.Name fault)) h = λ other r spells. let both = sym h ∙ spelled_is_read body r spells in absurd cc
+
+pub one_request : SpellsOneRequest
+one_request body a b p q = let both : ◌≡◌ {A = Result Request Malformed} (Ok a) (Ok b) = sym (spelled_is_read body a p) ∙ spelled_is_read body b q in cc

@@ -1,0 +1,30 @@
+-- The two lists of names as text: ERTS User's Guide, EPMD Protocol, "Get All Registered Names from EPMD" and "Dump All
+-- Data from EPMD"; the text of the second one's lines is of this profile.
+use Rattle.std.specs.Prelude.{ℕ, List, [], ◌∷◌, ◌++◌, Option, Some, None, codes}
+use Rattle.std.specs.List.{flat_map}
+use Rattle.std.specs.Fmt.{decimal}
+use Rattle.portmap_wire.specs.Reply.{be4}
+use Rattle.portmap_wire.specs.declared.list.Line.{Line}
+use Rattle.portmap_wire.specs.declared.list.DumpLine.{DumpLine}
+
+abbrev pub names_line : Line → List ℕ
+names_line line = codes "name " ++ line.name ++ codes " at port " ++ decimal line.port ++ 10 ∷ []
+
+-- the port of the port mapper, and the lines
+abbrev pub names_reply : ℕ → List Line → List ℕ
+names_reply port lines = be4 port ++ flat_map names_line lines
+
+-- an active name has the slot of its connection, a retired one has none
+abbrev pub dump_end : Option ℕ → List ℕ
+dump_end (Some slot) = codes ", fd = " ++ decimal slot
+dump_end None = codes ", fd = -1"
+
+abbrev pub dump_head : Option ℕ → List ℕ
+dump_head (Some slot) = codes "active name     "
+dump_head None = codes "old/unused name "
+
+abbrev pub dump_line : DumpLine → List ℕ
+dump_line line = dump_head line.slot ++ line.name ++ codes " at port " ++ decimal line.port ++ dump_end line.slot ++ 10 ∷ []
+
+abbrev pub dump_reply : ℕ → List DumpLine → List ℕ
+dump_reply port lines = be4 port ++ flat_map dump_line lines

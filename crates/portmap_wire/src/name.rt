@@ -1,0 +1,114 @@
+//! A node's name.
+ghost use Rattle.std.specs.Prelude.{◌≡◌, ℕ, ◌↔◌, position, IfOk, Ok};
+ghost use Rattle.portmap_wire.specs.Name.{IsName, is_control};
+ghost use Rattle.portmap_wire.specs.Reading.{GivesName, name_in};
+
+use std::alloc::Global;
+use std::marker::Model;
+
+/// Memory ran out.
+#[derive(Clone, Copy, Debug, PartialEq, Eq)]
+pub struct NoMemory;
+
+/// The most bytes of a name.
+pub const NAME_MOST: usize = 255;
+
+/// Why bytes are no name.
+#[derive(Clone, Copy, Debug, PartialEq, Eq)]
+pub enum NameFault {
+    /// There is no byte.
+    Empty,
+    /// There are more than 255 bytes.
+    TooLong,
+    /// The byte at this place, the first such one, is below 32 or 127.
+    BadByte(usize),
+    NoMemory,
+}
+
+/// A node's name: 1 to 255 bytes, none of them a control character. Bytes from 128 up are taken as they are.
+#[derive(Debug, Drop)]
+pub struct Name {
+    bytes: Vec<u8>,
+}
+
+impl Model for Name {
+    ghost use Rattle.std.specs.Prelude.{List, ℕ};
+    ghost use Rattle.portmap_wire.specs.Name.{IsName};
+
+    ghost Value = { List ℕ };
+
+    ghost view = { λ n. n.bytes.items };
+
+    ghost invariant = { λ n. IsName n.bytes.items };
+}
+
+/// Where the first control character stands.
+fn first_control(bytes: &[u8]) -> Option<usize>
+    ensures { result ≡ position is_control bytes.now }
+{
+    bytes.iter().position(|b| *b < 32 || *b == 127)
+}
+
+impl Name {
+    /// The name that these bytes are.
+    pub fn read(alloc: Global, bytes: &[u8]) -> Result<Name, NameFault>
+        ensures found { IfOk result (λ n. (n ≡ bytes.now) × IsName bytes.now) }
+        ensures only { IsName bytes.now → GivesName result (Ok bytes.now) }
+        // The first fault that holds, in the order of `NameFault`.
+        ensures exact { GivesName result (name_in bytes.now) }
+    {
+        if bytes.is_empty() {
+            return Err(NameFault::Empty);
+        }
+        if bytes.len() > NAME_MOST {
+            return Err(NameFault::TooLong);
+        }
+        if let Some(at) = first_control(bytes) {
+            return Err(NameFault::BadByte(at));
+        }
+        match Vec::from_slice(alloc, bytes) {
+            Ok(bytes) => Ok(Name { bytes }),
+            Err(_) => Err(NameFault::NoMemory),
+        }
+    }
+
+    /// Its bytes.
+    pub fn bytes(&self) -> &[u8]
+        ensures bytes { result.now ≡ self.now }
+        ensures name { IsName self.now }
+    {
+        self.bytes.as_slice()
+    }
+
+    /// A second one. `Clone` is not derived, since it could not say which error comes.
+    pub fn try_copy(&self, alloc: Global) -> Result<Name, NoMemory>
+        ensures same { IfOk result (λ n. n ≡ self.now) }
+    {
+        match Vec::from_slice(alloc, self.bytes.as_slice()) {
+            Ok(bytes) => Ok(Name { bytes }),
+            Err(_) => Err(NoMemory),
+        }
+    }
+}
+
+impl PartialEq for Name {
+    ghost use Rattle.std.specs.Prelude.{◌==◌};
+    ghost use Rattle.std.specs.Cmp.Lexicographic.{pointwise};
+    ghost use Rattle.std.proofs.Common.{rules};
+    ghost use Rattle.std.specs.Cmp.Rules.{comparing};
+
+    ghost eq = { pointwise ◌==◌ };
+
+    ghost laws = { Prim.search (comparing, rules) };
+
+    fn eq(&self, other: &Name) -> bool {
+        self.bytes.as_slice() == other.bytes.as_slice()
+    }
+}
+
+impl Eq for Name {
+    ghost use Rattle.std.proofs.Common.{rules};
+    ghost use Rattle.std.specs.Cmp.Rules.{comparing};
+
+    ghost laws = { Prim.search (comparing, rules) };
+}
