@@ -1,0 +1,9 @@
+pub mod Config
+pub mod Connections
+pub mod State
+pub mod Serving
+pub mod Next
+pub mod Step
+pub mod Run
+pub mod Refusal
+pub mod Waiting

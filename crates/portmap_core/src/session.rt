@@ -1,0 +1,148 @@
+//! The open connections.
+ghost use Rattle.std.specs.Prelude.{◌≡◌, ℕ, Some, None, IfOk, OnErr, IsSome, slice_index_or, slice_set, count_by, is_some};
+ghost use Rattle.std.specs.Option.{option_copied};
+ghost use Rattle.std.specs.FinMap as map;
+ghost use Rattle.portmap_core.specs.declared.session.Connection.{Connection};
+ghost use Rattle.portmap_core.specs.State.{phase_of_stage};
+
+use portmap_feed::Feed;
+use portmap_wire::NoMemory;
+use std::alloc::Global;
+use std::marker::Model;
+
+/// Where a connection stands.
+#[derive(Clone, Copy, Debug, PartialEq, Eq)]
+pub enum Phase {
+    /// Its request is not whole yet.
+    Waiting,
+    /// It owns an active name.
+    Holding,
+    /// It is to be closed.
+    Done,
+}
+
+/// Where a connection stands, with what it sent so far.
+#[derive(Drop)]
+pub(crate) enum Stage {
+    Waiting(Feed),
+    Holding,
+    Done,
+}
+
+/// An open connection.
+#[derive(Drop)]
+pub(crate) struct Connection {
+    pub(crate) local: bool,
+    pub(crate) stage: Stage,
+}
+
+impl Stage {
+    /// Without the bytes.
+    pub(crate) fn phase(&self) -> Phase
+        ensures { result ≡ phase_of_stage self.now }
+    {
+        match self {
+            Stage::Waiting(_) => Phase::Waiting,
+            Stage::Holding => Phase::Holding,
+            Stage::Done => Phase::Done,
+        }
+    }
+}
+
+/// The open connections by slot.
+#[derive(Drop)]
+pub(crate) struct Sessions {
+    places: Vec<Option<Connection>>,
+}
+
+impl Model for Sessions {
+    ghost use Rattle.std.specs.Coded.{coded_ℕ};
+    ghost use Rattle.std.specs.FinMap as map;
+    ghost use Rattle.portmap_core.specs.Connections.{Connections, connections_of};
+    ghost use Rattle.portmap_core.specs.contracts.session.Connection as connection;
+
+    ghost Value = { Connections };
+
+    ghost coded = { map.code coded_ℕ connection.the_row.coded };
+
+    ghost view = { λ s. connections_of s.places.items };
+}
+
+/// The connection at a place.
+fn at_place(places: &[Option<Connection>], slot: u64) -> Option<&Connection>
+    ensures { option_copied result ≡ slice_index_or places.now slot None }
+{
+    if slot < places.len() as u64 {
+        places[slot as usize].as_ref()
+    } else {
+        None
+    }
+}
+
+/// How many places are taken.
+fn taken(places: &[Option<Connection>]) -> usize
+    ensures { result ≡ count_by is_some places.now }
+{
+    places.iter().filter(|place| place.is_some()).count()
+}
+
+/// Puts another stage into a place, and gives the one that was there.
+fn swap_at(places: &mut Vec<Option<Connection>>, slot: usize, stage: Stage) -> Stage
+    requires { IsSome (slice_index_or places.old.items slot None) }
+    ensures was { (connection : Connection) → slice_index_or places.old.items slot None ≡ Some connection → result ≡ connection.stage }
+    ensures now { (connection : Connection) → slice_index_or places.old.items slot None ≡ Some connection → places.new.items ≡ slice_set places.old.items slot (Some (record { local = connection.local; stage = stage })) }
+{
+    match &mut places[slot] {
+        Some(connection) => std::mem::replace(&mut connection.stage, stage),
+        None => unreachable!(),
+    }
+}
+
+#[tactic(auto, using(crate::proofs::Slots::slot_laws))]
+impl Sessions {
+    /// None is open.
+    pub(crate) fn new(alloc: Global) -> Sessions
+        ensures { result ≡ map.empty }
+    {
+        Sessions {
+            places: Vec::new(alloc),
+        }
+    }
+
+    /// How many are open.
+    #[tactic(auto, using(crate::proofs::Slots::count_laws))]
+    pub(crate) fn len(&self) -> usize
+        ensures { result ≡ map.len self.now }
+    {
+        taken(self.places.as_slice())
+    }
+
+    /// The connection in a slot.
+    pub(crate) fn get(&self, slot: u64) -> Option<&Connection>
+        ensures { option_copied result ≡ map.get self.now slot }
+    {
+        at_place(self.places.as_slice(), slot)
+    }
+
+    /// Opens a connection in a free slot.
+    pub(crate) fn add(&mut self, connection: Connection) -> Result<u64, NoMemory>
+        ensures fresh { IfOk result (λ slot. map.get self.old slot ≡ None) }
+        ensures added { IfOk result (λ slot. self.new ≡ map.insert self.old slot connection) }
+        ensures err { OnErr result (self.new ≡ self.old) }
+    {
+        let slot = self.places.len();
+        match self.places.push(Some(connection)) {
+            Ok(()) => Ok(slot as u64),
+            Err(_) => Err(NoMemory),
+        }
+    }
+
+    /// Puts another stage at an open slot, and gives the one that was there.
+    pub(crate) fn swap_stage(&mut self, slot: u64, stage: Stage) -> Stage
+        requires { IsSome (map.get self.old slot) }
+        ensures was { (connection : Connection) → map.get self.old slot ≡ Some connection → result ≡ connection.stage }
+        ensures now { (connection : Connection) → map.get self.old slot ≡ Some connection → self.new ≡ map.insert self.old slot (record { local = connection.local; stage = stage }) }
+    {
+        swap_at(&mut self.places, slot as usize, stage)
+    }
+}
