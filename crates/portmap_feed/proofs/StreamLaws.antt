@@ -1,8 +1,8 @@
 -- What is seen of a stream, and what is kept of it, depend on the joined bytes alone.
-use Rattle.std.proofs.Common.{◌≡◌, ◌≢◌, ℕ, suc, zero, ◌+◌, ◌-◌, ◌*◌, ◌≤◌, true, false, ltb, eqb, min, List, [], ◌∷◌, ◌++◌, length, take, drop, refl, sym, ap, ◌∙◌, arith, inl, inr}
+use Rattle.std.proofs.Common.{◌≡◌, ◌≢◌, ℕ, suc, zero, ◌+◌, ◌-◌, ◌*◌, ◌≤◌, true, false, ltb, eqb, min, List, [], ◌∷◌, ◌++◌, length, take, refl, sym, ap, ◌∙◌, arith, inl, inr}
 use Rattle.std.proofs.Math.Seq.{take-append-add}
 use Rattle.std.proofs.lemmas.Bool.{le-ltb, lt-ltb, cases_lt, cases_eq, ne_eqb, eq-eqb}
-use Rattle.std.proofs.lemmas.List.{append-nil, length-append, length-take, take_all, take-take, take_min}
+use Rattle.std.proofs.lemmas.List.{append-nil, length-take, take_all, take-take, take_min}
 use Rattle.portmap_feed.specs.declared.feed.Seen.TheVariants as seen
 use Rattle.portmap_feed.specs.Seen.{seen_of}
 use Rattle.portmap_feed.specs.Stream.{Sight, More, Zero, TooLarge, Whole, sight_behind, first_request, awaited, reach, kept}
@@ -95,6 +95,22 @@ unfolding first_request kept
 first_request-kept [] = refl
 first_request-kept (high ∷ []) = refl
 first_request-kept (high ∷ low ∷ behind) = sight_behind-take (high * 256 + low) behind
+
+awaited_most : (n : ℕ) → awaited n ≤ 8192
+awaited_most n =
+    elim (cases_lt 8192 n) [
+      | inl large ↦ let test : ltb 8192 n ≡ true = lt-ltb _ _ large in rw test (omega arith)
+      | inr legal ↦ let test : ltb 8192 n ≡ false = le-ltb _ _ legal in rw test legal
+    ]
+
+-- no more is kept than a length and the longest body
+pub kept_most : (received : List ℕ) → length (kept received) ≤ 8194
+unfolding kept
+kept_most [] = omega arith
+kept_most (high ∷ []) = omega arith
+kept_most (high ∷ low ∷ behind) =
+    let room : ℕ = awaited (high * 256 + low) in
+    omega (arith, length-take room behind, awaited_most (high * 256 + low))
 
 -- ---- while the request is not whole
 

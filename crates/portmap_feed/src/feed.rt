@@ -1,6 +1,6 @@
 //! A request in the making: the bytes received of it so far, as far as they matter.
 
-ghost use Rattle.std.specs.Prelude.{◌≡◌, ◌≢◌, ◌≤◌, ℕ, List, [], ◌++◌, length, take, IsOk, IfOk, OnOk, OnErr, option_map};
+ghost use Rattle.std.specs.Prelude.{◌≡◌, ◌≢◌, ◌≤◌, ◌+◌, ◌*◌, ℕ, List, [], ◌++◌, length, take, IsOk, IfOk, OnOk, OnErr, option_map};
 ghost use Rattle.portmap_feed.specs.Seen.{seen_of};
 ghost use Rattle.portmap_feed.specs.Stream.{More, first_request, reach, kept, body_in};
 
@@ -30,6 +30,13 @@ pub enum Seen {
     Whole,
 }
 
+/// The length in the two bytes that precede a request, the higher first.
+fn length_of(high: u8, low: u8) -> u16
+    ensures { result ≡ high * 256 + low }
+{
+    u16::from_be_bytes([high, low])
+}
+
 /// What the bytes show. It reads the length alone, however many bytes there are.
 #[tactic(auto, unfolding(crate::specs::Stream::first_request))]
 fn seen_in(bytes: &[u8]) -> Seen
@@ -38,7 +45,7 @@ fn seen_in(bytes: &[u8]) -> Seen
     match bytes {
         [] | [_] => Seen::More,
         [high, low, behind @ ..] => {
-            let length = u16::from_be_bytes([*high, *low]);
+            let length = length_of(*high, *low);
             if length == 0 {
                 Seen::Bad(LengthFault::Zero)
             } else if length > LARGEST_LENGTH {
@@ -59,7 +66,7 @@ fn reach_of(held: &[u8], piece: &[u8]) -> usize
 {
     match (held, piece) {
         ([high, low, ..], _) | ([high], [low, ..]) | ([], [high, low, ..]) => {
-            let length = u16::from_be_bytes([*high, *low]);
+            let length = length_of(*high, *low);
             if length > LARGEST_LENGTH {
                 2
             } else {
@@ -133,8 +140,10 @@ impl Feed {
         ensures longer { length self.old ≤ length self.new }
 
         ensures err { OnErr result (self.new ≡ self.old) }
-        // Once the request is whole, or its length is bad, a push takes no memory.
+
+        // Once the request is whole or its length is bad, a push takes no memory, nor does an empty piece.
         ensures decided { first_request self.old ≢ More → IsOk result }
+        ensures empty { piece.now ≡ [] → IsOk result }
     {
         let wanted = wanted_of(self.bytes.as_slice(), piece);
         if self.bytes.extend_from_slice(&piece[..wanted]).is_err() {
@@ -151,7 +160,7 @@ impl Feed {
     {
         match self.bytes.as_slice() {
             [high, low, behind @ ..] => {
-                let length = u16::from_be_bytes([*high, *low]);
+                let length = length_of(*high, *low);
                 if length == 0 || length > LARGEST_LENGTH {
                     None
                 } else {
@@ -162,12 +171,13 @@ impl Feed {
         }
     }
 
-    /// The bytes that it keeps, 8,194 at most.
+    /// The bytes that it keeps. It lends them, and takes no memory.
     pub fn kept(&self) -> &[u8]
         ensures bytes { result.now ≡ self.now }
         ensures own { kept self.now ≡ self.now }
+        ensures most { length self.now ≤ 8194 }
     {
-        self.bytes.as_slice()
+        &self.bytes
     }
 
     /// Forgets every byte kept but the first `len`, as if no more had been received. It takes no

@@ -1,5 +1,4 @@
-use Rattle.std.proofs.Common.{◌≤◌, length, ◌++◌, arith, rules}
-use Rattle.portmap_feed.specs.Stream.{reach}
+use Rattle.std.proofs.Common.{arith, rules}
 use Rattle.portmap_feed.proofs.StreamLaws.{reach_decided, kept-append}
 use Rattle.portmap_feed.proofs.feed.wanted_of.Goals as goal
 

@@ -1,4 +1,4 @@
-use Rattle.std.proofs.Common.{◌≡◌, List, ℕ, ◌++◌, take, refl, ap, sym, ◌∙◌, rules}
+use Rattle.std.proofs.Common.{◌≡◌, List, ℕ, ◌++◌, ap, sym, ◌∙◌, rules}
 use Rattle.portmap_feed.specs.Seen.{seen_of}
 use Rattle.portmap_feed.specs.declared.feed.Seen.TheVariants as seen
 use Rattle.portmap_feed.specs.Stream.{More, first_request, kept}
