@@ -11,3 +11,6 @@ pub use config::{Config, ConfigFault};
 pub use event::{Answer, Event, Fate, Refusal};
 pub use machine::Core;
 pub use session::Phase;
+
+#[cfg(test)]
+mod tests;
