@@ -1,17 +1,17 @@
-# The three commands of this repository. Each needs the Rattle toolchain's `rt` on the path.
-
-PORT ?= 4369
+# Each of these needs `rt`, the command of the Rattle toolchain, on the path, and nothing else.
 
 .PHONY: run epmd test
 
-# Builds the proved program and runs it on port 4369.
+# Builds the proved program and runs what it can do so far: one request from standard input.
 run: epmd
 	./build/epmd -once
 
-# Leaves the proved program at build/epmd.
+# Proves the program and all below it, and leaves it at build/epmd. The run, at the end of its input, writes nothing.
 epmd:
-	cd crates/epmd && rt lib 2>/dev/null || true
+	cd crates/epmd && rt run -- -once < /dev/null
+	mkdir -p build
+	cp crates/epmd/out/epmd build/epmd
 
-# The gate: every proof from nothing, must-fail edits, tests, and the program as two compilers build it.
+# The gate: every proof from nothing, the must-fail edits, the tests, and the program as two compilers build it.
 test:
 	rt ci

@@ -1,3 +1,4 @@
-pub mod Answers
+pub mod Adapters
 pub mod Device
-pub mod Flushing
+pub mod Flush
+pub mod Once

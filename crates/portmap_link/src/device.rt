@@ -49,6 +49,7 @@ pub trait Device {
 
 /// A device that gives bytes.
 pub trait Input: Device {
+    /// Asks once for bytes, which come to the front of the buffer. What stands behind them is not said.
     fn pull(&mut self, buffer: &mut [u8]) -> Pull
         requires { 0 < length buffer.old }
         ensures bytes { PullConsumes (Self.left self.old) (Self.left self.new) result buffer.new }
@@ -60,12 +61,14 @@ pub trait Input: Device {
         ensures held { Keeps (Self.held self.old) (Self.held self.new) }
         ensures puts { Self.puts self.new ≡ Self.puts self.old };
 
+    /// Whether the device has failed, so that every call answers Fault.
     fn failed(&self) -> bool
         ensures { result ≡ Self.broken self.now };
 }
 
 /// A device that takes bytes.
 pub trait Output: Device {
+    /// Offers bytes once. The output takes some from the front, or none.
     fn put(&mut self, bytes: &[u8]) -> Put
         requires { 0 < length bytes.now }
         ensures bytes { PutAppends (Self.held self.old) (Self.held self.new) result bytes.now }
@@ -77,6 +80,7 @@ pub trait Output: Device {
         ensures left { Keeps (Self.left self.old) (Self.left self.new) }
         ensures pulls { Self.pulls self.new ≡ Self.pulls self.old };
 
+    /// Whether the device has failed, so that every call answers Fault.
     fn failed(&self) -> bool
         ensures { result ≡ Self.broken self.now };
 }

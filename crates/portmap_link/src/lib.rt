@@ -5,8 +5,12 @@ mod adapters;
 mod device;
 mod outbox;
 mod past;
+mod single;
+#[cfg(test)]
+mod tests;
 
 pub use crate::adapters::{Both, Reading, Writing};
 pub use crate::device::{Device, Input, Output, Pull, Put};
 pub use crate::outbox::{Flush, NoMemory, Outbox, send};
 pub use crate::past::Past;
+pub use crate::single::{OnceFault, once};

@@ -1,7 +1,7 @@
 //! Bytes that wait to be written.
-ghost use Rattle.std.specs.Prelude.{◌≡◌, ℕ, ◌+◌, ◌<◌, ◌≤◌, ◌||◌, List, [], ◌∷◌, ◌++◌, length, map, sum, take, true, false, OnOk, OnErr};
+ghost use Rattle.std.specs.Prelude.{◌≡◌, ℕ, ◌+◌, ◌-◌, ◌≤◌, ◌||◌, ◌↔◌, List, [], ◌++◌, length, take, drop, vec_len, OnOk, OnErr};
 ghost use Rattle.std.specs.Io.KnownBytes.{Keeps, Appends};
-ghost use Rattle.portmap_link.specs.Flushing.{ending_of, flush_is_fault, Sends};
+ghost use Rattle.portmap_link.specs.Flush.{flush_is_fault, Sends};
 
 use crate::{Output, Put};
 use std::alloc::Global;
@@ -26,7 +26,7 @@ pub struct NoMemory;
 pub fn send<W: Output>(output: &mut W, bytes: &[u8]) -> (usize, Flush)
     ensures within { result.0 ≤ length bytes.now }
     ensures written { Appends (W.held output.old) (W.held output.new) (take result.0 bytes.now) }
-    ensures all { result.1 ≡ Flush.Empty → result.0 ≡ length bytes.now }
+    ensures all { (result.1 ≡ Flush.Empty) ↔ (result.0 ≡ length bytes.now) }
     ensures answers { Sends (W.puts output.old) (W.puts output.new) result.0 result.1 }
     ensures calls { length (W.puts output.new) ≤ length (W.puts output.old) + length bytes.now + 1 }
     ensures broken { W.broken output.new ≡ (flush_is_fault result.1 || W.broken output.old) }
@@ -45,7 +45,7 @@ pub fn send<W: Output>(output: &mut W, bytes: &[u8]) -> (usize, Flush)
     (sent, Flush::Empty)
 }
 
-/// Bytes in the order in which they are to be written.
+/// Bytes in the order in which they are to be written, as clauses see it: those that wait.
 #[derive(Drop)]
 pub struct Outbox {
     bytes: Vec<u8>,
@@ -63,6 +63,7 @@ impl Model for Outbox {
 }
 
 impl Outbox {
+    /// An outbox in which nothing waits. It takes memory at the first push.
     pub fn new(alloc: Global) -> Outbox
         ensures { result ≡ [] }
     {
@@ -72,26 +73,15 @@ impl Outbox {
         }
     }
 
-    /// Adds bytes at the end.
+    /// Adds bytes at the end. It fails only where memory runs out.
     pub fn push(&mut self, bytes: &[u8]) -> Result<(), NoMemory>
         ensures ok { OnOk result (self.new ≡ self.old ++ bytes.now) }
         ensures err { OnErr result (self.new ≡ self.old) }
     {
-        self.let_go();
+        drop_sent(&mut self.bytes, &mut self.sent);
         match self.bytes.extend_from_slice(bytes) {
             Ok(()) => Ok(()),
             Err(_) => Err(NoMemory),
-        }
-    }
-
-    // Drops the bytes that were sent once they are as many as the rest, so that they don't pile up. A byte is moved
-    // here only for one that was sent, so that all pushes together move no more bytes than were sent.
-    fn let_go(&mut self)
-        ensures { self.new ≡ self.old }
-    {
-        if self.bytes.len() - self.sent <= self.sent {
-            self.bytes.drain(..self.sent);
-            self.sent = 0;
         }
     }
 
@@ -104,18 +94,41 @@ impl Outbox {
     }
 
     /// Puts what waits until nothing does or the output answers otherwise. What was not written waits on.
+    #[tactic(auto, using(crate::proofs::Sending::drop_is_nil))]
     pub fn flush<W: Output>(&mut self, output: &mut W) -> Flush
         ensures written { (written : List ℕ) × Appends (W.held output.old) (W.held output.new) written
             × (written ++ self.new ≡ self.old) }
-        ensures empty { result ≡ Flush.Empty → self.new ≡ [] }
-        ensures answers { (count : ℕ) × Sends (W.puts output.old) (W.puts output.new) count result }
+        ensures empty { (result ≡ Flush.Empty) ↔ (self.new ≡ []) }
+        ensures answers { Sends (W.puts output.old) (W.puts output.new) (length self.old - length self.new) result }
         ensures calls { length (W.puts output.new) ≤ length (W.puts output.old) + length self.old + 1 }
         ensures broken { W.broken output.new ≡ (flush_is_fault result || W.broken output.old) }
         ensures left { Keeps (W.left output.old) (W.left output.new) }
         ensures pulls { W.pulls output.new ≡ W.pulls output.old }
     {
         let (sent, flush) = send(output, self.pending());
-        self.sent += sent;
+        self.advance(sent);
         flush
+    }
+
+    // The first n bytes were written.
+    fn advance(&mut self, n: usize)
+        requires { n ≤ length self.old }
+        ensures { self.new ≡ drop n self.old }
+    {
+        self.sent += n;
+    }
+}
+
+// Drops the bytes that were sent once they are as many as the rest, so that they don't pile up. No more bytes move than are
+// dropped, so all calls together take time in proportion to what was sent.
+fn drop_sent(bytes: &mut Vec<u8>, sent: &mut usize)
+    requires { sent.old ≤ vec_len bytes.old }
+    ensures rest { drop sent.new bytes.new.items ≡ drop sent.old bytes.old.items }
+    ensures within { sent.new ≤ vec_len bytes.new }
+    ensures few { sent.new + sent.new ≤ vec_len bytes.new }
+{
+    if bytes.len() - *sent <= *sent {
+        bytes.drain(..*sent);
+        *sent = 0;
     }
 }

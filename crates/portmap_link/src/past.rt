@@ -19,6 +19,7 @@ impl<T> Model for Past<T> {
 }
 
 impl<T> Past<T> {
+    /// Nothing was answered yet.
     pub fn new() -> Past<T>
         ensures { result ≡ [] }
     {

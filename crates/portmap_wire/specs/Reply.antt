@@ -1,5 +1,5 @@
 -- The replies as bytes: ERTS User's Guide, EPMD Protocol.
-use Rattle.std.specs.Prelude.{ℕ, List, [], ◌∷◌, ◌++◌, Option, Some, None, nat_lt, if◌then◌else◌}
+use Rattle.std.specs.Prelude.{ℕ, List, [], ◌∷◌, Option, Some, None, nat_lt, if◌then◌else◌}
 use Rattle.std.specs.Int.{w32, to_be_bytes}
 use Rattle.portmap_wire.specs.Registration.{Registration, fields, be2}
 

@@ -8,6 +8,8 @@ mod read;
 mod registration;
 mod reply;
 mod request;
+#[cfg(test)]
+mod tests;
 
 pub use list::{DumpLine, Line, ListReply, write_dump, write_names};
 pub use name::{Name, NameFault, NoMemory};

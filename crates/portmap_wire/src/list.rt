@@ -1,5 +1,5 @@
 //! The two lists of names.
-ghost use Rattle.std.specs.Prelude.{◌≡◌, ◌∷◌, ◌++◌, [], codes, decimal, IfOk, OnOk};
+ghost use Rattle.std.specs.Prelude.{◌≡◌, ◌++◌, codes, decimal, IfOk, OnOk};
 ghost use Rattle.portmap_wire.specs.Reply.{be4};
 ghost use Rattle.portmap_wire.specs.List.{names_line, names_reply, dump_line, dump_reply};
 

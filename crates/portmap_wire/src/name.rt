@@ -1,5 +1,5 @@
 //! A node's name.
-ghost use Rattle.std.specs.Prelude.{◌≡◌, ℕ, ◌↔◌, position, IfOk, Ok};
+ghost use Rattle.std.specs.Prelude.{◌≡◌, position, IfOk, Ok};
 ghost use Rattle.portmap_wire.specs.Name.{IsName, is_control};
 ghost use Rattle.portmap_wire.specs.Reading.{GivesName, name_in};
 
@@ -84,7 +84,7 @@ impl Name {
     pub fn try_copy(&self, alloc: Global) -> Result<Name, NoMemory>
         ensures same { IfOk result (λ n. n ≡ self.now) }
     {
-        match Vec::from_slice(alloc, self.bytes.as_slice()) {
+        match Vec::from_slice(alloc, self.bytes()) {
             Ok(bytes) => Ok(Name { bytes }),
             Err(_) => Err(NoMemory),
         }
@@ -102,7 +102,7 @@ impl PartialEq for Name {
     ghost laws = { Prim.search (comparing, rules) };
 
     fn eq(&self, other: &Name) -> bool {
-        self.bytes.as_slice() == other.bytes.as_slice()
+        self.bytes() == other.bytes()
     }
 }
 

@@ -1,6 +1,5 @@
 //! What a node registers.
 ghost use Rattle.std.specs.Prelude.{◌≡◌, ◌↔◌, ◌+◌, ◌<◌, ◌≤◌, length, IfOk, OnOk};
-ghost use Rattle.portmap_wire.specs.Registration.{IsRegistration};
 
 use crate::name::{Name, NoMemory};
 use std::alloc::Global;
@@ -94,13 +93,5 @@ impl Reg {
             }),
             Err(_) => Err(NoMemory),
         }
-    }
-
-    // A caller in this crate learns what holds of each registration.
-    pub(crate) fn is_spellable(&self) -> bool
-        ensures { IsRegistration self.now }
-    {
-        let _port = &self.port;
-        true
     }
 }

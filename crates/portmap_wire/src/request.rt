@@ -1,6 +1,6 @@
 //! The requests, and how each is written.
-ghost use Rattle.std.specs.Prelude.{◌≡◌, ◌+◌, ◌≤◌, ◌++◌, length, IfOk, OnOk};
-ghost use Rattle.portmap_wire.specs.Request.{body_of, sent, IsRequest, SpellsOneRequest, HasOneBody};
+ghost use Rattle.std.specs.Prelude.{◌≡◌, ◌≤◌, ◌++◌, length, IfOk, OnOk};
+ghost use Rattle.portmap_wire.specs.Request.{body_of, sent, IsRequest, Spells, SpellsOneRequest, HasOneBody};
 
 use crate::fields::put_fields;
 use crate::name::{Name, NameFault, NoMemory};
@@ -84,10 +84,10 @@ fn body_len(request: &Request) -> u16
     }
 }
 
-fn request_bytes(alloc: Global, request: &Request) -> Result<Vec<u8>, AllocError>
+fn request_bytes(alloc: Global, request: &Request, len: u16) -> Result<Vec<u8>, AllocError>
+    requires { len ≡ length (body_of request.now) }
     ensures { IfOk result (λ v. v.items ≡ sent request.now) }
 {
-    let len = body_len(request);
     let mut out = Vec::with_capacity(alloc, 2 + len as usize)?;
     out.extend_from_slice(&len.to_be_bytes())?;
     put_body(&mut out, request)?;
@@ -98,9 +98,10 @@ fn request_bytes(alloc: Global, request: &Request) -> Result<Vec<u8>, AllocError
 pub fn write_request(alloc: Global, request: &Request) -> Result<Vec<u8>, NoMemory>
     ensures text { IfOk result (λ v. v.items ≡ sent request.now) }
     ensures small { length (body_of request.now) ≤ 8192 }
+    // So `read_request` takes the body, and gives this request.
+    ensures spells { Spells (body_of request.now) request.now }
 {
-    let _small = body_len(request);
-    request_bytes(alloc, request).map_err(|_| NoMemory)
+    request_bytes(alloc, request, body_len(request)).map_err(|_| NoMemory)
 }
 
 /// A law: a body spells one request at most.

@@ -5,7 +5,7 @@ use Rattle.portmap_link.specs.declared.device.Put.TheVariants.{Wrote, Later as P
 use Rattle.portmap_link.specs.declared.outbox.Flush.{Flush}
 use Rattle.portmap_link.specs.declared.outbox.Flush.TheVariants.{Empty, Later, Fault}
 
--- the answer that ended a flush
+-- the answer that ended a flush: none where all was written
 abbrev pub ending_of : Flush → List Put
 ending_of Empty = []
 ending_of Later = PutLater ∷ []
@@ -17,8 +17,8 @@ flush_is_fault Empty = false
 flush_is_fault Later = false
 flush_is_fault Fault = true
 
--- the puts since `old` wrote so many bytes together, and the flush ended with the last of them
+-- the answers after `old`: puts that wrote `count` bytes together, and then the one that ended the flush, if one did
 pub record Sends (old new : List Put) (count : ℕ) (flush : Flush) : Type 0 where
   pub counts : List ℕ
   pub total : sum counts ≡ count
-  pub answers : new ≡ old ++ (map Wrote counts ++ ending_of flush)
+  pub answers : new ≡ old ++ map Wrote counts ++ ending_of flush

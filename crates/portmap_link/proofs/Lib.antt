@@ -1,0 +1,3 @@
+mod Sending
+pub mod Pulling
+pub mod Replying

@@ -1,0 +1,114 @@
+-- What `once` does with its devices.
+use Rattle.std.specs.Prelude.{◌≡◌, ◌≢◌, ℕ, ◌+◌, ◌-◌, ◌<◌, ◌≤◌, List, [], length, take, Option, Some, None, Result, Ok, Err, ◌⊎◌, true}
+use Rattle.std.specs.declared.vec.Vec.{Vec}
+use Rattle.std.specs.declared.alloc.Global.{Global}
+use Rattle.std.specs.Io.KnownBytes.{Keeps, Appends, Consumes, IsAtEnd}
+use Rattle.portmap_feed.specs.Stream.{More, first_request}
+use Rattle.portmap_core.specs.Config.{Configuration}
+use Rattle.portmap_core.specs.Run.{Hears, waiting_state}
+use Rattle.portmap_core.specs.State.{State}
+use Rattle.portmap_core.specs.declared.event.Fate.{Fate}
+use Rattle.portmap_core.specs.declared.event.Fate.TheVariants.{Close}
+use Rattle.portmap_link.specs.declared.single.Heard.{Heard}
+use Rattle.portmap_link.specs.declared.single.OnceFault.{OnceFault}
+use Rattle.portmap_link.specs.declared.single.OnceFault.TheVariants.{ReadFault, NoMemory, WriteFault, TooManyTurns}
+
+-- the bytes that are left and that were written, before and after a call, where the devices tell them
+pub record Devices : Type 0 where
+  pub left : Option (List ℕ)
+  pub held : Option (List ℕ)
+
+-- so many bytes are pulled at once, at most
+abbrev pub pull_most : ℕ
+pull_most = 512
+
+-- these bytes were read, and the last pull alone decided: without it the request was not whole
+pub record IsJustRead (read : List ℕ) : Type 0 where
+  pub decided : first_request read ≢ More
+  pub last : ℕ
+  pub small : last ≤ pull_most
+  pub within : last ≤ length read
+  pub before : first_request (take (length read - last) read) ≡ More
+
+-- a request was read, is told so, and this much of the reply was written and nothing else
+pub record Replies (cfg : Configuration) (old new : Devices) (written : List ℕ → List ℕ) (fate : Fate) : Type 0 where
+  pub read : List ℕ
+  pub reply : List ℕ
+  pub reads : Consumes old.left new.left read
+  pub just : IsJustRead read
+  pub hears : Hears cfg read reply fate
+  pub writes : Appends old.held new.held (written reply)
+
+-- the same, where the fate is not told
+pub record RepliesInPart (cfg : Configuration) (old new : Devices) (sent : ℕ) : Type 0 where
+  pub fate : Fate
+  pub replies : Replies cfg old new (λ reply. take sent reply) fate
+  pub rest : sent < length replies.reply
+
+-- no request was read, and nothing was written
+pub record ReadsOnly (old new : Devices) : Type 0 where
+  pub read : List ℕ
+  pub reads : Consumes old.left new.left read
+  pub more : first_request read ≡ More
+  pub writes : Keeps old.held new.held
+
+-- the same, and no more bytes will come
+pub record Ends (old new : Devices) (fate : Fate) : Type 0 where
+  pub reads_only : ReadsOnly old new
+  pub ended : IsAtEnd new.left
+  pub closes : fate ≡ Close
+
+abbrev pub Did : Configuration → Devices → Devices → Result Fate OnceFault → Type 0
+Did cfg old new (Ok fate) = Replies cfg old new (λ reply. reply) fate ⊎ Ends old new fate
+Did cfg old new (Err ReadFault) = ReadsOnly old new
+Did cfg old new (Err NoMemory) = Keeps old.held new.held
+Did cfg old new (Err (WriteFault sent)) = RepliesInPart cfg old new sent
+Did cfg old new (Err (TooManyTurns sent)) = RepliesInPart cfg old new sent ⊎ ((sent ≡ 0) × ReadsOnly old new)
+
+-- ---- the two halves
+
+-- the machine has read bytes, and no request is whole yet
+pub record HasRead (cfg : Configuration) (s : State) (slot : ℕ) : Type 0 where
+  pub some : 1 ≤ cfg.conn_max
+  pub read : List ℕ
+  pub state : s ≡ waiting_state slot read
+  pub more : first_request read ≡ More
+
+-- what the machine says once it has read these bytes: nothing while no request is whole
+abbrev pub HandsOver : Configuration → ℕ → List ℕ → Result (Option (Vec ℕ Global × Fate)) OnceFault → State → Type 0
+HandsOver cfg slot read (Ok None) s = (first_request read ≡ More) × (s ≡ waiting_state slot read)
+HandsOver cfg slot read (Ok (Some said)) s = (first_request read ≢ More) × Hears cfg read said.0.items said.1
+HandsOver cfg slot read (Err fault) s = Unit {0}
+
+-- bytes were read, and no request is whole yet
+pub record Awaits (old new : Option (List ℕ)) : Type 0 where
+  pub read : List ℕ
+  pub reads : Consumes old new read
+  pub more : first_request read ≡ More
+
+-- a request was read, and is told so
+pub record IsHeard (cfg : Configuration) (old new : Option (List ℕ)) (reply : List ℕ) (fate : Fate) : Type 0 where
+  pub read : List ℕ
+  pub reads : Consumes old new read
+  pub just : IsJustRead read
+  pub hears : Hears cfg read reply fate
+
+-- what was heard, or that the input ended before that
+abbrev pub HearsReply : Configuration → Option (List ℕ) → Option (List ℕ) → Option (Vec ℕ Global × Fate) → Type 0
+HearsReply cfg old new None = Awaits old new × IsAtEnd new
+HearsReply cfg old new (Some said) = IsHeard cfg old new said.0.items said.1
+
+abbrev pub Hearing : Configuration → Option (List ℕ) → Option (List ℕ) → Result Heard OnceFault → Type 0
+Hearing cfg old new (Ok heard) = HearsReply cfg old new heard.reply
+Hearing cfg old new (Err ReadFault) = Awaits old new
+Hearing cfg old new (Err NoMemory) = Unit {0}
+Hearing cfg old new (Err (WriteFault sent)) = ⊥
+Hearing cfg old new (Err (TooManyTurns sent)) = (sent ≡ 0) × Awaits old new
+
+-- a reply was written, or a front of it
+abbrev pub Telling : List ℕ → Option (List ℕ) → Option (List ℕ) → Result Unit OnceFault → Type 0
+Telling reply old new (Ok done) = Appends old new reply
+Telling reply old new (Err ReadFault) = ⊥
+Telling reply old new (Err NoMemory) = ⊥
+Telling reply old new (Err (WriteFault sent)) = (sent < length reply) × Appends old new (take sent reply)
+Telling reply old new (Err (TooManyTurns sent)) = (sent < length reply) × Appends old new (take sent reply)

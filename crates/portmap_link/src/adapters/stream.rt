@@ -1,0 +1,85 @@
+//! A stream of the standard library as a device, which is read and written.
+ghost use Rattle.std.specs.Prelude.{◌≡◌, [], false};
+ghost use Rattle.portmap_link.specs.Adapters.{both_inner, both_pulls, both_puts, both_broken};
+
+use super::{read_once, write_once};
+use crate::{Device, Input, Output, Past, Pull, Put};
+use std::io::{Read, Write};
+
+/// A stream that is read and written as a device. The standard library doesn't say what a read does to the bytes that
+/// were written, nor a write to those that are left, so this device doesn't tell its bytes.
+#[derive(Drop)]
+pub struct Both<S: Read + Write> {
+    inner: S,
+    failed: bool,
+    pulls: Past<Pull>,
+    puts: Past<Put>,
+}
+
+impl<S: Read + Write> Both<S> {
+    /// A device that was asked nothing yet.
+    pub fn new(inner: S) -> Both<S>
+        ensures inner { both_inner result ≡ inner }
+        ensures whole { both_broken result ≡ false }
+        ensures pulls { both_pulls result ≡ [] }
+        ensures puts { both_puts result ≡ [] }
+    {
+        Both {
+            inner,
+            failed: false,
+            pulls: Past::new(),
+            puts: Past::new(),
+        }
+    }
+
+    /// The stream, as the last call left it.
+    pub fn into_inner(self) -> S
+        ensures { result ≡ both_inner self }
+    {
+        let Both {
+            inner,
+            failed: _,
+            pulls: _,
+            puts: _,
+        } = self;
+        inner
+    }
+}
+
+impl<S: Read + Write> Device for Both<S> {
+    ghost use Rattle.std.specs.Prelude.{None};
+
+    ghost left = { λ _. None };
+
+    ghost held = { λ _. None };
+
+    ghost pulls = { both_pulls };
+
+    ghost puts = { both_puts };
+
+    ghost broken = { both_broken };
+}
+
+impl<S: Read + Write> Input for Both<S> {
+    fn pull(&mut self, buffer: &mut [u8]) -> Pull {
+        let answer = read_once(&mut self.inner, &mut self.failed, buffer);
+        self.pulls.note(&answer);
+        answer
+    }
+
+    fn failed(&self) -> bool {
+        self.failed
+    }
+}
+
+impl<S: Read + Write> Output for Both<S> {
+    fn put(&mut self, bytes: &[u8]) -> Put {
+        let answer = write_once(&mut self.inner, &mut self.failed, bytes);
+        self.puts.note(&answer);
+        answer
+    }
+
+    fn failed(&self) -> bool {
+        Input::failed(self)
+    }
+}

@@ -1,0 +1,133 @@
+-- What always holds of a table's names holds after a registration and after a retirement.
+use Rattle.std.proofs.Common.{◌≡◌, ℕ, ◌<◌, ◌≤◌, ◌^◌, Bool, true, false, not, List, [], ◌∷◌, ◌++◌, length, map, get_or, Option, Some, None, refl, sym, ap, suc, arith}
+use Rattle.std.specs.Prelude.{position, remove, is_some, slice_get, nat_le, All, Ok, Err, Result, MatchBool, ◌==◌, ◌&&◌, ◌||◌, if◌then◌else◌}
+use Rattle.std.specs.List.{IsDistinct}
+use Rattle.std.specs.Cmp.Lexicographic.{same_text}
+use Rattle.std.proofs.lemmas.Cmp.{nat_eq_equiv, nat_list_eq_equiv}
+use Rattle.std.proofs.lemmas.Bool.Decides.{nat_tests}
+use Rattle.std.proofs.lemmas.List.{map-append, append-nil, length-append, get_or_default}
+use Rattle.std.proofs.lemmas.List.Edits.{length-remove}
+use Rattle.std.proofs.lemmas.List.Elements.{All-push, All-append, All-take, All-drop}
+use Rattle.std.proofs.lemmas.List.Quantifiers.{position-Some}
+use Rattle.std.proofs.lemmas.Option.{slice_get_within, get_or_from_slice_get}
+use Rattle.portmap_wire.specs.Registration.{Registration}
+use Rattle.portmap_table.specs.declared.row.Row.{Row}
+use Rattle.portmap_table.specs.declared.table.RegFault.{RegFault}
+use Rattle.portmap_table.specs.declared.table.RegFault.TheVariants as fault
+use Rattle.portmap_table.specs.Creation.{IsCreationFor, IsLegalCreation, is_short}
+use Rattle.portmap_table.specs.Rows.{RetiredName, Names, AreKept, same_name, is_active, known_len, owns_name, remembered, retired_row, without_at, registered, old_name, retired_last, retired_at}
+use Rattle.portmap_table.specs.Table.{TableState, offered, is_full_for}
+use Rattle.portmap_table.proofs.Distinct.{NonePasses, none_at, none_found, finds_none, key_is_new, distinct_with, distinct_forward, distinct_back, distinct_without, keys_moved}
+
+-- ---- short names for what is scanned
+
+abbrev pub has_name : List ℕ → Row → Bool
+has_name name row = same_name row.reg.name name
+
+abbrev pub had_name : List ℕ → RetiredName → Bool
+had_name name old = same_name old.name name
+
+abbrev pub name_of : Row → List ℕ
+name_of row = row.reg.name
+
+abbrev pub old_name_of : RetiredName → List ℕ
+old_name_of old = old.name
+
+abbrev slot_of : Row → ℕ
+slot_of row = row.slot
+
+abbrev IsRowKept : Row → Type 0
+IsRowKept row = IsCreationFor row.reg.high row.creation
+
+abbrev IsOldKept : RetiredName → Type 0
+IsOldKept old = (1 ≤ old.creation) × (old.creation < 2 ^ 32)
+
+All-remove : {X : Type 0} (P : X → Type 0) (xs : List X) (at : ℕ) → All P xs → All P (remove xs at)
+All-remove P xs at all = All-append P _ _ (All-take P at xs all) (All-drop P (suc at) xs all)
+
+-- ---- nothing is known
+
+pub kept_empty : (known_max : ℕ) → AreKept known_max (record { active = []; retired = [] })
+unfolding IsDistinct
+kept_empty known_max = record {
+  distinct = tt;
+  few = omega arith;
+  owners = tt;
+  active_creations = λ k d lt. absurd (omega arith);
+  retired_creations = λ k d lt. absurd (omega arith);
+}
+
+-- ---- a name registers
+
+-- what an offer says of the tests before it
+passed : (taken full : Bool) (made c : ℕ) → ◌≡◌ {A = Result ℕ RegFault} (if taken then Err fault.Taken else if full then Err fault.NoRoom else Ok made) (Ok c) → (taken ≡ false) × (full ≡ false)
+passed true full made c e = absurd cc
+passed false true made c e = absurd cc
+passed false false made c e = (refl, refl)
+
+-- a table that is not full for a name that it does not know has room
+has_room : (known_max known : ℕ) (taken old : Bool) → (nat_le known_max known && not (taken || old)) ≡ false → taken ≡ false → old ≡ false → known < known_max
+has_room known_max known taken old e t o = grind (arith, nat_tests)
+
+new_owner : (rows : List Row) (row : Row) (slot : ℕ) → IsDistinct ◌==◌ (map slot_of rows) → is_some (position (λ row. row.slot == slot) rows) ≡ false → row.slot ≡ slot → IsDistinct ◌==◌ (map slot_of (rows ++ row ∷ []))
+new_owner rows row slot d free e =
+    let keys = distinct_with nat_eq_equiv slot (map slot_of rows) [] (key_is_new nat_eq_equiv slot_of slot rows (none_at (λ row. row.slot == slot) rows free)) tt (rw append-nil d) in
+    rw (map-append slot_of rows (row ∷ []), e) (rw append-nil at keys)
+
+kept_with : (known_max c slot : ℕ) (names : Names) (g : Registration) (o : Option ℕ) → AreKept known_max names → is_active g.name names ≡ false → (is_some (retired_row g.name names) ≡ false → known_len names < known_max) → owns_name slot names ≡ false → IsCreationFor g.high c → position (had_name g.name) names.retired ≡ o → AreKept known_max (record { active = names.active ++ record { reg = g; creation = c; slot = slot } ∷ []; retired = without_at o names.retired })
+kept_with known_max c slot names g None k inactive room free legal none =
+    let row : Row = record { reg = g; creation = c; slot = slot } in
+    let past : NonePasses (had_name g.name) names.retired = none_at (had_name g.name) names.retired (ap is_some none) in
+    let few : known_len names < known_max = room (finds_none (had_name g.name) names.retired past) in
+    record {
+      distinct = rw (map-append name_of names.active (row ∷ [])) (distinct_with nat_list_eq_equiv g.name (map name_of names.active) (map old_name_of names.retired) (key_is_new nat_list_eq_equiv name_of g.name names.active (none_found (has_name g.name) names.active inactive)) (key_is_new nat_list_eq_equiv old_name_of g.name names.retired past) k.distinct);
+      few = omega (arith, length-append names.active (row ∷ []));
+      owners = new_owner names.active row slot k.owners free refl;
+      active_creations = All-push IsRowKept names.active row k.active_creations legal;
+      retired_creations = k.retired_creations;
+    }
+kept_with known_max c slot names g (Some at) k inactive room free legal found =
+    let row : Row = record { reg = g; creation = c; slot = slot } in
+    let d : RetiredName = old_name row in
+    let place = position-Some (had_name g.name) names.retired at d found in
+    let lt : at < length names.retired = place.0 in
+    let old : RetiredName = get_or names.retired at d in
+    let same : old.name ≡ g.name = same_text old.name g.name (sym place.1) in
+    let moved = keys_moved old_name_of names.retired at old lt (get_or_default names.retired at d old lt) in
+    record {
+      distinct = rw (map-append name_of names.active (row ∷ []), ← same) (distinct_forward nat_list_eq_equiv old.name (map name_of names.active) (map old_name_of names.retired) (map old_name_of (remove names.retired at)) moved k.distinct);
+      few = omega (arith, length-append names.active (row ∷ []), length-remove names.retired at lt, k.few);
+      owners = new_owner names.active row slot k.owners free refl;
+      active_creations = All-push IsRowKept names.active row k.active_creations legal;
+      retired_creations = All-remove IsOldKept names.retired at k.retired_creations;
+    }
+
+-- a table keeps its facts where it registers what it offered
+pub kept_registered : (t : TableState) (g : Registration) (c slot : ℕ) → AreKept t.known_max t.names → owns_name slot t.names ≡ false → offered t g.name g.high ≡ Ok c → IsLegalCreation g.high (remembered g.name t.names) c → AreKept t.known_max (registered g c slot t.names)
+kept_registered t g c slot k free e legal =
+    let tests = passed (is_active g.name t.names) (is_full_for g.name t) _ c e in
+    kept_with t.known_max c slot t.names g (position (had_name g.name) t.names.retired) k tests.0 (λ unknown. has_room t.known_max (known_len t.names) (is_active g.name t.names) (is_some (retired_row g.name t.names)) tests.1 tests.0 unknown) free legal.range refl
+
+-- ---- a name retires
+
+retired_range : (short : Bool) (c : ℕ) → MatchBool short ((1 ≤ c) × (c ≤ 3)) ((4 ≤ c) × (c < 2 ^ 32)) → (1 ≤ c) × (c < 2 ^ 32)
+retired_range true c h = (h.0, omega arith)
+retired_range false c h = (omega arith, h.1)
+
+kept_last : (known_max : ℕ) (names : Names) (at : ℕ) (o : Option Row) → slice_get names.active at ≡ o → AreKept known_max names → AreKept known_max (retired_last at o names)
+kept_last known_max names at None e k = k
+kept_last known_max names at (Some row) e k =
+    let lt : at < length names.active = slice_get_within names.active at row e in
+    let here : row ≡ get_or names.active at row = sym (get_or_from_slice_get names.active at row row e) in
+    let legal : IsRowKept row = rw (get_or_from_slice_get names.active at row row e) at (k.active_creations at row lt) in
+    record {
+      distinct = rw (map-append old_name_of names.retired (old_name row ∷ [])) (distinct_back nat_list_eq_equiv row.reg.name (map name_of names.active) (map old_name_of names.retired) (map name_of (remove names.active at)) (keys_moved name_of names.active at row lt here) k.distinct);
+      few = omega (arith, length-append names.retired (old_name row ∷ []), length-remove names.active at lt, k.few);
+      owners = distinct_without nat_eq_equiv row.slot (map slot_of names.active) (map slot_of (remove names.active at)) (keys_moved slot_of names.active at row lt here) k.owners;
+      active_creations = All-remove IsRowKept names.active at k.active_creations;
+      retired_creations = All-push IsOldKept names.retired (old_name row) k.retired_creations (retired_range (is_short row.reg.high) row.creation legal);
+    }
+
+pub kept_retired : (known_max : ℕ) (names : Names) (o : Option ℕ) → AreKept known_max names → AreKept known_max (retired_at o names)
+kept_retired known_max names None k = k
+kept_retired known_max names (Some at) k = kept_last known_max names at (slice_get names.active at) refl k

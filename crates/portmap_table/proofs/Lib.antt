@@ -1,0 +1,4 @@
+pub mod Distinct
+pub mod Finding
+pub mod Kept
+pub mod NameLaws

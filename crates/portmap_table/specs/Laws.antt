@@ -1,0 +1,40 @@
+-- What a registration and a retirement do to each name.
+use Rattle.std.specs.Prelude.{◌≡◌, ℕ, false, List, length, take, Option, Some, find, ◌==◌}
+use Rattle.portmap_wire.specs.Registration.{Registration}
+use Rattle.portmap_table.specs.declared.row.Row.{Row}
+use Rattle.portmap_table.specs.Rows.{Names, AreKept, same_name, is_active, active_row, retired_row, registered, retired_of, old_name}
+
+-- the row that a slot owns
+abbrev pub row_of : ℕ → Names → Option Row
+row_of slot names = find (λ row. row.slot == slot) names.active
+
+-- a name that registers is active, with its registration, its creation and its slot
+abbrev pub RegisteredNamesAreActive : Type 0
+RegisteredNamesAreActive = (names : Names) (reg : Registration) (creation slot : ℕ) → is_active reg.name names ≡ false
+    → active_row reg.name (registered reg creation slot names) ≡ Some (record { reg = reg; creation = creation; slot = slot })
+
+-- a name outlives its connection: it is active no more, and its port and its creation are remembered
+abbrev pub NamesOutliveConnections : Type 0
+NamesOutliveConnections = (known_max : ℕ) (names : Names) (slot : ℕ) (row : Row) → AreKept known_max names → row_of slot names ≡ Some row
+    → (is_active row.reg.name (retired_of slot names) ≡ false) × (retired_row row.reg.name (retired_of slot names) ≡ Some (old_name row))
+
+-- what is known of one name is the same in both
+abbrev pub KnowsAlike : List ℕ → Names → Names → Type 0
+KnowsAlike name names names' = (active_row name names' ≡ active_row name names) × (retired_row name names' ≡ retired_row name names)
+
+-- what is known of the other names stays
+abbrev pub OthersStayAtRegistration : Type 0
+OthersStayAtRegistration = (names : Names) (reg : Registration) (creation slot : ℕ) (other : List ℕ) → same_name reg.name other ≡ false
+    → KnowsAlike other names (registered reg creation slot names)
+
+abbrev pub OthersStayAtRetirement : Type 0
+OthersStayAtRetirement = (names : Names) (slot : ℕ) (row : Row) (other : List ℕ) → row_of slot names ≡ Some row → same_name row.reg.name other ≡ false
+    → KnowsAlike other names (retired_of slot names)
+
+-- the newest stand last: those that stood there stay where they are
+abbrev pub RegisteredNamesStandLast : Type 0
+RegisteredNamesStandLast = (names : Names) (reg : Registration) (creation slot : ℕ)
+    → take (length names.active) (registered reg creation slot names).active ≡ names.active
+
+abbrev pub RetiredNamesStandLast : Type 0
+RetiredNamesStandLast = (names : Names) (slot : ℕ) → take (length names.retired) (retired_of slot names).retired ≡ names.retired

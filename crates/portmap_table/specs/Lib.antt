@@ -1,0 +1,4 @@
+pub mod Creation
+pub mod Rows
+pub mod Table
+pub mod Laws

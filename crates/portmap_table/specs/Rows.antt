@@ -1,0 +1,101 @@
+-- The names that a port mapper knows: the active ones, each with its registration, and the retired ones. ERTS User's
+-- Guide, EPMD Protocol: a registration lasts as long as its connection. What is remembered of old names: profile.
+use Rattle.std.specs.Prelude.{ℕ, ◌+◌, ◌≤◌, ◌<◌, ◌^◌, Bool, ◌||◌, List, [], ◌∷◌, ◌++◌, length, map, remove, position, find, Option, Some, None, is_some, option_map, slice_get, ◌==◌, All}
+use Rattle.std.specs.List.{IsDistinct}
+use Rattle.std.specs.Cmp.Lexicographic.{pointwise}
+use Rattle.portmap_wire.specs.Registration.{Registration}
+use Rattle.portmap_table.specs.declared.row.Row.{Row}
+use Rattle.portmap_table.specs.declared.row.Retired.{Retired}
+use Rattle.portmap_table.specs.Creation.{IsCreationFor}
+
+-- an old name, the port that it had, and its last creation
+pub record RetiredName : Type 0 where
+  pub name : List ℕ
+  pub port : ℕ
+  pub creation : ℕ
+
+-- what is lent of an old name
+abbrev pub retired_name : Retired → RetiredName
+retired_name old = record { name = old.name.now; port = old.port; creation = old.creation }
+
+-- the active names in order of registration, and the retired ones in order of retirement
+pub record Names : Type 0 where
+  pub active : List Row
+  pub retired : List RetiredName
+
+abbrev pub no_names : Names
+no_names = record { active = []; retired = [] }
+
+-- ---- looking
+
+-- two names are one, byte for byte
+abbrev pub same_name : List ℕ → List ℕ → Bool
+same_name = pointwise ◌==◌
+
+abbrev pub active_row : List ℕ → Names → Option Row
+active_row name names = find (λ row. same_name row.reg.name name) names.active
+
+abbrev pub is_active : List ℕ → Names → Bool
+is_active name names = is_some (active_row name names)
+
+abbrev pub retired_row : List ℕ → Names → Option RetiredName
+retired_row name names = find (λ old. same_name old.name name) names.retired
+
+-- a name is known where it is active or retired
+abbrev pub is_known : List ℕ → Names → Bool
+is_known name names = is_active name names || is_some (retired_row name names)
+
+abbrev pub known_len : Names → ℕ
+known_len names = length names.active + length names.retired
+
+-- the creation that is remembered for a name
+abbrev pub remembered : List ℕ → Names → Option ℕ
+remembered name names = option_map (λ old. old.creation) (retired_row name names)
+
+-- the slot that owns a name
+abbrev pub owner_of : List ℕ → Names → Option ℕ
+owner_of name names = option_map (λ row. row.slot) (active_row name names)
+
+abbrev pub owns_name : ℕ → Names → Bool
+owns_name slot names = is_some (position (λ row. row.slot == slot) names.active)
+
+-- ---- changing
+
+abbrev pub without_at : {X : Type 0} → Option ℕ → List X → List X
+without_at None xs = xs
+without_at (Some at) xs = remove xs at
+
+-- a name that registers is the last active one, and no retired one any more
+abbrev pub registered : Registration → ℕ → ℕ → Names → Names
+registered reg creation slot names = record {
+  active = names.active ++ record { reg = reg; creation = creation; slot = slot } ∷ [];
+  retired = without_at (position (λ old. same_name old.name reg.name) names.retired) names.retired;
+}
+
+abbrev pub old_name : Row → RetiredName
+old_name row = record { name = row.reg.name; port = row.reg.port; creation = row.creation }
+
+abbrev pub retired_last : ℕ → Option Row → Names → Names
+retired_last at None names = names
+retired_last at (Some row) names = record { active = remove names.active at; retired = names.retired ++ old_name row ∷ [] }
+
+abbrev pub retired_at : Option ℕ → Names → Names
+retired_at None names = names
+retired_at (Some at) names = retired_last at (slice_get names.active at) names
+
+-- the name that a slot owns is active no more and goes last into the retired list
+abbrev pub retired_of : ℕ → Names → Names
+retired_of slot names = retired_at (position (λ row. row.slot == slot) names.active) names
+
+-- ---- what always holds
+
+abbrev pub known_names : Names → List (List ℕ)
+known_names names = map (λ row. row.reg.name) names.active ++ map (λ old. old.name) names.retired
+
+-- no name is known twice, none more than the most are known, no slot owns two, and creations are in their range
+pub record AreKept (known_max : ℕ) (names : Names) : Type 0 where
+  pub distinct : IsDistinct same_name (known_names names)
+  pub few : known_len names ≤ known_max
+  pub owners : IsDistinct ◌==◌ (map (λ row. row.slot) names.active)
+  pub active_creations : All (λ row. IsCreationFor row.reg.high row.creation) names.active
+  pub retired_creations : All (λ old. (1 ≤ old.creation) × (old.creation < 2 ^ 32)) names.retired

@@ -1,0 +1,45 @@
+-- A table of names with its limit and the counter from which wide creations are taken.
+use Rattle.std.specs.Prelude.{◌≡◌, ℕ, ◌&&◌, nat_le, Bool, not, List, Result, Ok, Err, max, if◌then◌else◌}
+use Rattle.portmap_wire.specs.Registration.{Registration}
+use Rattle.portmap_table.specs.Creation.{choice, counter_after}
+use Rattle.portmap_table.specs.Rows.{Names, no_names, is_active, is_known, known_len, remembered, registered}
+use Rattle.portmap_table.specs.declared.table.RegFault.{RegFault}
+use Rattle.portmap_table.specs.declared.table.RegFault.TheVariants as fault
+
+pub record TableState : Type 0 where
+  pub names : Names
+  pub known_max : ℕ
+  pub counter : ℕ
+
+abbrev pub new_table : ℕ → ℕ → TableState
+new_table known_max first = record { names = no_names; known_max = known_max; counter = max first 4 }
+
+-- the table with these names in place of its own
+abbrev pub with_names : TableState → Names → TableState
+with_names t names = record { names = names; known_max = t.known_max; counter = t.counter }
+
+-- as many names are known as may be, and this is none of them
+abbrev pub is_full_for : List ℕ → TableState → Bool
+is_full_for name t = nat_le t.known_max (known_len t.names) && not (is_known name t.names)
+
+-- the creation that a name would get, or why it would get none
+abbrev pub offered : TableState → List ℕ → ℕ → Result ℕ RegFault
+offered t name high =
+    if is_active name t.names then Err fault.Taken
+    else if is_full_for name t then Err fault.NoRoom
+    else Ok (choice t.counter high (remembered name t.names))
+
+-- the table after a registration with this creation
+abbrev pub with_registration : TableState → Registration → ℕ → ℕ → TableState
+with_registration t reg slot creation = record {
+  names = registered reg creation slot t.names;
+  known_max = t.known_max;
+  counter = counter_after t.counter reg.high creation;
+}
+
+-- what was answered is what the table offers, unless memory ran out
+abbrev pub GivesOffer : Result ℕ RegFault → Result ℕ RegFault → Type 0
+GivesOffer (Ok c) said = said ≡ Ok c
+GivesOffer (Err fault.NoMemory) said = Unit {0}
+GivesOffer (Err fault.Taken) said = said ≡ Err fault.Taken
+GivesOffer (Err fault.NoRoom) said = said ≡ Err fault.NoRoom

@@ -1,0 +1,68 @@
+//! Which creation a node is given.
+ghost use Rattle.std.specs.Prelude.{◌≡◌};
+ghost use Rattle.portmap_table.specs.Creation.{IsCounter, IsLegalCreation, IsCreationFor, ChoiceIsLegal, choice, counter_after, short_choice, successor, wide_choice};
+
+/// The least number of the counter: the short creations are below it.
+pub(crate) const COUNTER_LEAST: u32 = 4;
+
+// A node whose highest version is below this one is given a short creation.
+const WIDE_VERSION: u16 = 6;
+
+fn successor(counter: u32) -> u32
+    ensures { result ≡ successor counter }
+{
+    if counter == u32::MAX {
+        COUNTER_LEAST
+    } else {
+        counter + 1
+    }
+}
+
+fn wide_choice(counter: u32, last: Option<u32>) -> u32
+    ensures { result ≡ wide_choice counter last }
+{
+    match last {
+        Some(last) if last == counter => successor(counter),
+        _ => counter,
+    }
+}
+
+fn short_choice(last: Option<u32>) -> u32
+    ensures { result ≡ short_choice last }
+{
+    match last {
+        Some(last) if 1 <= last && last <= 3 => last % 3 + 1,
+        _ => 1,
+    }
+}
+
+/// A creation for a node of this highest version, whose name had the last one.
+pub(crate) fn choice(counter: u32, high: u16, last: Option<u32>) -> u32
+    requires { IsCounter counter }
+    ensures exact { result ≡ choice counter high last }
+    ensures legal { IsLegalCreation high last result }
+{
+    if high < WIDE_VERSION {
+        short_choice(last)
+    } else {
+        wide_choice(counter, last)
+    }
+}
+
+/// The counter once a node of this highest version was given a creation.
+pub(crate) fn counter_after(counter: u32, high: u16, taken: u32) -> u32
+    requires counter { IsCounter counter }
+    requires taken { IsCreationFor high taken }
+    ensures exact { result ≡ counter_after counter high taken }
+    ensures counter { IsCounter result }
+{
+    if high < WIDE_VERSION {
+        return counter;
+    }
+    successor(taken)
+}
+
+/// The choice is always legal, so there is always a legal creation.
+pub fn choice_is_legal()
+    ensures { ChoiceIsLegal }
+{}

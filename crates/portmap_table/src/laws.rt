@@ -1,0 +1,21 @@
+//! What registering and retiring do to each name.
+ghost use Rattle.portmap_table.specs.Laws.{NamesOutliveConnections, OthersStayAtRegistration, OthersStayAtRetirement, RegisteredNamesAreActive, RegisteredNamesStandLast, RetiredNamesStandLast};
+
+/// A name that registers is active. When its connection is lost it is so no more, and its port and its creation are
+/// remembered.
+pub fn names_outlive_connections()
+    ensures registered { RegisteredNamesAreActive }
+    ensures retired { NamesOutliveConnections }
+{}
+
+/// What is known of a name stays as other names register and retire.
+pub fn other_names_stay()
+    ensures registered { OthersStayAtRegistration }
+    ensures retired { OthersStayAtRetirement }
+{}
+
+/// A name that registers stands behind each active one, and a name that retires behind each retired one.
+pub fn newest_names_stand_last()
+    ensures registered { RegisteredNamesStandLast }
+    ensures retired { RetiredNamesStandLast }
+{}

@@ -1,0 +1,13 @@
+//! The names that a port mapper knows, active and retired, and the creations that it gives.
+#![tactic(auto)]
+
+mod creation;
+mod laws;
+mod place;
+mod row;
+mod table;
+
+pub use creation::choice_is_legal;
+pub use laws::{names_outlive_connections, newest_names_stand_last, other_names_stay};
+pub use row::{Retired, Row};
+pub use table::{RegFault, Table};
