@@ -1,10 +1,15 @@
 //! Devices over memory and over readers and writers that fail, and what flushes and pulls make of them.
 ghost use Rattle.std.specs.Prelude.{◌≡◌, ◌≤◌, true, IfOk};
 
-use crate::{Both, Device, Flush, Input, Outbox, Output, Past, Pull, Put, Reading, Writing, send};
+use crate::{
+    Both, Device, Flush, Input, OnceFault, Outbox, Output, Past, Pull, Put, Reading, Writing, once,
+    send,
+};
+use portmap_core::{Config, Fate};
 use std::alloc::Global;
 use std::io;
 use std::io::{ErrorKind, Read, Write};
+use std::test::Fail;
 
 // Which calls of a device answer otherwise, counted from 0, and how many bytes the others move at most.
 #[derive(Clone, Copy)]
@@ -315,4 +320,85 @@ fn bytes_go_out_in_the_order_of_their_pushes(rt: HostRuntime) {
     assert_eq!(rt; outbox.flush(&mut tape), Flush::Empty);
     assert_eq!(rt; send(&mut tape, b"!"), (1, Flush::Empty));
     assert_eq!(rt; tape.sink.as_slice(), b"abcdefghi!".as_slice());
+}
+
+// One local connection over two devices, and what the second one got.
+fn served(
+    alloc: Global,
+    sent: &[u8],
+    input: Plan,
+    output: Plan,
+    turns: u64,
+) -> Result<(Result<Fate, OnceFault>, Vec<u8>), Fail> {
+    let config = Config::new(4369, false, 1024, 4096)?;
+    let mut input = Tape::new(alloc, sent, input);
+    let mut output = Tape::new(alloc, &[], output);
+    let ended = once(alloc, config, 4, &mut input, &mut output, turns);
+    Ok((ended, output.sink))
+}
+
+#[test]
+fn one_connection_makes_no_more_turns_than_it_has(rt: HostRuntime) -> Result<(), Fail> {
+    let whole = Plan {
+        most: 512,
+        ..STEADY
+    };
+    let names: &[u8] = &[0, 1, 0x6E];
+    let list: &[u8] = &[0, 0, 0x11, 0x11];
+    let none: &[u8] = &[];
+    let spent = OnceFault::TooManyTurns { sent: 0 };
+    for (sent, turns, ended, written) in [
+        (names, 2, Ok(Fate::Close), list),
+        (names, 1, Err(spent), none),
+        (names, 0, Err(spent), none),
+        (none, 1, Ok(Fate::Close), none),
+        (none, 0, Err(spent), none),
+        (&[0], 2, Ok(Fate::Close), none),
+    ] {
+        let (was, sink) = served(rt.alloc(), sent, whole, whole, turns)?;
+        assert_eq!(rt; was, ended, "with {turns} turns");
+        assert_eq!(rt; sink.as_slice(), written, "with {turns} turns");
+    }
+    Ok(())
+}
+
+#[test]
+fn one_connection_tells_how_much_was_written(rt: HostRuntime) -> Result<(), Fail> {
+    let names: &[u8] = &[0, 1, 0x6E];
+    let list: &[u8] = &[0, 0, 0x11, 0x11];
+    let single = Plan { most: 1, ..STEADY };
+    for call in 0..3 {
+        let input = Plan {
+            fault: Some(call),
+            ..single
+        };
+        let (was, sink) = served(rt.alloc(), names, input, single, 100)?;
+        assert_eq!(rt; was, Err(OnceFault::ReadFault), "at pull {call}");
+        assert_eq!(rt; sink.is_empty(), true);
+    }
+    for call in 0..4 {
+        let output = Plan {
+            fault: Some(call),
+            ..single
+        };
+        let (was, sink) = served(rt.alloc(), names, single, output, 100)?;
+        let sent = call as u64;
+        assert_eq!(rt; was, Err(OnceFault::WriteFault { sent }), "at put {call}");
+        assert_eq!(rt; sink.as_slice(), &list[..call]);
+        let (was, sink) = served(rt.alloc(), names, single, single, 3 + sent)?;
+        assert_eq!(rt;
+            was,
+            Err(OnceFault::TooManyTurns { sent }),
+            "after {call} puts"
+        );
+        assert_eq!(rt; sink.as_slice(), &list[..call]);
+    }
+    let slow = Plan {
+        later: &[0, 2],
+        ..single
+    };
+    let (was, sink) = served(rt.alloc(), names, slow, slow, 11)?;
+    assert_eq!(rt; was, Ok(Fate::Close));
+    assert_eq!(rt; sink.as_slice(), list);
+    Ok(())
 }
