@@ -15,8 +15,8 @@ use Rattle.portmap_table.specs.declared.row.Row.{Row}
 use Rattle.portmap_table.specs.declared.table.RegFault.{RegFault}
 use Rattle.portmap_table.specs.declared.table.RegFault.TheVariants as fault
 use Rattle.portmap_table.specs.Creation.{IsCreationFor, IsLegalCreation, is_short}
-use Rattle.portmap_table.specs.Rows.{RetiredName, Names, AreKept, same_name, is_active, known_len, owns_name, remembered, retired_row, without_at, registered, old_name, retired_last, retired_at}
-use Rattle.portmap_table.specs.Table.{TableState, offered, is_full_for}
+use Rattle.portmap_table.specs.Rows.{is_full_for, RetiredName, Names, AreKept, same_name, is_active, known_len, owns_name, remembered, retired_row, without_at, registered, old_name, retired_last, retired_at}
+use Rattle.portmap_table.specs.Table.{TableState, offered}
 use Rattle.portmap_table.proofs.Distinct.{NonePasses, none_at, none_found, finds_none, key_is_new, distinct_with, distinct_forward, distinct_back, distinct_without, keys_moved}
 
 -- ---- short names for what is scanned
@@ -105,7 +105,7 @@ kept_with known_max c slot names g (Some at) k inactive room free legal found =
 -- a table keeps its facts where it registers what it offered
 pub kept_registered : (t : TableState) (g : Registration) (c slot : ℕ) → AreKept t.known_max t.names → owns_name slot t.names ≡ false → offered t g.name g.high ≡ Ok c → IsLegalCreation g.high (remembered g.name t.names) c → AreKept t.known_max (registered g c slot t.names)
 kept_registered t g c slot k free e legal =
-    let tests = passed (is_active g.name t.names) (is_full_for g.name t) _ c e in
+    let tests = passed (is_active g.name t.names) (is_full_for t.known_max g.name t.names) _ c e in
     kept_with t.known_max c slot t.names g (position (had_name g.name) t.names.retired) k tests.0 (λ unknown. has_room t.known_max (known_len t.names) (is_active g.name t.names) (is_some (retired_row g.name t.names)) tests.1 tests.0 unknown) free legal.range refl
 
 -- ---- a name retires

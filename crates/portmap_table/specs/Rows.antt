@@ -1,6 +1,6 @@
 -- The names that a port mapper knows: the active ones, each with its registration, and the retired ones. ERTS User's
 -- Guide, EPMD Protocol: a registration lasts as long as its connection. What is remembered of old names: profile.
-use Rattle.std.specs.Prelude.{ℕ, ◌+◌, ◌≤◌, ◌<◌, ◌^◌, Bool, ◌||◌, List, [], ◌∷◌, ◌++◌, length, map, remove, position, find, Option, Some, None, is_some, option_map, slice_get, ◌==◌, All}
+use Rattle.std.specs.Prelude.{ℕ, ◌+◌, ◌≤◌, ◌<◌, ◌^◌, Bool, not, nat_le, ◌&&◌, ◌||◌, List, [], ◌∷◌, ◌++◌, length, map, remove, position, find, Option, Some, None, is_some, option_map, slice_get, ◌==◌, All}
 use Rattle.std.specs.List.{IsDistinct}
 use Rattle.std.specs.Cmp.Lexicographic.{pointwise}
 use Rattle.portmap_wire.specs.Registration.{Registration}
@@ -47,6 +47,10 @@ is_known name names = is_active name names || is_some (retired_row name names)
 
 abbrev pub known_len : Names → ℕ
 known_len names = length names.active + length names.retired
+
+-- as many names are known as may be, and this is none of them
+abbrev pub is_full_for : ℕ → List ℕ → Names → Bool
+is_full_for known_max name names = nat_le known_max (known_len names) && not (is_known name names)
 
 -- the creation that is remembered for a name
 abbrev pub remembered : List ℕ → Names → Option ℕ

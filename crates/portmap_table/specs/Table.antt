@@ -1,8 +1,8 @@
 -- A table of names with its limit and the counter from which wide creations are taken.
-use Rattle.std.specs.Prelude.{◌≡◌, ℕ, ◌&&◌, nat_le, Bool, not, List, Result, Ok, Err, max, if◌then◌else◌}
+use Rattle.std.specs.Prelude.{◌≡◌, ℕ, List, Result, Ok, Err, max, if◌then◌else◌}
 use Rattle.portmap_wire.specs.Registration.{Registration}
 use Rattle.portmap_table.specs.Creation.{choice, counter_after}
-use Rattle.portmap_table.specs.Rows.{Names, no_names, is_active, is_known, known_len, remembered, registered}
+use Rattle.portmap_table.specs.Rows.{Names, no_names, is_active, is_full_for, remembered, registered}
 use Rattle.portmap_table.specs.declared.table.RegFault.{RegFault}
 use Rattle.portmap_table.specs.declared.table.RegFault.TheVariants as fault
 
@@ -18,15 +18,11 @@ new_table known_max first = record { names = no_names; known_max = known_max; co
 abbrev pub with_names : TableState → Names → TableState
 with_names t names = record { names = names; known_max = t.known_max; counter = t.counter }
 
--- as many names are known as may be, and this is none of them
-abbrev pub is_full_for : List ℕ → TableState → Bool
-is_full_for name t = nat_le t.known_max (known_len t.names) && not (is_known name t.names)
-
 -- the creation that a name would get, or why it would get none
 abbrev pub offered : TableState → List ℕ → ℕ → Result ℕ RegFault
 offered t name high =
     if is_active name t.names then Err fault.Taken
-    else if is_full_for name t then Err fault.NoRoom
+    else if is_full_for t.known_max name t.names then Err fault.NoRoom
     else Ok (choice t.counter high (remembered name t.names))
 
 -- the table after a registration with this creation

@@ -1,8 +1,8 @@
 //! The table of names.
 ghost use Rattle.std.specs.Prelude.{◌≡◌, false, length, slice_get, is_some, option_copied, option_map, Ok, Err, Some, IfOk, OnOk, OnErr, IsOk, IfSome, position, remove, [], ◌∷◌, ◌++◌, nat_le, ◌+◌, ◌^◌, ◌<◌, ◌≤◌, vec_len, vec_capacity};
 ghost use Rattle.portmap_table.specs.Creation.{IsCounter, IsLegalCreation};
-ghost use Rattle.portmap_table.specs.Rows.{AreKept, active_row, is_active, retired_row, owner_of, owns_name, remembered, known_len, retired_at, retired_name, retired_of, same_name, without_at};
-ghost use Rattle.portmap_table.specs.Table.{GivesOffer, is_full_for, new_table, offered, with_names, with_registration};
+ghost use Rattle.portmap_table.specs.Rows.{AreKept, is_full_for, active_row, is_active, retired_row, owner_of, owns_name, remembered, known_len, retired_at, retired_name, retired_of, same_name, without_at};
+ghost use Rattle.portmap_table.specs.Table.{GivesOffer, new_table, offered, with_names, with_registration};
 
 use crate::creation::{COUNTER_LEAST, choice, counter_after};
 use crate::place::{active_row, forget, last_creation, slot_place};
@@ -224,7 +224,7 @@ impl Table {
 
     // The same, where this name is none of them.
     fn is_full_for(&self, name: &Name) -> bool
-        ensures { result ≡ is_full_for name.now self.now }
+        ensures { result ≡ is_full_for self.now.known_max name.now self.now.names }
     {
         self.is_full() && !self.is_active(name) && !self.is_retired(name)
     }
