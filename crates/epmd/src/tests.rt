@@ -3,6 +3,11 @@ use crate::actions::do_once;
 use portmap_link::{Reading, Writing};
 use std::test::Fail;
 
+/// ALIVE2 of the name `a`, port 5000, a normal node that speaks versions 5 and 6.
+const ALIVE: &[u8] = &[
+    0, 0x0E, 0x78, 0x13, 0x88, 0x4D, 0, 0, 6, 0, 5, 0, 1, 0x61, 0, 0,
+];
+
 #[test]
 fn one_request_is_answered(rt: HostRuntime) -> Result<(), Fail> {
     let alloc = rt.alloc();
@@ -15,6 +20,11 @@ fn one_request_is_answered(rt: HostRuntime) -> Result<(), Fail> {
         (&[][..], none),
         (&[0, 0][..], none),
         (&[0, 2, 0x6E, 0][..], none),
+        (&[0, 1, 0x6B][..], b"OK".as_slice()),
+        (&[0, 1, 0x64][..], list),
+        (&[0, 2, 0x7A, 0x61][..], &[0x77, 1]),
+        (&[0, 2, 0x73, 0x61][..], none),
+        (ALIVE, &[0x76, 0, 0, 0, 0, 4]),
     ] {
         let mut input = Reading::new(sent);
         let mut output = Writing::new(Vec::new(alloc));

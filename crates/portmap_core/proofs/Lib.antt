@@ -1,3 +1,10 @@
+pub mod Answering
+pub mod Determined
+pub mod Runs
+pub mod Lines
+pub mod Owned
+pub mod PlainLaws
 pub mod Slots
 pub mod Steps
+pub mod Traces
 pub mod Hearing

@@ -47,16 +47,16 @@ same : (m n : Connections) → ((q : ℕ) → map.get m q ≡ map.get n q) → m
 same m n h = map.same_map nat_cmp_total nat_cmp-IsAntisymmetric m n h
 
 -- what insert and remove leave at a key
-put_same : (m : Connections) (k q : ℕ) (connection : Connection) → q ≡ k → map.get (map.insert m k connection) q ≡ Some connection
+pub put_same : (m : Connections) (k q : ℕ) (connection : Connection) → q ≡ k → map.get (map.insert m k connection) q ≡ Some connection
 put_same m k q connection e = map.get-insert nat_cmp_total m k connection q ∙ ap (λ (b : Bool). cond b (Some connection) (map.get m q)) (ap (λ (x : ℕ). eq_by_cmp nat_cmp x k) e ∙ same_key k)
 
-put_other : (m : Connections) (k q : ℕ) (connection : Connection) → q ≢ k → map.get (map.insert m k connection) q ≡ map.get m q
+pub put_other : (m : Connections) (k q : ℕ) (connection : Connection) → q ≢ k → map.get (map.insert m k connection) q ≡ map.get m q
 put_other m k q connection ne = map.get-insert nat_cmp_total m k connection q ∙ ap (λ (b : Bool). cond b (Some connection) (map.get m q)) (other_key q k ne)
 
-cut_same : (m : Connections) (k q : ℕ) → q ≡ k → map.get (map.remove m k) q ≡ None
+pub cut_same : (m : Connections) (k q : ℕ) → q ≡ k → map.get (map.remove m k) q ≡ None
 cut_same m k q e = map.get-remove nat_cmp_total m k q ∙ ap (λ (b : Bool). cond b None (map.get m q)) (ap (λ (x : ℕ). eq_by_cmp nat_cmp x k) e ∙ same_key k)
 
-cut_other : (m : Connections) (k q : ℕ) → q ≢ k → map.get (map.remove m k) q ≡ map.get m q
+pub cut_other : (m : Connections) (k q : ℕ) → q ≢ k → map.get (map.remove m k) q ≡ map.get m q
 cut_other m k q ne = map.get-remove nat_cmp_total m k q ∙ ap (λ (b : Bool). cond b None (map.get m q)) (other_key q k ne)
 
 pub conns-set : (places : List (Option Connection)) (k : ℕ) (connection : Connection) → k < length places → connections_of (set places k (Some connection)) ≡ map.insert (connections_of places) k connection
@@ -126,6 +126,19 @@ insert_again m k a b = same _ _ (λ q.
     elim (cases_eq q k) [
       | inl e ↦ put_same (map.insert m k a) k q b e ∙ sym (put_same m k q b e)
       | inr ne ↦ put_other (map.insert m k a) k q b ne ∙ put_other m k q a ne ∙ sym (put_other m k q b ne)
+    ])
+
+-- also with a write at any key between
+pub insert_past : (m : Connections) (k j : ℕ) (a b c : Connection) → map.insert (map.insert (map.insert m k a) j b) k c ≡ map.insert (map.insert m j b) k c
+insert_past m k j a b c = same _ _ (λ q.
+    elim (cases_eq q k) [
+      | inl e ↦ put_same (map.insert (map.insert m k a) j b) k q c e ∙ sym (put_same (map.insert m j b) k q c e)
+      | inr ne ↦
+          let others : map.get (map.insert (map.insert m k a) j b) q ≡ map.get (map.insert m j b) q = elim (cases_eq q j) [
+            | inl e ↦ put_same (map.insert m k a) j q b e ∙ sym (put_same m j q b e)
+            | inr differs ↦ put_other (map.insert m k a) j q b differs ∙ put_other m k q a ne ∙ sym (put_other m j q b differs)
+          ] in
+          put_other (map.insert (map.insert m k a) j b) k q c ne ∙ others ∙ sym (put_other (map.insert m j b) k q c ne)
     ])
 
 -- to write what is there changes nothing

@@ -1,9 +1,13 @@
 pub mod Config
 pub mod Connections
 pub mod State
+pub mod Plain
 pub mod Serving
 pub mod Next
 pub mod Step
 pub mod Run
 pub mod Refusal
 pub mod Waiting
+pub mod Owned
+pub mod Locality
+pub mod Laws

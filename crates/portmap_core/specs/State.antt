@@ -1,7 +1,9 @@
 -- The state of the port mapper's machine.
-use Rattle.std.specs.Prelude.{◌≡◌, ℕ, List, Option, Some, None, refl}
-use Rattle.std.specs.Coded.{Coded, code_by, coded×, coded_ℕ}
+use Rattle.std.specs.Prelude.{ℕ, Bool, false, List, Option, Some, None, refl}
+use Rattle.std.specs.Coded.{Coded, code_by, coded×, coded_list, coded_ℕ, coded_bool}
 use Rattle.std.specs.FinMap as map
+use Rattle.portmap_table.specs.Rows.{Names, RetiredName, no_names}
+use Rattle.portmap_table.specs.declared.row.Row.{Row}
 use Rattle.portmap_core.specs.declared.session.Connection.{Connection}
 use Rattle.portmap_core.specs.declared.session.Stage.{Stage}
 use Rattle.portmap_core.specs.declared.session.Stage.TheVariants as stage
@@ -10,16 +12,19 @@ use Rattle.portmap_core.specs.declared.session.Phase.TheVariants as phase
 use Rattle.portmap_core.specs.Config.{Configuration}
 use Rattle.portmap_core.specs.Connections.{Connections}
 
+-- the active and the retired names, the open connections by slot, and whether the port mapper has ended
 pub record State : Type 0 where
+  pub names : Names
   pub conns : Connections
+  pub halted : Bool
 
--- nothing is open
+-- nothing is known, nothing is open
 abbrev pub empty_state : State
-empty_state = record { conns = map.empty }
+empty_state = record { names = no_names; conns = map.empty; halted = false }
 
 -- the state with this connection at a slot
 abbrev pub with_connection : State → ℕ → Connection → State
-with_connection s slot connection = record { conns = map.insert s.conns slot connection }
+with_connection s slot connection = record { names = s.names; conns = map.insert s.conns slot connection; halted = s.halted }
 
 -- the phase of a slot, where it is open
 abbrev pub phase_of_stage : Stage → Phase
@@ -34,11 +39,22 @@ phase_of_connection (Some connection) = Some (phase_of_stage connection.stage)
 abbrev pub phase_at : State → ℕ → Option Phase
 phase_at s slot = phase_of_connection (map.get s.conns slot)
 
+-- what is known of names, as codes by which values are told apart
+abbrev pub retired_code : Coded RetiredName
+retired_code =
+    code_by (List ℕ × (ℕ × ℕ)) (coded× (coded_list coded_ℕ) (coded× coded_ℕ coded_ℕ)) (λ old. (old.name, (old.port, old.creation))) (λ p. record { name = p.0; port = p.1.0; creation = p.1.1 }) (λ _. refl)
+
+abbrev pub names_code : Coded Row → Coded Names
+names_code row =
+    code_by (List Row × List RetiredName) (coded× (coded_list row) (coded_list retired_code)) (λ names. (names.active, names.retired)) (λ p. record { active = p.0; retired = p.1 }) (λ _. refl)
+
 -- the machine: its state under its configuration
 pub record Machine : Type 0 where
   pub config : Configuration
   pub state : State
 
-abbrev pub machine_code : Coded Configuration → Coded Connection → Coded Machine
-machine_code config connection =
-    code_by (Configuration × Connections) (coded× config (map.code coded_ℕ connection)) (λ m. (m.config, m.state.conns)) (λ p. record { config = p.0; state = record { conns = p.1 } }) (λ _. refl)
+abbrev pub machine_code : Coded Configuration → Coded Names → Coded Connection → Coded Machine
+machine_code config names connection =
+    code_by (Configuration × (Names × (Connections × Bool))) (coded× config (coded× names (coded× (map.code coded_ℕ connection) coded_bool)))
+    (λ m. (m.config, (m.state.names, (m.state.conns, m.state.halted))))
+    (λ p. record { config = p.0; state = record { names = p.1.0; conns = p.1.1.0; halted = p.1.1.1 } }) (λ _. refl)

@@ -3,14 +3,25 @@
 
 mod config;
 mod event;
+mod laws;
+mod locality;
 mod machine;
 mod serve;
 mod session;
+mod state;
 
 pub use config::{Config, ConfigFault};
 pub use event::{Answer, Event, Fate, Refusal};
+pub use laws::{
+    entries_determine, malformed_changes_no_name, names_belong_to_connections, steps_keep_owned,
+    written_is_whole,
+};
+pub use locality::{Ip, is_local};
 pub use machine::Core;
 pub use session::Phase;
+pub use state::State;
 
+#[cfg(test)]
+mod large_values;
 #[cfg(test)]
 mod tests;

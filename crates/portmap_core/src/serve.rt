@@ -1,12 +1,21 @@
-//! What a waiting connection is told, as a function over its parts.
-ghost use Rattle.std.specs.Prelude.{◌≡◌, IfOk, IfErr};
-ghost use Rattle.portmap_core.specs.Next.{IsServed, IsTold};
+//! What a waiting connection is told, and what becomes of the names, as functions over their parts.
+ghost use Rattle.std.specs.Prelude.{◌≡◌, ◌++◌, ℕ, Bool, false, None, IfOk, IfErr, OnErr, map as list_map};
+ghost use Rattle.std.specs.List.{flat_map};
+ghost use Rattle.portmap_wire.specs.declared.request.Request.TheVariants.{Port, Names, Dump, Kill, Stop, Alive};
+ghost use Rattle.portmap_wire.specs.List.{names_reply, dump_line, dump_reply};
+ghost use Rattle.portmap_table.specs.Rows.{owns_name};
+ghost use Rattle.portmap_core.specs.Serving.{names_line_of, active_line, retired_line, dump_lines};
+ghost use Rattle.portmap_core.specs.Config.{Configuration};
+ghost use Rattle.portmap_core.specs.Next.{IsAnswered, IsReply, IsServed, IsTold};
 
 use crate::config::Config;
 use crate::event::Fate;
 use crate::session::Stage;
 use portmap_feed::{Feed, Seen};
-use portmap_wire::{Malformed, NoMemory, Request, read_request, write_names};
+use portmap_table::{RegFault, Table};
+use portmap_wire::{
+    ListReply, Malformed, Name, NoMemory, Reg, Request, read_request, write_alive, write_port2,
+};
 use std::alloc::Global;
 
 /// The stage that comes next, with the reply and the fate that go with it.
@@ -15,28 +24,230 @@ pub(crate) struct Next {
     pub(crate) stage: Stage,
     pub(crate) reply: Vec<u8>,
     pub(crate) fate: Fate,
+    /// The slot of another connection, which owns its name no longer.
+    pub(crate) stopped: Option<u64>,
 }
 
 /// A reply, and a close.
 fn replied(reply: Vec<u8>) -> Next
-    ensures { result ≡ record { stage = Stage.Done; reply = reply; fate = Fate.Close } }
+    ensures { IsReply result reply.items }
 {
     Next {
         stage: Stage::Done,
         reply,
         fate: Fate::Close,
+        stopped: None,
+    }
+}
+
+/// A reply that is one word.
+fn word(alloc: Global, bytes: &[u8]) -> Result<Vec<u8>, NoMemory>
+    ensures { IfOk result (λ v. v.items ≡ bytes.now) }
+{
+    Vec::from_slice(alloc, bytes).map_err(|_| NoMemory)
+}
+
+/// ALIVE2_REQ. The reply is written first, so that for want of memory nothing is changed.
+fn alive(
+    alloc: Global,
+    config: &Config,
+    table: &mut Table,
+    local: bool,
+    slot: u64,
+    reg: Reg,
+) -> Result<Next, NoMemory>
+    requires free { owns_name slot table.old.names ≡ false }
+    requires limit { table.old.known_max ≡ config.now.known_max }
+    ensures ok { IfOk result (λ next. IsAnswered config.now table.old.names local slot (Alive reg) next table.new.names) }
+    ensures limit { table.new.known_max ≡ table.old.known_max }
+    ensures err { OnErr result (table.new ≡ table.old) }
+{
+    if !local {
+        return Ok(replied(Vec::new(alloc)));
+    }
+    match table.offer(&reg.name, reg.high) {
+        Ok(creation) => {
+            let reply = write_alive(alloc, reg.high, 0, creation)?;
+            match table.register(reg, slot) {
+                Ok(_) => Ok(Next {
+                    stage: Stage::Holding,
+                    reply,
+                    fate: Fate::Stay,
+                    stopped: None,
+                }),
+                Err(_) => Err(NoMemory),
+            }
+        }
+        Err(RegFault::Taken) => Ok(replied(write_alive(alloc, reg.high, 1, 0)?)),
+        Err(RegFault::NoRoom) => Ok(replied(write_alive(alloc, reg.high, 2, 0)?)),
+        Err(RegFault::NoMemory) => Err(NoMemory),
+    }
+}
+
+/// PORT_PLEASE2_REQ.
+fn port(alloc: Global, table: &Table, name: &Name) -> Result<Next, NoMemory>
+    ensures { IfOk result (λ next. (cfg : Configuration) (local : Bool) (slot : ℕ) → IsAnswered cfg table.now.names local slot (Port name.now) next table.now.names) }
+{
+    let found = table.find(name).map(|row| &row.reg);
+    Ok(replied(write_port2(alloc, found)?))
+}
+
+/// NAMES_REQ: a line for each active name, in order of registration.
+fn names_text(alloc: Global, port: u16, table: &Table) -> Result<Vec<u8>, NoMemory>
+    ensures { IfOk result (λ v. v.items ≡ names_reply port (list_map names_line_of table.now.names.active)) }
+{
+    let mut reply = ListReply::new(alloc, port)?;
+    for i in 0..table.active_len() {
+        let Some(row) = table.active_at(i) else {
+            unreachable!()
+        };
+        let reg = &row.reg;
+        reply = reply.with_names_line(&reg.name, reg.port)?;
+    }
+    Ok(reply.into_bytes())
+}
+
+/// Lines of DUMP_REQ, one for each active name.
+fn dump_active(mut reply: ListReply, table: &Table) -> Result<ListReply, NoMemory>
+    ensures { IfOk result (λ r. r ≡ reply ++ flat_map dump_line (list_map active_line table.now.names.active)) }
+{
+    for i in 0..table.active_len() {
+        let Some(row) = table.active_at(i) else {
+            unreachable!()
+        };
+        let reg = &row.reg;
+        reply = reply.with_dump_line(&reg.name, reg.port, Some(row.slot))?;
+    }
+    Ok(reply)
+}
+
+/// Lines of DUMP_REQ, one for each retired name.
+fn dump_retired(mut reply: ListReply, table: &Table) -> Result<ListReply, NoMemory>
+    ensures { IfOk result (λ r. r ≡ reply ++ flat_map dump_line (list_map retired_line table.now.names.retired)) }
+{
+    for i in 0..table.retired_len() {
+        let Some(old) = table.retired_at(i) else {
+            unreachable!()
+        };
+        reply = reply.with_dump_line(old.name, old.port, None)?;
+    }
+    Ok(reply)
+}
+
+/// DUMP_REQ: the active names, and then the retired ones in order of retirement.
+fn dump_text(alloc: Global, port: u16, table: &Table) -> Result<Vec<u8>, NoMemory>
+    ensures { IfOk result (λ v. v.items ≡ dump_reply port (dump_lines table.now.names)) }
+{
+    let active = dump_active(ListReply::new(alloc, port)?, table)?;
+    Ok(dump_retired(active, table)?.into_bytes())
+}
+
+fn names(alloc: Global, config: &Config, table: &Table) -> Result<Next, NoMemory>
+    ensures { IfOk result (λ next. (local : Bool) (slot : ℕ) → IsAnswered config.now table.now.names local slot Names next table.now.names) }
+{
+    Ok(replied(names_text(alloc, config.port, table)?))
+}
+
+fn dump(alloc: Global, config: &Config, table: &Table, local: bool) -> Result<Next, NoMemory>
+    ensures { IfOk result (λ next. (slot : ℕ) → IsAnswered config.now table.now.names local slot Dump next table.now.names) }
+{
+    if !local {
+        return Ok(replied(Vec::new(alloc)));
+    }
+    Ok(replied(dump_text(alloc, config.port, table)?))
+}
+
+/// KILL_REQ.
+fn kill(alloc: Global, config: &Config, table: &Table, local: bool) -> Result<Next, NoMemory>
+    ensures { IfOk result (λ next. (slot : ℕ) → IsAnswered config.now table.now.names local slot Kill next table.now.names) }
+{
+    if !local {
+        return Ok(replied(Vec::new(alloc)));
+    }
+    if table.active_len() == 0 || config.relaxed {
+        Ok(Next {
+            stage: Stage::Done,
+            reply: word(alloc, b"OK")?,
+            fate: Fate::Halt,
+            stopped: None,
+        })
+    } else {
+        Ok(replied(word(alloc, b"NO")?))
+    }
+}
+
+/// STOP_REQ. The reply is written first, so that for want of memory nothing is changed.
+fn stop(
+    alloc: Global,
+    config: &Config,
+    table: &mut Table,
+    local: bool,
+    name: &Name,
+) -> Result<Next, NoMemory>
+    ensures ok { IfOk result (λ next. (slot : ℕ) → IsAnswered config.now table.old.names local slot (Stop name.now) next table.new.names) }
+    ensures limit { table.new.known_max ≡ table.old.known_max }
+    ensures err { OnErr result (table.new ≡ table.old) }
+{
+    if !local || !config.relaxed {
+        return Ok(replied(Vec::new(alloc)));
+    }
+    match table.owner(name) {
+        None => Ok(replied(word(alloc, b"NOEXIST")?)),
+        Some(owner) => {
+            let reply = word(alloc, b"STOPPED")?;
+            table.retire(owner);
+            Ok(Next {
+                stage: Stage::Done,
+                reply,
+                fate: Fate::Close,
+                stopped: Some(owner),
+            })
+        }
+    }
+}
+
+/// What a request is told.
+fn answer(
+    alloc: Global,
+    config: &Config,
+    table: &mut Table,
+    local: bool,
+    slot: u64,
+    request: Request,
+) -> Result<Next, NoMemory>
+    requires free { owns_name slot table.old.names ≡ false }
+    requires limit { table.old.known_max ≡ config.now.known_max }
+    ensures ok { IfOk result (λ next. IsAnswered config.now table.old.names local slot request next table.new.names) }
+    ensures limit { table.new.known_max ≡ table.old.known_max }
+    ensures err { OnErr result (table.new ≡ table.old) }
+{
+    match request {
+        Request::Alive(reg) => alive(alloc, config, table, local, slot, reg),
+        Request::Port(name) => port(alloc, table, &name),
+        Request::Names => names(alloc, config, table),
+        Request::Dump => dump(alloc, config, table, local),
+        Request::Kill => kill(alloc, config, table, local),
+        Request::Stop(name) => stop(alloc, config, table, local, &name),
     }
 }
 
 /// What a whole body is told.
-fn serve(alloc: Global, config: &Config, body: &[u8]) -> Result<Next, NoMemory>
-    ensures { IfOk result (λ next. IsServed config.now body.now next) }
+fn serve(
+    alloc: Global,
+    config: &Config,
+    table: &mut Table,
+    local: bool,
+    slot: u64,
+    body: &[u8],
+) -> Result<Next, NoMemory>
+    requires free { owns_name slot table.old.names ≡ false }
+    requires limit { table.old.known_max ≡ config.now.known_max }
+    ensures ok { IfOk result (λ next. IsServed config.now table.old.names local slot body.now next table.new.names) }
+    ensures limit { table.new.known_max ≡ table.old.known_max }
+    ensures err { OnErr result (table.new ≡ table.old) }
 {
     match read_request(alloc, body) {
-        Ok(Request::Names) => Ok(replied(write_names(alloc, config.port, &[])?)),
-        Ok(
-            Request::Alive(_) | Request::Port(_) | Request::Dump | Request::Kill | Request::Stop(_),
-        ) => Ok(replied(Vec::new(alloc))),
+        Ok(request) => answer(alloc, config, table, local, slot, request),
         Err(Malformed::NoMemory) => Err(NoMemory),
         Err(
             Malformed::Short
@@ -51,11 +262,17 @@ fn serve(alloc: Global, config: &Config, body: &[u8]) -> Result<Next, NoMemory>
 pub(crate) fn advance(
     alloc: Global,
     config: &Config,
+    table: &mut Table,
+    local: bool,
+    slot: u64,
     mut feed: Feed,
     piece: &[u8],
 ) -> Result<Next, Feed>
-    ensures ok { IfOk result (λ next. IsTold config.now feed piece.now next) }
-    ensures err { IfErr result (λ back. back ≡ feed) }
+    requires free { owns_name slot table.old.names ≡ false }
+    requires limit { table.old.known_max ≡ config.now.known_max }
+    ensures ok { IfOk result (λ next. IsTold config.now table.old.names local slot feed piece.now next table.new.names) }
+    ensures limit { table.new.known_max ≡ table.old.known_max }
+    ensures err { IfErr result (λ back. (back ≡ feed) × (table.new ≡ table.old)) }
 {
     let before = feed.kept().len();
     match feed.push(piece) {
@@ -64,13 +281,14 @@ pub(crate) fn advance(
             stage: Stage::Waiting(feed),
             reply: Vec::new(alloc),
             fate: Fate::Stay,
+            stopped: None,
         }),
         Ok(Seen::Bad(_)) => Ok(replied(Vec::new(alloc))),
         Ok(Seen::Whole) => {
             let Some(body) = feed.body() else {
                 unreachable!()
             };
-            match serve(alloc, config, body) {
+            match serve(alloc, config, table, local, slot, body) {
                 Ok(next) => Ok(next),
                 Err(_) => {
                     feed.cut(before);

@@ -1,9 +1,12 @@
 //! The open connections.
-ghost use Rattle.std.specs.Prelude.{◌≡◌, ℕ, Some, None, IfOk, OnErr, IsSome, slice_index_or, slice_set, count_by, is_some};
+ghost use Rattle.std.specs.Prelude.{◌≡◌, ℕ, ◌<◌, length, Some, None, IfOk, OnErr, IsSome, IfSome, slice_index_or, slice_set, count_by, is_some};
 ghost use Rattle.std.specs.Option.{option_copied};
+ghost use Rattle.portmap_core.specs.Connections.{connections_of};
 ghost use Rattle.std.specs.FinMap as map;
 ghost use Rattle.portmap_core.specs.declared.session.Connection.{Connection};
 ghost use Rattle.portmap_core.specs.State.{phase_of_stage};
+ghost use Rattle.portmap_core.specs.Serving.{ended};
+ghost use Rattle.portmap_core.specs.Next.{stopped_in};
 
 use portmap_feed::Feed;
 use portmap_wire::NoMemory;
@@ -79,6 +82,13 @@ fn at_place(places: &[Option<Connection>], slot: u64) -> Option<&Connection>
     }
 }
 
+/// The first place that is free.
+fn free_place(places: &[Option<Connection>]) -> Option<usize>
+    ensures { IfSome result (λ slot. (slot < length places.now) × (slice_index_or places.now slot None ≡ None)) }
+{
+    places.iter().position(|place| place.is_none())
+}
+
 /// How many places are taken.
 fn taken(places: &[Option<Connection>]) -> usize
     ensures { result ≡ count_by is_some places.now }
@@ -117,6 +127,13 @@ impl Sessions {
         taken(self.places.as_slice())
     }
 
+    /// The places, of which each is the slot of the connection in it.
+    pub(crate) fn places(&self) -> &[Option<Connection>]
+        ensures { connections_of result.now ≡ self.now }
+    {
+        self.places.as_slice()
+    }
+
     /// The connection in a slot.
     pub(crate) fn get(&self, slot: u64) -> Option<&Connection>
         ensures { option_copied result ≡ map.get self.now slot }
@@ -124,16 +141,58 @@ impl Sessions {
         at_place(self.places.as_slice(), slot)
     }
 
-    /// Opens a connection in a free slot.
+    /// Whether the connection in an open slot comes from this host.
+    pub(crate) fn is_local(&self, slot: u64) -> bool
+        requires { IsSome (map.get self.now slot) }
+        ensures { (connection : Connection) → map.get self.now slot ≡ Some connection → result ≡ connection.local }
+    {
+        match self.get(slot) {
+            Some(connection) => connection.local,
+            None => unreachable!(),
+        }
+    }
+
+    /// Opens a connection in the lowest free slot.
     pub(crate) fn add(&mut self, connection: Connection) -> Result<u64, NoMemory>
         ensures fresh { IfOk result (λ slot. map.get self.old slot ≡ None) }
         ensures added { IfOk result (λ slot. self.new ≡ map.insert self.old slot connection) }
         ensures err { OnErr result (self.new ≡ self.old) }
     {
+        if let Some(slot) = free_place(self.places.as_slice()) {
+            self.places[slot] = Some(connection);
+            return Ok(slot as u64);
+        }
         let slot = self.places.len();
         match self.places.push(Some(connection)) {
             Ok(()) => Ok(slot as u64),
             Err(_) => Err(NoMemory),
+        }
+    }
+
+    /// Frees a slot. It takes no memory.
+    pub(crate) fn remove(&mut self, slot: u64)
+        ensures { self.new ≡ map.remove self.old slot }
+    {
+        if slot < self.places.len() as u64 {
+            self.places[slot as usize] = None;
+        }
+    }
+
+    /// The connection in this slot, where there is one, is done.
+    pub(crate) fn stop(&mut self, stopped: Option<u64>)
+        ensures { self.new ≡ stopped_in stopped self.old }
+    {
+        match stopped {
+            None => {}
+            Some(owner) => self.end(owner),
+        }
+    }
+
+    fn end(&mut self, slot: u64)
+        ensures { self.new ≡ ended slot self.old }
+    {
+        if self.get(slot).is_some() {
+            self.swap_stage(slot, Stage::Done);
         }
     }
 

@@ -322,6 +322,32 @@ fn bytes_go_out_in_the_order_of_their_pushes(rt: HostRuntime) {
     assert_eq!(rt; tape.sink.as_slice(), b"abcdefghi!".as_slice());
 }
 
+// A writer that takes all and passes nothing on.
+#[derive(Drop)]
+struct Stuck;
+
+impl Write for Stuck {
+    fn write(&mut self, buffer: &[u8]) -> io::Result<usize> {
+        Ok(buffer.len())
+    }
+
+    fn flush(&mut self) -> io::Result<()> {
+        Err(io::Error::from(ErrorKind::Other))
+    }
+}
+
+#[test]
+fn what_is_not_passed_on_is_a_fault(rt: HostRuntime) {
+    let mut whole = Writing::new(Vec::new(rt.alloc()));
+    assert_eq!(rt; whole.put(b"12"), Put::Wrote(2));
+    assert!(rt; whole.finish());
+    assert_eq!(rt; whole.into_inner().as_slice(), b"12".as_slice());
+    let mut stuck = Writing::new(Stuck);
+    assert_eq!(rt; stuck.put(b"12"), Put::Wrote(2));
+    assert!(rt; !stuck.finish());
+    assert_eq!(rt; stuck.put(b"3"), Put::Fault);
+}
+
 // One local connection over two devices, and what the second one got.
 fn served(
     alloc: Global,
@@ -393,6 +419,13 @@ fn one_connection_tells_how_much_was_written(rt: HostRuntime) -> Result<(), Fail
         );
         assert_eq!(rt; sink.as_slice(), &list[..call]);
     }
+    let half = Plan {
+        fault: Some(1),
+        ..single
+    };
+    let (was, sink) = served(rt.alloc(), &[0, 2, 0x7A, 0x62], single, half, 100)?;
+    assert_eq!(rt; was, Err(OnceFault::WriteFault { sent: 1 }));
+    assert_eq!(rt; sink.as_slice(), [0x77].as_slice());
     let slow = Plan {
         later: &[0, 2],
         ..single

@@ -108,6 +108,12 @@ kept_registered t g c slot k free e legal =
     let tests = passed (is_active g.name t.names) (is_full_for t.known_max g.name t.names) _ c e in
     kept_with t.known_max c slot t.names g (position (had_name g.name) t.names.retired) k tests.0 (λ unknown. has_room t.known_max (known_len t.names) (is_active g.name t.names) (is_some (retired_row g.name t.names)) tests.1 tests.0 unknown) free legal.range refl
 
+-- the same of any legal creation
+pub kept_registers : (known_max c slot : ℕ) (names : Names) (g : Registration) → AreKept known_max names → is_active g.name names ≡ false → is_full_for known_max g.name names ≡ false → owns_name slot names ≡ false
+    → IsLegalCreation g.high (remembered g.name names) c → AreKept known_max (registered g c slot names)
+kept_registers known_max c slot names g k inactive room free legal =
+    kept_with known_max c slot names g (position (had_name g.name) names.retired) k inactive (λ unknown. has_room known_max (known_len names) (is_active g.name names) (is_some (retired_row g.name names)) room inactive unknown) free legal.range refl
+
 -- ---- a name retires
 
 retired_range : (short : Bool) (c : ℕ) → MatchBool short ((1 ≤ c) × (c ≤ 3)) ((4 ≤ c) × (c < 2 ^ 32)) → (1 ≤ c) × (c < 2 ^ 32)

@@ -2,3 +2,4 @@ pub mod Distinct
 pub mod Finding
 pub mod Kept
 pub mod NameLaws
+pub mod Owners

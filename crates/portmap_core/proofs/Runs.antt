@@ -1,0 +1,97 @@
+-- Names after a run and after a malformed request, and what is seen of a request that was written.
+use Rattle.std.proofs.Common.{◌≡◌, ℕ, ◌+◌, ◌*◌, ◌/◌, ◌%◌, ◌<◌, ◌≤◌, Bool, true, false, List, [], ◌∷◌, ◌++◌, length, take, Option, Some, None, refl, sym, ap, subst, ◌∙◌, arith, inl, inr, length-append, ltb, eqb}
+use Rattle.std.specs.FinMap as map
+use Rattle.std.proofs.Math.Seq.{take-append_seam}
+use Rattle.std.proofs.lemmas.Bool.{le-ltb, ne_eqb}
+use Rattle.portmap_feed.specs.Stream.{Sight, Whole, first_request, sight_behind}
+use Rattle.portmap_wire.specs.Registration.{Registration, fields, be2}
+use Rattle.portmap_wire.specs.Request.{body_of, IsRequest, IsMalformed}
+use Rattle.portmap_wire.specs.declared.request.Request.{Request}
+use Rattle.portmap_wire.specs.declared.request.Request.TheVariants.{Alive, Port, Names, Dump, Kill, Stop}
+use Rattle.std.proofs.lemmas.Map.Keys.{apart_from_distinct}
+use Rattle.std.specs.Prelude.{◌==◌}
+use Rattle.portmap_table.specs.Rows.{owns_name, known_names, same_name}
+use Rattle.portmap_table.proofs.Owners.{owner_owns}
+use Rattle.portmap_core.specs.declared.session.Connection.{Connection}
+use Rattle.portmap_core.specs.declared.session.Stage.{Stage}
+use Rattle.portmap_core.specs.declared.session.Stage.TheVariants.{Waiting, Holding, Done}
+use Rattle.portmap_core.specs.Config.{Configuration}
+use Rattle.portmap_core.specs.State.{State}
+use Rattle.portmap_core.specs.Serving.{Outcome, ServesBody, ToldAt, Told}
+use Rattle.portmap_core.specs.Step.{Entry}
+use Rattle.portmap_core.specs.Run.{Run}
+use Rattle.portmap_core.specs.Owned.{IsStageFor, IsSlotFor, IsOwned}
+use Rattle.portmap_core.specs.Laws.{WrittenIsWhole, NamesBelong, NamesBelongToConnections, owners, MalformedChangesNoName}
+use Rattle.portmap_core.proofs.Owned.{owned_empty, steps_keep}
+
+-- ---- names after a run
+
+run_owned : (cfg : Configuration) (es : List Entry) (s s' : State) → IsOwned cfg s → Run cfg s es s' → IsOwned cfg s'
+run_owned cfg [] s s' owned run = subst (λ (x : State). IsOwned cfg x) (sym run) owned
+run_owned cfg (e ∷ es) s s' owned run = run_owned cfg es run.0 s' (steps_keep cfg s run.0 e owned run.1) run.2
+
+holding : (b local : Bool) (stage : Stage) → b ≡ true → IsStageFor b local stage → stage ≡ Holding
+holding b local (Waiting received) e h = absurd (let other : b ≡ false = h.0 in cc)
+holding b local Holding e h = refl
+holding b local Done e h = absurd (let other : b ≡ false = h in cc)
+
+holder : (b : Bool) (o : Option Connection) → b ≡ true → IsSlotFor b o → (connection : Connection) × (o ≡ Some connection) × (connection.stage ≡ Holding)
+holder b None e h = absurd (let other : b ≡ false = h in cc)
+holder b (Some connection) e h = (connection, refl, holding b connection.local connection.stage e h)
+
+belongs : (cfg : Configuration) (s : State) → IsOwned cfg s → NamesBelong s
+belongs cfg s owned = record {
+  held = λ name row found. holder (owns_name row.slot s.names) (map.get s.conns row.slot) (owner_owns name s.names row found) (owned.slots row.slot);
+  once = λ i j d below within. apart_from_distinct same_name (known_names s.names) i j d owned.names.distinct below within;
+  alone = λ i j d below within. apart_from_distinct ◌==◌ (owners s.names) i j d owned.names.owners below within;
+}
+
+pub names_belong : NamesBelongToConnections
+names_belong cfg es s is run = belongs cfg s (run_owned cfg es _ s (owned_empty cfg) run)
+
+-- ---- names after a malformed request
+
+refused_names : (cfg : Configuration) (s : State) (slot : ℕ) (connection : Connection) (body : List ℕ) (o : Outcome) → IsMalformed body → ServesBody cfg s slot connection body o → o.state.names ≡ s.names
+refused_names cfg s slot connection body o malformed (inl a) = absurd (malformed a.request a.spells)
+refused_names cfg s slot connection body o malformed (inr r) = ap (λ (x : Outcome). x.state.names) r.outcome
+
+pub malformed_keeps : MalformedChangesNoName
+malformed_keeps cfg s s' slot connection received piece reply body fate here stage whole malformed says =
+    let both : Some says.connection ≡ Some connection = sym says.is_open ∙ here in
+    let one : says.connection ≡ connection = cc in
+    let o : Outcome = record { reply = reply; fate = fate; state = s' } in
+    let told : Told cfg s slot connection piece connection.stage o = subst (λ (c : Connection). Told cfg s slot c piece c.stage o) one says.told in
+    let waited : ToldAt cfg s slot connection (received ++ piece) (first_request (received ++ piece)) o = subst (λ (x : Stage). Told cfg s slot connection piece x o) stage told in
+    refused_names cfg s slot connection body o malformed (subst (λ (x : Sight). ToldAt cfg s slot connection (received ++ piece) x o) whole waited)
+
+-- ---- a request that was written
+
+length-fields : (g : Registration) → length (fields g) ≡ 12 + length g.name + length g.extra
+length-fields g = omega (arith, length-append (g.name ++ be2 (length g.extra)) g.extra, length-append g.name (be2 (length g.extra)))
+
+body_len : (r : Request) → IsRequest r → (0 < length (body_of r)) × (length (body_of r) ≤ 8192)
+body_len (Alive g) is = (omega arith, omega (arith, length-fields g, is.fits))
+body_len (Port name) is = (omega arith, omega (arith, is.short))
+body_len Names is = (omega arith, omega arith)
+body_len Dump is = (omega arith, omega arith)
+body_len Kill is = (omega arith, omega arith)
+body_len (Stop name) is = (omega arith, omega (arith, is.short))
+
+-- a body behind its length
+whole_behind : (body more : List ℕ) (n : ℕ) → n ≡ length body → 0 < length body → length body ≤ 8192 → sight_behind n (body ++ more) ≡ Whole body
+whole_behind body more n e some small =
+    let t1 : eqb n 0 ≡ false = ne_eqb _ _ (omega arith) in
+    let t2 : ltb 8192 n ≡ false = le-ltb _ _ (omega arith) in
+    let t3 : ltb (length (body ++ more)) n ≡ false = le-ltb _ _ (omega (arith, length-append body more)) in
+    rw (t1, t2, t3) (ap (λ (k : ℕ). Whole (take k (body ++ more))) e ∙ ap Whole (take-append_seam body more))
+
+seen_whole : (body more : List ℕ) → 0 < length body → length body ≤ 8192 → first_request (be2 (length body) ++ body ++ more) ≡ Whole body
+unfolding first_request
+seen_whole body more some small =
+    let n : ℕ = length body in
+    whole_behind body more (n / 256 % 256 * 256 + n % 256) (omega arith) some small
+
+pub written_whole : WrittenIsWhole
+written_whole request more is =
+    let len = body_len request is in
+    seen_whole (body_of request) more len.0 len.1
