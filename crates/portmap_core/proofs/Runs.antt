@@ -3,7 +3,7 @@ use Rattle.std.proofs.Common.{◌≡◌, ℕ, ◌+◌, ◌*◌, ◌/◌, ◌%◌
 use Rattle.std.specs.FinMap as map
 use Rattle.std.proofs.Math.Seq.{take-append_seam}
 use Rattle.std.proofs.lemmas.Bool.{le-ltb, ne_eqb}
-use Rattle.portmap_feed.specs.Stream.{Sight, Whole, first_request, sight_behind}
+use Rattle.portmap_feed.specs.Stream.{Sight, More, Zero, TooLarge, Whole, first_request, sight_behind}
 use Rattle.portmap_wire.specs.Registration.{Registration, fields, be2}
 use Rattle.portmap_wire.specs.Request.{body_of, IsRequest, IsMalformed}
 use Rattle.portmap_wire.specs.declared.request.Request.{Request}
@@ -21,7 +21,7 @@ use Rattle.portmap_core.specs.Serving.{Outcome, ServesBody, ToldAt, Told}
 use Rattle.portmap_core.specs.Step.{Entry}
 use Rattle.portmap_core.specs.Run.{Run}
 use Rattle.portmap_core.specs.Owned.{IsStageFor, IsSlotFor, IsOwned}
-use Rattle.portmap_core.specs.Laws.{WrittenIsWhole, NamesBelong, NamesBelongToConnections, owners, MalformedChangesNoName}
+use Rattle.portmap_core.specs.Laws.{IsBad, WrittenIsWhole, NamesBelong, NamesBelongToConnections, owners, MalformedChangesNoName}
 use Rattle.portmap_core.proofs.Owned.{owned_empty, steps_keep}
 
 -- ---- names after a run
@@ -55,14 +55,20 @@ refused_names : (cfg : Configuration) (s : State) (slot : ℕ) (connection : Con
 refused_names cfg s slot connection body o malformed (inl a) = absurd (malformed a.request a.spells)
 refused_names cfg s slot connection body o malformed (inr r) = ap (λ (x : Outcome). x.state.names) r.outcome
 
+bad_names : (cfg : Configuration) (s : State) (slot : ℕ) (connection : Connection) (received : List ℕ) (sight : Sight) (o : Outcome) → IsBad sight → ToldAt cfg s slot connection received sight o → o.state.names ≡ s.names
+bad_names cfg s slot connection received More o bad told = absurd bad
+bad_names cfg s slot connection received Zero o bad told = ap (λ (x : Outcome). x.state.names) told
+bad_names cfg s slot connection received (TooLarge n) o bad told = ap (λ (x : Outcome). x.state.names) told
+bad_names cfg s slot connection received (Whole body) o bad told = refused_names cfg s slot connection body o bad told
+
 pub malformed_keeps : MalformedChangesNoName
-malformed_keeps cfg s s' slot connection received piece reply body fate here stage whole malformed says =
+malformed_keeps cfg s s' slot connection received piece reply fate here stage bad says =
     let both : Some says.connection ≡ Some connection = sym says.is_open ∙ here in
     let one : says.connection ≡ connection = cc in
     let o : Outcome = record { reply = reply; fate = fate; state = s' } in
     let told : Told cfg s slot connection piece connection.stage o = subst (λ (c : Connection). Told cfg s slot c piece c.stage o) one says.told in
     let waited : ToldAt cfg s slot connection (received ++ piece) (first_request (received ++ piece)) o = subst (λ (x : Stage). Told cfg s slot connection piece x o) stage told in
-    refused_names cfg s slot connection body o malformed (subst (λ (x : Sight). ToldAt cfg s slot connection (received ++ piece) x o) whole waited)
+    bad_names cfg s slot connection (received ++ piece) (first_request (received ++ piece)) o bad waited
 
 -- ---- a request that was written
 

@@ -1,7 +1,7 @@
 -- Laws of the machine, each proved on a public function.
 use Rattle.std.specs.Prelude.{◌≡◌, ℕ, ◌<◌, ◌==◌, false, List, ◌++◌, length, map as list_map, slice_index_or, Some}
 use Rattle.std.specs.FinMap as map
-use Rattle.portmap_feed.specs.Stream.{Whole, first_request}
+use Rattle.portmap_feed.specs.Stream.{Sight, More, Zero, TooLarge, Whole, first_request}
 use Rattle.portmap_wire.specs.Request.{body_of, sent, IsRequest, IsMalformed}
 use Rattle.portmap_wire.specs.declared.request.Request.{Request}
 use Rattle.portmap_table.specs.Rows.{Names, active_row, known_names, same_name}
@@ -44,8 +44,15 @@ pub record NamesBelong (s : State) : Type 0 where
 abbrev pub NamesBelongToConnections : Type 0
 NamesBelongToConnections = (cfg : Configuration) (es : List Entry) (s : State) → IsConfiguration cfg → Run cfg empty_state es s → NamesBelong s
 
+-- what was received amounts to a malformed request: a length that none has, or a body that spells none
+abbrev pub IsBad : Sight → Type 0
+IsBad More = ⊥
+IsBad Zero = Unit {0}
+IsBad (TooLarge n) = Unit {0}
+IsBad (Whole body) = IsMalformed body
+
 -- a malformed request changes no name
 abbrev pub MalformedChangesNoName : Type 0
 MalformedChangesNoName =
-    (cfg : Configuration) (s s' : State) (slot : ℕ) (connection : Connection) (received piece reply body : List ℕ) (fate : Fate) → map.get s.conns slot ≡ Some connection → connection.stage ≡ Waiting received
-    → first_request (received ++ piece) ≡ Whole body → IsMalformed body → Says cfg s slot piece reply fate s' → s'.names ≡ s.names
+    (cfg : Configuration) (s s' : State) (slot : ℕ) (connection : Connection) (received piece reply : List ℕ) (fate : Fate) → map.get s.conns slot ≡ Some connection → connection.stage ≡ Waiting received
+    → IsBad (first_request (received ++ piece)) → Says cfg s slot piece reply fate s' → s'.names ≡ s.names

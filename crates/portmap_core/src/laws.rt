@@ -16,12 +16,13 @@ pub fn steps_keep_owned()
     ensures { StepsKeepOwned }
 {}
 
-/// After any run an active name belongs to an open connection, which holds it, and to no other.
+/// After any run each active name belongs to exactly one open connection: its slot is open and holds it, no name is known
+/// twice, and no slot owns two.
 pub fn names_belong_to_connections()
     ensures { NamesBelongToConnections }
 {}
 
-/// A malformed request changes no name.
+/// A malformed request, by its length or its body, changes no name.
 pub fn malformed_changes_no_name()
     ensures { MalformedChangesNoName }
 {}

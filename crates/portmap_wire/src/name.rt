@@ -1,5 +1,5 @@
 //! A node's name.
-ghost use Rattle.std.specs.Prelude.{◌≡◌, position, IfOk, Ok};
+ghost use Rattle.std.specs.Prelude.{◌≡◌, position, IfOk, Ok, Err, IsOk};
 ghost use Rattle.portmap_wire.specs.Name.{IsName, is_control};
 ghost use Rattle.portmap_wire.specs.Reading.{GivesName, name_in};
 
@@ -56,6 +56,8 @@ impl Name {
         ensures only { IsName bytes.now → GivesName result (Ok bytes.now) }
         // The first fault that holds, in the order of `NameFault`.
         ensures exact { GivesName result (name_in bytes.now) }
+        // Memory is asked for last.
+        ensures memory { result ≡ Err NameFault.NoMemory → IsOk (name_in bytes.now) }
     {
         if bytes.is_empty() {
             return Err(NameFault::Empty);

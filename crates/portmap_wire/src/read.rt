@@ -1,5 +1,5 @@
 //! Reading a request.
-ghost use Rattle.std.specs.Prelude.{◌≡◌, ◌≢◌, IfOk, IfErr};
+ghost use Rattle.std.specs.Prelude.{◌≡◌, ◌≢◌, IfOk, IfErr, Err, IsOk};
 ghost use Rattle.portmap_wire.specs.Reading.{Gives, request_in, alive_in, named, name_in, in_request};
 ghost use Rattle.portmap_wire.specs.Request.{Spells, IsMalformed};
 ghost use Rattle.portmap_wire.specs.declared.request.Request.TheVariants.{Port, Stop};
@@ -23,7 +23,8 @@ fn fault_in_request(fault: NameFault) -> Malformed
 /// The registration behind the byte 120.
 #[tactic(auto, unfolding(crate::specs::Reading::alive_in))]
 fn read_alive_request(alloc: Global, rest: &[u8]) -> Result<Request, Malformed>
-    ensures { Gives result (alive_in rest.now) }
+    ensures exact { Gives result (alive_in rest.now) }
+    ensures memory { result ≡ Err Malformed.NoMemory → IsOk (alive_in rest.now) }
 {
     if rest.len() < 12 {
         return Err(Malformed::Short);
@@ -59,7 +60,8 @@ fn read_alive_request(alloc: Global, rest: &[u8]) -> Result<Request, Malformed>
 
 /// What stands behind the byte 122.
 fn read_port(alloc: Global, rest: &[u8]) -> Result<Request, Malformed>
-    ensures { Gives result (named (λ name. Port name) (name_in rest.now)) }
+    ensures exact { Gives result (named (λ name. Port name) (name_in rest.now)) }
+    ensures memory { result ≡ Err Malformed.NoMemory → IsOk (named (λ name. Port name) (name_in rest.now)) }
 {
     match Name::read(alloc, rest) {
         Ok(name) => Ok(Request::Port(name)),
@@ -69,7 +71,8 @@ fn read_port(alloc: Global, rest: &[u8]) -> Result<Request, Malformed>
 
 /// What stands behind the byte 115.
 fn read_stop(alloc: Global, rest: &[u8]) -> Result<Request, Malformed>
-    ensures { Gives result (named (λ name. Stop name) (name_in rest.now)) }
+    ensures exact { Gives result (named (λ name. Stop name) (name_in rest.now)) }
+    ensures memory { result ≡ Err Malformed.NoMemory → IsOk (named (λ name. Stop name) (name_in rest.now)) }
 {
     match Name::read(alloc, rest) {
         Ok(name) => Ok(Request::Stop(name)),
@@ -80,7 +83,8 @@ fn read_stop(alloc: Global, rest: &[u8]) -> Result<Request, Malformed>
 /// The request by its first byte.
 #[tactic(auto, unfolding(crate::specs::Reading::by_tag))]
 fn read_by_tag(alloc: Global, body: &[u8]) -> Result<Request, Malformed>
-    ensures { Gives result (request_in body.now) }
+    ensures exact { Gives result (request_in body.now) }
+    ensures memory { result ≡ Err Malformed.NoMemory → IsOk (request_in body.now) }
 {
     match body {
         [] => Err(Malformed::Short),
@@ -103,6 +107,8 @@ pub fn read_request(alloc: Global, body: &[u8]) -> Result<Request, Malformed>
     ensures refused { IfErr result (λ fault. fault ≢ Malformed.NoMemory → IsMalformed body.now) }
     // The first fault that holds, by reading from left to right.
     ensures exact { Gives result (request_in body.now) }
+    // Memory is asked for last.
+    ensures memory { result ≡ Err Malformed.NoMemory → IsOk (request_in body.now) }
 {
     read_by_tag(alloc, body)
 }
