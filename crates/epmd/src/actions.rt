@@ -1,8 +1,9 @@
 //! What the command does, with what it writes and the status that it ends with.
-ghost use Rattle.std.specs.Prelude.{◌≡◌, ◌⊎◌, IfOk};
+ghost use Rattle.std.specs.Prelude.{◌≡◌, ◌⊎◌, Result, IsErr, true};
 ghost use Rattle.portmap_core.specs.declared.event.Fate.{Fate};
-ghost use Rattle.portmap_link.specs.Adapters.{reading_inner, writing_inner};
-ghost use Rattle.epmd.specs.Actions.{IsOnceDone};
+ghost use Rattle.portmap_link.specs.Adapters.{reading_inner, writing_inner, writing_broken};
+ghost use Rattle.portmap_link.specs.declared.single.OnceFault.{OnceFault};
+ghost use Rattle.epmd.specs.Actions.{ServedOnce, IsServed};
 
 use portmap_core::{Config, Fate};
 use portmap_link::{OnceFault, Reading, Writing, once};
@@ -21,23 +22,37 @@ pub const FAILED: u8 = 3;
 /// How many pulls and puts one connection gets.
 const TURNS: u64 = 1_000_000;
 
-/// Serves one connection, and sees to it that the last byte has left.
+const DEVICE_FAILED: &[u8] = b"epmd: input or output failed\n";
+
+const MEMORY_RAN_OUT: &[u8] = b"epmd: out of memory\n";
+
+/// What is printed of a fault.
+fn line_of(fault: OnceFault) -> &'static [u8] {
+    match fault {
+        OnceFault::NoMemory => MEMORY_RAN_OUT,
+        OnceFault::ReadFault | OnceFault::WriteFault { .. } | OnceFault::TooManyTurns { .. } => {
+            DEVICE_FAILED
+        }
+    }
+}
+
+/// Writes one line of text. A failure of standard error changes nothing else.
+fn tell<E: Write>(errors: &mut E, line: &[u8]) {
+    let _ = errors.write_all(line);
+}
+
+/// Serves one connection to its end, or to a fault.
 fn serve_once<R: Read, W: Write>(
     alloc: Global,
     input: &mut Reading<R>,
     output: &mut Writing<W>,
 ) -> Result<Fate, OnceFault>
-    ensures { IfOk result (λ fate. IsOnceDone (R.remaining (reading_inner input.old)) (R.remaining (reading_inner input.new)) (W.contents (writing_inner output.old)) (W.contents (writing_inner output.new)) fate) }
+    ensures { ServedOnce (R.remaining (reading_inner input.old)) (R.remaining (reading_inner input.new)) (W.contents (writing_inner output.old)) (W.contents (writing_inner output.new)) result }
 {
     let Ok(config) = Config::new(4369, false, 1024, 4096) else {
         unreachable!()
     };
-    let fate = once(alloc, config, 4, input, output, TURNS)?;
-    if output.finish() {
-        Ok(fate)
-    } else {
-        Err(OnceFault::WriteFault { sent: 0 })
-    }
+    once(alloc, config, 4, input, output, TURNS)
 }
 
 /// Reads one request from `input` as from a local connection, and writes the reply to `output`: the request's length in two
@@ -51,15 +66,40 @@ pub fn do_once<R: Read, W: Write, E: Write>(
     errors: &mut E,
 ) -> u8
     ensures status { (result ≡ DONE) ⊎ (result ≡ FAILED) }
-    ensures done { result ≡ DONE → (fate : Fate) × IsOnceDone (R.remaining (reading_inner input.old)) (R.remaining (reading_inner input.new)) (W.contents (writing_inner output.old)) (W.contents (writing_inner output.new)) fate }
+    // What was read and written, and why the status is so: one that is not 0 comes of a fault, or of an output that failed
+    // to pass on what it took.
+    ensures served { (ended : Result Fate OnceFault)
+        × ServedOnce (R.remaining (reading_inner input.old)) (R.remaining (reading_inner input.new)) (W.contents (writing_inner output.old)) (W.contents (writing_inner output.new)) ended
+        × IsServed result ended (writing_broken output.new) }
 {
-    let message: &[u8] = match serve_once(alloc, input, output) {
-        Ok(_) => return DONE,
-        Err(OnceFault::NoMemory) => b"epmd: out of memory\n",
-        Err(OnceFault::ReadFault | OnceFault::WriteFault { .. } | OnceFault::TooManyTurns { .. }) =>
-            b"epmd: input or output failed\n",
-    };
-    // A failure of standard error changes nothing else.
-    let _ = errors.write_all(message);
+    match serve_once(alloc, input, output) {
+        Ok(_) => {
+            if output.finish() {
+                return DONE;
+            }
+            tell(errors, DEVICE_FAILED);
+            FAILED
+        }
+        Err(fault) => {
+            tell(errors, line_of(fault));
+            FAILED
+        }
+    }
+}
+
+/// Says that the words are none that the command knows, and which one is the first: they are compared as a whole, so it is
+/// the first one.
+pub fn refuse<E: Write>(errors: &mut E) -> u8
+    ensures { result ≡ BAD_WORDS }
+{
+    tell(errors, b"epmd: bad word 0\n");
+    BAD_WORDS
+}
+
+/// Says that memory ran out before the words were read.
+pub fn give_up<E: Write>(errors: &mut E) -> u8
+    ensures { result ≡ FAILED }
+{
+    tell(errors, MEMORY_RAN_OUT);
     FAILED
 }

@@ -1,3 +1,4 @@
 mod Sending
 pub mod Pulling
 pub mod Replying
+pub mod Asking

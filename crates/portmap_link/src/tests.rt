@@ -389,16 +389,18 @@ fn one_connection_makes_no_more_turns_than_it_has(rt: HostRuntime) -> Result<(),
 }
 
 #[test]
-fn one_connection_tells_how_much_was_written(rt: HostRuntime) -> Result<(), Fail> {
+fn one_connection_tells_which_device_failed(rt: HostRuntime) -> Result<(), Fail> {
+    let single = Plan { most: 1, ..STEADY };
     let names: &[u8] = &[0, 1, 0x6E];
     let list: &[u8] = &[0, 0, 0x11, 0x11];
-    let single = Plan { most: 1, ..STEADY };
+    // In each case the last turn finds the fault.
     for call in 0..3 {
         let input = Plan {
             fault: Some(call),
             ..single
         };
-        let (was, sink) = served(rt.alloc(), names, input, single, 100)?;
+        let turns = 1 + call as u64;
+        let (was, sink) = served(rt.alloc(), names, input, single, turns)?;
         assert_eq!(rt; was, Err(OnceFault::ReadFault), "at pull {call}");
         assert_eq!(rt; sink.is_empty(), true);
     }
@@ -407,10 +409,28 @@ fn one_connection_tells_how_much_was_written(rt: HostRuntime) -> Result<(), Fail
             fault: Some(call),
             ..single
         };
-        let (was, sink) = served(rt.alloc(), names, single, output, 100)?;
         let sent = call as u64;
+        let (was, sink) = served(rt.alloc(), names, single, output, 4 + sent)?;
         assert_eq!(rt; was, Err(OnceFault::WriteFault { sent }), "at put {call}");
         assert_eq!(rt; sink.as_slice(), &list[..call]);
+    }
+    let half = Plan {
+        fault: Some(1),
+        ..single
+    };
+    let (was, sink) = served(rt.alloc(), &[0, 2, 0x7A, 0x61], single, half, 100)?;
+    assert_eq!(rt; was, Err(OnceFault::WriteFault { sent: 1 }));
+    assert_eq!(rt; sink.as_slice(), [0x77].as_slice());
+    Ok(())
+}
+
+#[test]
+fn one_connection_tells_how_much_was_written(rt: HostRuntime) -> Result<(), Fail> {
+    let single = Plan { most: 1, ..STEADY };
+    let names: &[u8] = &[0, 1, 0x6E];
+    let list: &[u8] = &[0, 0, 0x11, 0x11];
+    for call in 0..4 {
+        let sent = call as u64;
         let (was, sink) = served(rt.alloc(), names, single, single, 3 + sent)?;
         assert_eq!(rt;
             was,
@@ -419,13 +439,6 @@ fn one_connection_tells_how_much_was_written(rt: HostRuntime) -> Result<(), Fail
         );
         assert_eq!(rt; sink.as_slice(), &list[..call]);
     }
-    let half = Plan {
-        fault: Some(1),
-        ..single
-    };
-    let (was, sink) = served(rt.alloc(), &[0, 2, 0x7A, 0x62], single, half, 100)?;
-    assert_eq!(rt; was, Err(OnceFault::WriteFault { sent: 1 }));
-    assert_eq!(rt; sink.as_slice(), [0x77].as_slice());
     let slow = Plan {
         later: &[0, 2],
         ..single

@@ -122,12 +122,11 @@ last_owns slot names at (Some row) e found d =
     let lt : at < length names.active = slice_get_within names.active at row e in
     let here : row ≡ get_or names.active at row = sym (get_or_from_slice_get names.active at row row e) in
     let is : row.slot ≡ slot = eqb-true row.slot slot (ap (has_slot slot) here ∙ (position-Some (has_slot slot) names.active at row found).1) in
-    let after : Names = retired_last at (Some row) names in
-    (
+    let after : Names = retired_last at (Some row) names in (
       owns slot after ∙ rw is at (gone names.active at row lt here d),
       λ q other.
           let differs : row.slot ≢ q = λ same. other (sym same ∙ is) in
-          owns q after ∙ sym (owns q names ∙ owns_rest q names.active at row lt here ∙ ap (λ (b : Bool). b || list_any (has_slot q) (remove names.active at)) (ne_eqb row.slot q differs))
+          owns q after ∙ sym (owns q names ∙ owns_rest q names.active at row lt here ∙ ap (λ (b : Bool). b || list_any (has_slot q) (remove names.active at)) (ne_eqb row.slot q differs)),
     )
 
 retired_owns : (slot : ℕ) (names : Names) (o : Option ℕ) → position (has_slot slot) names.active ≡ o → IsDistinct ◌==◌ (map slot_of names.active)
