@@ -25,7 +25,7 @@ no_control bytes at e name =
     fails (get_or bytes at 0) (name.each at 0 found.0) found.1
 
 -- where none is found, no byte passes
-each_fails : (p : ℕ → Bool) (bytes : List ℕ) → None ≡ position p bytes → (i : ℕ) → i < length bytes → p (get_or bytes i 0) ≡ false
+pub each_fails : (p : ℕ → Bool) (bytes : List ℕ) → None ≡ position p bytes → (i : ℕ) → i < length bytes → p (get_or bytes i 0) ≡ false
 each_fails p bytes e i lt = fails_before_first p bytes i 0 (elim (cases_lt (position_or_len p bytes) (length bytes)) [
   | inl below ↦ absurd (let t : ltb (position_or_len p bytes) (length bytes) ≡ true = lt-ltb _ _ below in let e2 = rw t at e in cc)
   | inr above ↦ omega arith

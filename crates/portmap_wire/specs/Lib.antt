@@ -5,3 +5,5 @@ pub mod Fields
 pub mod Reading
 pub mod Reply
 pub mod List
+pub mod Answer
+pub mod Listing
