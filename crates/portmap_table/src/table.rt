@@ -1,7 +1,7 @@
 //! The table of names.
-ghost use Rattle.std.specs.Prelude.{◌≡◌, false, length, slice_get, is_some, option_copied, option_map, Ok, Err, Some, IfOk, OnOk, OnErr, IsOk, IfSome, position, remove, [], ◌∷◌, ◌++◌, nat_le, ◌+◌, ◌^◌, ◌<◌, ◌≤◌, vec_len, vec_capacity};
+ghost use Rattle.std.specs.Prelude.{◌≡◌, false, length, slice_get, is_some, option_copied, option_map, Ok, Err, Some, IfOk, OnOk, OnErr, IsOk, IfSome, position, remove, [], ◌∷◌, ◌++◌, nat_le, not, ◌&&◌, ◌+◌, ◌^◌, ◌<◌, ◌≤◌, vec_len, vec_capacity};
 ghost use Rattle.portmap_table.specs.Creation.{IsCounter, IsLegalCreation};
-ghost use Rattle.portmap_table.specs.Rows.{AreKept, is_full_for, active_row, is_active, retired_row, owner_of, owns_name, remembered, known_len, retired_at, retired_name, retired_of, same_name, without_at};
+ghost use Rattle.portmap_table.specs.Rows.{AreKept, active_row, is_active, owner_of, owns_name, remembered, known_len, retired_at, retired_name, retired_of, same_name, without_at};
 ghost use Rattle.portmap_table.specs.Table.{GivesOffer, new_table, offered, with_names, with_registration};
 
 use crate::creation::{COUNTER_LEAST, choice, counter_after};
@@ -103,10 +103,10 @@ impl Table {
         if self.is_active(name) {
             return Err(RegFault::Taken);
         }
-        if self.is_full_for(name) {
+        let last = last_creation(self.retired.as_slice(), name);
+        if self.is_full_for(last) {
             return Err(RegFault::NoRoom);
         }
-        let last = last_creation(self.retired.as_slice(), name);
         Ok(choice(self.counter, high, last))
     }
 
@@ -209,12 +209,6 @@ impl Table {
         self.find(name).is_some()
     }
 
-    fn is_retired(&self, name: &Name) -> bool
-        ensures { result ≡ is_some (retired_row name.now self.now.names) }
-    {
-        last_creation(self.retired.as_slice(), name).is_some()
-    }
-
     // Whether as many names are known as may be.
     fn is_full(&self) -> bool
         ensures { result ≡ nat_le self.now.known_max (known_len self.now.names) }
@@ -222,11 +216,11 @@ impl Table {
         self.active_len() + self.retired_len() >= self.known_max as usize
     }
 
-    // The same, where this name is none of them.
-    fn is_full_for(&self, name: &Name) -> bool
-        ensures { result ≡ is_full_for self.now.known_max name.now self.now.names }
+    // Whether there is no room for a name that is not active and was last given this creation, if any.
+    fn is_full_for(&self, last: Option<u32>) -> bool
+        ensures { result ≡ (nat_le self.now.known_max (known_len self.now.names) && not (is_some last)) }
     {
-        self.is_full() && !self.is_active(name) && !self.is_retired(name)
+        self.is_full() && last.is_none()
     }
 }
 
