@@ -107,12 +107,6 @@ served_settled cfg s slot creation connection (Stop name) =
     let done = done_is_settled s.conns slot connection in
     either_settled slot (not connection.local) _ _ done (either_settled slot (not cfg.relaxed) _ _ done (stops_settled s slot connection (rows.owner_of name s.names)))
 
-abbrev IsMore : Sight → Type 0
-IsMore More = Unit {0}
-IsMore Zero = ⊥
-IsMore (TooLarge n) = ⊥
-IsMore (Whole body) = ⊥
-
 -- a connection that was told was told to wait, or waits no more
 abbrev IsWaitOr : Type 0 → Type 0 → Sight → Type 0
 IsWaitOr waiting settled More = waiting
@@ -179,10 +173,6 @@ hears cfg slot before read reply fate s' some told =
 -- the connection that waits is open
 pub is_not_missed : (s : State) (slot : ℕ) (read : List ℕ) → s ≡ waiting_state slot read → map.get s.conns slot ≡ None → ⊥
 is_not_missed s slot read e none = let both : Some (sender read) ≡ None = sym (ap (λ (x : State). map.get x.conns slot) e ∙ get_inserted map.empty slot (sender read)) ∙ none in cc
-
--- and its machine goes on
-pub is_not_halted : (s : State) (slot : ℕ) (read : List ℕ) → s ≡ waiting_state slot read → s.halted ≡ true → ⊥
-is_not_halted s slot read e halted = let both : false ≡ true = sym (ap (λ (x : State). x.halted) e) ∙ halted in cc
 
 no_phase : (slot : ℕ) (sight : Sight) (o : Outcome) (s : State) (connection : Connection) (received : List ℕ)
     → IsWaitOr (o.state ≡ with_connection s slot (at_stage connection (Waiting received))) (IsSettled (phase_after slot o)) sight → phase_after slot o ≡ None → ⊥

@@ -1,7 +1,7 @@
 -- Bytes are read a piece at a time.
-use Rattle.std.proofs.Common.{◌≡◌, ◌≢◌, ℕ, ◌+◌, ◌-◌, ◌≤◌, List, [], ◌∷◌, ◌++◌, length, take, Option, Some, None, refl, sym, ap, subst, ◌∙◌, append_assoc, arith}
+use Rattle.std.proofs.Common.{◌≡◌, ◌≢◌, ℕ, ◌-◌, ◌≤◌, List, [], ◌++◌, length, take, Option, Some, None, refl, sym, ap, ◌∙◌, append_assoc, arith}
 use Rattle.std.proofs.lemmas.List.{length-append, take_at}
-use Rattle.std.specs.Io.KnownBytes.{Keeps, Consumes}
+use Rattle.std.specs.Io.KnownBytes.{Consumes}
 use Rattle.portmap_feed.specs.Stream.{More, first_request}
 use Rattle.portmap_link.specs.Once.{IsJustRead, pull_most}
 
@@ -16,13 +16,6 @@ consumes_more None b c read piece one two = tt
 consumes_more (Some a) None c read piece one two = absurd one
 consumes_more (Some a) (Some b) None read piece one two = absurd two
 consumes_more (Some a) (Some b) (Some c) read piece one two = one ∙ ap (λ (t : List ℕ). read ++ t) two ∙ sym (append_assoc read piece c)
-
--- a read, and a call that consumes nothing
-pub consumes_kept : (a b c : Option (List ℕ)) (read : List ℕ) → Consumes a b read → Keeps b c → Consumes a c read
-consumes_kept None b c read one two = tt
-consumes_kept (Some a) None c read one two = absurd one
-consumes_kept (Some a) (Some b) None read one two = absurd two
-consumes_kept (Some a) (Some b) (Some c) read one two = one ∙ ap (λ (t : List ℕ). read ++ t) (sym two)
 
 -- what the last piece decided
 pub just_read : (read piece : List ℕ) → first_request read ≡ More → length piece ≤ pull_most → first_request (read ++ piece) ≢ More → IsJustRead (read ++ piece)

@@ -1,5 +1,5 @@
 -- A request was heard, and its reply was written in part.
-use Rattle.std.proofs.Common.{◌≡◌, ℕ, ◌<◌, List, length, take, Option, Err, inl}
+use Rattle.std.proofs.Common.{ℕ, ◌<◌, List, length, take, Err, inl}
 use Rattle.std.specs.Io.KnownBytes.{Appends}
 use Rattle.portmap_core.specs.Config.{Configuration}
 use Rattle.portmap_core.specs.declared.event.Fate.{Fate}

@@ -1,4 +1,4 @@
-use Rattle.std.proofs.Common.{◌≡◌, ℕ, List, Option, Vec, Global, Err, ap, subst, ◌∙◌}
+use Rattle.std.proofs.Common.{ℕ, List, Option, Vec, Global, Err, subst}
 use Rattle.std.proofs.lemmas.Result.{err_from_is_err_and}
 use Rattle.portmap_core.specs.declared.event.Fate.{Fate}
 use Rattle.portmap_link.specs.Once.{Devices, HearsReply, Telling}
