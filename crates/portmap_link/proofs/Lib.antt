@@ -1,4 +1,4 @@
-mod Sending
+pub mod Sending
 pub mod Pulling
 pub mod Replying
 pub mod Asking

@@ -4,7 +4,7 @@ use Rattle.std.proofs.Math.Seq.{take-add}
 use Rattle.std.proofs.lemmas.List.{drop_all, length-drop, map-append}
 use Rattle.std.proofs.lemmas.List.Sums.{sum_by-append}
 use Rattle.std.proofs.lemmas.Bool.{false≢true}
-use Rattle.std.specs.Io.KnownBytes.{Keeps, Appends}
+use Rattle.std.specs.Io.KnownBytes.{Appends}
 use Rattle.portmap_link.specs.declared.device.Put.{Put}
 use Rattle.portmap_link.specs.declared.device.Put.TheVariants.{Wrote}
 use Rattle.portmap_link.specs.declared.outbox.Flush.TheVariants.{Empty}
@@ -17,13 +17,6 @@ appends_more (Some a) None c n m xs first second = absurd first
 appends_more (Some a) (Some b) None n m xs first second = absurd second
 appends_more (Some a) (Some b) (Some c) n m xs first second =
     second ∙ ap (λ (t : List ℕ). t ++ take m (drop n xs)) first ∙ append_assoc a (take n xs) (take m (drop n xs)) ∙ ap (λ (t : List ℕ). a ++ t) (sym (take-add n m xs))
-
--- bytes that were kept twice
-pub keeps_on : (a b c : Option (List ℕ)) → Keeps a b → Keeps b c → Keeps a c
-keeps_on None b c first second = tt
-keeps_on (Some a) None c first second = absurd first
-keeps_on (Some a) (Some b) None first second = absurd second
-keeps_on (Some a) (Some b) (Some c) first second = second ∙ first
 
 -- one put more
 pub sends_more : (old mid new : List Put) (k n : ℕ) → Sends old mid k Empty → new ≡ mid ++ Wrote n ∷ [] → Sends old new (k + n) Empty

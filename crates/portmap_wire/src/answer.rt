@@ -1,5 +1,5 @@
 //! Reading the answers to a registration and to a look-up.
-ghost use Rattle.std.specs.Prelude.{◌≡◌};
+ghost use Rattle.std.specs.Prelude.{◌≡◌, Err, IsOk};
 ghost use Rattle.portmap_wire.specs.Answer.{wide_answer, short_answer, alive_answer, registered_answer, port2_result, port2_answer, GivesReply, AlivesAreReadBack, LookUpsAreReadBack};
 ghost use Rattle.portmap_wire.specs.Reading.{fields_in};
 
@@ -71,11 +71,15 @@ pub fn read_alive(bytes: &[u8]) -> Result<AliveReply, ReplyFault>
 
 /// The registration behind a result of 0.
 fn read_registered(alloc: Global, rest: &[u8]) -> Result<Option<Reg>, ReplyFault>
-    ensures { GivesReply result (registered_answer (fields_in rest.now)) }
+    ensures exact { GivesReply result (registered_answer (fields_in rest.now)) }
+    ensures memory { result ≡ Err ReplyFault.NoMemory → IsOk (registered_answer (fields_in rest.now)) }
 {
     let Some(fields) = fields_at(rest) else {
         return Err(ReplyFault::Short);
     };
+    if 13 + fields.name.len() + fields.extra.len() > 8192 {
+        return Err(ReplyFault::Strange);
+    }
     let name = match Name::read(alloc, fields.name) {
         Ok(name) => name,
         Err(NameFault::NoMemory) => return Err(ReplyFault::NoMemory),
@@ -93,13 +97,14 @@ fn read_registered(alloc: Global, rest: &[u8]) -> Result<Option<Reg>, ReplyFault
     ) {
         Ok(reg) => Ok(Some(reg)),
         Err(ExtraFault::NoMemory) => Err(ReplyFault::NoMemory),
-        Err(ExtraFault::TooLong) => Err(ReplyFault::Strange),
+        Err(ExtraFault::TooLong) => unreachable!(),
     }
 }
 
 /// What stands behind the byte 119.
 fn read_result(alloc: Global, rest: &[u8]) -> Result<Option<Reg>, ReplyFault>
-    ensures { GivesReply result (port2_result rest.now) }
+    ensures exact { GivesReply result (port2_result rest.now) }
+    ensures memory { result ≡ Err ReplyFault.NoMemory → IsOk (port2_result rest.now) }
 {
     match rest {
         [] => Err(ReplyFault::Short),
@@ -111,7 +116,9 @@ fn read_result(alloc: Global, rest: &[u8]) -> Result<Option<Reg>, ReplyFault>
 /// The answer to a look-up that is at the front of these bytes, PORT2_RESP: what is registered, none where the result is
 /// above 0. What follows it is not looked at.
 pub fn read_port2(alloc: Global, bytes: &[u8]) -> Result<Option<Reg>, ReplyFault>
-    ensures { GivesReply result (port2_answer bytes.now) }
+    ensures exact { GivesReply result (port2_answer bytes.now) }
+    // Memory is asked for last.
+    ensures memory { result ≡ Err ReplyFault.NoMemory → IsOk (port2_answer bytes.now) }
 {
     match bytes {
         [] => Err(ReplyFault::Short),

@@ -5,6 +5,7 @@ mod answer;
 mod fields;
 mod list;
 mod listing;
+mod missing;
 mod name;
 mod read;
 mod registration;
@@ -18,6 +19,7 @@ pub use answer::{
 };
 pub use list::{DumpLine, Line, ListReply, write_dump, write_names};
 pub use listing::{ListFault, lines_have_one_reading, names_are_read_back, read_dump, read_names};
+pub use missing::{alive_missing, port2_missing};
 pub use name::{Name, NameFault, NoMemory};
 pub use read::read_request;
 pub use registration::{ExtraFault, Reg};

@@ -1,0 +1,126 @@
+-- A client's call: one request out, and what is read of its answer.
+use Rattle.std.specs.Prelude.{◌≡◌, ℕ, ◌<◌, ◌≤◌, Bool, true, false, List, length, take, Option, Result, Ok, Err}
+use Rattle.std.specs.declared.vec.Vec.{Vec}
+use Rattle.std.specs.declared.alloc.Global.{Global}
+use Rattle.std.specs.Io.KnownBytes.{Appends, Consumes, IsAtEnd}
+use Rattle.portmap_wire.specs.Answer.{alive_answer, port2_answer}
+use Rattle.portmap_wire.specs.Request.{sent}
+use Rattle.portmap_wire.specs.declared.answer.ReplyFault.TheVariants as reply
+use Rattle.portmap_wire.specs.declared.request.Request.{Request}
+use Rattle.portmap_wire.specs.declared.request.Request.TheVariants.{Alive, Port, Names, Dump, Kill, Stop}
+use Rattle.portmap_client.specs.declared.fault.ClientFault.{ClientFault}
+use Rattle.portmap_client.specs.declared.fault.ClientFault.TheVariants as fault
+
+-- ---- what is written
+
+-- a front of the request was written
+pub record WritesFront (request : Request) (old new : Option (List ℕ)) : Type 0 where
+  pub count : ℕ
+  pub writes : Appends old new (take count (sent request))
+
+-- the same, and not all of it
+pub record WritesPart (request : Request) (old new : Option (List ℕ)) : Type 0 where
+  pub front : WritesFront request old new
+  pub part : front.count < length (sent request)
+
+-- what a call with this result wrote: exactly its request, or a front where it was given up
+abbrev pub Asks : {X : Type 0} → Request → Option (List ℕ) → Option (List ℕ) → Result X ClientFault → Type 0
+Asks request old new (Ok x) = Appends old new (sent request)
+Asks request old new (Err fault.Write) = WritesPart request old new
+Asks request old new (Err fault.Read) = Appends old new (sent request)
+Asks request old new (Err fault.TooManyTurns) = WritesFront request old new
+Asks request old new (Err fault.Short) = Appends old new (sent request)
+Asks request old new (Err (fault.BadTag tag)) = Appends old new (sent request)
+Asks request old new (Err (fault.Refused code)) = Appends old new (sent request)
+Asks request old new (Err fault.Strange) = Appends old new (sent request)
+Asks request old new (Err fault.TooLong) = Appends old new (sent request)
+Asks request old new (Err fault.NoMemory) = WritesFront request old new
+
+-- ---- what is read
+
+-- the most bytes of a list: profile
+abbrev pub list_most : ℕ
+list_most = 16777216
+
+-- these bytes are no whole answer yet
+abbrev pub IsUnfinished : Request → List ℕ → Type 0
+IsUnfinished (Alive g) read = alive_answer read ≡ Err reply.Short
+IsUnfinished (Port name) read = port2_answer read ≡ Err reply.Short
+IsUnfinished Names read = length read ≤ list_most
+IsUnfinished Dump read = length read ≤ list_most
+IsUnfinished Kill read = length read < 2
+IsUnfinished (Stop name) read = length read < 7
+
+-- whether a call was given up, so that its result says nothing of the answer
+abbrev pub gives_up : ClientFault → Bool
+gives_up fault.Write = true
+gives_up fault.Read = true
+gives_up fault.TooManyTurns = true
+gives_up fault.Short = false
+gives_up (fault.BadTag tag) = false
+gives_up (fault.Refused code) = false
+gives_up fault.Strange = false
+gives_up fault.TooLong = false
+gives_up fault.NoMemory = true
+
+abbrev pub is_given_up : {X : Type 0} → Result X ClientFault → Bool
+is_given_up (Ok x) = false
+is_given_up (Err f) = gives_up f
+
+-- these bytes were read, and none further than the answer
+pub record HasRead (request : Request) (old new : Option (List ℕ)) (read : List ℕ) : Type 0 where
+  pub reads : Consumes old new read
+  pub no_further : (n : ℕ) → n < length read → IsUnfinished request (take n read)
+
+-- what was read for a call with this result. Unless it was given up, the answer was read whole or up to the end, and
+-- says so
+pub record Answers {X : Type 0} (request : Request) (Says : List ℕ → Result X ClientFault → Type 0) (old new : Option (List ℕ)) (result : Result X ClientFault) : Type 0 where
+  pub read : List ℕ
+  pub has_read : HasRead request old new read
+  pub ended : is_given_up result ≡ false → IsUnfinished request read → IsAtEnd new
+  pub says : is_given_up result ≡ false → Says read result
+
+-- ---- faults of the device
+
+abbrev pub is_device_fault : ClientFault → Bool
+is_device_fault fault.Write = true
+is_device_fault fault.Read = true
+is_device_fault fault.TooManyTurns = false
+is_device_fault fault.Short = false
+is_device_fault (fault.BadTag tag) = false
+is_device_fault (fault.Refused code) = false
+is_device_fault fault.Strange = false
+is_device_fault fault.TooLong = false
+is_device_fault fault.NoMemory = false
+
+-- ---- the parts of a call
+
+-- the bytes that were read, as they came
+abbrev pub SaysBytes : List ℕ → Result (Vec ℕ Global) ClientFault → Type 0
+SaysBytes read (Ok bytes) = bytes.items ≡ read
+SaysBytes read (Err f) = ⊥
+
+-- what was written of these bytes
+abbrev pub Writes : List ℕ → Option (List ℕ) → Option (List ℕ) → Result ℕ ClientFault → Type 0
+Writes bytes old new (Ok met) = Appends old new bytes
+Writes bytes old new (Err fault.Write) = (count : ℕ) × (count < length bytes) × Appends old new (take count bytes)
+Writes bytes old new (Err fault.Read) = ⊥
+Writes bytes old new (Err fault.TooManyTurns) = (count : ℕ) × Appends old new (take count bytes)
+Writes bytes old new (Err fault.Short) = ⊥
+Writes bytes old new (Err (fault.BadTag tag)) = ⊥
+Writes bytes old new (Err (fault.Refused code)) = ⊥
+Writes bytes old new (Err fault.Strange) = ⊥
+Writes bytes old new (Err fault.TooLong) = ⊥
+Writes bytes old new (Err fault.NoMemory) = ⊥
+
+-- a fault of reading
+abbrev pub IsReadFault : ClientFault → Type 0
+IsReadFault fault.Write = ⊥
+IsReadFault fault.Read = Unit {0}
+IsReadFault fault.TooManyTurns = Unit {0}
+IsReadFault fault.Short = ⊥
+IsReadFault (fault.BadTag tag) = ⊥
+IsReadFault (fault.Refused code) = ⊥
+IsReadFault fault.Strange = ⊥
+IsReadFault fault.TooLong = ⊥
+IsReadFault fault.NoMemory = Unit {0}

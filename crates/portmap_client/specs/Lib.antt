@@ -1,0 +1,4 @@
+pub mod Answer
+pub mod Exchange
+pub mod Laters
+pub mod Registration

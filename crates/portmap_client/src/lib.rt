@@ -1,0 +1,18 @@
+//! A client of the port mapper, over any stream of bytes. Each call sends one request and reads its answer; the port mapper
+//! closes the connection after every answer but that to a registration, so each call wants a connection of its own.
+#![tactic(auto)]
+
+mod commands;
+mod exchange;
+mod fault;
+mod lists;
+mod outcome;
+mod query;
+mod registration;
+
+pub use crate::commands::{kill, stop};
+pub use crate::fault::ClientFault;
+pub use crate::lists::{dump, names};
+pub use crate::outcome::{Kill, Stop};
+pub use crate::query::lookup;
+pub use crate::registration::Registration;
