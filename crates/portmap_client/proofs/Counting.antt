@@ -9,7 +9,6 @@ use Rattle.portmap_link.specs.declared.outbox.Flush.{Flush}
 use Rattle.portmap_link.specs.Flush.{Sends, ending_of}
 use Rattle.portmap_client.specs.Laters.{is_pull_later, is_put_later, laters}
 
-
 wrote_none : (counts : List ℕ) → count_by is_put_later (map Wrote counts) ≡ 0
 wrote_none [] = refl
 wrote_none (n ∷ ns) = let one = sum_by-cons (λ (p : Put). cond (is_put_later p) 1 0) (Wrote n) (map Wrote ns) in omega (arith, one, wrote_none ns)

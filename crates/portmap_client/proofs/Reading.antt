@@ -6,6 +6,7 @@ use Rattle.std.proofs.KnownBytes.{Consumes-nil, Consumes-trans}
 use Rattle.std.proofs.lemmas.Bool.{cases_lt, false≢true}
 use Rattle.std.proofs.lemmas.List.{length-append, length-take, take-append-le}
 use Rattle.std.specs.Io.KnownBytes.{Consumes}
+use Rattle.portmap_link.specs.declared.device.Pull.{Pull}
 use Rattle.portmap_wire.specs.declared.request.Request.{Request}
 use Rattle.portmap_client.specs.Exchange.{Answers, HasRead, IsUnfinished, SaysBytes, gives_up}
 use Rattle.portmap_client.specs.declared.fault.ClientFault.{ClientFault}
@@ -34,8 +35,8 @@ reads_on request a b c read piece most so_far one small missing = record {
 }
 
 -- the same, for a call that is given up
-pub gives_up_on : (request : Request) (a b : Option (List ℕ)) (read : List ℕ) (f : ClientFault) → gives_up f ≡ true → HasRead request a b read → Answers request SaysBytes a b (Err f)
-gives_up_on request a b read f given_up has_read = record {
+pub gives_up_on : (request : Request) (a b : Option (List ℕ)) (asked answered : List Pull) (read : List ℕ) (f : ClientFault) → gives_up f ≡ true → HasRead request a b read → Answers request SaysBytes a b asked answered (Err f)
+gives_up_on request a b asked answered read f given_up has_read = record {
   read = read;
   has_read = has_read;
   ended = λ goes_on. absurd (false≢true (sym goes_on ∙ given_up));

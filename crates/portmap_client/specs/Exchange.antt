@@ -1,8 +1,11 @@
 -- A client's call: one request out, and what is read of its answer.
-use Rattle.std.specs.Prelude.{◌≡◌, ℕ, ◌<◌, ◌≤◌, Bool, true, false, List, length, take, Option, Result, Ok, Err}
+use Rattle.std.specs.Prelude.{◌≡◌, ℕ, ◌<◌, ◌≤◌, Bool, true, false, List, [], ◌∷◌, ◌++◌, length, take, Option, Result, Ok, Err}
 use Rattle.std.specs.declared.vec.Vec.{Vec}
 use Rattle.std.specs.declared.alloc.Global.{Global}
 use Rattle.std.specs.Io.KnownBytes.{Appends, Consumes, IsAtEnd}
+use Rattle.portmap_link.specs.Asking.{GoesOn, IsAskedAgain}
+use Rattle.portmap_link.specs.declared.device.Pull.{Pull}
+use Rattle.portmap_link.specs.declared.device.Pull.TheVariants.{End}
 use Rattle.portmap_wire.specs.Answer.{alive_answer, port2_answer}
 use Rattle.portmap_wire.specs.Request.{sent}
 use Rattle.portmap_wire.specs.declared.answer.ReplyFault.TheVariants as reply
@@ -72,12 +75,19 @@ pub record HasRead (request : Request) (old new : Option (List ℕ)) (read : Lis
   pub reads : Consumes old new read
   pub no_further : (n : ℕ) → n < length read → IsUnfinished request (take n read)
 
--- what was read for a call with this result. Unless it was given up, the answer was read whole or up to the end, and
--- says so
-pub record Answers {X : Type 0} (request : Request) (Says : List ℕ → Result X ClientFault → Type 0) (old new : Option (List ℕ)) (result : Result X ClientFault) : Type 0 where
+-- the last pull of the call said that no more bytes will come, and none before it did
+pub record IsEnded (left : Option (List ℕ)) (old new : List Pull) : Type 0 where
+  pub at_end : IsAtEnd left
+  pub before : List Pull
+  pub goes_on : GoesOn IsAskedAgain old before
+  pub last : new ≡ before ++ End ∷ []
+
+-- what was read for a call with this result, by the bytes that were left and the answers of the pulls before and after
+-- it. Unless it was given up, the answer was read whole or up to the end, and says so
+pub record Answers {X : Type 0} (request : Request) (Says : List ℕ → Result X ClientFault → Type 0) (old new : Option (List ℕ)) (asked answered : List Pull) (result : Result X ClientFault) : Type 0 where
   pub read : List ℕ
   pub has_read : HasRead request old new read
-  pub ended : is_given_up result ≡ false → IsUnfinished request read → IsAtEnd new
+  pub ended : is_given_up result ≡ false → IsUnfinished request read → IsEnded new asked answered
   pub says : is_given_up result ≡ false → Says read result
 
 -- ---- faults of the device

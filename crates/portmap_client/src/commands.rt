@@ -15,7 +15,7 @@ use std::alloc::Global;
 /// Asks the port mapper to end (KILL_REQ).
 pub fn kill<S: Input + Output>(alloc: Global, stream: &mut S) -> Result<Kill, ClientFault>
     ensures asked { Asks request.Kill (S.held stream.old) (S.held stream.new) result }
-    ensures answered { Answers request.Kill SaysKill (S.left stream.old) (S.left stream.new) result }
+    ensures answered { Answers request.Kill SaysKill (S.left stream.old) (S.left stream.new) (S.pulls stream.old) (S.pulls stream.new) result }
     ensures waits { Waits (laters (S.pulls stream.old) (S.puts stream.old)) (laters (S.pulls stream.new) (S.puts stream.new)) result }
     ensures broken { IfErr result (λ fault. is_device_fault fault ≡ true → S.broken stream.new ≡ true) }
 {
@@ -30,7 +30,7 @@ pub fn stop<S: Input + Output>(
     name: &Name,
 ) -> Result<Stop, ClientFault>
     ensures asked { Asks (request.Stop name.now) (S.held stream.old) (S.held stream.new) result }
-    ensures answered { Answers (request.Stop name.now) SaysStop (S.left stream.old) (S.left stream.new) result }
+    ensures answered { Answers (request.Stop name.now) SaysStop (S.left stream.old) (S.left stream.new) (S.pulls stream.old) (S.pulls stream.new) result }
     ensures waits { Waits (laters (S.pulls stream.old) (S.puts stream.old)) (laters (S.pulls stream.new) (S.puts stream.new)) result }
     ensures broken { IfErr result (λ fault. is_device_fault fault ≡ true → S.broken stream.new ≡ true) }
 {

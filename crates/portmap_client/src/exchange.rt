@@ -39,6 +39,7 @@ fn ask<S: Output>(stream: &mut S, bytes: &[u8]) -> Result<u32, ClientFault>
     ensures waited { Waited (laters (S.pulls stream.old) (S.puts stream.old)) (laters (S.pulls stream.new) (S.puts stream.new)) result }
     ensures broken { result ≡ Err ClientFault.Write → S.broken stream.new ≡ true }
     ensures left { Keeps (S.left stream.old) (S.left stream.new) }
+    ensures pulls { S.pulls stream.new ≡ S.pulls stream.old }
 {
     let mut sent = 0;
     let mut laters = 0;
@@ -63,7 +64,7 @@ fn hear<S: Input>(
     met: u32,
 ) -> Result<Vec<u8>, ClientFault>
     requires { met < 1000 }
-    ensures heard { Answers request.now SaysBytes (S.left stream.old) (S.left stream.new) result }
+    ensures heard { Answers request.now SaysBytes (S.left stream.old) (S.left stream.new) (S.pulls stream.old) (S.pulls stream.new) result }
     ensures fault { IfErr result IsReadFault }
     ensures waits { Waits (laters (S.pulls stream.old) (S.puts stream.old)) (met + laters (S.pulls stream.new) (S.puts stream.new)) result }
     ensures broken { result ≡ Err ClientFault.Read → S.broken stream.new ≡ true }
@@ -98,7 +99,7 @@ pub(crate) fn exchange<S: Input + Output>(
     request: &Request,
 ) -> Result<Vec<u8>, ClientFault>
     ensures asked { Asks request.now (S.held stream.old) (S.held stream.new) result }
-    ensures answered { Answers request.now SaysBytes (S.left stream.old) (S.left stream.new) result }
+    ensures answered { Answers request.now SaysBytes (S.left stream.old) (S.left stream.new) (S.pulls stream.old) (S.pulls stream.new) result }
     ensures waits { Waits (laters (S.pulls stream.old) (S.puts stream.old)) (laters (S.pulls stream.new) (S.puts stream.new)) result }
     ensures broken { IfErr result (λ fault. is_device_fault fault ≡ true → S.broken stream.new ≡ true) }
 {

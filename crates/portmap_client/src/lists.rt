@@ -17,7 +17,7 @@ pub fn names<S: Input + Output>(
     stream: &mut S,
 ) -> Result<(u32, Vec<Line>), ClientFault>
     ensures asked { Asks request.Names (S.held stream.old) (S.held stream.new) result }
-    ensures answered { Answers request.Names SaysNames (S.left stream.old) (S.left stream.new) result }
+    ensures answered { Answers request.Names SaysNames (S.left stream.old) (S.left stream.new) (S.pulls stream.old) (S.pulls stream.new) result }
     ensures waits { Waits (laters (S.pulls stream.old) (S.puts stream.old)) (laters (S.pulls stream.new) (S.puts stream.new)) result }
     ensures broken { IfErr result (λ fault. is_device_fault fault ≡ true → S.broken stream.new ≡ true) }
 {
@@ -35,12 +35,9 @@ pub fn names<S: Input + Output>(
 
 /// Asks for the port mapper's own port and for the text of all that it knows (DUMP_REQ), which is not looked at. It reads
 /// to the end.
-pub fn dump<S: Input + Output>(
-    alloc: Global,
-    stream: &mut S,
-) -> Result<(u32, Vec<u8>), ClientFault>
+pub fn dump<S: Input + Output>(alloc: Global, stream: &mut S) -> Result<(u32, Vec<u8>), ClientFault>
     ensures asked { Asks request.Dump (S.held stream.old) (S.held stream.new) result }
-    ensures answered { Answers request.Dump SaysDump (S.left stream.old) (S.left stream.new) result }
+    ensures answered { Answers request.Dump SaysDump (S.left stream.old) (S.left stream.new) (S.pulls stream.old) (S.pulls stream.new) result }
     ensures waits { Waits (laters (S.pulls stream.old) (S.puts stream.old)) (laters (S.pulls stream.new) (S.puts stream.new)) result }
     ensures broken { IfErr result (λ fault. is_device_fault fault ≡ true → S.broken stream.new ≡ true) }
 {

@@ -19,7 +19,7 @@ pub fn lookup<S: Input + Output>(
     name: &Name,
 ) -> Result<Option<Reg>, ClientFault>
     ensures asked { Asks (request.Port name.now) (S.held stream.old) (S.held stream.new) result }
-    ensures answered { Answers (request.Port name.now) SaysFound (S.left stream.old) (S.left stream.new) result }
+    ensures answered { Answers (request.Port name.now) SaysFound (S.left stream.old) (S.left stream.new) (S.pulls stream.old) (S.pulls stream.new) result }
     ensures waits { Waits (laters (S.pulls stream.old) (S.puts stream.old)) (laters (S.pulls stream.new) (S.puts stream.new)) result }
     ensures broken { IfErr result (λ fault. is_device_fault fault ≡ true → S.broken stream.new ≡ true) }
 {

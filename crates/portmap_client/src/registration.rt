@@ -21,13 +21,9 @@ pub struct Registration<S> {
 }
 
 /// Registers a node over a stream, and gives its creation.
-fn register<S: Input + Output>(
-    alloc: Global,
-    stream: &mut S,
-    reg: &Reg,
-) -> Result<u32, ClientFault>
+fn register<S: Input + Output>(alloc: Global, stream: &mut S, reg: &Reg) -> Result<u32, ClientFault>
     ensures asked { Asks (request.Alive reg.now) (S.held stream.old) (S.held stream.new) result }
-    ensures answered { Answers (request.Alive reg.now) SaysCreation (S.left stream.old) (S.left stream.new) result }
+    ensures answered { Answers (request.Alive reg.now) SaysCreation (S.left stream.old) (S.left stream.new) (S.pulls stream.old) (S.pulls stream.new) result }
     ensures waits { Waits (laters (S.pulls stream.old) (S.puts stream.old)) (laters (S.pulls stream.new) (S.puts stream.new)) result }
     ensures broken { IfErr result (λ fault. is_device_fault fault ≡ true → S.broken stream.new ≡ true) }
 {
@@ -46,7 +42,7 @@ impl<S: Input + Output> Registration<S> {
     /// Registers a node (ALIVE2_REQ). With an error the stream is handed back.
     pub fn make(alloc: Global, stream: S, reg: &Reg) -> Result<Registration<S>, (ClientFault, S)>
         ensures asked { Asks (request.Alive reg.now) (S.held stream) (S.held (handed_back result)) (made result) }
-        ensures answered { Answers (request.Alive reg.now) SaysCreation (S.left stream) (S.left (handed_back result)) (made result) }
+        ensures answered { Answers (request.Alive reg.now) SaysCreation (S.left stream) (S.left (handed_back result)) (S.pulls stream) (S.pulls (handed_back result)) (made result) }
         ensures waits { Waits (laters (S.pulls stream) (S.puts stream)) (laters (S.pulls (handed_back result)) (S.puts (handed_back result))) (made result) }
         ensures broken { IfErr (made result) (λ fault. is_device_fault fault ≡ true → S.broken (handed_back result) ≡ true) }
     {

@@ -1,4 +1,5 @@
 pub mod Adapters
+pub mod Asking
 pub mod Device
 pub mod Flush
 pub mod Once

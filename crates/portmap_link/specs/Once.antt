@@ -1,8 +1,7 @@
 -- What `once` does with its devices.
-use Rattle.std.specs.Prelude.{◌≡◌, ◌≢◌, ℕ, ◌-◌, ◌<◌, ◌≤◌, List, ◌++◌, length, take, Option, Some, None, Result, Ok, Err, ◌⊎◌}
+use Rattle.std.specs.Prelude.{◌≡◌, ◌≢◌, ℕ, ◌-◌, ◌<◌, ◌≤◌, List, length, take, Option, Some, None, Result, Ok, Err, ◌⊎◌}
 use Rattle.std.specs.declared.vec.Vec.{Vec}
 use Rattle.std.specs.declared.alloc.Global.{Global}
-use Rattle.std.specs.List.{AllByRecursion}
 use Rattle.std.specs.Io.KnownBytes.{Keeps, Appends, Consumes, IsAtEnd}
 use Rattle.portmap_feed.specs.Stream.{More, first_request}
 use Rattle.portmap_core.specs.Config.{Configuration}
@@ -10,10 +9,6 @@ use Rattle.portmap_core.specs.Run.{Hears, waiting_state}
 use Rattle.portmap_core.specs.State.{State}
 use Rattle.portmap_core.specs.declared.event.Fate.{Fate}
 use Rattle.portmap_core.specs.declared.event.Fate.TheVariants.{Close}
-use Rattle.portmap_link.specs.declared.device.Pull.{Pull}
-use Rattle.portmap_link.specs.declared.device.Pull.TheVariants.{Piece, End, Later as PullLater, Fault as PullFault}
-use Rattle.portmap_link.specs.declared.device.Put.{Put}
-use Rattle.portmap_link.specs.declared.device.Put.TheVariants.{Wrote, Later as PutLater, Fault as PutFault}
 use Rattle.portmap_link.specs.declared.single.Heard.{Heard}
 use Rattle.portmap_link.specs.declared.single.OnceFault.{OnceFault}
 use Rattle.portmap_link.specs.declared.single.OnceFault.TheVariants.{ReadFault, NoMemory, WriteFault, TooManyTurns}
@@ -117,24 +112,3 @@ Telling reply old new (Err ReadFault) = ⊥
 Telling reply old new (Err NoMemory) = ⊥
 Telling reply old new (Err (WriteFault sent)) = (sent < length reply) × Appends old new (take sent reply)
 Telling reply old new (Err (TooManyTurns sent)) = (sent < length reply) × Appends old new (take sent reply)
-
--- ---- whether a turn more is due
-
--- after this answer the input is asked again
-abbrev pub IsAskedAgain : Pull → Type 0
-IsAskedAgain (Piece n) = Unit {0}
-IsAskedAgain End = ⊥
-IsAskedAgain PullLater = Unit {0}
-IsAskedAgain PullFault = ⊥
-
--- and so is the output
-abbrev pub IsPutAgain : Put → Type 0
-IsPutAgain (Wrote n) = Unit {0}
-IsPutAgain PutLater = Unit {0}
-IsPutAgain PutFault = ⊥
-
--- more answers were given, and after each the device is asked again
-pub record GoesOn {A : Type 0} (IsAgain : A → Type 0) (old new : List A) : Type 0 where
-  pub added : List A
-  pub grows : new ≡ old ++ added
-  pub again : AllByRecursion IsAgain added

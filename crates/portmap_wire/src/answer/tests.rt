@@ -1,6 +1,9 @@
 //! Answers as bytes, worked out by hand from the protocol's description, and what they are read as.
 use super::*;
-use crate::{ListFault, lines_have_one_reading, names_are_read_back, read_dump, read_names};
+use crate::{
+    ListFault, alive_missing, lines_have_one_reading, names_are_read_back, port2_missing,
+    read_dump, read_names,
+};
 use std::test::Fail;
 
 #[test]
@@ -125,4 +128,57 @@ fn a_dump_is_a_port_and_text(rt: HostRuntime) {
     for (bytes, dump) in cases {
         assert_eq!(rt; read_dump(bytes), dump, "{bytes:?}");
     }
+}
+
+// At each place in an answer: how many bytes it has left at least, as its format says. The fields of a registration have 12
+// bytes beside the name and the extra bytes.
+#[test]
+fn as_many_bytes_are_missing_as_the_answer_has_at_least(rt: HostRuntime) {
+    let registrations: [(&[u8], &[usize]); 4] = [
+        (&[0x76, 0, 0, 0, 0, 4, 9], &[1, 1, 4, 3, 2, 1, 0, 0]),
+        (&[0x79, 0, 0, 3, 9], &[1, 1, 2, 1, 0, 0]),
+        (&[0x76, 2, 0], &[1, 1, 0, 0]),
+        (&[0x58, 0], &[1, 0, 0]),
+    ];
+    for (answer, missing) in registrations {
+        for (len, want) in missing.iter().enumerate() {
+            assert_eq!(rt; alive_missing(&answer[..len]), *want, "{len} of {answer:?}");
+        }
+    }
+    let found = [
+        0x77, 0, 0x13, 0x88, 0x4D, 0, 0, 6, 0, 5, 0, 1, 0x61, 0, 0, 9,
+    ];
+    let look_ups: [(&[u8], &[usize]); 3] = [
+        (&[0x77, 1, 0], &[1, 1, 0, 0]),
+        (&[0x58, 0], &[1, 0, 0]),
+        (
+            &found,
+            &[1, 1, 12, 11, 10, 9, 8, 7, 6, 5, 4, 3, 2, 1, 1, 0, 0],
+        ),
+    ];
+    for (answer, missing) in look_ups {
+        for (len, want) in missing.iter().enumerate() {
+            assert_eq!(rt; port2_missing(&answer[..len]), *want, "{len} of {answer:?}");
+        }
+    }
+}
+
+#[test]
+fn fields_of_more_than_8192_bytes_are_strange(rt: HostRuntime) -> Result<(), Fail> {
+    // 13 bytes, the name's one and the extra ones.
+    for (extra, fault) in [(8178, None), (8179, Some(ReplyFault::Strange))] {
+        let mut answer = Vec::from_slice(
+            rt.alloc(),
+            &[0x77, 0, 0x13, 0x88, 0x4D, 0, 0, 6, 0, 5, 0, 1, 0x61],
+        )?;
+        let len: u16 = extra;
+        answer.extend_from_slice(&len.to_be_bytes())?;
+        answer.resize(15 + len as usize, 7)?;
+        assert_eq!(rt;
+            read_port2(rt.alloc(), &answer).err(),
+            fault,
+            "{extra} extra bytes"
+        );
+    }
+    Ok(())
 }

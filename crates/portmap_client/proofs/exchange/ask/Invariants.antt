@@ -10,6 +10,7 @@ invariant-loop-laters g l = record {
   few : l.laters ≤ 1000;
   written : Appends (g.S.Device.held l.fn.stream) (g.S.Device.held l.stream) (take l.sent l.bytes);
   waited : laters (g.S.Device.pulls l.stream) (g.S.Device.puts l.stream) ≡ laters (g.S.Device.pulls l.fn.stream) (g.S.Device.puts l.fn.stream) + l.laters;
+  pulls : g.S.Device.pulls l.stream ≡ g.S.Device.pulls l.fn.stream;
   left : Keeps (g.S.Device.left l.fn.stream) (g.S.Device.left l.stream);
 }
 

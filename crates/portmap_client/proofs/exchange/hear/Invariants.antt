@@ -1,5 +1,6 @@
 use Rattle.std.proofs.Common.{◌-◌, ◌≡◌, ◌+◌, ◌≤◌, length}
 use Rattle.std.specs.Io.KnownBytes.{Keeps}
+use Rattle.portmap_link.specs.Asking.{GoesOn, IsAskedAgain}
 use Rattle.portmap_client.specs.Exchange.{HasRead}
 use Rattle.portmap_client.specs.Laters.{laters}
 use Rattle.portmap_client.proofs.exchange.hear.Given as goal
@@ -9,6 +10,7 @@ abbrev pub invariant-loop-laters : goal.invariant-loop-laters
 invariant-loop-laters g l = record {
   few : l.laters ≤ 1000;
   has_read : HasRead l.request (g.S.Device.left l.fn.stream) (g.S.Device.left l.stream) l.read.items;
+  on : GoesOn IsAskedAgain (g.S.Device.pulls l.fn.stream) (g.S.Device.pulls l.stream);
   waited : l.met + laters (g.S.Device.pulls l.stream) (g.S.Device.puts l.stream) ≡ laters (g.S.Device.pulls l.fn.stream) (g.S.Device.puts l.fn.stream) + l.laters;
   held : Keeps (g.S.Device.held l.fn.stream) (g.S.Device.held l.stream);
 }

@@ -2,7 +2,7 @@ use Rattle.std.proofs.Common.{List, length, ap, ◌∙◌, arith}
 use Rattle.std.proofs.lemmas.List.{length-drop, length_push}
 use Rattle.portmap_link.specs.declared.device.Put.{Put}
 use Rattle.portmap_link.specs.declared.device.Put.TheVariants.{Wrote}
-use Rattle.portmap_link.specs.Once.{IsPutAgain}
+use Rattle.portmap_link.specs.Asking.{IsPutAgain}
 use Rattle.portmap_link.proofs.Asking.{on_more}
 use Rattle.portmap_link.proofs.Sending.{appends_more}
 use Rattle.portmap_link.proofs.single.tell.Goals as goal

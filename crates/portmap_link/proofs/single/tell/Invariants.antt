@@ -1,6 +1,6 @@
 use Rattle.std.proofs.Common.{◌≡◌, ◌+◌, ◌-◌, ◌≤◌, length, take}
 use Rattle.std.specs.Io.KnownBytes.{Appends}
-use Rattle.portmap_link.specs.Once.{GoesOn, IsPutAgain}
+use Rattle.portmap_link.specs.Asking.{GoesOn, IsPutAgain}
 use Rattle.portmap_link.proofs.single.tell.Given as goal
 
 abbrev pub invariant-loop-sent : goal.invariant-loop-sent
