@@ -1,4 +1,4 @@
--- What a client's call makes of the bytes that it read.
+-- What a client's call makes of the bytes that it read: ERTS User's Guide, EPMD Protocol, the replies.
 use Rattle.std.specs.Prelude.{◌≡◌, ◌==◌, ℕ, ◌<◌, ◌≤◌, nat_lt, if◌then◌else◌, List, ◌++◌, length, codes, Option, Result, Ok, Err}
 use Rattle.std.specs.Cmp.Lexicographic.{pointwise}
 use Rattle.std.specs.declared.vec.Vec.{Vec}
@@ -29,13 +29,13 @@ of_reply reply.Strange = fault.Strange
 of_reply reply.NoMemory = fault.NoMemory
 
 -- the creation that a registration was given
-abbrev pub creation_of : Result AliveReply ReplyFault → Result ℕ ClientFault
-creation_of (Ok (Given creation)) = Ok creation
-creation_of (Ok (Refused code)) = Err (fault.Refused code)
-creation_of (Err f) = Err (of_reply f)
+abbrev pub given_of : Result AliveReply ReplyFault → Result ℕ ClientFault
+given_of (Ok (Given creation)) = Ok creation
+given_of (Ok (Refused code)) = Err (fault.Refused code)
+given_of (Err f) = Err (of_reply f)
 
 abbrev pub SaysCreation : List ℕ → Result ℕ ClientFault → Type 0
-SaysCreation read result = result ≡ creation_of (alive_answer read)
+SaysCreation read result = result ≡ given_of (alive_answer read)
 
 -- what a look-up found
 abbrev pub found_of : Result (Option Registration) ReplyFault → Result (Option Registration) ClientFault
@@ -73,7 +73,7 @@ SaysDump read (Err fault.Strange) = ⊥
 SaysDump read (Err fault.TooLong) = list_most < length read
 SaysDump read (Err fault.NoMemory) = ⊥
 
--- ---- commands: that no byte at all says that a command is not allowed, as `NO` does: profile
+-- ---- commands: epmd(1) for what is not allowed; that no byte at all says so, as `NO` does: profile
 
 -- `OK` or `NO`
 abbrev pub kill_of : List ℕ → Result Kill ClientFault

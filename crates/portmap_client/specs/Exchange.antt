@@ -1,4 +1,5 @@
--- A client's call: one request out, and what is read of its answer.
+-- A client's call: one request out, and what is read of its answer. ERTS User's Guide, EPMD Protocol, the requests and their
+-- replies; that no byte behind an answer is read, and when a call is given up: profile.
 use Rattle.std.specs.Prelude.{◌≡◌, ℕ, ◌<◌, ◌≤◌, Bool, true, false, List, [], ◌∷◌, ◌++◌, length, take, Option, Result, Ok, Err}
 use Rattle.std.specs.declared.vec.Vec.{Vec}
 use Rattle.std.specs.declared.alloc.Global.{Global}
@@ -7,7 +8,6 @@ use Rattle.portmap_link.specs.Asking.{GoesOn, IsAskedAgain}
 use Rattle.portmap_link.specs.declared.device.Pull.{Pull}
 use Rattle.portmap_link.specs.declared.device.Pull.TheVariants.{End}
 use Rattle.portmap_wire.specs.Answer.{alive_answer, port2_answer}
-use Rattle.portmap_wire.specs.Request.{sent}
 use Rattle.portmap_wire.specs.declared.answer.ReplyFault.TheVariants as reply
 use Rattle.portmap_wire.specs.declared.request.Request.{Request}
 use Rattle.portmap_wire.specs.declared.request.Request.TheVariants.{Alive, Port, Names, Dump, Kill, Stop}
@@ -16,28 +16,32 @@ use Rattle.portmap_client.specs.declared.fault.ClientFault.TheVariants as fault
 
 -- ---- what is written
 
--- a front of the request was written
-pub record WritesFront (request : Request) (old new : Option (List ℕ)) : Type 0 where
+-- a front of the bytes was written
+pub record WritesFront (bytes : List ℕ) (old new : Option (List ℕ)) : Type 0 where
   pub count : ℕ
-  pub writes : Appends old new (take count (sent request))
+  pub writes : Appends old new (take count bytes)
 
--- the same, and not all of it
-pub record WritesPart (request : Request) (old new : Option (List ℕ)) : Type 0 where
-  pub front : WritesFront request old new
-  pub part : front.count < length (sent request)
+-- the same, and not all of them
+pub record WritesPart (bytes : List ℕ) (old new : Option (List ℕ)) : Type 0 where
+  pub front : WritesFront bytes old new
+  pub part : front.count < length bytes
 
--- what a call with this result wrote: exactly its request, or a front where it was given up
-abbrev pub Asks : {X : Type 0} → Request → Option (List ℕ) → Option (List ℕ) → Result X ClientFault → Type 0
-Asks request old new (Ok x) = Appends old new (sent request)
-Asks request old new (Err fault.Write) = WritesPart request old new
-Asks request old new (Err fault.Read) = Appends old new (sent request)
-Asks request old new (Err fault.TooManyTurns) = WritesFront request old new
-Asks request old new (Err fault.Short) = Appends old new (sent request)
-Asks request old new (Err (fault.BadTag tag)) = Appends old new (sent request)
-Asks request old new (Err (fault.Refused code)) = Appends old new (sent request)
-Asks request old new (Err fault.Strange) = Appends old new (sent request)
-Asks request old new (Err fault.TooLong) = Appends old new (sent request)
-Asks request old new (Err fault.NoMemory) = WritesFront request old new
+-- what was written of a request's bytes by a call that failed so: all of them, or a front where it was given up
+abbrev pub WritesAt : List ℕ → Option (List ℕ) → Option (List ℕ) → ClientFault → Type 0
+WritesAt bytes old new fault.Write = WritesPart bytes old new
+WritesAt bytes old new fault.Read = Appends old new bytes
+WritesAt bytes old new fault.TooManyTurns = WritesFront bytes old new
+WritesAt bytes old new fault.Short = Appends old new bytes
+WritesAt bytes old new (fault.BadTag tag) = Appends old new bytes
+WritesAt bytes old new (fault.Refused code) = Appends old new bytes
+WritesAt bytes old new fault.Strange = Appends old new bytes
+WritesAt bytes old new fault.TooLong = Appends old new bytes
+WritesAt bytes old new fault.NoMemory = WritesFront bytes old new
+
+-- what was written, and nothing else, by a call with this result
+abbrev pub Writes : {X : Type 0} → List ℕ → Option (List ℕ) → Option (List ℕ) → Result X ClientFault → Type 0
+Writes bytes old new (Ok x) = Appends old new bytes
+Writes bytes old new (Err f) = WritesAt bytes old new f
 
 -- ---- what is read
 
@@ -110,18 +114,17 @@ abbrev pub SaysBytes : List ℕ → Result (Vec ℕ Global) ClientFault → Type
 SaysBytes read (Ok bytes) = bytes.items ≡ read
 SaysBytes read (Err f) = ⊥
 
--- what was written of these bytes
-abbrev pub Writes : List ℕ → Option (List ℕ) → Option (List ℕ) → Result ℕ ClientFault → Type 0
-Writes bytes old new (Ok met) = Appends old new bytes
-Writes bytes old new (Err fault.Write) = (count : ℕ) × (count < length bytes) × Appends old new (take count bytes)
-Writes bytes old new (Err fault.Read) = ⊥
-Writes bytes old new (Err fault.TooManyTurns) = (count : ℕ) × Appends old new (take count bytes)
-Writes bytes old new (Err fault.Short) = ⊥
-Writes bytes old new (Err (fault.BadTag tag)) = ⊥
-Writes bytes old new (Err (fault.Refused code)) = ⊥
-Writes bytes old new (Err fault.Strange) = ⊥
-Writes bytes old new (Err fault.TooLong) = ⊥
-Writes bytes old new (Err fault.NoMemory) = ⊥
+-- a fault of writing
+abbrev pub IsWriteFault : ClientFault → Type 0
+IsWriteFault fault.Write = Unit {0}
+IsWriteFault fault.Read = ⊥
+IsWriteFault fault.TooManyTurns = Unit {0}
+IsWriteFault fault.Short = ⊥
+IsWriteFault (fault.BadTag tag) = ⊥
+IsWriteFault (fault.Refused code) = ⊥
+IsWriteFault fault.Strange = ⊥
+IsWriteFault fault.TooLong = ⊥
+IsWriteFault fault.NoMemory = ⊥
 
 -- a fault of reading
 abbrev pub IsReadFault : ClientFault → Type 0

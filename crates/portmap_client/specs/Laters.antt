@@ -26,28 +26,24 @@ laters pulls puts = count_by is_pull_later pulls + count_by is_put_later puts
 abbrev pub laters_most : ℕ
 laters_most = 1000
 
+-- so many Laters before and after a call that failed so
+abbrev pub WaitsAt : ℕ → ℕ → ClientFault → Type 0
+WaitsAt old new fault.Write = new < old + laters_most
+WaitsAt old new fault.Read = new < old + laters_most
+WaitsAt old new fault.TooManyTurns = new ≡ old + laters_most
+WaitsAt old new fault.Short = new < old + laters_most
+WaitsAt old new (fault.BadTag tag) = new < old + laters_most
+WaitsAt old new (fault.Refused code) = new < old + laters_most
+WaitsAt old new fault.Strange = new < old + laters_most
+WaitsAt old new fault.TooLong = new < old + laters_most
+WaitsAt old new fault.NoMemory = new < old + laters_most
+
 -- so many Laters before and after a call with this result
 abbrev pub Waits : {X : Type 0} → ℕ → ℕ → Result X ClientFault → Type 0
 Waits old new (Ok x) = new < old + laters_most
-Waits old new (Err fault.Write) = new < old + laters_most
-Waits old new (Err fault.Read) = new < old + laters_most
-Waits old new (Err fault.TooManyTurns) = new ≡ old + laters_most
-Waits old new (Err fault.Short) = new < old + laters_most
-Waits old new (Err (fault.BadTag tag)) = new < old + laters_most
-Waits old new (Err (fault.Refused code)) = new < old + laters_most
-Waits old new (Err fault.Strange) = new < old + laters_most
-Waits old new (Err fault.TooLong) = new < old + laters_most
-Waits old new (Err fault.NoMemory) = new < old + laters_most
+Waits old new (Err f) = WaitsAt old new f
 
--- so many Laters before and after bytes were written, which counted them
+-- the same, by a call that counts them
 abbrev pub Waited : ℕ → ℕ → Result ℕ ClientFault → Type 0
 Waited old new (Ok met) = (met < laters_most) × (new ≡ old + met)
-Waited old new (Err fault.Write) = new < old + laters_most
-Waited old new (Err fault.Read) = ⊥
-Waited old new (Err fault.TooManyTurns) = new ≡ old + laters_most
-Waited old new (Err fault.Short) = ⊥
-Waited old new (Err (fault.BadTag tag)) = ⊥
-Waited old new (Err (fault.Refused code)) = ⊥
-Waited old new (Err fault.Strange) = ⊥
-Waited old new (Err fault.TooLong) = ⊥
-Waited old new (Err fault.NoMemory) = ⊥
+Waited old new (Err f) = WaitsAt old new f

@@ -12,9 +12,9 @@ abbrev pub creation_of : {S : Type 0} → Registration S → ℕ
 creation_of r = r.creation
 
 -- the stream after a call of `make`: kept by the registration, or handed back
-abbrev pub handed_back : {S : Type 0} → Result (Registration S) (ClientFault × S) → S
-handed_back (Ok r) = stream_of r
-handed_back (Err e) = e.1
+abbrev pub stream_after : {S : Type 0} → Result (Registration S) (ClientFault × S) → S
+stream_after (Ok r) = stream_of r
+stream_after (Err e) = e.1
 
 -- what the call answered: a creation, or why not
 abbrev pub made : {S : Type 0} → Result (Registration S) (ClientFault × S) → Result ℕ ClientFault

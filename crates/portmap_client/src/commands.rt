@@ -1,8 +1,9 @@
 //! Ending the port mapper, and ending a registration.
-ghost use Rattle.std.specs.Prelude.{◌≡◌, true, IfErr};
+ghost use Rattle.std.specs.Prelude.{◌≡◌, true, Err, IfErr};
 ghost use Rattle.portmap_wire.specs.declared.request.Request.TheVariants as request;
+ghost use Rattle.portmap_wire.specs.Request.{sent};
 ghost use Rattle.portmap_client.specs.Answer.{SaysKill, SaysStop};
-ghost use Rattle.portmap_client.specs.Exchange.{Asks, Answers, is_device_fault};
+ghost use Rattle.portmap_client.specs.Exchange.{Writes, Answers, is_device_fault};
 ghost use Rattle.portmap_client.specs.Laters.{laters, Waits};
 
 use crate::exchange::exchange;
@@ -14,8 +15,9 @@ use std::alloc::Global;
 
 /// Asks the port mapper to end (KILL_REQ).
 pub fn kill<S: Input + Output>(alloc: Global, stream: &mut S) -> Result<Kill, ClientFault>
-    ensures asked { Asks request.Kill (S.held stream.old) (S.held stream.new) result }
+    ensures asked { Writes (sent request.Kill) (S.held stream.old) (S.held stream.new) result }
     ensures answered { Answers request.Kill SaysKill (S.left stream.old) (S.left stream.new) (S.pulls stream.old) (S.pulls stream.new) result }
+    ensures unread { result ≡ Err ClientFault.Write → S.pulls stream.new ≡ S.pulls stream.old }
     ensures waits { Waits (laters (S.pulls stream.old) (S.puts stream.old)) (laters (S.pulls stream.new) (S.puts stream.new)) result }
     ensures broken { IfErr result (λ fault. is_device_fault fault ≡ true → S.broken stream.new ≡ true) }
 {
@@ -29,8 +31,9 @@ pub fn stop<S: Input + Output>(
     stream: &mut S,
     name: &Name,
 ) -> Result<Stop, ClientFault>
-    ensures asked { Asks (request.Stop name.now) (S.held stream.old) (S.held stream.new) result }
+    ensures asked { Writes (sent (request.Stop name.now)) (S.held stream.old) (S.held stream.new) result }
     ensures answered { Answers (request.Stop name.now) SaysStop (S.left stream.old) (S.left stream.new) (S.pulls stream.old) (S.pulls stream.new) result }
+    ensures unread { result ≡ Err ClientFault.Write → S.pulls stream.new ≡ S.pulls stream.old }
     ensures waits { Waits (laters (S.pulls stream.old) (S.puts stream.old)) (laters (S.pulls stream.new) (S.puts stream.new)) result }
     ensures broken { IfErr result (λ fault. is_device_fault fault ≡ true → S.broken stream.new ≡ true) }
 {

@@ -1,8 +1,9 @@
 //! One request out, and its answer in.
-ghost use Rattle.std.specs.Prelude.{◌≡◌, ◌≢◌, ℕ, ◌+◌, ◌<◌, ◌≤◌, true, List, ◌++◌, length, take, IfOk, IfErr};
+ghost use Rattle.std.specs.Prelude.{◌≡◌, ℕ, ◌+◌, ◌<◌, ◌≤◌, true, List, ◌++◌, length, Err, IfErr};
 ghost use Rattle.std.specs.Io.KnownBytes.{Keeps};
-ghost use Rattle.portmap_client.specs.Exchange.{Asks, Answers, IsUnfinished, is_device_fault, SaysBytes, Writes, IsReadFault};
-ghost use Rattle.portmap_client.specs.Laters.{laters, Waits, Waited};
+ghost use Rattle.portmap_wire.specs.Request.{sent};
+ghost use Rattle.portmap_client.specs.Exchange.{Answers, IsUnfinished, Writes, IsWriteFault, IsReadFault, SaysBytes, is_device_fault, list_most};
+ghost use Rattle.portmap_client.specs.Laters.{laters, laters_most, Waits, Waited};
 
 use crate::ClientFault;
 use portmap_link::{Flush, Input, Output, Pull, send};
@@ -22,7 +23,7 @@ pub(crate) const LIST_MOST: usize = 16_777_216;
 fn missing(request: &Request, read: &[u8]) -> usize
     ensures none { result ≡ 0 → IsUnfinished request.now read.now → ⊥ }
     ensures missing { (more : List ℕ) → length more < result → IsUnfinished request.now (read.now ++ more) }
-    ensures most { 0 < result → length read.now + result ≤ 16777217 }
+    ensures most { 0 < result → length read.now + result ≤ list_most + 1 }
 {
     match request {
         Request::Alive(_) => alive_missing(read),
@@ -36,6 +37,7 @@ fn missing(request: &Request, read: &[u8]) -> usize
 /// Writes the bytes, and says how many Laters were met.
 fn ask<S: Output>(stream: &mut S, bytes: &[u8]) -> Result<u32, ClientFault>
     ensures writes { Writes bytes.now (S.held stream.old) (S.held stream.new) result }
+    ensures fault { IfErr result IsWriteFault }
     ensures waited { Waited (laters (S.pulls stream.old) (S.puts stream.old)) (laters (S.pulls stream.new) (S.puts stream.new)) result }
     ensures broken { result ≡ Err ClientFault.Write → S.broken stream.new ≡ true }
     ensures left { Keeps (S.left stream.old) (S.left stream.new) }
@@ -63,7 +65,7 @@ fn hear<S: Input>(
     request: &Request,
     met: u32,
 ) -> Result<Vec<u8>, ClientFault>
-    requires { met < 1000 }
+    requires { met < laters_most }
     ensures heard { Answers request.now SaysBytes (S.left stream.old) (S.left stream.new) (S.pulls stream.old) (S.pulls stream.new) result }
     ensures fault { IfErr result IsReadFault }
     ensures waits { Waits (laters (S.pulls stream.old) (S.puts stream.old)) (met + laters (S.pulls stream.new) (S.puts stream.new)) result }
@@ -98,8 +100,9 @@ pub(crate) fn exchange<S: Input + Output>(
     stream: &mut S,
     request: &Request,
 ) -> Result<Vec<u8>, ClientFault>
-    ensures asked { Asks request.now (S.held stream.old) (S.held stream.new) result }
+    ensures asked { Writes (sent request.now) (S.held stream.old) (S.held stream.new) result }
     ensures answered { Answers request.now SaysBytes (S.left stream.old) (S.left stream.new) (S.pulls stream.old) (S.pulls stream.new) result }
+    ensures unread { result ≡ Err ClientFault.Write → S.pulls stream.new ≡ S.pulls stream.old }
     ensures waits { Waits (laters (S.pulls stream.old) (S.puts stream.old)) (laters (S.pulls stream.new) (S.puts stream.new)) result }
     ensures broken { IfErr result (λ fault. is_device_fault fault ≡ true → S.broken stream.new ≡ true) }
 {

@@ -1,8 +1,9 @@
 //! The two lists of names.
-ghost use Rattle.std.specs.Prelude.{◌≡◌, true, IfErr};
+ghost use Rattle.std.specs.Prelude.{◌≡◌, true, Err, IfErr};
 ghost use Rattle.portmap_wire.specs.declared.request.Request.TheVariants as request;
+ghost use Rattle.portmap_wire.specs.Request.{sent};
 ghost use Rattle.portmap_client.specs.Answer.{SaysNames, SaysDump};
-ghost use Rattle.portmap_client.specs.Exchange.{Asks, Answers, is_device_fault};
+ghost use Rattle.portmap_client.specs.Exchange.{Writes, Answers, is_device_fault};
 ghost use Rattle.portmap_client.specs.Laters.{laters, Waits};
 
 use crate::ClientFault;
@@ -16,8 +17,9 @@ pub fn names<S: Input + Output>(
     alloc: Global,
     stream: &mut S,
 ) -> Result<(u32, Vec<Line>), ClientFault>
-    ensures asked { Asks request.Names (S.held stream.old) (S.held stream.new) result }
+    ensures asked { Writes (sent request.Names) (S.held stream.old) (S.held stream.new) result }
     ensures answered { Answers request.Names SaysNames (S.left stream.old) (S.left stream.new) (S.pulls stream.old) (S.pulls stream.new) result }
+    ensures unread { result ≡ Err ClientFault.Write → S.pulls stream.new ≡ S.pulls stream.old }
     ensures waits { Waits (laters (S.pulls stream.old) (S.puts stream.old)) (laters (S.pulls stream.new) (S.puts stream.new)) result }
     ensures broken { IfErr result (λ fault. is_device_fault fault ≡ true → S.broken stream.new ≡ true) }
 {
@@ -36,8 +38,9 @@ pub fn names<S: Input + Output>(
 /// Asks for the port mapper's own port and for the text of all that it knows (DUMP_REQ), which is not looked at. It reads
 /// to the end.
 pub fn dump<S: Input + Output>(alloc: Global, stream: &mut S) -> Result<(u32, Vec<u8>), ClientFault>
-    ensures asked { Asks request.Dump (S.held stream.old) (S.held stream.new) result }
+    ensures asked { Writes (sent request.Dump) (S.held stream.old) (S.held stream.new) result }
     ensures answered { Answers request.Dump SaysDump (S.left stream.old) (S.left stream.new) (S.pulls stream.old) (S.pulls stream.new) result }
+    ensures unread { result ≡ Err ClientFault.Write → S.pulls stream.new ≡ S.pulls stream.old }
     ensures waits { Waits (laters (S.pulls stream.old) (S.puts stream.old)) (laters (S.pulls stream.new) (S.puts stream.new)) result }
     ensures broken { IfErr result (λ fault. is_device_fault fault ≡ true → S.broken stream.new ≡ true) }
 {

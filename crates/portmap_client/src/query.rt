@@ -1,8 +1,9 @@
 //! What is registered under a name.
-ghost use Rattle.std.specs.Prelude.{◌≡◌, true, IfErr};
+ghost use Rattle.std.specs.Prelude.{◌≡◌, true, Err, IfErr};
 ghost use Rattle.portmap_wire.specs.declared.request.Request.TheVariants as request;
+ghost use Rattle.portmap_wire.specs.Request.{sent};
 ghost use Rattle.portmap_client.specs.Answer.{SaysFound};
-ghost use Rattle.portmap_client.specs.Exchange.{Asks, Answers, is_device_fault};
+ghost use Rattle.portmap_client.specs.Exchange.{Writes, Answers, is_device_fault};
 ghost use Rattle.portmap_client.specs.Laters.{laters, Waits};
 
 use crate::ClientFault;
@@ -18,8 +19,9 @@ pub fn lookup<S: Input + Output>(
     stream: &mut S,
     name: &Name,
 ) -> Result<Option<Reg>, ClientFault>
-    ensures asked { Asks (request.Port name.now) (S.held stream.old) (S.held stream.new) result }
+    ensures asked { Writes (sent (request.Port name.now)) (S.held stream.old) (S.held stream.new) result }
     ensures answered { Answers (request.Port name.now) SaysFound (S.left stream.old) (S.left stream.new) (S.pulls stream.old) (S.pulls stream.new) result }
+    ensures unread { result ≡ Err ClientFault.Write → S.pulls stream.new ≡ S.pulls stream.old }
     ensures waits { Waits (laters (S.pulls stream.old) (S.puts stream.old)) (laters (S.pulls stream.new) (S.puts stream.new)) result }
     ensures broken { IfErr result (λ fault. is_device_fault fault ≡ true → S.broken stream.new ≡ true) }
 {

@@ -1,10 +1,11 @@
 //! A registered name, which lasts as long as its connection.
-ghost use Rattle.std.specs.Prelude.{◌≡◌, true, IfErr};
+ghost use Rattle.std.specs.Prelude.{◌≡◌, true, Err, IfErr};
 ghost use Rattle.portmap_wire.specs.declared.request.Request.TheVariants as request;
+ghost use Rattle.portmap_wire.specs.Request.{sent};
 ghost use Rattle.portmap_client.specs.Answer.{SaysCreation};
-ghost use Rattle.portmap_client.specs.Exchange.{Asks, Answers, is_device_fault};
+ghost use Rattle.portmap_client.specs.Exchange.{Writes, Answers, is_device_fault};
 ghost use Rattle.portmap_client.specs.Laters.{laters, Waits};
-ghost use Rattle.portmap_client.specs.Registration.{stream_of, creation_of, handed_back, made};
+ghost use Rattle.portmap_client.specs.Registration.{stream_of, creation_of, stream_after, made};
 
 use crate::ClientFault;
 use crate::exchange::exchange;
@@ -22,8 +23,9 @@ pub struct Registration<S> {
 
 /// Registers a node over a stream, and gives its creation.
 fn register<S: Input + Output>(alloc: Global, stream: &mut S, reg: &Reg) -> Result<u32, ClientFault>
-    ensures asked { Asks (request.Alive reg.now) (S.held stream.old) (S.held stream.new) result }
+    ensures asked { Writes (sent (request.Alive reg.now)) (S.held stream.old) (S.held stream.new) result }
     ensures answered { Answers (request.Alive reg.now) SaysCreation (S.left stream.old) (S.left stream.new) (S.pulls stream.old) (S.pulls stream.new) result }
+    ensures unread { result ≡ Err ClientFault.Write → S.pulls stream.new ≡ S.pulls stream.old }
     ensures waits { Waits (laters (S.pulls stream.old) (S.puts stream.old)) (laters (S.pulls stream.new) (S.puts stream.new)) result }
     ensures broken { IfErr result (λ fault. is_device_fault fault ≡ true → S.broken stream.new ≡ true) }
 {
@@ -41,10 +43,11 @@ fn register<S: Input + Output>(alloc: Global, stream: &mut S, reg: &Reg) -> Resu
 impl<S: Input + Output> Registration<S> {
     /// Registers a node (ALIVE2_REQ). With an error the stream is handed back.
     pub fn make(alloc: Global, stream: S, reg: &Reg) -> Result<Registration<S>, (ClientFault, S)>
-        ensures asked { Asks (request.Alive reg.now) (S.held stream) (S.held (handed_back result)) (made result) }
-        ensures answered { Answers (request.Alive reg.now) SaysCreation (S.left stream) (S.left (handed_back result)) (S.pulls stream) (S.pulls (handed_back result)) (made result) }
-        ensures waits { Waits (laters (S.pulls stream) (S.puts stream)) (laters (S.pulls (handed_back result)) (S.puts (handed_back result))) (made result) }
-        ensures broken { IfErr (made result) (λ fault. is_device_fault fault ≡ true → S.broken (handed_back result) ≡ true) }
+        ensures asked { Writes (sent (request.Alive reg.now)) (S.held stream) (S.held (stream_after result)) (made result) }
+        ensures answered { Answers (request.Alive reg.now) SaysCreation (S.left stream) (S.left (stream_after result)) (S.pulls stream) (S.pulls (stream_after result)) (made result) }
+        ensures unread { made result ≡ Err ClientFault.Write → S.pulls (stream_after result) ≡ S.pulls stream }
+        ensures waits { Waits (laters (S.pulls stream) (S.puts stream)) (laters (S.pulls (stream_after result)) (S.puts (stream_after result))) (made result) }
+        ensures broken { IfErr (made result) (λ fault. is_device_fault fault ≡ true → S.broken (stream_after result) ≡ true) }
     {
         let mut stream = stream;
         match register(alloc, &mut stream, reg) {

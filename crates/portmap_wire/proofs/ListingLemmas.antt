@@ -1,6 +1,6 @@
 -- The digits at the end of a line tell where its port begins, and so a line has one reading.
-use Rattle.std.proofs.Common.{◌≡◌, ℕ, ◌+◌, ◌-◌, ◌*◌, ◌<◌, ◌≤◌, List, ◌++◌, length, get_or, take, drop, refl, sym, ap, subst, ◌∙◌, arith, Ok, Err, inl, inr}
-use Rattle.std.specs.Prelude.{codes, ◌≢◌}
+use Rattle.std.proofs.Common.{◌≡◌, ℕ, ◌+◌, ◌-◌, ◌*◌, ◌<◌, ◌≤◌, Bool, true, false, List, ◌++◌, length, get_or, take, drop, refl, sym, ap, subst, ◌∙◌, arith, Ok, Err, inl, inr}
+use Rattle.std.specs.Prelude.{codes, ◌≢◌, MatchBool}
 use Rattle.std.specs.Int.{IsInRange}
 use Rattle.std.specs.Str.Parse.{AllDigits, digits_value}
 use Rattle.std.proofs.lemmas.Bool.{cases_lt}
@@ -12,7 +12,8 @@ use Rattle.portmap_wire.specs.Name.{IsName}
 use Rattle.portmap_wire.specs.Reading.{GivesName}
 use Rattle.portmap_wire.specs.declared.name.NameFault.{NameFault}
 use Rattle.portmap_wire.specs.declared.name.NameFault.TheVariants as name_fault
-use Rattle.portmap_wire.specs.Listing.{WritesPort, HasShape, HasNoReading, EndsInDigits, LinesHaveOneReading}
+use Rattle.portmap_wire.specs.declared.list.Line.{Line}
+use Rattle.portmap_wire.specs.Listing.{WritesPort, HasShape, ReadsLine, HasNoReading, EndsInDigits, LinesHaveOneReading}
 
 -- ---- digits
 
@@ -144,3 +145,8 @@ refused text name port f other only shape line r = never f other (only (subst Is
     never name_fault.Empty other g = absurd cc
     never name_fault.TooLong other g = absurd cc
     never (name_fault.BadByte at) other g = absurd cc
+
+-- a text of a line's shape is one exactly where its name is a name
+pub named_line : (text name : List ℕ) (port : ℕ) (b : Bool) → HasShape text name port → MatchBool b (IsName name) (IsName name → ⊥) → MatchBool b ((line : Line) × ReadsLine text line) (HasNoReading text)
+named_line text name port true shape is = (record { name = name; port = port }, record { shape = shape; name = is })
+named_line text name port false shape none = λ line r. none (subst IsName (one_shape text line.name name line.port port r.shape shape).name r.name)

@@ -61,6 +61,10 @@ abbrev pub ListsTo : List ℕ → List Line → List ℕ → Type 0
 ListsTo text [] rest = text ≡ rest
 ListsTo text (line ∷ lines) rest = (front : List ℕ) × (after : List ℕ) × (text ≡ front ++ 10 ∷ after) × ReadsLine front line × ListsTo after lines rest
 
+-- a text is lines
+abbrev pub IsLines : List ℕ → Type 0
+IsLines text = (lines : List Line) × ListsTo text lines []
+
 -- what begins with no line ended by byte 10, and is not empty
 pub record IsStrange (text : List ℕ) : Type 0 where
   pub some : 0 < length text
@@ -88,6 +92,10 @@ pub record Lists (bytes : List ℕ) (port : ℕ) (lines : List Line) : Type 0 wh
   pub text : List ℕ
   pub bytes_are : bytes ≡ be4 port ++ text
   pub lines_are : ListsTo text lines []
+
+-- bytes are a list
+abbrev pub IsList : List ℕ → Type 0
+IsList bytes = (port : ℕ) × (lines : List Line) × Lists bytes port lines
 
 -- the line of this number, from 0, is the first that is none
 pub record StrangeAt (bytes : List ℕ) (at : ℕ) : Type 0 where

@@ -1,11 +1,11 @@
 //! Reading the two lists of names.
-ghost use Rattle.std.specs.Prelude.{◌≡◌, ◌++◌, ◌<◌, ℕ, List, [], length, position, IfOk, IfSome, IfErr, MatchOption, None, Err};
+ghost use Rattle.std.specs.Prelude.{◌≡◌, ◌++◌, ◌<◌, ℕ, List, [], length, position, IfOk, IfSome, IfErr, MatchBool, MatchOption, None, Err};
 ghost use Rattle.std.specs.Str.Parse.{AllDigits};
 ghost use Rattle.portmap_wire.specs.Reply.{be4};
-ghost use Rattle.portmap_wire.specs.Listing.{WritesPort, EndsInDigits, HasShape, HasNoReading, ReadsLine, is_newline, HasNoNewline, IsCut, ListsTo, Lists, IsLinesFault, IsListFault, LinesHaveOneReading, NamesAreReadBack};
+ghost use Rattle.portmap_wire.specs.Listing.{WritesPort, EndsInDigits, HasShape, HasNoReading, ReadsLine, is_newline, HasNoNewline, IsCut, ListsTo, IsLines, Lists, IsList, StrangeIn, IsLinesFault, IsListFault, LinesHaveOneReading, NamesAreReadBack};
 
 use crate::list::Line;
-use crate::name::{Name, NameFault, NoMemory};
+use crate::name::{Name, NameFault, NoMemory, is_name};
 use std::alloc::Global;
 
 /// Why bytes are no list.
@@ -104,10 +104,51 @@ fn cut_line(text: &[u8]) -> Option<(&[u8], &[u8])>
     }
 }
 
+/// Whether this text is a line, without byte 10.
+fn is_line(text: &[u8]) -> bool
+    ensures { MatchBool result ((line : Line) × ReadsLine text.now line) (HasNoReading text.now) }
+{
+    match split_line(text) {
+        Some(found) => is_name(found.0),
+        None => false,
+    }
+}
+
+/// The number of the first line that is none.
+fn first_strange(text: &[u8]) -> Option<usize>
+    ensures found { IfSome result (λ at. StrangeIn text.now at) }
+    ensures none { result ≡ None → IsLines text.now }
+{
+    let mut count = 0;
+    let mut rest = text;
+    while !rest.is_empty() {
+        match cut_line(rest) {
+            Some((front, after)) if is_line(front) => {
+                rest = after;
+                count += 1;
+            }
+            _ => return Some(count),
+        }
+    }
+    None
+}
+
+/// Why lines are not read for which there is no memory: a line that is none comes first.
+fn without_memory(text: &[u8]) -> ListFault
+    ensures fault { IsLinesFault text.now result }
+    ensures memory { result ≡ ListFault.NoMemory → IsLines text.now }
+{
+    match first_strange(text) {
+        Some(at) => ListFault::StrangeLine(at),
+        None => ListFault::NoMemory,
+    }
+}
+
 /// The lines that this text is.
 fn read_lines(alloc: Global, text: &[u8]) -> Result<Vec<Line>, ListFault>
     ensures found { IfOk result (λ lines. ListsTo text.now lines.items []) }
     ensures fault { IfErr result (λ fault. IsLinesFault text.now fault) }
+    ensures memory { result ≡ Err ListFault.NoMemory → IsLines text.now }
 {
     let mut lines = Vec::new(alloc);
     let mut rest = text;
@@ -116,9 +157,13 @@ fn read_lines(alloc: Global, text: &[u8]) -> Result<Vec<Line>, ListFault>
             return Err(ListFault::StrangeLine(lines.len()));
         };
         match read_line(alloc, front) {
-            Ok(Some(line)) => lines.push(line).map_err(|_| ListFault::NoMemory)?,
+            Ok(Some(line)) => {
+                let Ok(()) = lines.push(line) else {
+                    return Err(without_memory(text));
+                };
+            }
             Ok(None) => return Err(ListFault::StrangeLine(lines.len())),
-            Err(_) => return Err(ListFault::NoMemory),
+            Err(_) => return Err(without_memory(text)),
         }
         rest = after;
     }
@@ -142,6 +187,8 @@ pub fn read_names(alloc: Global, bytes: &[u8]) -> Result<(u32, Vec<Line>), ListF
     ensures found { IfOk result (λ list. Lists bytes.now list.0 list.1.items) }
     ensures fault { IfErr result (λ fault. IsListFault bytes.now fault) }
     ensures short { length bytes.now < 4 → result ≡ Err ListFault.Short }
+    // Memory is asked for last.
+    ensures memory { result ≡ Err ListFault.NoMemory → IsList bytes.now }
 {
     let (port, text) = read_dump(bytes)?;
     let lines = read_lines(alloc, text)?;

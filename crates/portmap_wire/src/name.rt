@@ -1,5 +1,5 @@
 //! A node's name.
-ghost use Rattle.std.specs.Prelude.{◌≡◌, position, IfOk, Ok, Err, IsOk};
+ghost use Rattle.std.specs.Prelude.{◌≡◌, position, IfOk, Ok, Err, IsOk, MatchBool};
 ghost use Rattle.portmap_wire.specs.Name.{IsName, is_control};
 ghost use Rattle.portmap_wire.specs.Reading.{GivesName, name_in};
 
@@ -47,6 +47,19 @@ fn first_control(bytes: &[u8]) -> Option<usize>
     ensures { result ≡ position is_control bytes.now }
 {
     bytes.iter().position(|b| *b < 32 || *b == 127)
+}
+
+/// Whether bytes are a name. `Name::read` says why they are none.
+pub(crate) fn is_name(bytes: &[u8]) -> bool
+    ensures { MatchBool result (IsName bytes.now) (IsName bytes.now → ⊥) }
+{
+    if bytes.is_empty() || bytes.len() > NAME_MOST {
+        return false;
+    }
+    match first_control(bytes) {
+        Some(_at) => false,
+        None => true,
+    }
 }
 
 impl Name {

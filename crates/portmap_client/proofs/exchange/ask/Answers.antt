@@ -32,11 +32,14 @@ returns-in-Fault-clause-writes g c =
     let inv = c.loop-laters.invariant in
     let wrote = rw c.split_at.ensures.back at c.send-count.ensures.written in
     let all = rw c.in-Fault.is at c.send-count.ensures.all in
-    let part : c.send-count.result.0 ≢ length c.split_at.result.1.now = λ e. (let both : Fault ≡ Empty = all.1 e in cc) in (
-      c.loop-laters.sent + c.send-count.result.0,
-      omega (arith, part, ap length c.split_at.ensures.back, length-drop c.loop-laters.sent c.args.bytes.now, c.send-count.ensures.within, inv.within),
-      appends_more (g.S.Device.held c.args.stream.now) (g.S.Device.held c.loop-laters.stream) (g.S.Device.held c.send-count.new.output) c.loop-laters.sent c.send-count.result.0 c.args.bytes.now inv.written wrote,
-    )
+    let part : c.send-count.result.0 ≢ length c.split_at.result.1.now = λ e. (let both : Fault ≡ Empty = all.1 e in cc) in
+    record {
+      front = record {
+        count = c.loop-laters.sent + c.send-count.result.0;
+        writes = appends_more (g.S.Device.held c.args.stream.now) (g.S.Device.held c.loop-laters.stream) (g.S.Device.held c.send-count.new.output) c.loop-laters.sent c.send-count.result.0 c.args.bytes.now inv.written wrote;
+      };
+      part = omega (arith, part, ap length c.split_at.ensures.back, length-drop c.loop-laters.sent c.args.bytes.now, c.send-count.ensures.within, inv.within);
+    }
 
 pub returns-in-Fault-clause-waited : goal.returns-in-Fault-clause-waited
 returns-in-Fault-clause-waited g c =
