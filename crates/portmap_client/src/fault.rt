@@ -19,7 +19,7 @@ pub enum ClientFault {
     BadTag(u8),
     /// The registration was refused, with this result, which is above 0.
     Refused(u8),
-    /// The answer is none that a port mapper gives.
+    /// The answer is none that this client reads.
     Strange,
     /// The list has more than 16,777,216 bytes.
     TooLong,

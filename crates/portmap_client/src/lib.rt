@@ -1,5 +1,5 @@
-//! A client of the port mapper, over any stream of bytes. Each call sends one request and reads its answer; the port mapper
-//! closes the connection after every answer but that to a registration, so each call wants a connection of its own.
+//! A client of the port mapper, over any stream of bytes. Each call sends one request and reads its answer, over a connection
+//! of its own: the port mapper closes it after every answer, but for a registration that succeeds.
 #![tactic(auto)]
 
 mod commands;

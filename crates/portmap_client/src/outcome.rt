@@ -7,9 +7,9 @@ use crate::ClientFault;
 /// What a port mapper said to KILL_REQ.
 #[derive(Clone, Copy, Debug, PartialEq, Eq)]
 pub enum Kill {
-    /// It ends.
+    /// The port mapper ends.
     Killed,
-    /// It goes on: it said so, or it closed the connection without a word.
+    /// It may not: the port mapper said so, or closed the connection without a word.
     NotAllowed,
 }
 

@@ -34,7 +34,7 @@ pub fn node_a(alloc: Global) -> Result<Reg, Fail> {
 fn a_registration_is_given_its_creation_or_hands_the_stream_back(
     rt: HostRuntime,
 ) -> Result<(), Fail> {
-    let cases: [(&[u8], Result<u32, ClientFault>, &[u8]); 9] = [
+    let cases: [(&[u8], Result<u32, ClientFault>, &[u8]); 10] = [
         (&[0x76, 0, 0, 0, 0, 4], Ok(4), b""),
         (&[0x79, 0, 0, 3], Ok(3), b""),
         (&[0x79, 0, 0, 3, 9, 9], Ok(3), &[9, 9]),
@@ -47,6 +47,7 @@ fn a_registration_is_given_its_creation_or_hands_the_stream_back(
         ),
         (&[0x76, 2], Err(ClientFault::Refused(2)), b""),
         (&[0x79, 1, 0, 0], Err(ClientFault::Refused(1)), &[0, 0]),
+        (&[0x58], Err(ClientFault::BadTag(88)), b""),
         (&[0x58, 0], Err(ClientFault::BadTag(88)), &[0]),
     ];
     let node = node_a(rt.alloc())?;
@@ -63,6 +64,13 @@ fn a_registration_is_given_its_creation_or_hands_the_stream_back(
     Ok(())
 }
 
+// Whether these are the fields of `node_a`.
+fn is_node_a(reg: &Reg) -> bool {
+    (reg.port, reg.kind, reg.proto, reg.high, reg.low) == (5000, 77, 0, 6, 5)
+        && reg.name.bytes() == b"a".as_slice()
+        && reg.extra.is_empty()
+}
+
 #[test]
 fn a_look_up_finds_all_fields_and_reads_no_further(rt: HostRuntime) -> Result<(), Fail> {
     let a = name_a(rt.alloc())?;
@@ -71,12 +79,8 @@ fn a_look_up_finds_all_fields_and_reads_no_further(rt: HostRuntime) -> Result<()
         let mut answer = Vec::from_slice(rt.alloc(), FOUND)?;
         answer.extend_from_slice(b"rest")?;
         let mut tape = Tape::new(rt.alloc(), &answer, plan);
-        let Some(reg) = lookup(rt.alloc(), &mut tape, &a)? else {
-            return Err("nothing is registered")?;
-        };
-        assert_eq!(rt; (reg.port, reg.kind, reg.proto), (5000, 77, 0));
-        assert_eq!(rt; (reg.high, reg.low), (6, 5));
-        assert_eq!(rt; (reg.name.bytes(), reg.extra.len()), (b"a".as_slice(), 0));
+        let found = lookup(rt.alloc(), &mut tape, &a)?;
+        assert!(rt; found.is_some_and(|reg| is_node_a(&reg)), "{most} at once");
         assert_eq!(rt; tape.sink.as_slice(), [0, 2, 0x7A, 0x61].as_slice());
         assert_eq!(rt; tape.source, b"rest".as_slice());
     }
@@ -190,18 +194,59 @@ fn what_is_no_list_has_a_fault(rt: HostRuntime) {
 
 #[test]
 fn a_dump_is_given_as_it_came(rt: HostRuntime) -> Result<(), Fail> {
-    let text = b"active name     a at port 5000, fd = 0\n".as_slice();
-    let mut answer = Vec::from_slice(rt.alloc(), &[0, 0, 0x11, 0x11])?;
-    answer.extend_from_slice(text)?;
-    let mut tape = Tape::new(rt.alloc(), &answer, STEADY);
-    let (port, was) = dump(rt.alloc(), &mut tape)?;
-    assert_eq!(rt; (port, was.as_slice()), (4369, text));
-    assert_eq!(rt; tape.sink.as_slice(), [0, 1, 0x64].as_slice());
-    let mut short = Tape::new(rt.alloc(), &answer[..3], STEADY);
+    let texts: [&[u8]; 3] = [
+        b"active name     a at port 5000, fd = 0\n",
+        b"old/unused name a at port 5000, fd = -1\n",
+        b"",
+    ];
+    for text in texts {
+        let mut answer = Vec::from_slice(rt.alloc(), &[0, 0, 0x11, 0x11])?;
+        answer.extend_from_slice(text)?;
+        let mut tape = Tape::new(rt.alloc(), &answer, STEADY);
+        let (port, was) = dump(rt.alloc(), &mut tape)?;
+        assert_eq!(rt; (port, was.as_slice()), (4369, text));
+        assert_eq!(rt; tape.sink.as_slice(), [0, 1, 0x64].as_slice());
+    }
+    let mut short = Tape::new(rt.alloc(), &[0, 0, 0x11], STEADY);
     assert_eq!(rt;
         dump(rt.alloc(), &mut short).err(),
         Some(ClientFault::Short)
     );
+    Ok(())
+}
+
+#[test]
+fn answers_of_many_pulls_are_read_whole(rt: HostRuntime) -> Result<(), Fail> {
+    // A registration that fills a request of 8,192 bytes: 13, the name's one and the extra ones.
+    let mut extra = Vec::new(rt.alloc());
+    extra.resize(8178, 7)?;
+    let node = Reg::new(rt.alloc(), 5000, 77, 0, 6, 5, name_a(rt.alloc())?, &extra)?;
+    let tape = Tape::new(rt.alloc(), &[0x76, 0, 0, 0, 0, 4], STEADY);
+    let registration = match Registration::make(rt.alloc(), tape, &node) {
+        Ok(registration) => registration,
+        Err((fault, _)) => return Err(fault)?,
+    };
+    let tape = registration.leave();
+    assert_eq!(rt; tape.sink.len(), 2 + 8192);
+    assert!(rt; tape.sink.starts_with(&[0x20, 0, 0x78]) && tape.sink.ends_with(&extra));
+
+    let mut answer = Vec::from_slice(rt.alloc(), &FOUND[..13])?;
+    answer.extend_from_slice(&[0x1F, 0xF2])?;
+    answer.extend_from_slice(&extra)?;
+    let mut tape = Tape::new(rt.alloc(), &answer, STEADY);
+    let found = lookup(rt.alloc(), &mut tape, &node.name)?;
+    assert!(rt; found.is_some_and(|reg| reg.extra.as_slice() == extra.as_slice()));
+
+    let mut list = Vec::from_slice(rt.alloc(), &LIST[..4])?;
+    for _ in 0..4096 {
+        list.extend_from_slice(&LIST[4..])?;
+    }
+    let (_, lines) = names(rt.alloc(), &mut Tape::new(rt.alloc(), &list, STEADY))?;
+    assert_eq!(rt; lines.len(), 4096);
+    assert!(rt; lines.iter().all(|line| line.port == 5000 && line.name.bytes() == b"a".as_slice()));
+    let (_, text) = dump(rt.alloc(), &mut Tape::new(rt.alloc(), &list, STEADY))?;
+    assert_eq!(rt; text.len(), list.len().saturating_sub(4));
+    assert!(rt; list.ends_with(&text));
     Ok(())
 }
 
@@ -212,18 +257,18 @@ fn a_failing_stream_is_told_from_the_request_to_the_answer(rt: HostRuntime) -> R
     for call in 0..20 {
         let plan = Plan {
             most: 1,
-            laters: 0,
             fault: Some(call),
+            ..STEADY
         };
         let mut tape = Tape::new(rt.alloc(), FOUND, plan);
-        let was = lookup(rt.alloc(), &mut tape, &a);
-        let want = match call {
-            0..4 => Some(ClientFault::Write),
-            4..19 => Some(ClientFault::Read),
+        match lookup(rt.alloc(), &mut tape, &a) {
+            Err(ClientFault::Write) => assert!(rt; call < 4, "at call {call}"),
+            Err(ClientFault::Read) => assert!(rt; call >= 4 && call < 19, "at call {call}"),
             // The answer is whole, so no further call is made.
-            _ => None,
-        };
-        assert_eq!(rt; was.err(), want, "at call {call}");
+            Ok(Some(reg)) => assert!(rt; call == 19 && is_node_a(&reg), "at call {call}"),
+            Ok(None) => return Err("nothing is registered")?,
+            Err(fault) => return Err(fault)?,
+        }
         assert_eq!(rt; tape.sink.as_slice(), &request[..call.min(4)]);
     }
     Ok(())
@@ -232,15 +277,40 @@ fn a_failing_stream_is_told_from_the_request_to_the_answer(rt: HostRuntime) -> R
 #[test]
 fn a_call_ends_at_the_thousandth_later(rt: HostRuntime) -> Result<(), Fail> {
     let a = name_a(rt.alloc())?;
-    for (laters, want) in [(999, None), (1000, Some(ClientFault::TooManyTurns))] {
-        let plan = Plan { laters, ..STEADY };
+    let none: &[u8] = &[];
+    let request: &[u8] = &[0, 2, 0x7A, 0x61];
+    let cases = [
+        (999, 0, None, request),
+        (1000, 0, Some(ClientFault::TooManyTurns), none),
+        (0, 999, None, request),
+        (0, 1000, Some(ClientFault::TooManyTurns), request),
+        (400, 599, None, request),
+        (400, 600, Some(ClientFault::TooManyTurns), request),
+    ];
+    for (later_puts, later_pulls, want, written) in cases {
+        let plan = Plan {
+            later_puts,
+            later_pulls,
+            ..STEADY
+        };
         let mut tape = Tape::new(rt.alloc(), &[0x77, 1], plan);
+        match lookup(rt.alloc(), &mut tape, &a) {
+            Ok(found) => assert!(rt; found.is_none() && want.is_none()),
+            Err(fault) => assert_eq!(rt; Some(fault), want),
+        }
         assert_eq!(rt;
-            lookup(rt.alloc(), &mut tape, &a).err(),
-            want,
-            "{laters} Laters"
+            tape.sink.as_slice(),
+            written,
+            "{later_puts} and {later_pulls} Laters"
         );
     }
+    let plan = Plan {
+        later_pulls: usize::MAX,
+        ..STEADY
+    };
+    let mut tape = Tape::new(rt.alloc(), LIST, plan);
+    let spent = Some(ClientFault::TooManyTurns);
+    assert_eq!(rt; names(rt.alloc(), &mut tape).err(), spent);
     Ok(())
 }
 

@@ -3,7 +3,7 @@ ghost use Rattle.std.specs.Prelude.{◌≡◌, Err, IsOk};
 ghost use Rattle.portmap_wire.specs.Answer.{wide_answer, short_answer, alive_answer, registered_answer, port2_result, port2_answer, GivesReply, AlivesAreReadBack, LookUpsAreReadBack};
 ghost use Rattle.portmap_wire.specs.Reading.{fields_in};
 
-use crate::fields::fields_at;
+use crate::fields::{fields_at, registration_of};
 use crate::name::{Name, NameFault};
 use crate::registration::{ExtraFault, Reg};
 use std::alloc::Global;
@@ -85,16 +85,7 @@ fn read_registered(alloc: Global, rest: &[u8]) -> Result<Option<Reg>, ReplyFault
         Err(NameFault::NoMemory) => return Err(ReplyFault::NoMemory),
         Err(_) => return Err(ReplyFault::Strange),
     };
-    match Reg::new(
-        alloc,
-        fields.port,
-        fields.kind,
-        fields.proto,
-        fields.high,
-        fields.low,
-        name,
-        fields.extra,
-    ) {
+    match registration_of(alloc, &fields, name) {
         Ok(reg) => Ok(Some(reg)),
         Err(ExtraFault::NoMemory) => Err(ReplyFault::NoMemory),
         Err(ExtraFault::TooLong) => unreachable!(),

@@ -53,7 +53,7 @@ fn first_control(bytes: &[u8]) -> Option<usize>
 pub(crate) fn is_name(bytes: &[u8]) -> bool
     ensures { MatchBool result (IsName bytes.now) (IsName bytes.now → ⊥) }
 {
-    if bytes.is_empty() || bytes.len() > NAME_MOST {
+    if bytes.is_empty() || NAME_MOST < bytes.len() {
         return false;
     }
     match first_control(bytes) {

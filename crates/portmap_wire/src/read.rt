@@ -4,9 +4,9 @@ ghost use Rattle.portmap_wire.specs.Reading.{Gives, request_in, alive_in, named,
 ghost use Rattle.portmap_wire.specs.Request.{Spells, IsMalformed};
 ghost use Rattle.portmap_wire.specs.declared.request.Request.TheVariants.{Port, Stop};
 
-use crate::fields::fields_at;
+use crate::fields::{fields_at, registration_of};
 use crate::name::{Name, NameFault};
-use crate::registration::{ExtraFault, Reg};
+use crate::registration::ExtraFault;
 use crate::request::{Malformed, Request};
 use std::alloc::Global;
 
@@ -42,16 +42,7 @@ fn read_alive_request(alloc: Global, rest: &[u8]) -> Result<Request, Malformed>
         Ok(name) => name,
         Err(fault) => return Err(fault_in_request(fault)),
     };
-    match Reg::new(
-        alloc,
-        fields.port,
-        fields.kind,
-        fields.proto,
-        fields.high,
-        fields.low,
-        name,
-        fields.extra,
-    ) {
+    match registration_of(alloc, &fields, name) {
         Ok(reg) => Ok(Request::Alive(reg)),
         Err(ExtraFault::NoMemory) => Err(Malformed::NoMemory),
         Err(ExtraFault::TooLong) => unreachable!(),

@@ -7,13 +7,16 @@ use std::test::Fail;
 use std::time::Duration;
 use std::{io, thread};
 
-// How many seconds a read may take.
-const PATIENCE: u64 = 5;
+// How many milliseconds a read of the listener's side may take.
+const PATIENCE: u64 = 5000;
+
+// And one of a client's. A read that takes longer is a Later, of which a call bears 999.
+const TURN: u64 = 20;
 
 // Takes a connection and a request of so many bytes, and answers it.
 fn answer(listener: &TcpListener, request: &mut [u8], reply: &[u8]) -> io::Result<TcpStream> {
     let (mut stream, _) = listener.accept()?;
-    stream.set_read_timeout(Some(Duration::from_secs(PATIENCE)))?;
+    stream.set_read_timeout(Some(Duration::from_millis(PATIENCE)))?;
     stream.read_exact(request)?;
     stream.write_all(reply)?;
     Ok(stream)
@@ -42,7 +45,7 @@ fn a_node_registers_and_is_found_over_sockets(rt: HostRuntime) -> Result<(), Fai
         TcpStream::connect(&rt, address)?,
     ];
     for stream in &streams {
-        stream.set_read_timeout(Some(Duration::from_secs(PATIENCE)))?;
+        stream.set_read_timeout(Some(Duration::from_millis(TURN)))?;
     }
     let (alloc, listener, node) = (rt.alloc(), &listener, &node);
     let (got, found) = thread::join(

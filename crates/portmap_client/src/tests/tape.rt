@@ -1,21 +1,24 @@
 //! Streams over memory.
-ghost use Rattle.std.specs.Prelude.{◌≡◌, ◌≤◌, true, IfOk};
+ghost use Rattle.std.specs.Prelude.{◌≡◌, true};
 
 use portmap_link::{Device, Input, Output, Past, Pull, Put};
 use std::alloc::Global;
 
-// How a stream answers: its first calls Later, one call and all after it a fault, the others with so many bytes at most.
+// How a stream answers: so many puts and so many pulls are Later before another is made, one call, counted from 0, and all
+// after it are a fault, and the others move so many bytes at most.
 #[derive(Clone, Copy)]
 pub struct Plan {
     pub most: usize,
-    pub laters: usize,
+    pub later_puts: usize,
+    pub later_pulls: usize,
     pub fault: Option<usize>,
 }
 
 // As much as is wanted at each call.
 pub const STEADY: Plan = Plan {
     most: usize::MAX,
-    laters: 0,
+    later_puts: 0,
+    later_pulls: 0,
     fault: None,
 };
 
@@ -28,18 +31,19 @@ enum Turn {
 }
 
 impl Plan {
-    fn turn(&self, calls: &mut usize, failed: bool) -> Turn
+    fn turn(&self, calls: &mut usize, laters: &mut usize, failed: bool) -> Turn
         ensures { failed ≡ true → result ≡ Turn.Fault }
     {
         let call = *calls;
         *calls = call.saturating_add(1);
         if failed || self.fault == Some(call) {
-            Turn::Fault
-        } else if call < self.laters {
-            Turn::Later
-        } else {
-            Turn::Move
+            return Turn::Fault;
         }
+        if *laters > 0 {
+            *laters -= 1;
+            return Turn::Later;
+        }
+        Turn::Move
     }
 }
 
@@ -49,6 +53,8 @@ pub struct Tape<'a> {
     pub source: &'a [u8],
     pub sink: Vec<u8>,
     plan: Plan,
+    later_puts: usize,
+    later_pulls: usize,
     calls: usize,
     failed: bool,
     pulls: Past<Pull>,
@@ -61,6 +67,8 @@ impl<'a> Tape<'a> {
             source,
             sink: Vec::new(alloc),
             plan,
+            later_puts: plan.later_puts,
+            later_pulls: plan.later_pulls,
             calls: 0,
             failed: false,
             pulls: Past::new(),
@@ -85,7 +93,10 @@ impl<'a> Device for Tape<'a> {
 
 impl<'a> Input for Tape<'a> {
     fn pull(&mut self, buffer: &mut [u8]) -> Pull {
-        let answer = match self.plan.turn(&mut self.calls, self.failed) {
+        let answer = match self
+            .plan
+            .turn(&mut self.calls, &mut self.later_pulls, self.failed)
+        {
             Turn::Move if self.source.is_empty() => Pull::End,
             Turn::Move => {
                 let most = self.plan.most.max(1);
@@ -110,7 +121,10 @@ impl<'a> Input for Tape<'a> {
 
 impl<'a> Output for Tape<'a> {
     fn put(&mut self, bytes: &[u8]) -> Put {
-        let answer = match self.plan.turn(&mut self.calls, self.failed) {
+        let answer = match self
+            .plan
+            .turn(&mut self.calls, &mut self.later_puts, self.failed)
+        {
             Turn::Move => {
                 let n = self.plan.most.max(1).min(bytes.len());
                 match self.sink.extend_from_slice(&bytes[..n]) {
