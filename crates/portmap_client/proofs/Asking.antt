@@ -2,8 +2,8 @@
 use Rattle.std.proofs.Common.{ℕ, List, length, Option, sym, subst, arith}
 use Rattle.std.proofs.lemmas.List.{take_all}
 use Rattle.std.specs.Io.KnownBytes.{Appends}
-use Rattle.portmap_wire.specs.declared.answer.ReplyFault.{ReplyFault}
-use Rattle.portmap_wire.specs.declared.answer.ReplyFault.TheVariants as reply
+use Rattle.portmap_wire.specs.declared.reply_reading.ReplyFault.{ReplyFault}
+use Rattle.portmap_wire.specs.declared.reply_reading.ReplyFault.TheVariants as reply
 use Rattle.portmap_client.specs.Answer.{of_reply}
 use Rattle.portmap_client.specs.Exchange.{WritesAt, WritesFront}
 

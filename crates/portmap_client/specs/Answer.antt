@@ -3,14 +3,14 @@ use Rattle.std.specs.Prelude.{◌≡◌, ◌==◌, ℕ, ◌<◌, ◌≤◌, nat_
 use Rattle.std.specs.Cmp.Lexicographic.{pointwise}
 use Rattle.std.specs.declared.vec.Vec.{Vec}
 use Rattle.std.specs.declared.alloc.Global.{Global}
-use Rattle.portmap_wire.specs.Answer.{alive_answer, port2_answer}
-use Rattle.portmap_wire.specs.Listing.{Lists, StrangeAt}
+use Rattle.portmap_wire.specs.ReplyReading.{alive_answer, port2_answer}
+use Rattle.portmap_wire.specs.ListReading.{Lists, StrangeAt}
 use Rattle.portmap_wire.specs.Registration.{Registration}
 use Rattle.portmap_wire.specs.Reply.{be4}
-use Rattle.portmap_wire.specs.declared.answer.AliveReply.{AliveReply}
-use Rattle.portmap_wire.specs.declared.answer.AliveReply.TheVariants.{Given, Refused}
-use Rattle.portmap_wire.specs.declared.answer.ReplyFault.{ReplyFault}
-use Rattle.portmap_wire.specs.declared.answer.ReplyFault.TheVariants as reply
+use Rattle.portmap_wire.specs.declared.reply_reading.AliveReply.{AliveReply}
+use Rattle.portmap_wire.specs.declared.reply_reading.AliveReply.TheVariants.{Given, Refused}
+use Rattle.portmap_wire.specs.declared.reply_reading.ReplyFault.{ReplyFault}
+use Rattle.portmap_wire.specs.declared.reply_reading.ReplyFault.TheVariants as reply
 use Rattle.portmap_wire.specs.declared.list.Line.{Line}
 use Rattle.portmap_client.specs.Exchange.{list_most}
 use Rattle.portmap_client.specs.declared.outcome.Kill.{Kill}

@@ -7,8 +7,8 @@ use Rattle.std.specs.Io.KnownBytes.{Appends, Consumes, IsAtEnd}
 use Rattle.portmap_link.specs.Asking.{GoesOn, IsAskedAgain}
 use Rattle.portmap_link.specs.declared.device.Pull.{Pull}
 use Rattle.portmap_link.specs.declared.device.Pull.TheVariants.{End}
-use Rattle.portmap_wire.specs.Answer.{alive_answer, port2_answer}
-use Rattle.portmap_wire.specs.declared.answer.ReplyFault.TheVariants as reply
+use Rattle.portmap_wire.specs.ReplyReading.{alive_answer, port2_answer}
+use Rattle.portmap_wire.specs.declared.reply_reading.ReplyFault.TheVariants as reply
 use Rattle.portmap_wire.specs.declared.request.Request.{Request}
 use Rattle.portmap_wire.specs.declared.request.Request.TheVariants.{Alive, Port, Names, Dump, Kill, Stop}
 use Rattle.portmap_client.specs.declared.fault.ClientFault.{ClientFault}

@@ -1,8 +1,8 @@
 -- What was written is read back.
 use Rattle.std.proofs.Common.{◌≡◌, ◌+◌, ◌≤◌, Bool, false, cond, ltb, length, Some, None, Ok, Err, refl, ap, ◌∙◌, arith}
 use Rattle.std.proofs.lemmas.Bool.{le-ltb}
-use Rattle.portmap_wire.specs.declared.answer.ReplyFault.TheVariants as fault
-use Rattle.portmap_wire.specs.Answer.{registered_answer, with_name, LookUpsAreReadBack}
+use Rattle.portmap_wire.specs.declared.reply_reading.ReplyFault.TheVariants as fault
+use Rattle.portmap_wire.specs.ReplyReading.{registered_answer, with_name, LookUpsAreReadBack}
 use Rattle.portmap_wire.proofs.FieldLemmas.{FitsFields, fields_again}
 use Rattle.portmap_wire.proofs.RequestLaws.{name_again}
 

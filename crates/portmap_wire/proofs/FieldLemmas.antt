@@ -5,7 +5,7 @@ use Rattle.std.proofs.lemmas.Bool.{ltb-false, le-ltb, cases_lt}
 use Rattle.std.proofs.lemmas.List.{take_at, drop_at, take-append-drop, drop-drop, length-append, length-take, length-drop, get_or-drop, get_or-take, get_or_past}
 use Rattle.std.proofs.lemmas.Nat.{be_bytes_2, from_be_bytes-to_be_bytes_2}
 use Rattle.portmap_wire.specs.Registration.{Registration, fields, be2}
-use Rattle.portmap_wire.specs.Reading.{u16_in, fields_in}
+use Rattle.portmap_wire.specs.RequestReading.{u16_in, fields_in}
 use Rattle.portmap_wire.proofs.NameLemmas.{IsBytes}
 
 -- the numbers are in range

@@ -17,9 +17,9 @@ use Rattle.portmap_wire.specs.Name.{IsName}
 use Rattle.portmap_wire.specs.Reply.{be4}
 use Rattle.portmap_wire.specs.List.{names_line, names_reply}
 use Rattle.portmap_wire.specs.declared.list.Line.{Line}
-use Rattle.portmap_wire.specs.declared.listing.ListFault.{ListFault}
-use Rattle.portmap_wire.specs.declared.listing.ListFault.TheVariants as fault
-use Rattle.portmap_wire.specs.Listing.{WritesPort, ReadsLine, HasNoReading, is_newline, HasNoNewline, IsCut, ListsTo, IsStrange, Lists, IsListFault, IsLine, IsReadBack, NamesAreReadBack}
+use Rattle.portmap_wire.specs.declared.list_reading.ListFault.{ListFault}
+use Rattle.portmap_wire.specs.declared.list_reading.ListFault.TheVariants as fault
+use Rattle.portmap_wire.specs.ListReading.{WritesPort, ReadsLine, HasNoReading, is_newline, HasNoNewline, IsCut, ListsTo, IsStrange, Lists, IsListFault, IsLine, IsReadBack, NamesAreReadBack}
 use Rattle.portmap_wire.proofs.NameLemmas.{each_fails}
 use Rattle.portmap_wire.proofs.ListingLemmas.{one_reading}
 

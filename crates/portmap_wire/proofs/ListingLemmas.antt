@@ -9,11 +9,11 @@ use Rattle.std.proofs.lemmas.Str.Parse.{numerals_by_value, tells_digits, tells_b
 use Rattle.std.proofs.lemmas.Str.{digit_value_digit}
 use Rattle.std.proofs.lemmas.Int.Digits.{digits_value_more}
 use Rattle.portmap_wire.specs.Name.{IsName}
-use Rattle.portmap_wire.specs.Reading.{GivesName}
+use Rattle.portmap_wire.specs.RequestReading.{GivesName}
 use Rattle.portmap_wire.specs.declared.name.NameFault.{NameFault}
 use Rattle.portmap_wire.specs.declared.name.NameFault.TheVariants as name_fault
 use Rattle.portmap_wire.specs.declared.list.Line.{Line}
-use Rattle.portmap_wire.specs.Listing.{WritesPort, HasShape, ReadsLine, HasNoReading, EndsInDigits, LinesHaveOneReading}
+use Rattle.portmap_wire.specs.ListReading.{WritesPort, HasShape, ReadsLine, HasNoReading, EndsInDigits, LinesHaveOneReading}
 
 -- ---- digits
 

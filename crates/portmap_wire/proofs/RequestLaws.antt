@@ -11,7 +11,7 @@ use Rattle.portmap_wire.specs.declared.request.Malformed.{Malformed}
 use Rattle.portmap_wire.specs.declared.request.Malformed.TheVariants as malformed
 use Rattle.portmap_wire.specs.declared.request.Request.{Request}
 use Rattle.portmap_wire.specs.declared.request.Request.TheVariants.{Alive, Port, Names, Dump, Kill, Stop}
-use Rattle.portmap_wire.specs.Reading.{unless_found, name_in, fields_in, named, alone, with_name, filled, alive_in, by_tag, request_in, Gives}
+use Rattle.portmap_wire.specs.RequestReading.{unless_found, name_in, fields_in, named, alone, with_name, filled, alive_in, by_tag, request_in, Gives}
 use Rattle.portmap_wire.specs.Request.{body_of, IsRequest, Spells, IsMalformed, SpellsOneRequest}
 use Rattle.portmap_wire.proofs.NameLemmas.{IsBytes, is_name, no_control}
 use Rattle.portmap_wire.proofs.FieldLemmas.{FitsFields, fields_take, fields_again}

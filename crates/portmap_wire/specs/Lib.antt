@@ -1,9 +1,9 @@
 pub mod Name
 pub mod Registration
 pub mod Request
-pub mod Fields
-pub mod Reading
+pub mod FieldsReading
+pub mod RequestReading
 pub mod Reply
 pub mod List
-pub mod Answer
-pub mod Listing
+pub mod ReplyReading
+pub mod ListReading

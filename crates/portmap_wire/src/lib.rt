@@ -1,27 +1,35 @@
 //! The port mapper's requests and replies as bytes.
 #![tactic(auto)]
 
-mod answer;
-mod fields;
+mod fields_reading;
+mod fields_writing;
 mod list;
-mod listing;
+mod list_reading;
+mod list_writing;
 mod missing;
 mod name;
-mod read;
 mod registration;
-mod reply;
+mod reply_reading;
+mod reply_writing;
 mod request;
+mod request_reading;
+mod request_writing;
 #[cfg(test)]
 mod tests;
 
-pub use answer::{
+pub use list::{DumpLine, Line};
+pub use list_reading::{
+    ListFault, lines_have_one_reading, names_are_read_back, read_dump, read_names,
+};
+pub use list_writing::{ListReply, write_dump, write_names};
+pub use missing::{alive_missing, port2_missing};
+pub use name::{Name, NameFault};
+pub use registration::{ExtraFault, Reg};
+pub use reply_reading::{
     AliveReply, ReplyFault, alives_are_read_back, look_ups_are_read_back, read_alive, read_port2,
 };
-pub use list::{DumpLine, Line, ListReply, write_dump, write_names};
-pub use listing::{ListFault, lines_have_one_reading, names_are_read_back, read_dump, read_names};
-pub use missing::{alive_missing, port2_missing};
-pub use name::{Name, NameFault, NoMemory};
-pub use read::read_request;
-pub use registration::{ExtraFault, Reg};
-pub use reply::{write_alive, write_port2};
-pub use request::{Malformed, Request, bodies_are_one, spelling_is_one, write_request};
+pub use reply_writing::{write_alive, write_port2};
+pub use request::{BODY_MOST, Malformed, Request, bodies_are_one, spelling_is_one};
+pub use request_reading::read_request;
+pub use request_writing::write_request;
+pub use std::alloc::AllocError as NoMemory;

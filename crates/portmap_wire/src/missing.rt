@@ -1,13 +1,13 @@
 //! How many bytes of an answer are still to come, for callers that read no further than the answer.
 ghost use Rattle.std.specs.Prelude.{◌≡◌, ◌≢◌, ◌+◌, ◌<◌, ◌≤◌, List, ℕ, ◌++◌, length, None, Err};
-ghost use Rattle.portmap_wire.specs.Answer.{alive_answer, port2_answer};
-ghost use Rattle.portmap_wire.specs.Reading.{fields_in};
-ghost use Rattle.portmap_wire.specs.declared.answer.ReplyFault.{ReplyFault};
+ghost use Rattle.portmap_wire.specs.ReplyReading.{alive_answer, port2_answer};
+ghost use Rattle.portmap_wire.specs.RequestReading.{fields_in};
+ghost use Rattle.portmap_wire.specs.declared.reply_reading.ReplyFault.{ReplyFault};
 
-use crate::fields::u16_at;
+use crate::fields_reading::u16_at;
 
 /// How many bytes more the fields at the front have at least; 0 where they are all there.
-#[tactic(auto, unfolding(crate::specs::Reading::fields_in))]
+#[tactic(auto, unfolding(crate::specs::RequestReading::fields_in))]
 fn fields_missing(q: &[u8]) -> usize
     ensures none { result ≡ 0 → fields_in q.now ≢ None }
     ensures missing { (more : List ℕ) → length more < result → fields_in (q.now ++ more) ≡ None }

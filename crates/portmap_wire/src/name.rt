@@ -1,14 +1,11 @@
 //! A node's name.
 ghost use Rattle.std.specs.Prelude.{◌≡◌, position, IfOk, Ok, Err, IsOk, MatchBool};
 ghost use Rattle.portmap_wire.specs.Name.{IsName, is_control};
-ghost use Rattle.portmap_wire.specs.Reading.{GivesName, name_in};
+ghost use Rattle.portmap_wire.specs.RequestReading.{GivesName, name_in};
 
+use crate::NoMemory;
 use std::alloc::Global;
 use std::marker::Model;
-
-/// Memory ran out.
-#[derive(Clone, Copy, Debug, PartialEq, Eq)]
-pub struct NoMemory;
 
 /// The most bytes of a name.
 pub const NAME_MOST: usize = 255;

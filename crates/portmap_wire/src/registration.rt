@@ -1,7 +1,8 @@
 //! What a node registers.
 ghost use Rattle.std.specs.Prelude.{◌≡◌, ◌↔◌, ◌+◌, ◌<◌, ◌≤◌, length, IfOk, OnOk};
 
-use crate::name::{Name, NoMemory};
+use crate::NoMemory;
+use crate::name::Name;
 use std::alloc::Global;
 use std::marker::Model;
 

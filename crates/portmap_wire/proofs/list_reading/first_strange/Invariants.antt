@@ -1,0 +1,14 @@
+use Rattle.std.proofs.Common.{◌≡◌, ◌+◌, ◌≤◌, List, length}
+use Rattle.portmap_wire.specs.declared.list.Line.{Line}
+use Rattle.portmap_wire.specs.ListReading.{ListsTo}
+use Rattle.portmap_wire.proofs.list_reading.first_strange.Given as goal
+
+-- so many lines were met, and no more than there are bytes
+abbrev pub invariant-loop-rest : goal.invariant-loop-rest
+invariant-loop-rest l = record {
+  met : (lines : List Line) × ListsTo l.fn.text lines l.rest × (length lines ≡ l.count);
+  few : l.count + length l.rest ≤ length l.fn.text;
+}
+
+abbrev pub decreases-loop-rest : goal.decreases-loop-rest
+decreases-loop-rest l = length l.rest

@@ -1,0 +1,6 @@
+use Rattle.std.proofs.Common.{◌≡◌, take}
+use Rattle.portmap_wire.specs.List.{names_reply}
+use Rattle.portmap_wire.proofs.list_writing.write_names.Given as goal
+
+abbrev pub invariant-loop-line : goal.invariant-loop-line
+invariant-loop-line l = l.reply ≡ names_reply l.port (take l.line-index l.lines)

@@ -1,5 +1,0 @@
-use Rattle.portmap_wire.proofs.ListingLemmas.{one_reading}
-use Rattle.portmap_wire.proofs.listing.lines_have_one_reading.Goals as goal
-
-pub returns : goal.returns
-returns c = one_reading

@@ -1,5 +1,0 @@
-use Rattle.portmap_wire.proofs.LineLemmas.{names_read_back}
-use Rattle.portmap_wire.proofs.listing.names_are_read_back.Goals as goal
-
-pub returns : goal.returns
-returns c = names_read_back

@@ -1,0 +1,66 @@
+-- What a client makes of the bytes that it got: ERTS User's Guide, EPMD Protocol, the replies; that bytes behind an
+-- answer are not looked at, and either tag of ALIVE2 is taken: profile.
+use Rattle.std.specs.Prelude.{◌≡◌, ℕ, ◌+◌, ◌<◌, ◌^◌, List, [], ◌∷◌, ◌++◌, length, take, Option, Some, None, Result, Ok, Err, IfSome, nat_lt, ◌==◌, if◌then◌else◌}
+use Rattle.std.specs.Int.{w16, w32, from_be_bytes}
+use Rattle.portmap_wire.specs.Registration.{Registration, IsRegistration}
+use Rattle.portmap_wire.specs.RequestReading.{name_in, fields_in}
+use Rattle.portmap_wire.specs.Reply.{alive_reply, port2_reply}
+use Rattle.portmap_wire.specs.declared.name.NameFault.{NameFault}
+use Rattle.portmap_wire.specs.declared.reply_reading.AliveReply.{AliveReply}
+use Rattle.portmap_wire.specs.declared.reply_reading.AliveReply.TheVariants.{Given, Refused}
+use Rattle.portmap_wire.specs.declared.reply_reading.ReplyFault.{ReplyFault}
+use Rattle.portmap_wire.specs.declared.reply_reading.ReplyFault.TheVariants as fault
+
+-- ---- the answer to ALIVE2_REQ
+
+-- result 0 and a creation of so many bytes, or any other result, whatever follows it
+abbrev pub wide_answer : List ℕ → Result AliveReply ReplyFault
+wide_answer [] = Err fault.Short
+wide_answer (code ∷ rest) =
+    if code == 0 then (if nat_lt (length rest) 4 then Err fault.Short else Ok (Given (from_be_bytes w32 (take 4 rest))))
+    else Ok (Refused code)
+
+abbrev pub short_answer : List ℕ → Result AliveReply ReplyFault
+short_answer [] = Err fault.Short
+short_answer (code ∷ rest) =
+    if code == 0 then (if nat_lt (length rest) 2 then Err fault.Short else Ok (Given (from_be_bytes w16 (take 2 rest))))
+    else Ok (Refused code)
+
+abbrev pub alive_answer : List ℕ → Result AliveReply ReplyFault
+alive_answer [] = Err fault.Short
+alive_answer (tag ∷ rest) = if tag == 118 then wide_answer rest else if tag == 121 then short_answer rest else Err (fault.BadTag tag)
+
+-- ---- the answer to PORT_PLEASE2_REQ
+
+-- fields that a registration can have
+abbrev pub with_name : Registration → Result (List ℕ) NameFault → Result (Option Registration) ReplyFault
+with_name g (Ok name) = if nat_lt 8192 (13 + length g.name + length g.extra) then Err fault.Strange else Ok (Some g)
+with_name g (Err e) = Err fault.Strange
+
+abbrev pub registered_answer : Option (Registration × List ℕ) → Result (Option Registration) ReplyFault
+registered_answer None = Err fault.Short
+registered_answer (Some f) = with_name f.0 (name_in f.0.name)
+
+abbrev pub port2_result : List ℕ → Result (Option Registration) ReplyFault
+port2_result [] = Err fault.Short
+port2_result (code ∷ rest) = if code == 0 then registered_answer (fields_in rest) else Ok None
+
+abbrev pub port2_answer : List ℕ → Result (Option Registration) ReplyFault
+port2_answer [] = Err fault.Short
+port2_answer (tag ∷ rest) = if tag == 119 then port2_result rest else Err (fault.BadTag tag)
+
+-- what was answered is what the bytes say, unless memory ran out
+abbrev pub GivesReply : {X : Type 0} → Result X ReplyFault → Result X ReplyFault → Type 0
+GivesReply (Ok x) said = said ≡ Ok x
+GivesReply (Err fault.NoMemory) said = Unit {0}
+GivesReply (Err fault.Short) said = said ≡ Err fault.Short
+GivesReply (Err (fault.BadTag tag)) said = said ≡ Err (fault.BadTag tag)
+GivesReply (Err fault.Strange) said = said ≡ Err fault.Strange
+
+-- ---- what was written is read, whatever follows it
+
+abbrev pub AlivesAreReadBack : Type 0
+AlivesAreReadBack = (high creation : ℕ) (more : List ℕ) → creation < 2 ^ 32 → (high < 6 → creation < 2 ^ 16) → alive_answer (alive_reply high 0 creation ++ more) ≡ Ok (Given creation)
+
+abbrev pub LookUpsAreReadBack : Type 0
+LookUpsAreReadBack = (found : Option Registration) (more : List ℕ) → IfSome found IsRegistration → port2_answer (port2_reply found ++ more) ≡ Ok found

@@ -1,0 +1,207 @@
+//! Reading the two lists of names.
+ghost use Rattle.std.specs.Prelude.{◌≡◌, ◌++◌, ◌<◌, ℕ, List, [], length, position, IfOk, IfSome, IfErr, MatchBool, MatchOption, None, Err};
+ghost use Rattle.std.specs.Str.Parse.{AllDigits};
+ghost use Rattle.portmap_wire.specs.Reply.{be4};
+ghost use Rattle.portmap_wire.specs.ListReading.{WritesPort, EndsInDigits, HasShape, HasNoReading, ReadsLine, is_newline, HasNoNewline, IsCut, ListsTo, IsLines, Lists, IsList, StrangeIn, IsLinesFault, IsListFault, LinesHaveOneReading, NamesAreReadBack};
+
+use crate::NoMemory;
+use crate::list::Line;
+use crate::name::{Name, NameFault, is_name};
+use std::alloc::Global;
+
+/// Why bytes are no list.
+#[derive(Clone, Copy, Debug, PartialEq, Eq)]
+pub enum ListFault {
+    /// There are fewer than 4 bytes.
+    Short,
+    /// The line of this number, the first such one, from 0, is not a name's, or is not ended by byte 10.
+    StrangeLine(usize),
+    NoMemory,
+}
+
+/// Where the digits at the end begin.
+fn digits_start(text: &[u8]) -> usize
+    ensures { EndsInDigits text.now result }
+{
+    let mut start = text.len();
+    while start > 0 && text[start - 1] >= b'0' && text[start - 1] <= b'9' {
+        start -= 1;
+    }
+    start
+}
+
+/// The port that these digits write.
+fn port_of(digits: &[u8]) -> Option<u16>
+    requires { AllDigits 10 digits.now }
+    ensures found { IfSome result (λ port. WritesPort digits.now port) }
+    ensures none { result ≡ None → (port : ℕ) → WritesPort digits.now port → ⊥ }
+{
+    if digits.is_empty() || digits.len() > 5 {
+        return None;
+    }
+    let mut value: u32 = 0;
+    for digit in digits {
+        value = value * 10 + u32::from(*digit - b'0');
+    }
+    if value > 65535 {
+        return None;
+    }
+    Some(value as u16)
+}
+
+/// The name and the port of a line, where it has the shape of one. The name is not looked at.
+fn split_line(text: &[u8]) -> Option<(&[u8], u16)>
+    ensures found { IfSome result (λ f. HasShape text.now f.0.now f.1) }
+    ensures none { result ≡ None → (name : List ℕ) (port : ℕ) → HasShape text.now name port → ⊥ }
+{
+    let (front, digits) = text.split_at(digits_start(text));
+    let Some(head) = front.strip_suffix(b" at port ") else {
+        return None;
+    };
+    let Some(name) = head.strip_prefix(b"name ") else {
+        return None;
+    };
+    match port_of(digits) {
+        Some(port) => Some((name, port)),
+        None => None,
+    }
+}
+
+/// The line that this text is, without byte 10; none where it is no line.
+fn read_line(alloc: Global, text: &[u8]) -> Result<Option<Line>, NoMemory>
+    ensures { IfOk result (λ found. MatchOption found (HasNoReading text.now) (λ line. ReadsLine text.now line)) }
+{
+    let Some((name, port)) = split_line(text) else {
+        return Ok(None);
+    };
+    match Name::read(alloc, name) {
+        Ok(name) => Ok(Some(Line { name, port })),
+        Err(fault) => match fault {
+            NameFault::NoMemory => Err(NoMemory),
+            _ => Ok(None),
+        },
+    }
+}
+
+/// Where the first byte 10 stands.
+fn first_newline(text: &[u8]) -> Option<usize>
+    ensures { result ≡ position is_newline text.now }
+{
+    text.iter().position(|b| *b == b'\n')
+}
+
+/// What stands in front of the first byte 10, and what behind it.
+fn cut_line(text: &[u8]) -> Option<(&[u8], &[u8])>
+    ensures found { IfSome result (λ cut. IsCut text.now cut.0.now cut.1.now) }
+    ensures none { result ≡ None → HasNoNewline text.now }
+{
+    match first_newline(text) {
+        Some(end) => {
+            let (front, back) = text.split_at(end);
+            let (_, after) = back.split_at(1);
+            Some((front, after))
+        }
+        None => None,
+    }
+}
+
+/// Whether this text is a line, without byte 10.
+fn is_line(text: &[u8]) -> bool
+    ensures { MatchBool result ((line : Line) × ReadsLine text.now line) (HasNoReading text.now) }
+{
+    match split_line(text) {
+        Some(found) => is_name(found.0),
+        None => false,
+    }
+}
+
+/// The number of the first line that is none.
+fn first_strange(text: &[u8]) -> Option<usize>
+    ensures found { IfSome result (λ at. StrangeIn text.now at) }
+    ensures none { result ≡ None → IsLines text.now }
+{
+    let mut count = 0;
+    let mut rest = text;
+    while !rest.is_empty() {
+        match cut_line(rest) {
+            Some((front, after)) if is_line(front) => {
+                rest = after;
+                count += 1;
+            }
+            _ => return Some(count),
+        }
+    }
+    None
+}
+
+/// Why lines are not read for which there is no memory: a line that is none comes first.
+fn without_memory(text: &[u8]) -> ListFault
+    ensures fault { IsLinesFault text.now result }
+    ensures memory { result ≡ ListFault.NoMemory → IsLines text.now }
+{
+    match first_strange(text) {
+        Some(at) => ListFault::StrangeLine(at),
+        None => ListFault::NoMemory,
+    }
+}
+
+/// The lines that this text is.
+fn read_lines(alloc: Global, text: &[u8]) -> Result<Vec<Line>, ListFault>
+    ensures found { IfOk result (λ lines. ListsTo text.now lines.items []) }
+    ensures fault { IfErr result (λ fault. IsLinesFault text.now fault) }
+    ensures memory { result ≡ Err ListFault.NoMemory → IsLines text.now }
+{
+    let mut lines = Vec::new(alloc);
+    let mut rest = text;
+    while !rest.is_empty() {
+        let Some((front, after)) = cut_line(rest) else {
+            return Err(ListFault::StrangeLine(lines.len()));
+        };
+        match read_line(alloc, front) {
+            Ok(Some(line)) => {
+                let Ok(()) = lines.push(line) else {
+                    return Err(without_memory(text));
+                };
+            }
+            Ok(None) => return Err(ListFault::StrangeLine(lines.len())),
+            Err(_) => return Err(without_memory(text)),
+        }
+        rest = after;
+    }
+    Ok(lines)
+}
+
+/// The port at the front of a list, and the text behind it, whatever that is.
+pub fn read_dump(bytes: &[u8]) -> Result<(u32, &[u8]), ListFault>
+    ensures found { IfOk result (λ d. bytes.now ≡ be4 d.0 ++ d.1.now) }
+    ensures short { IfErr result (λ fault. (fault ≡ ListFault.Short) × (length bytes.now < 4)) }
+{
+    match bytes {
+        [a, b, c, d, text @ ..] => Ok((u32::from_be_bytes([*a, *b, *c, *d]), text)),
+        _ => Err(ListFault::Short),
+    }
+}
+
+/// The port and the lines of the answer to NAMES_REQ, all of it. The end of a line is byte 10, and the last ` at port ` in
+/// it stands between its name and its port.
+pub fn read_names(alloc: Global, bytes: &[u8]) -> Result<(u32, Vec<Line>), ListFault>
+    ensures found { IfOk result (λ list. Lists bytes.now list.0 list.1.items) }
+    ensures fault { IfErr result (λ fault. IsListFault bytes.now fault) }
+    ensures short { length bytes.now < 4 → result ≡ Err ListFault.Short }
+    // Memory is asked for last.
+    ensures memory { result ≡ Err ListFault.NoMemory → IsList bytes.now }
+{
+    let (port, text) = read_dump(bytes)?;
+    let lines = read_lines(alloc, text)?;
+    Ok((port, lines))
+}
+
+/// A law: a text is the line of one name and port at most.
+pub fn lines_have_one_reading()
+    ensures { LinesHaveOneReading }
+{}
+
+/// A law: what `write_names` wrote is read as what it was given, and as nothing else.
+pub fn names_are_read_back()
+    ensures { NamesAreReadBack }
+{}

@@ -1,0 +1,45 @@
+//! The two replies of fixed fields.
+ghost use Rattle.std.specs.Prelude.{◌≡◌, ◌<◌, ◌^◌, IfOk, option_map};
+ghost use Rattle.portmap_wire.specs.Reply.{alive_reply, port2_reply};
+
+use crate::NoMemory;
+use crate::fields_writing::put_fields;
+use crate::registration::Reg;
+use std::alloc::Global;
+
+/// The answer to a registration by a node whose highest version is `high`: ALIVE2_X_RESP with a creation of 4 bytes where
+/// that is at least 6, else ALIVE2_RESP with one of 2 bytes. Code 0 is success; with any other the creation is 0.
+pub fn write_alive(alloc: Global, high: u16, code: u8, creation: u32) -> Result<Vec<u8>, NoMemory>
+    requires { high < 6 → creation < 2 ^ 16 }
+    ensures { IfOk result (λ v. v.items ≡ alive_reply high code creation) }
+{
+    if high < 6 {
+        let [a, b] = (creation as u16).to_be_bytes();
+        Vec::from_slice(alloc, &[121, code, a, b]).map_err(|_| NoMemory)
+    } else {
+        let [a, b, c, d] = creation.to_be_bytes();
+        Vec::from_slice(alloc, &[118, code, a, b, c, d]).map_err(|_| NoMemory)
+    }
+}
+
+fn port2_bytes(alloc: Global, found: Option<&Reg>) -> Result<Vec<u8>, NoMemory>
+    ensures { IfOk result (λ v. v.items ≡ port2_reply (option_map (λ g. g.now) found.entry)) }
+{
+    let mut out = Vec::new(alloc);
+    out.push(119)?;
+    match found {
+        None => out.push(1)?,
+        Some(reg) => {
+            out.push(0)?;
+            put_fields(&mut out, reg)?;
+        }
+    }
+    Ok(out)
+}
+
+/// The answer to a look-up, PORT2_RESP: the registration, or that there is none.
+pub fn write_port2(alloc: Global, found: Option<&Reg>) -> Result<Vec<u8>, NoMemory>
+    ensures { IfOk result (λ v. v.items ≡ port2_reply (option_map (λ g. g.now) found.entry)) }
+{
+    port2_bytes(alloc, found).map_err(|_| NoMemory)
+}
