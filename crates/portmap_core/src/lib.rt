@@ -18,6 +18,7 @@ pub use laws::{
 };
 pub use locality::{Ip, is_local};
 pub use machine::Core;
+pub use portmap_wire::NoMemory;
 pub use session::Phase;
 pub use state::State;
 

@@ -1,6 +1,7 @@
 -- Whether a device is asked again.
-use Rattle.std.specs.Prelude.{◌≡◌, List, ◌++◌}
+use Rattle.std.specs.Prelude.{◌≡◌, ℕ, List, [], ◌∷◌, ◌++◌, Option}
 use Rattle.std.specs.List.{AllByRecursion}
+use Rattle.std.specs.Io.KnownBytes.{IsAtEnd}
 use Rattle.portmap_link.specs.declared.device.Pull.{Pull}
 use Rattle.portmap_link.specs.declared.device.Pull.TheVariants.{Piece, End, Later as PullLater, Fault as PullFault}
 use Rattle.portmap_link.specs.declared.device.Put.{Put}
@@ -24,3 +25,10 @@ pub record GoesOn {A : Type 0} (IsAgain : A → Type 0) (old new : List A) : Typ
   pub added : List A
   pub grows : new ≡ old ++ added
   pub again : AllByRecursion IsAgain added
+
+-- the last pull of a call said that no more bytes will come, and none before it did; what is left agrees with it
+pub record IsEnded (left : Option (List ℕ)) (old new : List Pull) : Type 0 where
+  pub at_end : IsAtEnd left
+  pub before : List Pull
+  pub goes_on : GoesOn IsAskedAgain old before
+  pub last : new ≡ before ++ End ∷ []

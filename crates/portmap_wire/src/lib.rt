@@ -28,8 +28,8 @@ pub use registration::{ExtraFault, Reg};
 pub use reply_reading::{
     AliveReply, ReplyFault, alives_are_read_back, look_ups_are_read_back, read_alive, read_port2,
 };
-pub use reply_writing::{write_alive, write_port2};
+pub use reply_writing::{WIDE_VERSION, write_alive, write_port2};
 pub use request::{BODY_MOST, Malformed, Request, bodies_are_one, spelling_is_one};
 pub use request_reading::read_request;
-pub use request_writing::write_request;
+pub use request_writing::{write_lookup, write_registration, write_request, write_stop};
 pub use std::alloc::AllocError as NoMemory;

@@ -7,13 +7,16 @@ use crate::fields_writing::put_fields;
 use crate::registration::Reg;
 use std::alloc::Global;
 
+/// The least highest version of a node that is answered by ALIVE2_X_RESP, with a creation of 4 bytes.
+pub const WIDE_VERSION: u16 = 6;
+
 /// The answer to a registration by a node whose highest version is `high`: ALIVE2_X_RESP with a creation of 4 bytes where
 /// that is at least 6, else ALIVE2_RESP with one of 2 bytes. Code 0 is success; with any other the creation is 0.
 pub fn write_alive(alloc: Global, high: u16, code: u8, creation: u32) -> Result<Vec<u8>, NoMemory>
-    requires { high < 6 → creation < 2 ^ 16 }
+    requires { high < WIDE_VERSION → creation < 2 ^ 16 }
     ensures { IfOk result (λ v. v.items ≡ alive_reply high code creation) }
 {
-    if high < 6 {
+    if high < WIDE_VERSION {
         let [a, b] = (creation as u16).to_be_bytes();
         Vec::from_slice(alloc, &[121, code, a, b]).map_err(|_| NoMemory)
     } else {

@@ -1,65 +1,62 @@
 //! Writing a request.
-ghost use Rattle.std.specs.Prelude.{◌≡◌, ◌≤◌, ◌++◌, length, IfOk, OnOk};
-ghost use Rattle.portmap_wire.specs.Request.{body_of, sent, IsRequest, Spells};
+ghost use Rattle.std.specs.Prelude.{◌≡◌, ◌+◌, ◌≤◌, [], ◌∷◌, ◌++◌, length, IfOk};
+ghost use Rattle.portmap_wire.specs.Name.{IsName};
+ghost use Rattle.portmap_wire.specs.Registration.{be2};
+ghost use Rattle.portmap_wire.specs.Request.{IsRequest, Spells, body_of, sent};
+ghost use Rattle.portmap_wire.specs.declared.request.Request.TheVariants.{Alive, Port, Stop};
 
 use crate::NoMemory;
 use crate::fields_writing::put_fields;
+use crate::name::Name;
+use crate::registration::Reg;
 use crate::request::Request;
 use std::alloc::Global;
 
-/// Adds a body.
-fn put_body(out: &mut Vec<u8>, request: &Request) -> Result<(), NoMemory>
-    ensures { OnOk result (out.new.items ≡ out.old.items ++ body_of request.now) }
+/// The length of a body in two bytes, and its first byte.
+fn head(alloc: Global, length: u16, tag: u8) -> Result<Vec<u8>, NoMemory>
+    ensures { IfOk result (λ v. v.items ≡ be2 length ++ tag ∷ []) }
 {
-    match request {
-        Request::Alive(reg) => {
-            out.push(120)?;
-            put_fields(out, reg)
-        }
-        Request::Port(name) => {
-            out.push(122)?;
-            out.extend_from_slice(name.bytes())
-        }
-        Request::Names => {
-            out.push(110)?;
-            Ok(())
-        }
-        Request::Dump => {
-            out.push(100)?;
-            Ok(())
-        }
-        Request::Kill => {
-            out.push(107)?;
-            Ok(())
-        }
-        Request::Stop(name) => {
-            out.push(115)?;
-            out.extend_from_slice(name.bytes())
-        }
-    }
-}
-
-/// How many bytes the body has: 1 to 8,192.
-fn body_len(request: &Request) -> u16
-    ensures len { result ≡ length (body_of request.now) }
-    ensures is_request { IsRequest request.now }
-    ensures small { result ≤ 8192 }
-{
-    match request {
-        Request::Alive(reg) => (13 + reg.name.bytes().len() + reg.extra.len()) as u16,
-        Request::Port(name) | Request::Stop(name) => (1 + name.bytes().len()) as u16,
-        Request::Names | Request::Dump | Request::Kill => 1,
-    }
-}
-
-fn request_bytes(alloc: Global, request: &Request, len: u16) -> Result<Vec<u8>, NoMemory>
-    requires { len ≡ length (body_of request.now) }
-    ensures { IfOk result (λ v. v.items ≡ sent request.now) }
-{
-    let mut out = Vec::with_capacity(alloc, 2 + len as usize)?;
-    out.extend_from_slice(&len.to_be_bytes())?;
-    put_body(&mut out, request)?;
+    let mut out = Vec::with_capacity(alloc, 2 + length as usize)?;
+    out.extend_from_slice(&length.to_be_bytes())?;
+    out.push(tag)?;
     Ok(out)
+}
+
+/// ALIVE2_REQ as it is sent.
+pub fn write_registration(alloc: Global, reg: &Reg) -> Result<Vec<u8>, NoMemory>
+    ensures text { IfOk result (λ v. v.items ≡ sent (Alive reg.now)) }
+    ensures is_request { IsRequest (Alive reg.now) }
+{
+    let length = 13 + reg.name.bytes().len() + reg.extra.len();
+    let mut out = head(alloc, length as u16, 120)?;
+    put_fields(&mut out, reg)?;
+    Ok(out)
+}
+
+/// A request that is a name behind its first byte.
+fn write_named(alloc: Global, tag: u8, name: &Name) -> Result<Vec<u8>, NoMemory>
+    ensures text { IfOk result (λ v. v.items ≡ be2 (1 + length name.now) ++ tag ∷ name.now) }
+    ensures name { IsName name.now }
+{
+    let mut out = head(alloc, (1 + name.bytes().len()) as u16, tag)?;
+    out.extend_from_slice(name.bytes())?;
+    Ok(out)
+}
+
+/// PORT_PLEASE2_REQ as it is sent.
+pub fn write_lookup(alloc: Global, name: &Name) -> Result<Vec<u8>, NoMemory>
+    ensures text { IfOk result (λ v. v.items ≡ sent (Port name.now)) }
+    ensures is_request { IsRequest (Port name.now) }
+{
+    write_named(alloc, 122, name)
+}
+
+/// STOP_REQ as it is sent.
+pub fn write_stop(alloc: Global, name: &Name) -> Result<Vec<u8>, NoMemory>
+    ensures text { IfOk result (λ v. v.items ≡ sent (Stop name.now)) }
+    ensures is_request { IsRequest (Stop name.now) }
+{
+    write_named(alloc, 115, name)
 }
 
 /// The request as it is sent: its length in two bytes, and its body.
@@ -69,5 +66,12 @@ pub fn write_request(alloc: Global, request: &Request) -> Result<Vec<u8>, NoMemo
     // So `read_request` takes the body, and gives this request.
     ensures spells { Spells (body_of request.now) request.now }
 {
-    request_bytes(alloc, request, body_len(request)).map_err(|_| NoMemory)
+    match request {
+        Request::Alive(reg) => write_registration(alloc, reg),
+        Request::Port(name) => write_lookup(alloc, name),
+        Request::Names => head(alloc, 1, 110),
+        Request::Dump => head(alloc, 1, 100),
+        Request::Kill => head(alloc, 1, 107),
+        Request::Stop(name) => write_stop(alloc, name),
+    }
 }
