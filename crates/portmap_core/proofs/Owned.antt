@@ -8,19 +8,20 @@ use Rattle.std.proofs.lemmas.Bool.{cases_eq}
 use Rattle.portmap_feed.specs.Stream.{Sight, More, Zero, TooLarge, Whole, first_request}
 use Rattle.portmap_wire.specs.Registration.{Registration}
 use Rattle.portmap_wire.specs.declared.request.Request.{Request}
-use Rattle.portmap_wire.specs.declared.request.Request.TheVariants.{Alive, Port, Names, Dump, Kill, Stop}
+use Rattle.portmap_wire.specs.declared.request.Request.TheVariants.{Alive, Port, Dump, Kill, Stop}
+use Rattle.portmap_wire.specs.declared.request.Request.TheVariants as request
 use Rattle.portmap_table.specs.Rows.{AreKept, owns_name, is_active, is_full_for, owner_of, registered, retired_of}
 use Rattle.portmap_table.specs.Rows as rows
 use Rattle.portmap_table.proofs.Kept.{kept_empty, kept_registers, kept_retired}
 use Rattle.portmap_table.proofs.Owners.{owns_registered, owns_registered_other, owns_retired, owns_retired_other}
-use Rattle.portmap_core.specs.declared.session.Connection.{Connection}
-use Rattle.portmap_core.specs.declared.session.Stage.{Stage}
-use Rattle.portmap_core.specs.declared.session.Stage.TheVariants.{Waiting, Holding, Done}
+use Rattle.portmap_core.specs.declared.connections.Connection.{Connection}
+use Rattle.portmap_core.specs.declared.connections.Stage.{Stage}
+use Rattle.portmap_core.specs.declared.connections.Stage.TheVariants.{Waiting, Holding, Done}
 use Rattle.portmap_core.specs.Config.{Configuration}
-use Rattle.portmap_core.specs.Connections.{Connections}
-use Rattle.portmap_core.specs.State.{State, empty_state}
-use Rattle.portmap_core.specs.Serving.{Outcome, at_stage, ended_at, ended, ends, registers, alive_served, stops, served, MayTake, ToldAt, Told, late_at}
-use Rattle.portmap_core.specs.Step.{Connected, Piece, Closed, Faulted, Late, Opens, Leaves}
+use Rattle.portmap_core.specs.Connections.{ConnectionMap, at_stage, ended, ended_at}
+use Rattle.portmap_core.specs.State.{State, empty_state, state_of}
+use Rattle.portmap_core.specs.Serving.{MayTake, Served, ServesBody, ToldAt, closed, if_local, registers, served, stops}
+use Rattle.portmap_core.specs.Step.{Closed, Connected, Faulted, Late, Leaves, Opens, Outcome, Piece, Told, late_at, settled}
 use Rattle.portmap_core.specs.Owned.{IsStageFor, IsSlotFor, IsOwned}
 use Rattle.portmap_core.specs.Laws.{StepsKeepOwned}
 use Rattle.portmap_core.proofs.Slots.{put_same, put_other, cut_same, cut_other}
@@ -42,45 +43,45 @@ none_free b o e h = subst (λ (y : Option Connection). IsSlotFor b y) e h
 
 -- ---- every slot
 
-abbrev AreSlotsFor : rows.Names → Connections → Type 0
-AreSlotsFor names conns = (q : ℕ) → IsSlotFor (owns_name q names) (map.get conns q)
+abbrev AreSlotsFor : rows.Names → ConnectionMap → Type 0
+AreSlotsFor names connections = (q : ℕ) → IsSlotFor (owns_name q names) (map.get connections q)
 
 -- a connection is written, and no other slot gets or loses a name
-slots_with : (names after : rows.Names) (conns : Connections) (slot : ℕ) (connection : Connection) → ((q : ℕ) → q ≢ slot → owns_name q after ≡ owns_name q names) → AreSlotsFor names conns → IsSlotFor (owns_name slot after) (Some connection)
-    → AreSlotsFor after (map.insert conns slot connection)
-slots_with names after conns slot connection others all here = λ q. elim (cases_eq q slot) [
-  | inl e ↦ slot_as (owns_name q after) (owns_name slot after) (map.get (map.insert conns slot connection) q) (Some connection) (ap (λ (x : ℕ). owns_name x after) e) (put_same conns slot q connection e) here
-  | inr ne ↦ slot_as (owns_name q after) (owns_name q names) (map.get (map.insert conns slot connection) q) (map.get conns q) (others q ne) (put_other conns slot q connection ne) (all q)
+slots_with : (names after : rows.Names) (connections : ConnectionMap) (slot : ℕ) (connection : Connection) → ((q : ℕ) → q ≢ slot → owns_name q after ≡ owns_name q names) → AreSlotsFor names connections → IsSlotFor (owns_name slot after) (Some connection)
+    → AreSlotsFor after (map.insert connections slot connection)
+slots_with names after connections slot connection others all here = λ q. elim (cases_eq q slot) [
+  | inl e ↦ slot_as (owns_name q after) (owns_name slot after) (map.get (map.insert connections slot connection) q) (Some connection) (ap (λ (x : ℕ). owns_name x after) e) (put_same connections slot q connection e) here
+  | inr ne ↦ slot_as (owns_name q after) (owns_name q names) (map.get (map.insert connections slot connection) q) (map.get connections q) (others q ne) (put_other connections slot q connection ne) (all q)
 ]
 
 -- a connection goes
-slots_without : (names after : rows.Names) (conns : Connections) (slot : ℕ) → ((q : ℕ) → q ≢ slot → owns_name q after ≡ owns_name q names) → AreSlotsFor names conns → owns_name slot after ≡ false → AreSlotsFor after (map.remove conns slot)
-slots_without names after conns slot others all here = λ q. elim (cases_eq q slot) [
-  | inl e ↦ slot_as (owns_name q after) false (map.get (map.remove conns slot) q) None (ap (λ (x : ℕ). owns_name x after) e ∙ here) (cut_same conns slot q e) refl
-  | inr ne ↦ slot_as (owns_name q after) (owns_name q names) (map.get (map.remove conns slot) q) (map.get conns q) (others q ne) (cut_other conns slot q ne) (all q)
+slots_without : (names after : rows.Names) (connections : ConnectionMap) (slot : ℕ) → ((q : ℕ) → q ≢ slot → owns_name q after ≡ owns_name q names) → AreSlotsFor names connections → owns_name slot after ≡ false → AreSlotsFor after (map.remove connections slot)
+slots_without names after connections slot others all here = λ q. elim (cases_eq q slot) [
+  | inl e ↦ slot_as (owns_name q after) false (map.get (map.remove connections slot) q) None (ap (λ (x : ℕ). owns_name x after) e ∙ here) (cut_same connections slot q e) refl
+  | inr ne ↦ slot_as (owns_name q after) (owns_name q names) (map.get (map.remove connections slot) q) (map.get connections q) (others q ne) (cut_other connections slot q ne) (all q)
 ]
 
 -- a name is taken from a connection that was not open
-slots_closed : (names after : rows.Names) (conns : Connections) (slot : ℕ) → ((q : ℕ) → q ≢ slot → owns_name q after ≡ owns_name q names) → AreSlotsFor names conns → owns_name slot after ≡ false → map.get conns slot ≡ None → AreSlotsFor after conns
-slots_closed names after conns slot others all here closed = λ q. elim (cases_eq q slot) [
-  | inl e ↦ slot_as (owns_name q after) false (map.get conns q) None (ap (λ (x : ℕ). owns_name x after) e ∙ here) (ap (λ (x : ℕ). map.get conns x) e ∙ closed) refl
-  | inr ne ↦ slot_as (owns_name q after) (owns_name q names) (map.get conns q) (map.get conns q) (others q ne) refl (all q)
+slots_closed : (names after : rows.Names) (connections : ConnectionMap) (slot : ℕ) → ((q : ℕ) → q ≢ slot → owns_name q after ≡ owns_name q names) → AreSlotsFor names connections → owns_name slot after ≡ false → map.get connections slot ≡ None → AreSlotsFor after connections
+slots_closed names after connections slot others all here closed = λ q. elim (cases_eq q slot) [
+  | inl e ↦ slot_as (owns_name q after) false (map.get connections q) None (ap (λ (x : ℕ). owns_name x after) e ∙ here) (ap (λ (x : ℕ). map.get connections x) e ∙ closed) refl
+  | inr ne ↦ slot_as (owns_name q after) (owns_name q names) (map.get connections q) (map.get connections q) (others q ne) refl (all q)
 ]
 
 -- ---- how many are open
 
-len_open : (conns : Connections) (slot : ℕ) (connection here : Connection) → map.get conns slot ≡ Some here → map.len (map.insert conns slot connection) ≡ map.len conns
-len_open conns slot connection here e = map.len-insert nat_cmp_total conns slot connection ∙ ap (λ (o : Option Connection). cond (is_some o) (map.len conns) (map.len conns + 1)) e
+len_open : (connections : ConnectionMap) (slot : ℕ) (connection here : Connection) → map.get connections slot ≡ Some here → map.len (map.insert connections slot connection) ≡ map.len connections
+len_open connections slot connection here e = map.len-insert nat_cmp_total connections slot connection ∙ ap (λ (o : Option Connection). cond (is_some o) (map.len connections) (map.len connections + 1)) e
 
-len_fresh : (conns : Connections) (slot : ℕ) (connection : Connection) → map.get conns slot ≡ None → map.len (map.insert conns slot connection) ≡ map.len conns + 1
-len_fresh conns slot connection e = map.len-insert nat_cmp_total conns slot connection ∙ ap (λ (o : Option Connection). cond (is_some o) (map.len conns) (map.len conns + 1)) e
+len_fresh : (connections : ConnectionMap) (slot : ℕ) (connection : Connection) → map.get connections slot ≡ None → map.len (map.insert connections slot connection) ≡ map.len connections + 1
+len_fresh connections slot connection e = map.len-insert nat_cmp_total connections slot connection ∙ ap (λ (o : Option Connection). cond (is_some o) (map.len connections) (map.len connections + 1)) e
 
 fewer : (b : Bool) (n : ℕ) → cond b (n - 1) n ≤ n
 fewer true n = omega arith
 fewer false n = omega arith
 
-len_less : (conns : Connections) (slot : ℕ) → map.len (map.remove conns slot) ≤ map.len conns
-len_less conns slot = rw (map.len-remove nat_cmp_total conns slot) (fewer (map.contains_key conns slot) (map.len conns))
+len_less : (connections : ConnectionMap) (slot : ℕ) → map.len (map.remove connections slot) ≤ map.len connections
+len_less connections slot = rw (map.len-remove nat_cmp_total connections slot) (fewer (map.contains_key connections slot) (map.len connections))
 
 -- ---- states
 
@@ -88,121 +89,124 @@ pub owned_empty : (cfg : Configuration) → IsOwned cfg empty_state
 owned_empty cfg = record {
   names = kept_empty cfg.known_max;
   few = omega (arith, map.len-empty nat_cmp Connection);
-  slots = λ q. slot_as (owns_name q empty_state.names) false (map.get empty_state.conns q) None refl (map.get-empty nat_cmp q) refl;
-}
-
--- a connection that owns no name is done
-done_owned : (cfg : Configuration) (s : State) (slot : ℕ) (connection : Connection) (halted : Bool) → IsOwned cfg s → map.get s.conns slot ≡ Some connection → owns_name slot s.names ≡ false
-    → IsOwned cfg (record { names = s.names; conns = map.insert s.conns slot (at_stage connection Done); halted = halted })
-done_owned cfg s slot connection halted owned here free = record {
-  names = owned.names;
-  few = rw (len_open s.conns slot (at_stage connection Done) connection here) owned.few;
-  slots = slots_with s.names s.names s.conns slot (at_stage connection Done) (λ q other. refl) owned.slots free;
+  slots = λ q. slot_as (owns_name q empty_state.names) false (map.get empty_state.connections q) None refl (map.get-empty nat_cmp q) refl;
 }
 
 -- ---- what a request does
-
-register_owned : (cfg : Configuration) (s : State) (slot : ℕ) (connection : Connection) (g : Registration) (creation : ℕ) → IsOwned cfg s → map.get s.conns slot ≡ Some connection → owns_name slot s.names ≡ false → connection.local ≡ true
-    → is_active g.name s.names ≡ false → is_full_for cfg.known_max g.name s.names ≡ false → MayTake s (Alive g) creation → IsOwned cfg (registers s slot connection g creation).state
-register_owned cfg s slot connection g creation owned here free local inactive room legal = record {
-  names = kept_registers cfg.known_max creation slot s.names g owned.names inactive room free legal;
-  few = rw (len_open s.conns slot (at_stage connection Holding) connection here) owned.few;
-  slots = slots_with s.names (registered g creation slot s.names) s.conns slot (at_stage connection Holding) (λ q other. owns_registered_other q g creation slot s.names other) owned.slots (owns_registered g creation slot s.names, local);
-}
-
-owned_by : (cfg : Configuration) (b : Bool) (x y : Outcome) → (b ≡ true → IsOwned cfg x.state) → (b ≡ false → IsOwned cfg y.state) → IsOwned cfg (cond b x y).state
-owned_by cfg true x y f g = f refl
-owned_by cfg false x y f g = g refl
 
 not_false : (b : Bool) → not b ≡ false → b ≡ true
 not_false true e = refl
 not_false false e = absurd cc
 
-alive_owned : (cfg : Configuration) (s : State) (slot : ℕ) (connection : Connection) (g : Registration) (creation : ℕ) → IsOwned cfg s → map.get s.conns slot ≡ Some connection → owns_name slot s.names ≡ false → MayTake s (Alive g) creation
-    → IsOwned cfg (alive_served cfg s slot connection g creation).state
-alive_owned cfg s slot connection g creation owned here free legal =
-    let closes : IsOwned cfg (ends s slot connection).state = done_owned cfg s slot connection s.halted owned here free in
-    owned_by cfg (not connection.local) _ _ (λ _. closes) (λ near. owned_by cfg (is_active g.name s.names) _ _ (λ _. closes) (λ inactive. owned_by cfg (is_full_for cfg.known_max g.name s.names) _ _ (λ _. closes) (λ room.
-    register_owned cfg s slot connection g creation owned here free (not_false connection.local near) inactive room legal)))
-
 -- a name's registration ends, wherever its connection is
-ended_slots : (names : rows.Names) (conns : Connections) (owner : ℕ) (o : Option Connection) → map.get conns owner ≡ o → AreSlotsFor names conns → owns_name owner (retired_of owner names) ≡ false → ((q : ℕ) → q ≢ owner → owns_name q (retired_of owner names) ≡ owns_name q names)
-    → AreSlotsFor (retired_of owner names) (ended_at owner o conns)
-ended_slots names conns owner None e all free others = slots_closed names (retired_of owner names) conns owner others all free e
-ended_slots names conns owner (Some connection) e all free others = slots_with names (retired_of owner names) conns owner (at_stage connection Done) others all free
+ended_slots : (names : rows.Names) (connections : ConnectionMap) (owner : ℕ) (o : Option Connection) → map.get connections owner ≡ o → AreSlotsFor names connections → owns_name owner (retired_of owner names) ≡ false → ((q : ℕ) → q ≢ owner → owns_name q (retired_of owner names) ≡ owns_name q names)
+    → AreSlotsFor (retired_of owner names) (ended_at owner o connections)
+ended_slots names connections owner None e all free others = slots_closed names (retired_of owner names) connections owner others all free e
+ended_slots names connections owner (Some connection) e all free others = slots_with names (retired_of owner names) connections owner (at_stage connection Done) others all free
 
-ended_len : (conns : Connections) (owner : ℕ) (o : Option Connection) → map.get conns owner ≡ o → map.len (ended_at owner o conns) ≡ map.len conns
-ended_len conns owner None e = refl
-ended_len conns owner (Some connection) e = len_open conns owner (at_stage connection Done) connection e
+ended_len : (connections : ConnectionMap) (owner : ℕ) (o : Option Connection) → map.get connections owner ≡ o → map.len (ended_at owner o connections) ≡ map.len connections
+ended_len connections owner None e = refl
+ended_len connections owner (Some connection) e = len_open connections owner (at_stage connection Done) connection e
 
 -- a slot that is open is open after it
-ended_open : (conns : Connections) (owner slot : ℕ) (o : Option Connection) (connection : Connection) → map.get conns owner ≡ o → map.get conns slot ≡ Some connection → (c : Connection) × (map.get (ended_at owner o conns) slot ≡ Some c)
-ended_open conns owner slot None connection e here = (connection, here)
-ended_open conns owner slot (Some ending) connection e here = elim (cases_eq slot owner) [
-  | inl same ↦ (at_stage ending Done, put_same conns owner slot (at_stage ending Done) same)
-  | inr ne ↦ (connection, put_other conns owner slot (at_stage ending Done) ne ∙ here)
+ended_open : (connections : ConnectionMap) (owner slot : ℕ) (o : Option Connection) (connection : Connection) → map.get connections owner ≡ o → map.get connections slot ≡ Some connection → (c : Connection) × (map.get (ended_at owner o connections) slot ≡ Some c)
+ended_open connections owner slot None connection e here = (connection, here)
+ended_open connections owner slot (Some ending) connection e here = elim (cases_eq slot owner) [
+  | inl same ↦ (at_stage ending Done, put_same connections owner slot (at_stage ending Done) same)
+  | inr ne ↦ (connection, put_other connections owner slot (at_stage ending Done) ne ∙ here)
 ]
 
-stop_owned : (cfg : Configuration) (s : State) (slot : ℕ) (connection : Connection) (o : Option ℕ) → IsOwned cfg s → map.get s.conns slot ≡ Some connection → owns_name slot s.names ≡ false → IsOwned cfg (stops s slot connection o).state
-stop_owned cfg s slot connection None owned here free = done_owned cfg s slot connection s.halted owned here free
-stop_owned cfg s slot connection (Some owner) owned here free =
-    let gone : owns_name owner (retired_of owner s.names) ≡ false = owns_retired owner s.names owned.names.owners in
-    let others = λ (q : ℕ) (ne : q ≢ owner). owns_retired_other q owner s.names owned.names.owners ne in
-    let still : owns_name slot (retired_of owner s.names) ≡ false = elim (cases_eq slot owner) [
-      | inl same ↦ ap (λ (x : ℕ). owns_name x (retired_of owner s.names)) same ∙ gone
-      | inr ne ↦ others slot ne ∙ free
-    ] in
-    let open_then = ended_open s.conns owner slot (map.get s.conns owner) connection refl here in
-    record {
-      names = kept_retired cfg.known_max s.names (position (λ row. row.slot == owner) s.names.active) owned.names;
-      few = rw (len_open (ended owner s.conns) slot (at_stage connection Done) open_then.0 open_then.1, ended_len s.conns owner (map.get s.conns owner) refl) owned.few;
-      slots = slots_with (retired_of owner s.names) (retired_of owner s.names) (ended owner s.conns) slot (at_stage connection Done) (λ q other. refl) (ended_slots s.names s.conns owner (map.get s.conns owner) refl owned.slots gone others) still;
-    }
+-- a connection that is open, and owns no name
+module _ (cfg : Configuration) (s : State) (slot : ℕ) (connection : Connection) (owned : IsOwned cfg s) (here : map.get s.connections slot ≡ Some connection) (free : owns_name slot s.names ≡ false) where
+  -- it stays without one, at any other stage that fits
+  stays_owned : (stage : Stage) (halted : Bool) → IsStageFor false connection.local stage → IsOwned cfg (state_of s.names (map.insert s.connections slot (at_stage connection stage)) halted)
+  stays_owned stage halted fits = record {
+    names = owned.names;
+    few = rw (len_open s.connections slot (at_stage connection stage) connection here) owned.few;
+    slots = slots_with s.names s.names s.connections slot (at_stage connection stage) (λ q other. refl) owned.slots (slot_as (owns_name slot s.names) false (Some (at_stage connection stage)) (Some (at_stage connection stage)) free refl fits);
+  }
 
-served_owned : (cfg : Configuration) (s : State) (slot : ℕ) (connection : Connection) (request : Request) (creation : ℕ) → IsOwned cfg s → map.get s.conns slot ≡ Some connection → owns_name slot s.names ≡ false → MayTake s request creation
-    → IsOwned cfg (served cfg s slot connection request creation).state
-served_owned cfg s slot connection (Alive g) creation owned here free legal = alive_owned cfg s slot connection g creation owned here free legal
-served_owned cfg s slot connection (Port name) creation owned here free legal = done_owned cfg s slot connection s.halted owned here free
-served_owned cfg s slot connection Names creation owned here free legal = done_owned cfg s slot connection s.halted owned here free
-served_owned cfg s slot connection Dump creation owned here free legal =
-    let closes : IsOwned cfg (ends s slot connection).state = done_owned cfg s slot connection s.halted owned here free in
-    owned_by cfg (not connection.local) _ _ (λ _. closes) (λ _. closes)
-served_owned cfg s slot connection Kill creation owned here free legal =
-    let closes : IsOwned cfg (ends s slot connection).state = done_owned cfg s slot connection s.halted owned here free in
-    owned_by cfg (not connection.local) _ _ (λ _. closes) (λ _. owned_by cfg (length s.names.active == 0 || cfg.relaxed) _ _ (λ _. done_owned cfg s slot connection true owned here free) (λ _. closes))
-served_owned cfg s slot connection (Stop name) creation owned here free legal =
-    let closes : IsOwned cfg (ends s slot connection).state = done_owned cfg s slot connection s.halted owned here free in
-    owned_by cfg (not connection.local) _ _ (λ _. closes) (λ _. owned_by cfg (not cfg.relaxed) _ _ (λ _. closes) (λ _. stop_owned cfg s slot connection (owner_of name s.names) owned here free))
+  closed_owned : IsOwned cfg (settled s slot connection (closed s.names))
+  closed_owned = stays_owned Done s.halted refl
 
--- ---- what a piece does
+  register_owned : (g : Registration) (creation : ℕ) → connection.local ≡ true → is_active g.name s.names ≡ false → is_full_for cfg.known_max g.name s.names ≡ false → MayTake s.names (Alive g) creation
+      → IsOwned cfg (settled s slot connection (registers s.names slot g creation))
+  register_owned g creation local inactive room legal = record {
+    names = kept_registers cfg.known_max creation slot s.names g owned.names inactive room free legal;
+    few = rw (len_open s.connections slot (at_stage connection Holding) connection here) owned.few;
+    slots = slots_with s.names (registered g creation slot s.names) s.connections slot (at_stage connection Holding) (λ q other. owns_registered_other q g creation slot s.names other) owned.slots (owns_registered g creation slot s.names, local);
+  }
+
+  stop_owned : (o : Option ℕ) → IsOwned cfg (settled s slot connection (stops s.names o))
+  stop_owned None = closed_owned
+  stop_owned (Some owner) =
+      let gone : owns_name owner (retired_of owner s.names) ≡ false = owns_retired owner s.names owned.names.owners in
+      let others = λ (q : ℕ) (ne : q ≢ owner). owns_retired_other q owner s.names owned.names.owners ne in
+      let still : owns_name slot (retired_of owner s.names) ≡ false = elim (cases_eq slot owner) [
+        | inl same ↦ ap (λ (x : ℕ). owns_name x (retired_of owner s.names)) same ∙ gone
+        | inr ne ↦ others slot ne ∙ free
+      ] in
+      let open_then = ended_open s.connections owner slot (map.get s.connections owner) connection refl here in
+      record {
+        names = kept_retired cfg.known_max s.names (position (λ row. row.slot == owner) s.names.active) owned.names;
+        few = rw (len_open (ended owner s.connections) slot (at_stage connection Done) open_then.0 open_then.1, ended_len s.connections owner (map.get s.connections owner) refl) owned.few;
+        slots = slots_with (retired_of owner s.names) (retired_of owner s.names) (ended owner s.connections) slot (at_stage connection Done) (λ q other. refl) (ended_slots s.names s.connections owner (map.get s.connections owner) refl owned.slots gone others) still;
+      }
+
+  -- what is told keeps it, where a connection that is to hold its name may take its creation
+  abbrev KeepsBy : Type 0 → Served → Type 0
+  KeepsBy P o = (o.stage ≡ Holding → P) → IsOwned cfg (settled s slot connection o)
+
+  keeps_by : (P : Type 0) (b : Bool) (x y : Served) → (b ≡ true → KeepsBy P x) → (b ≡ false → KeepsBy P y) → KeepsBy P (cond b x y)
+  keeps_by P true x y f g = f refl
+  keeps_by P false x y f g = g refl
+
+  local_owned : (P : Type 0) (told : Served) → (connection.local ≡ true → KeepsBy P told) → KeepsBy P (if_local connection.local s.names told)
+  local_owned P told f = keeps_by P (not connection.local) (closed s.names) told (λ _ _. closed_owned) (λ near. f (not_false connection.local near))
+
+  served_owned : (request : Request) (creation : ℕ) → KeepsBy (MayTake s.names request creation) (served cfg s.names connection.local slot request creation)
+  served_owned request.Names creation = λ _. closed_owned
+  served_owned (Port name) creation = λ _. closed_owned
+  served_owned Dump creation = local_owned _ _ (λ _ _. closed_owned)
+  served_owned Kill creation = local_owned _ _ (λ _. keeps_by _ (length s.names.active == 0 || cfg.relaxed) _ _ (λ _ _. stays_owned Done true refl) (λ _ _. closed_owned))
+  served_owned (Stop name) creation = local_owned _ _ (λ _. keeps_by _ (not cfg.relaxed) _ _ (λ _ _. closed_owned) (λ _ _. stop_owned (owner_of name s.names)))
+  served_owned (Alive g) creation = local_owned _ _ (λ local.
+      keeps_by _ (is_active g.name s.names) _ _ (λ _ _. closed_owned) (λ inactive.
+      keeps_by _ (is_full_for cfg.known_max g.name s.names) _ _ (λ _ _. closed_owned) (λ room legal. register_owned g creation local inactive room (legal refl))))
+
+  -- ---- what a piece does
+
+  by_served : (o p : Served) → o ≡ p → IsOwned cfg (settled s slot connection p) → IsOwned cfg (settled s slot connection o)
+  by_served o p e kept = subst (λ (x : Served). IsOwned cfg (settled s slot connection x)) (sym e) kept
+
+  body_owned : (body : List ℕ) (o : Served) → ServesBody cfg s.names connection.local slot body o → IsOwned cfg (settled s slot connection o)
+  body_owned body o (inl p) =
+      let serves = p.serves in
+      by_served o _ serves.is (served_owned p.request serves.creation (λ h. serves.legal (ap (λ (x : Served). x.stage) serves.is ∙ h)))
+  body_owned body o (inr p) = by_served o _ p.is (closed_owned)
+
+  sight_owned : (received : List ℕ) (sight : Sight) (o : Served) → first_request received ≡ sight → ToldAt cfg s.names connection.local slot received sight o → IsOwned cfg (settled s slot connection o)
+  sight_owned received More o is told = by_served o _ told (stays_owned (Waiting received) s.halted (refl, is))
+  sight_owned received Zero o is told = by_served o _ told (closed_owned)
+  sight_owned received (TooLarge n) o is told = by_served o _ told (closed_owned)
+  sight_owned received (Whole body) o is told = body_owned body o told
 
 by_outcome : (cfg : Configuration) (o p : Outcome) → o ≡ p → IsOwned cfg p.state → IsOwned cfg o.state
 by_outcome cfg o p e owned = subst (λ (x : Outcome). IsOwned cfg x.state) (sym e) owned
 
-waits_owned : (cfg : Configuration) (s : State) (slot : ℕ) (connection : Connection) (received : List ℕ) → IsOwned cfg s → map.get s.conns slot ≡ Some connection → owns_name slot s.names ≡ false → first_request received ≡ More
-    → IsOwned cfg (record { names = s.names; conns = map.insert s.conns slot (at_stage connection (Waiting received)); halted = s.halted })
-waits_owned cfg s slot connection received owned here free more = record {
-  names = owned.names;
-  few = rw (len_open s.conns slot (at_stage connection (Waiting received)) connection here) owned.few;
-  slots = slots_with s.names s.names s.conns slot (at_stage connection (Waiting received)) (λ q other. refl) owned.slots (free, more);
-}
+-- a connection that waits owns no name
+waiting_owns_none : (cfg : Configuration) (s : State) (slot : ℕ) (connection : Connection) (received : List ℕ) → IsOwned cfg s → map.get s.connections slot ≡ Some connection → connection.stage ≡ Waiting received → owns_name slot s.names ≡ false
+waiting_owns_none cfg s slot connection received owned here stage = waiting_free (owns_name slot s.names) (map.get s.connections slot) connection received here stage (owned.slots slot)
 
-sight_owned : (cfg : Configuration) (s : State) (slot : ℕ) (connection : Connection) (received : List ℕ) (sight : Sight) (o : Outcome) → IsOwned cfg s → map.get s.conns slot ≡ Some connection → owns_name slot s.names ≡ false → first_request received ≡ sight
-    → ToldAt cfg s slot connection received sight o → IsOwned cfg o.state
-sight_owned cfg s slot connection received More o owned here free is told = by_outcome cfg o _ told (waits_owned cfg s slot connection received owned here free is)
-sight_owned cfg s slot connection received Zero o owned here free is told = by_outcome cfg o _ told (done_owned cfg s slot connection s.halted owned here free)
-sight_owned cfg s slot connection received (TooLarge n) o owned here free is told = by_outcome cfg o _ told (done_owned cfg s slot connection s.halted owned here free)
-sight_owned cfg s slot connection received (Whole body) o owned here free is (inl a) = by_outcome cfg o _ a.outcome (served_owned cfg s slot connection a.request a.creation owned here free a.legal)
-sight_owned cfg s slot connection received (Whole body) o owned here free is (inr r) = by_outcome cfg o _ r.outcome (done_owned cfg s slot connection s.halted owned here free)
-
-told_owned : (cfg : Configuration) (s : State) (slot : ℕ) (connection : Connection) (piece : List ℕ) (stage : Stage) (o : Outcome) → IsOwned cfg s → map.get s.conns slot ≡ Some connection → connection.stage ≡ stage → Told cfg s slot connection piece stage o → IsOwned cfg o.state
+told_owned : (cfg : Configuration) (s : State) (slot : ℕ) (connection : Connection) (piece : List ℕ) (stage : Stage) (o : Outcome) → IsOwned cfg s → map.get s.connections slot ≡ Some connection → connection.stage ≡ stage → Told cfg s slot connection piece stage o → IsOwned cfg o.state
 told_owned cfg s slot connection piece (Waiting received) o owned here stage told =
-    sight_owned cfg s slot connection (received ++ piece) (first_request (received ++ piece)) o owned here (waiting_free (owns_name slot s.names) (map.get s.conns slot) connection received here stage (owned.slots slot)) refl told
+    let all : List ℕ = received ++ piece in
+    by_outcome cfg o _ told.outcome (sight_owned cfg s slot connection owned here (waiting_owns_none cfg s slot connection received owned here stage) all (first_request all) told.served refl told.told)
 told_owned cfg s slot connection piece Holding o owned here stage told = by_outcome cfg o _ told owned
 told_owned cfg s slot connection piece Done o owned here stage told = by_outcome cfg o _ told owned
 
-late_owned : (cfg : Configuration) (s : State) (slot : ℕ) (connection : Connection) (stage : Stage) → IsOwned cfg s → map.get s.conns slot ≡ Some connection → connection.stage ≡ stage → IsOwned cfg (late_at s slot connection stage).state
-late_owned cfg s slot connection (Waiting received) owned here stage = done_owned cfg s slot connection s.halted owned here (waiting_free (owns_name slot s.names) (map.get s.conns slot) connection received here stage (owned.slots slot))
+late_owned : (cfg : Configuration) (s : State) (slot : ℕ) (connection : Connection) (stage : Stage) → IsOwned cfg s → map.get s.connections slot ≡ Some connection → connection.stage ≡ stage → IsOwned cfg (late_at s slot connection stage).state
+late_owned cfg s slot connection (Waiting received) owned here stage = closed_owned cfg s slot connection owned here (waiting_owns_none cfg s slot connection received owned here stage)
 late_owned cfg s slot connection Holding owned here stage = owned
 late_owned cfg s slot connection Done owned here stage = owned
 
@@ -212,21 +216,21 @@ open_owned : (cfg : Configuration) (s s' : State) (local : Bool) (slot : ℕ) �
 unfolding first_request
 open_owned cfg s s' local slot owned opens =
     let connection : Connection = record { local = local; stage = Waiting [] } in
-    let fresh : map.len (map.insert s.conns slot connection) ≡ map.len s.conns + 1 = len_fresh s.conns slot connection opens.free in
-    let room : map.len s.conns < cfg.conn_max = opens.room in
+    let fresh : map.len (map.insert s.connections slot connection) ≡ map.len s.connections + 1 = len_fresh s.connections slot connection opens.free in
+    let room : map.len s.connections < cfg.conn_max = opens.room in
     subst (λ (x : State). IsOwned cfg x) (sym opens.after) (record {
       names = owned.names;
       few = omega arith;
-      slots = slots_with s.names s.names s.conns slot connection (λ q other. refl) owned.slots (none_free (owns_name slot s.names) (map.get s.conns slot) opens.free (owned.slots slot), refl);
+      slots = slots_with s.names s.names s.connections slot connection (λ q other. refl) owned.slots (none_free (owns_name slot s.names) (map.get s.connections slot) opens.free (owned.slots slot), refl);
     })
 
 leave_owned : (cfg : Configuration) (s s' : State) (slot : ℕ) → IsOwned cfg s → Leaves s slot s' → IsOwned cfg s'
 leave_owned cfg s s' slot owned leaves =
-    let few : map.len s.conns ≤ cfg.conn_max = owned.few in
+    let few : map.len s.connections ≤ cfg.conn_max = owned.few in
     subst (λ (x : State). IsOwned cfg x) (sym leaves.after) (record {
       names = kept_retired cfg.known_max s.names (position (λ row. row.slot == slot) s.names.active) owned.names;
-      few = omega (arith, len_less s.conns slot);
-      slots = slots_without s.names (retired_of slot s.names) s.conns slot (λ q ne. owns_retired_other q slot s.names owned.names.owners ne) owned.slots (owns_retired slot s.names owned.names.owners);
+      few = omega (arith, len_less s.connections slot);
+      slots = slots_without s.names (retired_of slot s.names) s.connections slot (λ q ne. owns_retired_other q slot s.names owned.names.owners ne) owned.slots (owns_retired slot s.names owned.names.owners);
     })
 
 pub steps_keep : StepsKeepOwned

@@ -7,18 +7,19 @@ use Rattle.portmap_feed.specs.Stream.{Sight, More, Zero, TooLarge, Whole, first_
 use Rattle.portmap_wire.specs.Registration.{Registration, fields, be2}
 use Rattle.portmap_wire.specs.Request.{body_of, IsRequest, IsMalformed}
 use Rattle.portmap_wire.specs.declared.request.Request.{Request}
-use Rattle.portmap_wire.specs.declared.request.Request.TheVariants.{Alive, Port, Names, Dump, Kill, Stop}
+use Rattle.portmap_wire.specs.declared.request.Request.TheVariants.{Alive, Port, Dump, Kill, Stop}
+use Rattle.portmap_wire.specs.declared.request.Request.TheVariants as request
 use Rattle.std.proofs.lemmas.Map.Keys.{apart_from_distinct}
 use Rattle.std.specs.Prelude.{◌==◌}
-use Rattle.portmap_table.specs.Rows.{owns_name, known_names, same_name}
+use Rattle.portmap_table.specs.Rows.{Names, owns_name, known_names, same_name}
 use Rattle.portmap_table.proofs.Owners.{owner_owns}
-use Rattle.portmap_core.specs.declared.session.Connection.{Connection}
-use Rattle.portmap_core.specs.declared.session.Stage.{Stage}
-use Rattle.portmap_core.specs.declared.session.Stage.TheVariants.{Waiting, Holding, Done}
+use Rattle.portmap_core.specs.declared.connections.Connection.{Connection}
+use Rattle.portmap_core.specs.declared.connections.Stage.{Stage}
+use Rattle.portmap_core.specs.declared.connections.Stage.TheVariants.{Waiting, Holding, Done}
 use Rattle.portmap_core.specs.Config.{Configuration}
 use Rattle.portmap_core.specs.State.{State}
-use Rattle.portmap_core.specs.Serving.{Outcome, ServesBody, ToldAt, Told}
-use Rattle.portmap_core.specs.Step.{Entry}
+use Rattle.portmap_core.specs.Serving.{Served, ServesBody, ToldAt}
+use Rattle.portmap_core.specs.Step.{Entry, Outcome, Settles, Told}
 use Rattle.portmap_core.specs.Run.{Run}
 use Rattle.portmap_core.specs.Owned.{IsStageFor, IsSlotFor, IsOwned}
 use Rattle.portmap_core.specs.Laws.{IsBad, WrittenIsWhole, NamesBelong, NamesBelongToConnections, owners, MalformedChangesNoName}
@@ -41,7 +42,7 @@ holder b (Some connection) e h = (connection, refl, holding b connection.local c
 
 belongs : (cfg : Configuration) (s : State) → IsOwned cfg s → NamesBelong s
 belongs cfg s owned = record {
-  held = λ name row found. holder (owns_name row.slot s.names) (map.get s.conns row.slot) (owner_owns name s.names row found) (owned.slots row.slot);
+  held = λ name row found. holder (owns_name row.slot s.names) (map.get s.connections row.slot) (owner_owns name s.names row found) (owned.slots row.slot);
   once = λ i j d below within. apart_from_distinct same_name (known_names s.names) i j d owned.names.distinct below within;
   alone = λ i j d below within. apart_from_distinct ◌==◌ (owners s.names) i j d owned.names.owners below within;
 }
@@ -51,15 +52,15 @@ names_belong cfg es s is run = belongs cfg s (run_owned cfg es _ s (owned_empty 
 
 -- ---- names after a malformed request
 
-refused_names : (cfg : Configuration) (s : State) (slot : ℕ) (connection : Connection) (body : List ℕ) (o : Outcome) → IsMalformed body → ServesBody cfg s slot connection body o → o.state.names ≡ s.names
-refused_names cfg s slot connection body o malformed (inl a) = absurd (malformed a.request a.spells)
-refused_names cfg s slot connection body o malformed (inr r) = ap (λ (x : Outcome). x.state.names) r.outcome
+refused_names : (cfg : Configuration) (names : Names) (local : Bool) (slot : ℕ) (body : List ℕ) (o : Served) → IsMalformed body → ServesBody cfg names local slot body o → o.names ≡ names
+refused_names cfg names local slot body o malformed (inl a) = absurd (malformed a.request a.spells)
+refused_names cfg names local slot body o malformed (inr r) = ap (λ (x : Served). x.names) r.is
 
-bad_names : (cfg : Configuration) (s : State) (slot : ℕ) (connection : Connection) (received : List ℕ) (sight : Sight) (o : Outcome) → IsBad sight → ToldAt cfg s slot connection received sight o → o.state.names ≡ s.names
-bad_names cfg s slot connection received More o bad told = absurd bad
-bad_names cfg s slot connection received Zero o bad told = ap (λ (x : Outcome). x.state.names) told
-bad_names cfg s slot connection received (TooLarge n) o bad told = ap (λ (x : Outcome). x.state.names) told
-bad_names cfg s slot connection received (Whole body) o bad told = refused_names cfg s slot connection body o bad told
+bad_names : (cfg : Configuration) (names : Names) (local : Bool) (slot : ℕ) (received : List ℕ) (sight : Sight) (o : Served) → IsBad sight → ToldAt cfg names local slot received sight o → o.names ≡ names
+bad_names cfg names local slot received More o bad told = absurd bad
+bad_names cfg names local slot received Zero o bad told = ap (λ (x : Served). x.names) told
+bad_names cfg names local slot received (TooLarge n) o bad told = ap (λ (x : Served). x.names) told
+bad_names cfg names local slot received (Whole body) o bad told = refused_names cfg names local slot body o bad told
 
 pub malformed_keeps : MalformedChangesNoName
 malformed_keeps cfg s s' slot connection received piece reply fate here stage bad says =
@@ -67,8 +68,8 @@ malformed_keeps cfg s s' slot connection received piece reply fate here stage ba
     let one : says.connection ≡ connection = cc in
     let o : Outcome = record { reply = reply; fate = fate; state = s' } in
     let told : Told cfg s slot connection piece connection.stage o = subst (λ (c : Connection). Told cfg s slot c piece c.stage o) one says.told in
-    let waited : ToldAt cfg s slot connection (received ++ piece) (first_request (received ++ piece)) o = subst (λ (x : Stage). Told cfg s slot connection piece x o) stage told in
-    bad_names cfg s slot connection (received ++ piece) (first_request (received ++ piece)) o bad waited
+    let waited : Settles cfg s slot connection (received ++ piece) o = subst (λ (x : Stage). Told cfg s slot connection piece x o) stage told in
+    ap (λ (x : Outcome). x.state.names) waited.outcome ∙ bad_names cfg s.names connection.local slot (received ++ piece) (first_request (received ++ piece)) waited.served bad waited.told
 
 -- ---- a request that was written
 
@@ -78,7 +79,7 @@ length-fields g = omega (arith, length-append (g.name ++ be2 (length g.extra)) g
 body_len : (r : Request) → IsRequest r → (0 < length (body_of r)) × (length (body_of r) ≤ 8192)
 body_len (Alive g) is = (omega arith, omega (arith, length-fields g, is.fits))
 body_len (Port name) is = (omega arith, omega (arith, is.short))
-body_len Names is = (omega arith, omega arith)
+body_len request.Names is = (omega arith, omega arith)
 body_len Dump is = (omega arith, omega arith)
 body_len Kill is = (omega arith, omega arith)
 body_len (Stop name) is = (omega arith, omega (arith, is.short))

@@ -2,17 +2,38 @@
 use Rattle.std.specs.Prelude.{ℕ, ◌+◌, List, [], ◌∷◌, Option, Some, None}
 use Rattle.std.specs.Ordering.{nat_cmp}
 use Rattle.std.specs.FinMap as map
-use Rattle.portmap_core.specs.declared.session.Connection.{Connection}
+use Rattle.portmap_core.specs.declared.connections.Connection.{Connection}
+use Rattle.portmap_core.specs.declared.connections.Stage.{Stage}
+use Rattle.portmap_core.specs.declared.connections.Stage.TheVariants.{Done}
 
-abbrev pub Connections : Type 0
-Connections = map.FinMap nat_cmp Connection
+abbrev pub ConnectionMap : Type 0
+ConnectionMap = map.FinMap nat_cmp Connection
 
--- the connections in places from a number on
+-- the connections in slots from a number on
 abbrev pub entries_from : ℕ → List (Option Connection) → List (ℕ × Connection)
 entries_from at [] = []
-entries_from at (None ∷ places) = entries_from (at + 1) places
-entries_from at (Some connection ∷ places) = (at, connection) ∷ entries_from (at + 1) places
+entries_from at (None ∷ slots) = entries_from (at + 1) slots
+entries_from at (Some connection ∷ slots) = (at, connection) ∷ entries_from (at + 1) slots
 
--- a connection's place is its slot
-abbrev pub connections_of : List (Option Connection) → Connections
-connections_of places = map.from_entries (entries_from 0 places)
+-- the connections in slots, which are numbered from 0
+abbrev pub connections_of : List (Option Connection) → ConnectionMap
+connections_of slots = map.from_entries (entries_from 0 slots)
+
+-- ---- changes
+
+-- the connection at another stage
+abbrev pub at_stage : Connection → Stage → Connection
+at_stage connection stage = record { local = connection.local; stage = stage }
+
+-- the connection in a slot, where it is open, waits and holds no more
+abbrev pub ended_at : ℕ → Option Connection → ConnectionMap → ConnectionMap
+ended_at slot None connections = connections
+ended_at slot (Some connection) connections = map.insert connections slot (at_stage connection Done)
+
+abbrev pub ended : ℕ → ConnectionMap → ConnectionMap
+ended slot connections = ended_at slot (map.get connections slot) connections
+
+-- the connection whose name was stopped, where there is one, is done
+abbrev pub stopped_in : Option ℕ → ConnectionMap → ConnectionMap
+stopped_in None connections = connections
+stopped_in (Some owner) connections = ended owner connections

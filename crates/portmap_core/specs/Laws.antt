@@ -7,8 +7,8 @@ use Rattle.portmap_wire.specs.declared.request.Request.{Request}
 use Rattle.portmap_table.specs.Rows.{Names, active_row, known_names, same_name}
 use Rattle.portmap_table.specs.declared.row.Row.{Row}
 use Rattle.portmap_core.specs.declared.event.Fate.{Fate}
-use Rattle.portmap_core.specs.declared.session.Connection.{Connection}
-use Rattle.portmap_core.specs.declared.session.Stage.TheVariants.{Waiting, Holding}
+use Rattle.portmap_core.specs.declared.connections.Connection.{Connection}
+use Rattle.portmap_core.specs.declared.connections.Stage.TheVariants.{Waiting, Holding}
 use Rattle.portmap_core.specs.Config.{Configuration, IsConfiguration}
 use Rattle.portmap_core.specs.State.{State, empty_state}
 use Rattle.portmap_core.specs.Step.{Entry, Step, Says}
@@ -34,7 +34,7 @@ owners names = list_map (λ row. row.slot) names.active
 -- each active name belongs to exactly one open connection
 pub record NamesBelong (s : State) : Type 0 where
   -- its slot is open, and holds it
-  pub held : (name : List ℕ) (row : Row) → active_row name s.names ≡ Some row → (connection : Connection) × (map.get s.conns row.slot ≡ Some connection) × (connection.stage ≡ Holding)
+  pub held : (name : List ℕ) (row : Row) → active_row name s.names ≡ Some row → (connection : Connection) × (map.get s.connections row.slot ≡ Some connection) × (connection.stage ≡ Holding)
   -- no name is known twice, so it has one slot alone
   pub once : (i j : ℕ) (d : List ℕ) → i < j → j < length (known_names s.names) → same_name (slice_index_or (known_names s.names) i d) (slice_index_or (known_names s.names) j d) ≡ false
   -- and no slot has two names
@@ -54,5 +54,5 @@ IsBad (Whole body) = IsMalformed body
 -- a malformed request changes no name
 abbrev pub MalformedChangesNoName : Type 0
 MalformedChangesNoName =
-    (cfg : Configuration) (s s' : State) (slot : ℕ) (connection : Connection) (received piece reply : List ℕ) (fate : Fate) → map.get s.conns slot ≡ Some connection → connection.stage ≡ Waiting received
+    (cfg : Configuration) (s s' : State) (slot : ℕ) (connection : Connection) (received piece reply : List ℕ) (fate : Fate) → map.get s.connections slot ≡ Some connection → connection.stage ≡ Waiting received
     → IsBad (first_request (received ++ piece)) → Says cfg s slot piece reply fate s' → s'.names ≡ s.names

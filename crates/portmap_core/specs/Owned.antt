@@ -3,9 +3,9 @@ use Rattle.std.specs.Prelude.{◌≡◌, ℕ, ◌≤◌, Bool, true, false, Opti
 use Rattle.std.specs.FinMap as map
 use Rattle.portmap_feed.specs.Stream.{More, first_request}
 use Rattle.portmap_table.specs.Rows.{AreKept, owns_name}
-use Rattle.portmap_core.specs.declared.session.Connection.{Connection}
-use Rattle.portmap_core.specs.declared.session.Stage.{Stage}
-use Rattle.portmap_core.specs.declared.session.Stage.TheVariants.{Waiting, Holding, Done}
+use Rattle.portmap_core.specs.declared.connections.Connection.{Connection}
+use Rattle.portmap_core.specs.declared.connections.Stage.{Stage}
+use Rattle.portmap_core.specs.declared.connections.Stage.TheVariants.{Waiting, Holding, Done}
 use Rattle.portmap_core.specs.Config.{Configuration}
 use Rattle.portmap_core.specs.State.{State}
 
@@ -24,5 +24,5 @@ IsSlotFor owns (Some connection) = IsStageFor owns connection.local connection.s
 -- conn_max connections are open; and each slot that owns a name is an open connection that holds it
 pub record IsOwned (cfg : Configuration) (s : State) : Type 0 where
   pub names : AreKept cfg.known_max s.names
-  pub few : map.len s.conns ≤ cfg.conn_max
-  pub slots : (slot : ℕ) → IsSlotFor (owns_name slot s.names) (map.get s.conns slot)
+  pub few : map.len s.connections ≤ cfg.conn_max
+  pub slots : (slot : ℕ) → IsSlotFor (owns_name slot s.names) (map.get s.connections slot)

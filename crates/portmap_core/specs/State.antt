@@ -4,27 +4,31 @@ use Rattle.std.specs.Coded.{Coded, code_by, coded×, coded_list, coded_ℕ, code
 use Rattle.std.specs.FinMap as map
 use Rattle.portmap_table.specs.Rows.{Names, RetiredName, no_names}
 use Rattle.portmap_table.specs.declared.row.Row.{Row}
-use Rattle.portmap_core.specs.declared.session.Connection.{Connection}
-use Rattle.portmap_core.specs.declared.session.Stage.{Stage}
-use Rattle.portmap_core.specs.declared.session.Stage.TheVariants as stage
-use Rattle.portmap_core.specs.declared.session.Phase.{Phase}
-use Rattle.portmap_core.specs.declared.session.Phase.TheVariants as phase
+use Rattle.portmap_core.specs.declared.connections.Connection.{Connection}
+use Rattle.portmap_core.specs.declared.connections.Stage.{Stage}
+use Rattle.portmap_core.specs.declared.connections.Stage.TheVariants as stage
+use Rattle.portmap_core.specs.declared.connections.Phase.{Phase}
+use Rattle.portmap_core.specs.declared.connections.Phase.TheVariants as phase
 use Rattle.portmap_core.specs.Config.{Configuration}
-use Rattle.portmap_core.specs.Connections.{Connections}
+use Rattle.portmap_core.specs.Connections.{ConnectionMap}
 
 -- the active and the retired names, the open connections by slot, and whether the port mapper has ended
 pub record State : Type 0 where
   pub names : Names
-  pub conns : Connections
+  pub connections : ConnectionMap
   pub halted : Bool
 
 -- nothing is known, nothing is open
 abbrev pub empty_state : State
-empty_state = record { names = no_names; conns = map.empty; halted = false }
+empty_state = record { names = no_names; connections = map.empty; halted = false }
+
+-- the state of these parts
+abbrev pub state_of : Names → ConnectionMap → Bool → State
+state_of names connections halted = record { names = names; connections = connections; halted = halted }
 
 -- the state with this connection at a slot
 abbrev pub with_connection : State → ℕ → Connection → State
-with_connection s slot connection = record { names = s.names; conns = map.insert s.conns slot connection; halted = s.halted }
+with_connection s slot connection = record { names = s.names; connections = map.insert s.connections slot connection; halted = s.halted }
 
 -- the phase of a slot, where it is open
 abbrev pub phase_of_stage : Stage → Phase
@@ -37,7 +41,7 @@ phase_of_connection None = None
 phase_of_connection (Some connection) = Some (phase_of_stage connection.stage)
 
 abbrev pub phase_at : State → ℕ → Option Phase
-phase_at s slot = phase_of_connection (map.get s.conns slot)
+phase_at s slot = phase_of_connection (map.get s.connections slot)
 
 -- what is known of names, as codes by which values are told apart
 abbrev pub retired_code : Coded RetiredName
@@ -55,6 +59,6 @@ pub record Machine : Type 0 where
 
 abbrev pub machine_code : Coded Configuration → Coded Names → Coded Connection → Coded Machine
 machine_code config names connection =
-    code_by (Configuration × (Names × (Connections × Bool))) (coded× config (coded× names (coded× (map.code coded_ℕ connection) coded_bool)))
-    (λ m. (m.config, (m.state.names, (m.state.conns, m.state.halted))))
-    (λ p. record { config = p.0; state = record { names = p.1.0; conns = p.1.1.0; halted = p.1.1.1 } }) (λ _. refl)
+    code_by (Configuration × (Names × (ConnectionMap × Bool))) (coded× config (coded× names (coded× (map.code coded_ℕ connection) coded_bool)))
+    (λ m. (m.config, (m.state.names, (m.state.connections, m.state.halted))))
+    (λ p. record { config = p.0; state = record { names = p.1.0; connections = p.1.1.0; halted = p.1.1.1 } }) (λ _. refl)

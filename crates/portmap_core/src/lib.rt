@@ -7,7 +7,7 @@ mod laws;
 mod locality;
 mod machine;
 mod serve;
-mod session;
+mod connections;
 mod state;
 
 pub use config::{Config, ConfigFault};
@@ -19,7 +19,7 @@ pub use laws::{
 pub use locality::{Ip, is_local};
 pub use machine::Core;
 pub use portmap_wire::NoMemory;
-pub use session::Phase;
+pub use connections::Phase;
 pub use state::State;
 
 #[cfg(test)]

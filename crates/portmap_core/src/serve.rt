@@ -1,16 +1,18 @@
 //! What a waiting connection is told, and what becomes of the names, as functions over their parts.
-ghost use Rattle.std.specs.Prelude.{◌≡◌, ◌++◌, ℕ, Bool, false, None, IfOk, IfErr, OnErr, map as list_map};
+ghost use Rattle.std.specs.Prelude.{◌≡◌, ◌++◌, true, false, None, IfOk, IfErr, OnErr, map as list_map};
 ghost use Rattle.std.specs.List.{flat_map};
-ghost use Rattle.portmap_wire.specs.declared.request.Request.TheVariants.{Port, Names, Dump, Kill, Stop, Alive};
+ghost use Rattle.portmap_feed.specs.Stream.{first_request};
+ghost use Rattle.portmap_wire.specs.declared.request.Request.TheVariants.{Alive};
 ghost use Rattle.portmap_wire.specs.List.{names_reply, dump_line, dump_reply};
 ghost use Rattle.portmap_table.specs.Rows.{owns_name};
-ghost use Rattle.portmap_core.specs.Serving.{names_line_of, active_line, retired_line, dump_lines};
-ghost use Rattle.portmap_core.specs.Config.{Configuration};
-ghost use Rattle.portmap_core.specs.Next.{IsAnswered, IsReply, IsServed, IsTold};
+ghost use Rattle.portmap_core.specs.declared.connections.Stage.TheVariants.{Done};
+ghost use Rattle.portmap_core.specs.declared.event.Fate.TheVariants.{Close};
+ghost use Rattle.portmap_core.specs.Serving.{Serves, ServesBody, ToldAt, active_line, dump_lines, dump_served, kill_served, names_line_of, names_served, port_served, retired_line, stop_served};
+ghost use Rattle.portmap_core.specs.Next.{served_with};
 
 use crate::config::Config;
+use crate::connections::Stage;
 use crate::event::Fate;
-use crate::session::Stage;
 use portmap_feed::{Feed, Seen};
 use portmap_table::{RegFault, Table};
 use portmap_wire::{
@@ -30,7 +32,10 @@ pub(crate) struct Next {
 
 /// A reply, and a close.
 fn replied(reply: Vec<u8>) -> Next
-    ensures { IsReply result reply.items }
+    ensures text { result.reply.items ≡ reply.items }
+    ensures fate { result.fate ≡ Close }
+    ensures stage { result.stage ≡ Done }
+    ensures stopped { result.stopped ≡ None }
 {
     Next {
         stage: Stage::Done,
@@ -38,58 +43,6 @@ fn replied(reply: Vec<u8>) -> Next
         fate: Fate::Close,
         stopped: None,
     }
-}
-
-/// A reply that is one word.
-fn word(alloc: Global, bytes: &[u8]) -> Result<Vec<u8>, NoMemory>
-    ensures { IfOk result (λ v. v.items ≡ bytes.now) }
-{
-    Vec::from_slice(alloc, bytes).map_err(|_| NoMemory)
-}
-
-/// ALIVE2_REQ. The reply is written first, so that for want of memory nothing is changed.
-fn alive(
-    alloc: Global,
-    config: &Config,
-    table: &mut Table,
-    local: bool,
-    slot: u64,
-    reg: Reg,
-) -> Result<Next, NoMemory>
-    requires free { owns_name slot table.old.names ≡ false }
-    requires limit { table.old.known_max ≡ config.now.known_max }
-    ensures ok { IfOk result (λ next. IsAnswered config.now table.old.names local slot (Alive reg) next table.new.names) }
-    ensures limit { table.new.known_max ≡ table.old.known_max }
-    ensures err { OnErr result (table.new ≡ table.old) }
-{
-    if !local {
-        return Ok(replied(Vec::new(alloc)));
-    }
-    match table.offer(&reg.name, reg.high) {
-        Ok(creation) => {
-            let reply = write_alive(alloc, reg.high, 0, creation)?;
-            match table.register(reg, slot) {
-                Ok(_) => Ok(Next {
-                    stage: Stage::Holding,
-                    reply,
-                    fate: Fate::Stay,
-                    stopped: None,
-                }),
-                Err(_) => Err(NoMemory),
-            }
-        }
-        Err(RegFault::Taken) => Ok(replied(write_alive(alloc, reg.high, 1, 0)?)),
-        Err(RegFault::NoRoom) => Ok(replied(write_alive(alloc, reg.high, 2, 0)?)),
-        Err(RegFault::NoMemory) => Err(NoMemory),
-    }
-}
-
-/// PORT_PLEASE2_REQ.
-fn port(alloc: Global, table: &Table, name: &Name) -> Result<Next, NoMemory>
-    ensures { IfOk result (λ next. (cfg : Configuration) (local : Bool) (slot : ℕ) → IsAnswered cfg table.now.names local slot (Port name.now) next table.now.names) }
-{
-    let found = table.find(name).map(|row| &row.reg);
-    Ok(replied(write_port2(alloc, found)?))
 }
 
 /// NAMES_REQ: a line for each active name, in order of registration.
@@ -105,6 +58,20 @@ fn names_text(alloc: Global, port: u16, table: &Table) -> Result<Vec<u8>, NoMemo
         reply = reply.with_names_line(&reg.name, reg.port)?;
     }
     Ok(reply.into_bytes())
+}
+
+fn names(alloc: Global, config: &Config, table: &Table) -> Result<Next, NoMemory>
+    ensures { IfOk result (λ next. served_with next table.now.names ≡ names_served config.now table.now.names) }
+{
+    Ok(replied(names_text(alloc, config.port, table)?))
+}
+
+/// PORT_PLEASE2_REQ.
+fn port(alloc: Global, table: &Table, name: &Name) -> Result<Next, NoMemory>
+    ensures { IfOk result (λ next. served_with next table.now.names ≡ port_served table.now.names name.now) }
+{
+    let found = table.find(name).map(|row| &row.reg);
+    Ok(replied(write_port2(alloc, found)?))
 }
 
 /// Lines of DUMP_REQ, one for each active name.
@@ -142,38 +109,25 @@ fn dump_text(alloc: Global, port: u16, table: &Table) -> Result<Vec<u8>, NoMemor
     Ok(dump_retired(active, table)?.into_bytes())
 }
 
-fn names(alloc: Global, config: &Config, table: &Table) -> Result<Next, NoMemory>
-    ensures { IfOk result (λ next. (local : Bool) (slot : ℕ) → IsAnswered config.now table.now.names local slot Names next table.now.names) }
+fn dump(alloc: Global, config: &Config, table: &Table) -> Result<Next, NoMemory>
+    ensures { IfOk result (λ next. served_with next table.now.names ≡ dump_served config.now table.now.names) }
 {
-    Ok(replied(names_text(alloc, config.port, table)?))
-}
-
-fn dump(alloc: Global, config: &Config, table: &Table, local: bool) -> Result<Next, NoMemory>
-    ensures { IfOk result (λ next. (slot : ℕ) → IsAnswered config.now table.now.names local slot Dump next table.now.names) }
-{
-    if !local {
-        return Ok(replied(Vec::new(alloc)));
-    }
     Ok(replied(dump_text(alloc, config.port, table)?))
 }
 
 /// KILL_REQ.
-fn kill(alloc: Global, config: &Config, table: &Table, local: bool) -> Result<Next, NoMemory>
-    ensures { IfOk result (λ next. (slot : ℕ) → IsAnswered config.now table.now.names local slot Kill next table.now.names) }
+fn kill(alloc: Global, config: &Config, table: &Table) -> Result<Next, NoMemory>
+    ensures { IfOk result (λ next. served_with next table.now.names ≡ kill_served config.now table.now.names) }
 {
-    if !local {
-        return Ok(replied(Vec::new(alloc)));
+    if table.active_len() > 0 && !config.relaxed {
+        return Ok(replied(Vec::from_slice(alloc, b"NO")?));
     }
-    if table.active_len() == 0 || config.relaxed {
-        Ok(Next {
-            stage: Stage::Done,
-            reply: word(alloc, b"OK")?,
-            fate: Fate::Halt,
-            stopped: None,
-        })
-    } else {
-        Ok(replied(word(alloc, b"NO")?))
-    }
+    Ok(Next {
+        stage: Stage::Done,
+        reply: Vec::from_slice(alloc, b"OK")?,
+        fate: Fate::Halt,
+        stopped: None,
+    })
 }
 
 /// STOP_REQ. The reply is written first, so that for want of memory nothing is changed.
@@ -181,28 +135,58 @@ fn stop(
     alloc: Global,
     config: &Config,
     table: &mut Table,
-    local: bool,
     name: &Name,
 ) -> Result<Next, NoMemory>
-    ensures ok { IfOk result (λ next. (slot : ℕ) → IsAnswered config.now table.old.names local slot (Stop name.now) next table.new.names) }
+    ensures ok { IfOk result (λ next. served_with next table.new.names ≡ stop_served config.now table.old.names name.now) }
     ensures limit { table.new.known_max ≡ table.old.known_max }
     ensures err { OnErr result (table.new ≡ table.old) }
 {
-    if !local || !config.relaxed {
+    if !config.relaxed {
         return Ok(replied(Vec::new(alloc)));
     }
-    match table.owner(name) {
-        None => Ok(replied(word(alloc, b"NOEXIST")?)),
-        Some(owner) => {
-            let reply = word(alloc, b"STOPPED")?;
-            table.retire(owner);
-            Ok(Next {
-                stage: Stage::Done,
-                reply,
-                fate: Fate::Close,
-                stopped: Some(owner),
-            })
+    let Some(owner) = table.owner(name) else {
+        return Ok(replied(Vec::from_slice(alloc, b"NOEXIST")?));
+    };
+    let reply = Vec::from_slice(alloc, b"STOPPED")?;
+    table.retire(owner);
+    Ok(Next {
+        stage: Stage::Done,
+        reply,
+        fate: Fate::Close,
+        stopped: Some(owner),
+    })
+}
+
+/// ALIVE2_REQ of a local peer. The reply is written first, so that for want of memory nothing is changed.
+fn alive(
+    alloc: Global,
+    config: &Config,
+    table: &mut Table,
+    slot: u64,
+    reg: Reg,
+) -> Result<Next, NoMemory>
+    requires free { owns_name slot table.old.names ≡ false }
+    requires limit { table.old.known_max ≡ config.now.known_max }
+    ensures ok { IfOk result (λ next. Serves config.now table.old.names true slot (Alive reg) (served_with next table.new.names)) }
+    ensures limit { table.new.known_max ≡ table.old.known_max }
+    ensures err { OnErr result (table.new ≡ table.old) }
+{
+    match table.offer(&reg.name, reg.high) {
+        Ok(creation) => {
+            let reply = write_alive(alloc, reg.high, 0, creation)?;
+            match table.register(reg, slot) {
+                Ok(_) => Ok(Next {
+                    stage: Stage::Holding,
+                    reply,
+                    fate: Fate::Stay,
+                    stopped: None,
+                }),
+                Err(_) => Err(NoMemory),
+            }
         }
+        Err(RegFault::Taken) => Ok(replied(write_alive(alloc, reg.high, 1, 0)?)),
+        Err(RegFault::NoRoom) => Ok(replied(write_alive(alloc, reg.high, 2, 0)?)),
+        Err(RegFault::NoMemory) => Err(NoMemory),
     }
 }
 
@@ -217,17 +201,20 @@ fn answer(
 ) -> Result<Next, NoMemory>
     requires free { owns_name slot table.old.names ≡ false }
     requires limit { table.old.known_max ≡ config.now.known_max }
-    ensures ok { IfOk result (λ next. IsAnswered config.now table.old.names local slot request next table.new.names) }
+    ensures ok { IfOk result (λ next. Serves config.now table.old.names local slot request (served_with next table.new.names)) }
     ensures limit { table.new.known_max ≡ table.old.known_max }
     ensures err { OnErr result (table.new ≡ table.old) }
 {
     match request {
-        Request::Alive(reg) => alive(alloc, config, table, local, slot, reg),
-        Request::Port(name) => port(alloc, table, &name),
         Request::Names => names(alloc, config, table),
-        Request::Dump => dump(alloc, config, table, local),
-        Request::Kill => kill(alloc, config, table, local),
-        Request::Stop(name) => stop(alloc, config, table, local, &name),
+        Request::Port(name) => port(alloc, table, &name),
+        Request::Dump if local => dump(alloc, config, table),
+        Request::Kill if local => kill(alloc, config, table),
+        Request::Stop(name) if local => stop(alloc, config, table, &name),
+        Request::Alive(reg) if local => alive(alloc, config, table, slot, reg),
+        Request::Dump | Request::Kill | Request::Stop(_) | Request::Alive(_) => {
+            Ok(replied(Vec::new(alloc)))
+        }
     }
 }
 
@@ -242,7 +229,7 @@ fn serve(
 ) -> Result<Next, NoMemory>
     requires free { owns_name slot table.old.names ≡ false }
     requires limit { table.old.known_max ≡ config.now.known_max }
-    ensures ok { IfOk result (λ next. IsServed config.now table.old.names local slot body.now next table.new.names) }
+    ensures ok { IfOk result (λ next. ServesBody config.now table.old.names local slot body.now (served_with next table.new.names)) }
     ensures limit { table.new.known_max ≡ table.old.known_max }
     ensures err { OnErr result (table.new ≡ table.old) }
 {
@@ -270,7 +257,7 @@ pub(crate) fn advance(
 ) -> Result<Next, Feed>
     requires free { owns_name slot table.old.names ≡ false }
     requires limit { table.old.known_max ≡ config.now.known_max }
-    ensures ok { IfOk result (λ next. IsTold config.now table.old.names local slot feed piece.now next table.new.names) }
+    ensures ok { IfOk result (λ next. ToldAt config.now table.old.names local slot (feed ++ piece.now) (first_request (feed ++ piece.now)) (served_with next table.new.names)) }
     ensures limit { table.new.known_max ≡ table.old.known_max }
     ensures err { IfErr result (λ back. (back ≡ feed) × (table.new ≡ table.old)) }
 {

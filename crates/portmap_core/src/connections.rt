@@ -1,12 +1,10 @@
 //! The open connections.
 ghost use Rattle.std.specs.Prelude.{◌≡◌, ℕ, ◌<◌, length, Some, None, IfOk, OnErr, IsSome, IfSome, slice_index_or, slice_set, count_by, is_some};
 ghost use Rattle.std.specs.Option.{option_copied};
-ghost use Rattle.portmap_core.specs.Connections.{connections_of};
+ghost use Rattle.portmap_core.specs.Connections.{at_stage, connections_of, ended, stopped_in};
 ghost use Rattle.std.specs.FinMap as map;
-ghost use Rattle.portmap_core.specs.declared.session.Connection.{Connection};
+ghost use Rattle.portmap_core.specs.declared.connections.Connection.{Connection};
 ghost use Rattle.portmap_core.specs.State.{phase_of_stage};
-ghost use Rattle.portmap_core.specs.Serving.{ended};
-ghost use Rattle.portmap_core.specs.Next.{stopped_in};
 
 use portmap_feed::Feed;
 use portmap_wire::NoMemory;
@@ -54,68 +52,68 @@ impl Stage {
 
 /// The open connections by slot.
 #[derive(Drop)]
-pub(crate) struct Sessions {
-    places: Vec<Option<Connection>>,
+pub(crate) struct Connections {
+    slots: Vec<Option<Connection>>,
 }
 
-impl Model for Sessions {
+impl Model for Connections {
     ghost use Rattle.std.specs.Coded.{coded_ℕ};
     ghost use Rattle.std.specs.FinMap as map;
-    ghost use Rattle.portmap_core.specs.Connections.{Connections, connections_of};
-    ghost use Rattle.portmap_core.specs.contracts.session.Connection as connection;
+    ghost use Rattle.portmap_core.specs.Connections.{ConnectionMap, connections_of};
+    ghost use Rattle.portmap_core.specs.contracts.connections.Connection as connection;
 
-    ghost Value = { Connections };
+    ghost Value = { ConnectionMap };
 
     ghost coded = { map.code coded_ℕ connection.the_row.coded };
 
-    ghost view = { λ s. connections_of s.places.items };
+    ghost view = { λ s. connections_of s.slots.items };
 }
 
-/// The connection at a place.
-fn at_place(places: &[Option<Connection>], slot: u64) -> Option<&Connection>
-    ensures { option_copied result ≡ slice_index_or places.now slot None }
+/// The connection in a slot.
+fn at_slot(slots: &[Option<Connection>], slot: u64) -> Option<&Connection>
+    ensures { option_copied result ≡ slice_index_or slots.now slot None }
 {
-    if slot < places.len() as u64 {
-        places[slot as usize].as_ref()
+    if slot < slots.len() as u64 {
+        slots[slot as usize].as_ref()
     } else {
         None
     }
 }
 
-/// The first place that is free.
-fn free_place(places: &[Option<Connection>]) -> Option<usize>
-    ensures { IfSome result (λ slot. (slot < length places.now) × (slice_index_or places.now slot None ≡ None)) }
+/// The first slot that is free.
+fn free_slot(slots: &[Option<Connection>]) -> Option<usize>
+    ensures { IfSome result (λ slot. (slot < length slots.now) × (slice_index_or slots.now slot None ≡ None)) }
 {
-    places.iter().position(|place| place.is_none())
+    slots.iter().position(|held| held.is_none())
 }
 
-/// How many places are taken.
-fn taken(places: &[Option<Connection>]) -> usize
-    ensures { result ≡ count_by is_some places.now }
+/// How many slots are taken.
+fn taken(slots: &[Option<Connection>]) -> usize
+    ensures { result ≡ count_by is_some slots.now }
 {
-    places.iter().filter(|place| place.is_some()).count()
+    slots.iter().filter(|held| held.is_some()).count()
 }
 
-/// Puts another stage into a place, and gives the one that was there.
-fn swap_at(places: &mut Vec<Option<Connection>>, slot: usize, stage: Stage) -> Stage
-    requires { IsSome (slice_index_or places.old.items slot None) }
-    ensures was { (connection : Connection) → slice_index_or places.old.items slot None ≡ Some connection → result ≡ connection.stage }
-    ensures now { (connection : Connection) → slice_index_or places.old.items slot None ≡ Some connection → places.new.items ≡ slice_set places.old.items slot (Some (record { local = connection.local; stage = stage })) }
+/// Puts another stage into a slot, and gives the one that was there.
+fn swap_at(slots: &mut Vec<Option<Connection>>, slot: usize, stage: Stage) -> Stage
+    requires { IsSome (slice_index_or slots.old.items slot None) }
+    ensures was { (connection : Connection) → slice_index_or slots.old.items slot None ≡ Some connection → result ≡ connection.stage }
+    ensures now { (connection : Connection) → slice_index_or slots.old.items slot None ≡ Some connection → slots.new.items ≡ slice_set slots.old.items slot (Some (record { local = connection.local; stage = stage })) }
 {
-    match &mut places[slot] {
+    match &mut slots[slot] {
         Some(connection) => std::mem::replace(&mut connection.stage, stage),
         None => unreachable!(),
     }
 }
 
 #[tactic(auto, using(crate::proofs::Slots::slot_laws))]
-impl Sessions {
+impl Connections {
     /// None is open.
-    pub(crate) fn new(alloc: Global) -> Sessions
+    pub(crate) fn new(alloc: Global) -> Connections
         ensures { result ≡ map.empty }
     {
-        Sessions {
-            places: Vec::new(alloc),
+        Connections {
+            slots: Vec::new(alloc),
         }
     }
 
@@ -124,21 +122,21 @@ impl Sessions {
     pub(crate) fn len(&self) -> usize
         ensures { result ≡ map.len self.now }
     {
-        taken(self.places.as_slice())
+        taken(self.slots.as_slice())
     }
 
-    /// The places, of which each is the slot of the connection in it.
-    pub(crate) fn places(&self) -> &[Option<Connection>]
+    /// The slots, each with the connection in it.
+    pub(crate) fn slots(&self) -> &[Option<Connection>]
         ensures { connections_of result.now ≡ self.now }
     {
-        self.places.as_slice()
+        self.slots.as_slice()
     }
 
     /// The connection in a slot.
     pub(crate) fn get(&self, slot: u64) -> Option<&Connection>
         ensures { option_copied result ≡ map.get self.now slot }
     {
-        at_place(self.places.as_slice(), slot)
+        at_slot(self.slots.as_slice(), slot)
     }
 
     /// Whether the connection in an open slot comes from this host.
@@ -158,12 +156,12 @@ impl Sessions {
         ensures added { IfOk result (λ slot. self.new ≡ map.insert self.old slot connection) }
         ensures err { OnErr result (self.new ≡ self.old) }
     {
-        if let Some(slot) = free_place(self.places.as_slice()) {
-            self.places[slot] = Some(connection);
+        if let Some(slot) = free_slot(self.slots.as_slice()) {
+            self.slots[slot] = Some(connection);
             return Ok(slot as u64);
         }
-        let slot = self.places.len();
-        match self.places.push(Some(connection)) {
+        let slot = self.slots.len();
+        match self.slots.push(Some(connection)) {
             Ok(()) => Ok(slot as u64),
             Err(_) => Err(NoMemory),
         }
@@ -173,8 +171,8 @@ impl Sessions {
     pub(crate) fn remove(&mut self, slot: u64)
         ensures { self.new ≡ map.remove self.old slot }
     {
-        if slot < self.places.len() as u64 {
-            self.places[slot as usize] = None;
+        if slot < self.slots.len() as u64 {
+            self.slots[slot as usize] = None;
         }
     }
 
@@ -202,6 +200,6 @@ impl Sessions {
         ensures was { (connection : Connection) → map.get self.old slot ≡ Some connection → result ≡ connection.stage }
         ensures now { (connection : Connection) → map.get self.old slot ≡ Some connection → self.new ≡ map.insert self.old slot (record { local = connection.local; stage = stage }) }
     {
-        swap_at(&mut self.places, slot as usize, stage)
+        swap_at(&mut self.slots, slot as usize, stage)
     }
 }
