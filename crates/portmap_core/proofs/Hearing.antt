@@ -160,6 +160,6 @@ says_all cfg s s' slot read piece reply fate some e says other =
     let all : List ℕ = read ++ piece in
     let t = told_phase cfg s s' slot read piece reply fate e says in
     let decided : first_request all ≢ More = λ more.
-        let is : t.0 ≡ awaits rows.no_names all = subst (λ (x : Sight). ToldAt cfg rows.no_names true slot all x t.0) more t.1 in
-        other (t.3 ∙ ap (λ (o : Served). Some (phase_of_stage o.stage)) is) in
+    let is : t.0 ≡ awaits rows.no_names all = subst (λ (x : Sight). ToldAt cfg rows.no_names true slot all x t.0) more t.1 in
+    other (t.3 ∙ ap (λ (o : Served). Some (phase_of_stage o.stage)) is) in
     (decided, hears cfg slot read all reply fate s' some (settles_of cfg s s' slot read piece reply fate e says))

@@ -1,4 +1,3 @@
-pub mod Answering
 pub mod Determined
 pub mod Runs
 pub mod Lines

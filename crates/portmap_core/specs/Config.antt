@@ -1,6 +1,7 @@
 -- What a port mapper is set to: its port and whether its checks are relaxed (epmd(1)), and its limits (profile).
 use Rattle.std.specs.Prelude.{ℕ, ◌<◌, ◌≤◌, ◌^◌, Bool, Result, Ok, Err, nat_lt, ◌==◌, if◌then◌else◌}
 use Rattle.portmap_core.specs.declared.config.ConfigFault.{ConfigFault}
+use Rattle.portmap_core.specs.declared.config.TheConstants.{LIMIT_MOST}
 use Rattle.portmap_core.specs.declared.config.ConfigFault.TheVariants.{ZeroConnections, TooManyConnections, ZeroNames, TooManyNames}
 
 pub record Configuration : Type 0 where
@@ -13,15 +14,15 @@ pub record Configuration : Type 0 where
 pub record IsConfiguration (cfg : Configuration) : Type 0 where
   pub port : cfg.port < 2 ^ 16
   pub some_connections : 1 ≤ cfg.conn_max
-  pub connections : cfg.conn_max ≤ 65535
+  pub connections : cfg.conn_max ≤ LIMIT_MOST
   pub some_names : 1 ≤ cfg.known_max
-  pub names : cfg.known_max ≤ 65535
+  pub names : cfg.known_max ≤ LIMIT_MOST
 
 -- the configuration of these values, or the first limit that is out of its range
 abbrev pub configured : ℕ → Bool → ℕ → ℕ → Result Configuration ConfigFault
 configured port relaxed conn_max known_max =
     if conn_max == 0 then Err ZeroConnections
-    else if nat_lt 65535 conn_max then Err TooManyConnections
+    else if nat_lt LIMIT_MOST conn_max then Err TooManyConnections
     else if known_max == 0 then Err ZeroNames
-    else if nat_lt 65535 known_max then Err TooManyNames
+    else if nat_lt LIMIT_MOST known_max then Err TooManyNames
     else Ok (record { port = port; relaxed = relaxed; conn_max = conn_max; known_max = known_max })

@@ -4,6 +4,9 @@ ghost use Rattle.portmap_core.specs.Config.{configured, IsConfiguration};
 
 use std::marker::Model;
 
+/// The most that a limit may be.
+const LIMIT_MOST: u32 = 65_535;
+
 /// Why these limits are none.
 #[derive(Clone, Copy, Debug, PartialEq, Eq)]
 pub enum ConfigFault {
@@ -51,13 +54,13 @@ impl Config {
         if conn_max == 0 {
             return Err(ConfigFault::ZeroConnections);
         }
-        if conn_max > 65535 {
+        if conn_max > LIMIT_MOST {
             return Err(ConfigFault::TooManyConnections);
         }
         if known_max == 0 {
             return Err(ConfigFault::ZeroNames);
         }
-        if known_max > 65535 {
+        if known_max > LIMIT_MOST {
             return Err(ConfigFault::TooManyNames);
         }
         Ok(Config {

@@ -161,10 +161,8 @@ impl Connections {
             return Ok(slot as u64);
         }
         let slot = self.slots.len();
-        match self.slots.push(Some(connection)) {
-            Ok(()) => Ok(slot as u64),
-            Err(_) => Err(NoMemory),
-        }
+        self.slots.push(Some(connection))?;
+        Ok(slot as u64)
     }
 
     /// Frees a slot. It takes no memory.

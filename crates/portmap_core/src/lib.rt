@@ -2,15 +2,16 @@
 #![tactic(auto)]
 
 mod config;
+mod connections;
 mod event;
 mod laws;
 mod locality;
 mod machine;
 mod serve;
-mod connections;
 mod state;
 
 pub use config::{Config, ConfigFault};
+pub use connections::Phase;
 pub use event::{Answer, Event, Fate, Refusal};
 pub use laws::{
     entries_determine, malformed_changes_no_name, names_belong_to_connections, steps_keep_owned,
@@ -19,7 +20,6 @@ pub use laws::{
 pub use locality::{Ip, is_local};
 pub use machine::Core;
 pub use portmap_wire::NoMemory;
-pub use connections::Phase;
 pub use state::State;
 
 #[cfg(test)]

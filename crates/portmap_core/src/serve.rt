@@ -131,12 +131,7 @@ fn kill(alloc: Global, config: &Config, table: &Table) -> Result<Next, NoMemory>
 }
 
 /// STOP_REQ. The reply is written first, so that for want of memory nothing is changed.
-fn stop(
-    alloc: Global,
-    config: &Config,
-    table: &mut Table,
-    name: &Name,
-) -> Result<Next, NoMemory>
+fn stop(alloc: Global, config: &Config, table: &mut Table, name: &Name) -> Result<Next, NoMemory>
     ensures ok { IfOk result (λ next. served_with next table.new.names ≡ stop_served config.now table.old.names name.now) }
     ensures limit { table.new.known_max ≡ table.old.known_max }
     ensures err { OnErr result (table.new ≡ table.old) }
