@@ -2,6 +2,7 @@
 use super::*;
 
 const LOOK_UPS: Story = Story {
+    name: "a name is registered and looked up",
     limits: AMPLE,
     events: &[
         (Connect, Slot(0)),
@@ -30,13 +31,8 @@ const LOOK_UPS: Story = Story {
     ],
 };
 
-#[test]
-fn a_name_is_registered_and_looked_up(rt: HostRuntime) -> Result<(), Fail> {
-    assert_eq!(rt; fault_of(rt.alloc(), &LOOK_UPS)?, None);
-    Ok(())
-}
-
 const SHORT_CREATIONS: Story = Story {
+    name: "short creations come in turn",
     limits: AMPLE,
     events: &[
         (Connect, Slot(0)),
@@ -66,13 +62,8 @@ const SHORT_CREATIONS: Story = Story {
     then: &[],
 };
 
-#[test]
-fn short_creations_come_in_turn(rt: HostRuntime) -> Result<(), Fail> {
-    assert_eq!(rt; fault_of(rt.alloc(), &SHORT_CREATIONS)?, None);
-    Ok(())
-}
-
 const LAST_CREATION: Story = Story {
+    name: "wide creations go round",
     limits: Limits {
         first: 4_294_967_295,
         ..AMPLE
@@ -90,6 +81,7 @@ const LAST_CREATION: Story = Story {
 };
 
 const FIRST_CREATION: Story = Story {
+    name: "wide creations begin at 4",
     limits: Limits { first: 0, ..AMPLE },
     events: &[
         (Connect, Slot(0)),
@@ -98,16 +90,8 @@ const FIRST_CREATION: Story = Story {
     then: &[],
 };
 
-#[test]
-fn wide_creations_go_round(rt: HostRuntime) -> Result<(), Fail> {
-    assert_eq!(rt;
-        first_fault(rt.alloc(), &[LAST_CREATION, FIRST_CREATION])?,
-        None
-    );
-    Ok(())
-}
-
 const LISTS: Story = Story {
+    name: "names are listed and outlive their connections",
     limits: AMPLE,
     events: &[
         (Connect, Slot(0)),
@@ -127,13 +111,8 @@ const LISTS: Story = Story {
     then: &[],
 };
 
-#[test]
-fn names_are_listed_and_outlive_their_connections(rt: HostRuntime) -> Result<(), Fail> {
-    assert_eq!(rt; fault_of(rt.alloc(), &LISTS)?, None);
-    Ok(())
-}
-
 const KILLS: Story = Story {
+    name: "the port mapper ends once no name is active",
     limits: AMPLE,
     events: &[
         (Connect, Slot(0)),
@@ -148,6 +127,7 @@ const KILLS: Story = Story {
 };
 
 const RELAXED_KILL: Story = Story {
+    name: "it ends with names active where checks are relaxed",
     limits: RELAXED,
     events: &[
         (Connect, Slot(0)),
@@ -162,6 +142,7 @@ const RELAXED_KILL: Story = Story {
 };
 
 const FIRST_KILL: Story = Story {
+    name: "it ends where no name was ever active",
     limits: AMPLE,
     events: &[
         (Connect, Slot(0)),
@@ -171,25 +152,13 @@ const FIRST_KILL: Story = Story {
 };
 
 const FIRST_KILL_RELAXED: Story = Story {
+    name: "it ends so where checks are relaxed",
     limits: RELAXED,
     ..FIRST_KILL
 };
 
-#[test]
-fn the_port_mapper_ends_where_no_name_is_active_or_checks_are_relaxed(
-    rt: HostRuntime,
-) -> Result<(), Fail> {
-    assert_eq!(rt;
-        first_fault(
-            rt.alloc(),
-            &[KILLS, RELAXED_KILL, FIRST_KILL, FIRST_KILL_RELAXED]
-        )?,
-        None
-    );
-    Ok(())
-}
-
 const STOP: Story = Story {
+    name: "a stopped name leaves its connection done",
     limits: RELAXED,
     events: &[
         (Connect, Slot(0)),
@@ -201,6 +170,7 @@ const STOP: Story = Story {
 };
 
 const AFTER_STOP: Story = Story {
+    name: "a stopped name is retired once",
     limits: RELAXED,
     events: &[
         (Connect, Slot(0)),
@@ -217,6 +187,7 @@ const AFTER_STOP: Story = Story {
 };
 
 const STRICT_STOP: Story = Story {
+    name: "no name is stopped where checks are strict",
     limits: AMPLE,
     events: &[
         (Connect, Slot(0)),
@@ -229,16 +200,8 @@ const STRICT_STOP: Story = Story {
     then: &[],
 };
 
-#[test]
-fn a_name_is_stopped_where_checks_are_relaxed(rt: HostRuntime) -> Result<(), Fail> {
-    assert_eq!(rt;
-        first_fault(rt.alloc(), &[STOP, AFTER_STOP, STRICT_STOP])?,
-        None
-    );
-    Ok(())
-}
-
 const OTHER_HOSTS: Story = Story {
+    name: "other hosts may look up and list alone",
     limits: RELAXED,
     events: &[
         (Remote, Slot(0)),
@@ -257,13 +220,8 @@ const OTHER_HOSTS: Story = Story {
     then: &[],
 };
 
-#[test]
-fn other_hosts_may_look_up_and_list_alone(rt: HostRuntime) -> Result<(), Fail> {
-    assert_eq!(rt; fault_of(rt.alloc(), &OTHER_HOSTS)?, None);
-    Ok(())
-}
-
 const MALFORMED: Story = Story {
+    name: "a malformed request is closed unanswered",
     limits: AMPLE,
     events: &[
         (Connect, Slot(0)),
@@ -276,13 +234,8 @@ const MALFORMED: Story = Story {
     then: &[],
 };
 
-#[test]
-fn a_malformed_request_is_closed_unanswered(rt: HostRuntime) -> Result<(), Fail> {
-    assert_eq!(rt; fault_of(rt.alloc(), &MALFORMED)?, None);
-    Ok(())
-}
-
 const KNOWN_NAMES: Story = Story {
+    name: "no more names are known than may be",
     limits: Limits {
         known_max: 1,
         ..AMPLE
@@ -300,7 +253,32 @@ const KNOWN_NAMES: Story = Story {
 };
 
 #[test]
-fn no_more_names_are_known_than_may_be(rt: HostRuntime) -> Result<(), Fail> {
-    assert_eq!(rt; fault_of(rt.alloc(), &KNOWN_NAMES)?, None);
+fn each_request_is_answered_as_the_protocol_says(rt: HostRuntime) -> Result<(), Fail> {
+    let stories = [
+        LOOK_UPS,
+        SHORT_CREATIONS,
+        LAST_CREATION,
+        FIRST_CREATION,
+        LISTS,
+        MALFORMED,
+        KNOWN_NAMES,
+    ];
+    assert_eq!(rt; first_fault(rt.alloc(), &stories)?, None);
+    Ok(())
+}
+
+#[test]
+fn commands_are_answered_to_local_peers_as_checks_allow(rt: HostRuntime) -> Result<(), Fail> {
+    let stories = [
+        KILLS,
+        RELAXED_KILL,
+        FIRST_KILL,
+        FIRST_KILL_RELAXED,
+        STOP,
+        AFTER_STOP,
+        STRICT_STOP,
+        OTHER_HOSTS,
+    ];
+    assert_eq!(rt; first_fault(rt.alloc(), &stories)?, None);
     Ok(())
 }
