@@ -3,6 +3,7 @@ use Rattle.std.proofs.Common.{◌≡◌, ◌≢◌, ℕ, suc, zero, ◌+◌, ◌
 use Rattle.std.proofs.Math.Seq.{take-append-add}
 use Rattle.std.proofs.lemmas.Bool.{le-ltb, lt-ltb, cases_lt, cases_eq, ne_eqb, eq-eqb}
 use Rattle.std.proofs.lemmas.List.{append-nil, length-take, take_all, take-take, take_min}
+use Rattle.portmap_wire.specs.declared.request.TheConstants.{BODY_MOST}
 use Rattle.portmap_feed.specs.declared.feed.Seen.TheVariants as seen
 use Rattle.portmap_feed.specs.Seen.{seen_of}
 use Rattle.portmap_feed.specs.Stream.{Sight, More, Zero, TooLarge, Whole, sight_behind, first_request, awaited, reach, kept}
@@ -28,10 +29,10 @@ length-kept (high ∷ low ∷ behind) piece own =
 -- behind a length of n that shows more than `More`, no further byte is awaited
 awaited_decided : (n : ℕ) (behind : List ℕ) → sight_behind n behind ≢ More → awaited n ≤ length behind
 awaited_decided n behind decided =
-    elim (cases_lt 8192 n) [
-      | inl large ↦ let test : ltb 8192 n ≡ true = lt-ltb _ _ large in rw test (omega arith)
+    elim (cases_lt BODY_MOST n) [
+      | inl large ↦ let test : ltb BODY_MOST n ≡ true = lt-ltb _ _ large in rw test (omega arith)
       | inr legal ↦
-          let test : ltb 8192 n ≡ false = le-ltb _ _ legal in
+          let test : ltb BODY_MOST n ≡ false = le-ltb _ _ legal in
           elim (cases_lt (length behind) n) [
             | inl short ↦
                 let some : eqb n 0 ≡ false = ne_eqb _ _ (omega arith) in
@@ -84,9 +85,9 @@ ltb-length_take n behind =
 
 sight_behind-take : (n : ℕ) (behind : List ℕ) → sight_behind n (take (awaited n) behind) ≡ sight_behind n behind
 sight_behind-take n behind =
-    elim (cases_lt 8192 n) [
-      | inl large ↦ let test : ltb 8192 n ≡ true = lt-ltb _ _ large in rw test refl
-      | inr legal ↦ let test : ltb 8192 n ≡ false = le-ltb _ _ legal in rw (test, ltb-length_take n behind, take-take n n behind (omega arith)) refl
+    elim (cases_lt BODY_MOST n) [
+      | inl large ↦ let test : ltb BODY_MOST n ≡ true = lt-ltb _ _ large in rw test refl
+      | inr legal ↦ let test : ltb BODY_MOST n ≡ false = le-ltb _ _ legal in rw (test, ltb-length_take n behind, take-take n n behind (omega arith)) refl
     ]
 
 -- the bytes kept show what all the bytes show
@@ -96,15 +97,15 @@ first_request-kept [] = refl
 first_request-kept (high ∷ []) = refl
 first_request-kept (high ∷ low ∷ behind) = sight_behind-take (high * 256 + low) behind
 
-awaited_most : (n : ℕ) → awaited n ≤ 8192
+awaited_most : (n : ℕ) → awaited n ≤ BODY_MOST
 awaited_most n =
-    elim (cases_lt 8192 n) [
-      | inl large ↦ let test : ltb 8192 n ≡ true = lt-ltb _ _ large in rw test (omega arith)
-      | inr legal ↦ let test : ltb 8192 n ≡ false = le-ltb _ _ legal in rw test legal
+    elim (cases_lt BODY_MOST n) [
+      | inl large ↦ let test : ltb BODY_MOST n ≡ true = lt-ltb _ _ large in rw test (omega arith)
+      | inr legal ↦ let test : ltb BODY_MOST n ≡ false = le-ltb _ _ legal in rw test legal
     ]
 
 -- no more is kept than a length and the longest body
-pub kept_most : (received : List ℕ) → length (kept received) ≤ 8194
+pub kept_most : (received : List ℕ) → length (kept received) ≤ BODY_MOST + 2
 unfolding kept
 kept_most [] = omega arith
 kept_most (high ∷ []) = omega arith
@@ -116,13 +117,13 @@ kept_most (high ∷ low ∷ behind) =
 
 all_awaited : (n : ℕ) (behind : List ℕ) → sight_behind n behind ≡ More → take (awaited n) behind ≡ behind
 all_awaited n behind more =
-    elim (cases_lt 8192 n) [
+    elim (cases_lt BODY_MOST n) [
       | inl large ↦
           let some : eqb n 0 ≡ false = ne_eqb _ _ (omega arith) in
-          let test : ltb 8192 n ≡ true = lt-ltb _ _ large in
+          let test : ltb BODY_MOST n ≡ true = lt-ltb _ _ large in
           let other : TooLarge n ≡ More = rw (some, test) at more in absurd cc
       | inr legal ↦
-          let test : ltb 8192 n ≡ false = le-ltb _ _ legal in
+          let test : ltb BODY_MOST n ≡ false = le-ltb _ _ legal in
           elim (cases_lt (length behind) n) [
             | inl short ↦ rw test (take_all n behind (omega arith))
             | inr enough ↦

@@ -1,10 +1,7 @@
 -- The first request of a stream, told from every byte received so far.
 -- ERTS User's Guide, EPMD Protocol: each request is preceded by its length, in two bytes, the higher first.
 use Rattle.std.specs.Prelude.{ℕ, ◌+◌, ◌*◌, List, [], ◌∷◌, length, take, nat_lt, ◌==◌, if◌then◌else◌, Option, Some, None}
-
--- the largest length that a request may have (profile); the smallest is 1
-abbrev pub largest_length : ℕ
-largest_length = 8192
+use Rattle.portmap_wire.specs.declared.request.TheConstants.{BODY_MOST}
 
 -- what is seen of the first request: not whole yet, a length that none may have, or its body
 pub data Sight : Type 0 where
@@ -17,7 +14,7 @@ pub data Sight : Type 0 where
 abbrev pub sight_behind : ℕ → List ℕ → Sight
 sight_behind n behind =
     if n == 0 then Zero
-    else if nat_lt largest_length n then TooLarge n
+    else if nat_lt BODY_MOST n then TooLarge n
     else if nat_lt (length behind) n then More
     else Whole (take n behind)
 
@@ -29,7 +26,7 @@ first_request (high ∷ low ∷ behind) = sight_behind (high * 256 + low) behind
 
 -- how many bytes are awaited behind a length of n: its body's, or none where no request may have that length
 abbrev pub awaited : ℕ → ℕ
-awaited n = if nat_lt largest_length n then 0 else n
+awaited n = if nat_lt BODY_MOST n then 0 else n
 
 -- the bytes that decide what is seen: all while it is not whole, then its length and body, or a bad length alone
 unfoldable pub kept : List ℕ → List ℕ

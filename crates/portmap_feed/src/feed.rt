@@ -1,20 +1,15 @@
 //! A request in the making: the bytes received of it so far, as far as they matter.
 
 ghost use Rattle.std.specs.Prelude.{◌≡◌, ◌≢◌, ◌≤◌, ◌+◌, ◌*◌, ℕ, List, [], ◌++◌, length, take, IsOk, IfOk, OnOk, OnErr, option_map};
+ghost use Rattle.portmap_wire.specs.declared.request.TheConstants.{BODY_MOST};
 ghost use Rattle.portmap_feed.specs.Seen.{seen_of};
 ghost use Rattle.portmap_feed.specs.Stream.{More, first_request, reach, kept, body_in};
 
+use portmap_wire::{BODY_MOST, NoMemory};
 use std::alloc::Global;
 use std::marker::Model;
 
-/// The largest length that a request may have.
-const LARGEST_LENGTH: u16 = 8192;
-
-/// Memory ran out.
-#[derive(Clone, Copy, Debug, PartialEq, Eq)]
-pub struct NoMemory;
-
-/// A length that no request may have: `Zero`, or `TooLarge` with the length, which is 8,193 or more.
+/// A length that no request may have: `Zero`, or `TooLarge` with the length, which is more than `BODY_MOST`.
 #[derive(Clone, Copy, Debug, PartialEq, Eq)]
 pub enum LengthFault {
     Zero,
@@ -48,7 +43,7 @@ fn seen_in(bytes: &[u8]) -> Seen
             let length = length_of(*high, *low);
             if length == 0 {
                 Seen::Bad(LengthFault::Zero)
-            } else if length > LARGEST_LENGTH {
+            } else if length > BODY_MOST {
                 Seen::Bad(LengthFault::TooLarge(length))
             } else if behind.len() < length as usize {
                 Seen::More
@@ -67,7 +62,7 @@ fn reach_of(held: &[u8], piece: &[u8]) -> usize
     match (held, piece) {
         ([high, low, ..], _) | ([high], [low, ..]) | ([], [high, low, ..]) => {
             let length = length_of(*high, *low);
-            if length > LARGEST_LENGTH {
+            if length > BODY_MOST {
                 2
             } else {
                 2 + length as usize
@@ -91,7 +86,7 @@ fn wanted_of(held: &[u8], piece: &[u8]) -> usize
 
 /// The front of a stream that decides what its first request is: every byte while the request is
 /// not whole, its length and body once it is, and the length alone where no request may have it.
-/// So it holds 8,194 bytes at most.
+/// So it holds two bytes more than the longest body at most.
 #[derive(Debug, Drop)]
 pub struct Feed {
     bytes: Vec<u8>,
@@ -141,18 +136,19 @@ impl Feed {
 
         ensures err { OnErr result (self.new ≡ self.old) }
 
-        // Once the request is whole or its length is bad, a push takes no memory, nor does an empty piece.
+        // Once the request is whole or its length is bad, a push changes nothing.
+        ensures settled { first_request self.old ≢ More → self.new ≡ self.old }
+
+        // Such a push takes no memory, nor does one of an empty piece.
         ensures decided { first_request self.old ≢ More → IsOk result }
         ensures empty { piece.now ≡ [] → IsOk result }
     {
         let wanted = wanted_of(self.bytes.as_slice(), piece);
-        if self.bytes.extend_from_slice(&piece[..wanted]).is_err() {
-            return Err(NoMemory);
-        }
+        self.bytes.extend_from_slice(&piece[..wanted])?;
         Ok(seen_in(self.bytes.as_slice()))
     }
 
-    /// The first request's body, of 1 to 8,192 bytes, once it is whole. It lends the bytes kept,
+    /// The first request's body, of 1 to `BODY_MOST` bytes, once it is whole. It lends the bytes kept,
     /// and takes no memory.
     #[tactic(auto, unfolding(crate::specs::Stream::first_request))]
     pub fn body(&self) -> Option<&[u8]>
@@ -161,7 +157,7 @@ impl Feed {
         match self.bytes.as_slice() {
             [high, low, behind @ ..] => {
                 let length = length_of(*high, *low);
-                if length == 0 || length > LARGEST_LENGTH {
+                if length == 0 || length > BODY_MOST {
                     None
                 } else {
                     behind.get(..length as usize)
@@ -175,7 +171,7 @@ impl Feed {
     pub fn kept(&self) -> &[u8]
         ensures bytes { result.now ≡ self.now }
         ensures own { kept self.now ≡ self.now }
-        ensures most { length self.now ≤ 8194 }
+        ensures most { length self.now ≤ BODY_MOST + 2 }
     {
         &self.bytes
     }

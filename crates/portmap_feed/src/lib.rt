@@ -3,4 +3,5 @@
 
 mod feed;
 
-pub use feed::{Feed, LengthFault, NoMemory, Seen};
+pub use feed::{Feed, LengthFault, Seen};
+pub use portmap_wire::NoMemory;

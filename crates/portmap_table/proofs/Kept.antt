@@ -11,10 +11,12 @@ use Rattle.std.proofs.lemmas.List.Elements.{All-push, All-append, All-take, All-
 use Rattle.std.proofs.lemmas.List.Quantifiers.{position-Some}
 use Rattle.std.proofs.lemmas.Option.{slice_get_within, get_or_from_slice_get}
 use Rattle.portmap_wire.specs.Registration.{Registration}
+use Rattle.portmap_wire.specs.Reply.{is_short}
+use Rattle.portmap_table.specs.declared.creation.TheConstants.{SHORT_MOST, COUNTER_LEAST}
 use Rattle.portmap_table.specs.declared.row.Row.{Row}
 use Rattle.portmap_table.specs.declared.table.RegFault.{RegFault}
 use Rattle.portmap_table.specs.declared.table.RegFault.TheVariants as fault
-use Rattle.portmap_table.specs.Creation.{IsCreationFor, IsLegalCreation, is_short}
+use Rattle.portmap_table.specs.Creation.{IsCreationFor, IsLegalCreation}
 use Rattle.portmap_table.specs.Rows.{is_full_for, RetiredName, Names, AreKept, same_name, is_active, known_len, owns_name, remembered, retired_row, without_at, registered, old_name, retired_last, retired_at}
 use Rattle.portmap_table.specs.Table.{TableState, offered}
 use Rattle.portmap_table.proofs.Distinct.{NonePasses, none_at, none_found, finds_none, key_is_new, distinct_with, distinct_forward, distinct_back, distinct_without, keys_moved}
@@ -116,7 +118,7 @@ kept_registers known_max c slot names g k inactive room free legal =
 
 -- ---- a name retires
 
-retired_range : (short : Bool) (c : ℕ) → MatchBool short ((1 ≤ c) × (c ≤ 3)) ((4 ≤ c) × (c < 2 ^ 32)) → (1 ≤ c) × (c < 2 ^ 32)
+retired_range : (short : Bool) (c : ℕ) → MatchBool short ((1 ≤ c) × (c ≤ SHORT_MOST)) ((COUNTER_LEAST ≤ c) × (c < 2 ^ 32)) → (1 ≤ c) × (c < 2 ^ 32)
 retired_range true c h = (h.0, omega arith)
 retired_range false c h = (omega arith, h.1)
 

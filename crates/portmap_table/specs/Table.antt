@@ -1,6 +1,7 @@
 -- A table of names with its limit and the counter from which wide creations are taken.
 use Rattle.std.specs.Prelude.{◌≡◌, ℕ, List, Result, Ok, Err, max, if◌then◌else◌}
 use Rattle.portmap_wire.specs.Registration.{Registration}
+use Rattle.portmap_table.specs.declared.creation.TheConstants.{COUNTER_LEAST}
 use Rattle.portmap_table.specs.Creation.{choice, counter_after}
 use Rattle.portmap_table.specs.Rows.{Names, no_names, is_active, is_full_for, remembered, registered}
 use Rattle.portmap_table.specs.declared.table.RegFault.{RegFault}
@@ -12,7 +13,7 @@ pub record TableState : Type 0 where
   pub counter : ℕ
 
 abbrev pub new_table : ℕ → ℕ → TableState
-new_table known_max first = record { names = no_names; known_max = known_max; counter = max first 4 }
+new_table known_max first = record { names = no_names; known_max = known_max; counter = max first COUNTER_LEAST }
 
 -- the table with these names in place of its own
 abbrev pub with_names : TableState → Names → TableState

@@ -2,11 +2,13 @@
 ghost use Rattle.std.specs.Prelude.{◌≡◌};
 ghost use Rattle.portmap_table.specs.Creation.{IsCounter, IsLegalCreation, IsCreationFor, ChoiceIsLegal, choice, counter_after, short_choice, successor, wide_choice};
 
-/// The least number of the counter: the short creations are below it.
-pub(crate) const COUNTER_LEAST: u32 = 4;
+use portmap_wire::WIDE_VERSION;
 
-// A node whose highest version is below this one is given a short creation.
-const WIDE_VERSION: u16 = 6;
+/// The largest of the short creations, which begin at 1.
+const SHORT_MOST: u32 = 3;
+
+/// The least number of the counter: the short creations are below it.
+pub(crate) const COUNTER_LEAST: u32 = SHORT_MOST + 1;
 
 fn successor(counter: u32) -> u32
     ensures { result ≡ successor counter }
@@ -31,7 +33,7 @@ fn short_choice(last: Option<u32>) -> u32
     ensures { result ≡ short_choice last }
 {
     match last {
-        Some(last) if 1 <= last && last <= 3 => last % 3 + 1,
+        Some(last) if 1 <= last && last <= SHORT_MOST => last % SHORT_MOST + 1,
         _ => 1,
     }
 }

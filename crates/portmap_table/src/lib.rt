@@ -9,5 +9,5 @@ mod table;
 
 pub use creation::choice_is_legal;
 pub use laws::{names_outlive_connections, newest_names_stand_last, other_names_stay};
-pub use row::{Retired, Row};
+pub use row::{Old, Retired, Row};
 pub use table::{RegFault, Table};

@@ -2,7 +2,7 @@
 ghost use Rattle.std.specs.Prelude.{◌≡◌, ◌==◌, position, find, option_map, option_copied, vec_len, vec_capacity, ◌≤◌};
 ghost use Rattle.portmap_table.specs.Rows.{same_name, without_at};
 
-use crate::row::{Remembered, Row};
+use crate::row::{Old, Row};
 use portmap_wire::Name;
 
 /// The row of an active name.
@@ -20,14 +20,14 @@ pub(crate) fn slot_place(rows: &[Row], slot: u64) -> Option<usize>
 }
 
 /// Where a retired name stands.
-pub(crate) fn retired_place(names: &[Remembered], name: &Name) -> Option<usize>
+pub(crate) fn retired_place(names: &[Old], name: &Name) -> Option<usize>
     ensures { result ≡ position (λ old. same_name old.name name.now) names.now }
 {
     names.iter().position(|old| old.name == *name)
 }
 
 /// A name is a retired one no more.
-pub(crate) fn forget(names: &mut Vec<Remembered>, name: &Name)
+pub(crate) fn forget(names: &mut Vec<Old>, name: &Name)
     ensures names { names.new.items ≡ without_at (position (λ old. same_name old.name name.now) names.old.items) names.old.items }
     ensures few { vec_len names.new ≤ vec_len names.old }
     ensures room { vec_capacity names.new ≡ vec_capacity names.old }
@@ -39,7 +39,7 @@ pub(crate) fn forget(names: &mut Vec<Remembered>, name: &Name)
 }
 
 /// The creation that is remembered for a name.
-pub(crate) fn last_creation(names: &[Remembered], name: &Name) -> Option<u32>
+pub(crate) fn last_creation(names: &[Old], name: &Name) -> Option<u32>
     ensures { result ≡ option_map (λ old. old.creation) (find (λ old. same_name old.name name.now) names.now) }
 {
     names

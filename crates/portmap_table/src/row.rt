@@ -1,8 +1,9 @@
 //! What is kept of each name.
-ghost use Rattle.std.specs.Prelude.{◌≡◌};
+ghost use Rattle.std.specs.Prelude.{◌≡◌, IfOk};
 ghost use Rattle.portmap_table.specs.Rows.{old_name, retired_name};
 
-use portmap_wire::{Name, Reg};
+use portmap_wire::{Name, NoMemory, Reg};
+use std::alloc::Global;
 use std::marker::Model;
 
 /// A name that is registered.
@@ -16,42 +17,53 @@ pub struct Row {
     pub slot: u64,
 }
 
-/// What is remembered of a name that was registered once.
-#[derive(Clone, Copy, Debug)]
-pub struct Retired<'a> {
-    pub name: &'a Name,
+impl Row {
+    /// A second one.
+    pub fn try_copy(&self, alloc: Global) -> Result<Row, NoMemory>
+        ensures same { IfOk result (λ copy. copy ≡ self.now) }
+    {
+        Ok(Row {
+            reg: self.reg.try_copy(alloc)?,
+            creation: self.creation,
+            slot: self.slot,
+        })
+    }
+}
+
+/// A name that was registered once.
+#[derive(Debug, Drop)]
+pub struct Old {
+    pub name: Name,
     /// The port that its node listened on.
     pub port: u16,
     /// The creation that its node was given last.
     pub creation: u32,
 }
 
-/// The same as the table keeps it.
-#[derive(Debug, Drop)]
-pub(crate) struct Remembered {
-    pub name: Name,
-    pub port: u16,
-    pub creation: u32,
-}
-
-impl Model for Remembered {
+impl Model for Old {
     ghost use Rattle.portmap_table.specs.Rows.{RetiredName};
 
     ghost Value = { RetiredName };
 
-    ghost view = { λ r. record { name = r.name; port = r.port; creation = r.creation } };
-
-    ghost inverse = { λ old. record { name = old.name; port = old.port; creation = old.creation } };
+    ghost view = { λ old. record { name = old.name; port = old.port; creation = old.creation } };
 }
 
-impl Remembered {
+/// A name that was registered once, as a table lends it.
+#[derive(Clone, Copy, Debug)]
+pub struct Retired<'a> {
+    pub name: &'a Name,
+    pub port: u16,
+    pub creation: u32,
+}
+
+impl Old {
     /// What is remembered of a row.
-    pub(crate) fn of(row: Row) -> Remembered
+    pub(crate) fn of(row: Row) -> Old
         ensures { result ≡ old_name row }
     {
         let Row { reg, creation, .. } = row;
         let Reg { name, port, .. } = reg;
-        Remembered {
+        Old {
             name,
             port,
             creation,
@@ -67,5 +79,25 @@ impl Remembered {
             port: self.port,
             creation: self.creation,
         }
+    }
+
+    /// A second one.
+    pub fn try_copy(&self, alloc: Global) -> Result<Old, NoMemory>
+        ensures same { IfOk result (λ copy. copy ≡ self.now) }
+    {
+        self.lend().try_copy(alloc)
+    }
+}
+
+impl Retired<'_> {
+    /// A copy that is the caller's own.
+    pub fn try_copy(&self, alloc: Global) -> Result<Old, NoMemory>
+        ensures same { IfOk result (λ copy. copy ≡ retired_name self.now) }
+    {
+        Ok(Old {
+            name: self.name.try_copy(alloc)?,
+            port: self.port,
+            creation: self.creation,
+        })
     }
 }

@@ -6,9 +6,9 @@ ghost use Rattle.portmap_table.specs.Table.{GivesOffer, new_table, offered, with
 
 use crate::creation::{COUNTER_LEAST, choice, counter_after};
 use crate::place::{active_row, forget, last_creation, slot_place};
-use crate::row::{Remembered, Retired, Row};
+use crate::row::{Old, Retired, Row};
 use portmap_wire::{Name, NoMemory, Reg};
-use std::alloc::{AllocError, Global};
+use std::alloc::Global;
 use std::marker::Model;
 
 /// Why a name is not registered.
@@ -21,12 +21,22 @@ pub enum RegFault {
     NoMemory,
 }
 
+impl From<NoMemory> for RegFault {
+    ghost use Rattle.portmap_table.specs.declared.table.RegFault.TheVariants as fault;
+
+    ghost from_gives = { λ _ e. e ≡ fault.NoMemory };
+
+    fn from(_e: NoMemory) -> RegFault {
+        RegFault::NoMemory
+    }
+}
+
 /// The names that a port mapper knows.
 #[derive(Debug, Drop)]
 pub struct Table {
     active: Vec<Row>,
     // It has room for each active row besides, so that retiring takes no memory.
-    retired: Vec<Remembered>,
+    retired: Vec<Old>,
     known_max: u32,
     // What the next wide creation is taken from.
     counter: u32,
@@ -46,7 +56,7 @@ impl Model for Table {
 }
 
 /// Makes room for one more active row, and for that and each other one among the retired names.
-fn make_room(active: &mut Vec<Row>, retired: &mut Vec<Remembered>) -> Result<(), AllocError>
+fn make_room(active: &mut Vec<Row>, retired: &mut Vec<Old>) -> Result<(), NoMemory>
     ensures active { active.new.items ≡ active.old.items }
     ensures retired { retired.new.items ≡ retired.old.items }
     ensures room { OnOk result (vec_len active.new < vec_capacity active.new) }
@@ -58,7 +68,7 @@ fn make_room(active: &mut Vec<Row>, retired: &mut Vec<Remembered>) -> Result<(),
 }
 
 /// A name becomes the last active one, and is a retired one no more.
-fn enter(active: &mut Vec<Row>, retired: &mut Vec<Remembered>, row: Row)
+fn enter(active: &mut Vec<Row>, retired: &mut Vec<Old>, row: Row)
     requires { vec_len active.old < vec_capacity active.old }
     ensures active { active.new.items ≡ active.old.items ++ row ∷ [] }
     ensures retired { retired.new.items ≡ without_at (position (λ old. same_name old.name row.reg.name) retired.old.items) retired.old.items }
@@ -70,7 +80,7 @@ fn enter(active: &mut Vec<Row>, retired: &mut Vec<Remembered>, row: Row)
 }
 
 /// The active name at this place becomes the last retired one.
-fn leave(active: &mut Vec<Row>, retired: &mut Vec<Remembered>, at: usize)
+fn leave(active: &mut Vec<Row>, retired: &mut Vec<Old>, at: usize)
     requires place { at < vec_len active.old }
     requires room { vec_len retired.old < vec_capacity retired.old }
     ensures names { retired_at (Some at) (record { active = active.old.items; retired = retired.old.items }) ≡ record { active = active.new.items; retired = retired.new.items } }
@@ -78,7 +88,7 @@ fn leave(active: &mut Vec<Row>, retired: &mut Vec<Remembered>, at: usize)
     ensures room { vec_capacity retired.new ≡ vec_capacity retired.old }
 {
     let row = active.remove(at);
-    retired.push_reserved(Remembered::of(row));
+    retired.push_reserved(Old::of(row));
 }
 
 impl Table {
@@ -122,9 +132,7 @@ impl Table {
         ensures kept { AreKept self.new.known_max self.new.names }
     {
         let creation = self.offer(&reg.name, reg.high)?;
-        if make_room(&mut self.active, &mut self.retired).is_err() {
-            return Err(RegFault::NoMemory);
-        }
+        make_room(&mut self.active, &mut self.retired)?;
         self.counter = counter_after(self.counter, reg.high, creation);
         let row = Row {
             reg,
