@@ -1,16 +1,91 @@
 -- What was written is read back.
-use Rattle.std.proofs.Common.{◌≡◌, ◌+◌, ◌≤◌, Bool, false, cond, ltb, length, Some, None, Ok, Err, refl, ap, ◌∙◌, arith}
+use Rattle.std.proofs.Common.{◌≡◌, ℕ, suc, ◌+◌, ◌≤◌, Bool, true, false, cond, ltb, eqb, List, [], ◌∷◌, ◌++◌, length, Option, Some, None, Result, Ok, Err, refl, ap, subst, ◌∙◌, arith}
+use Rattle.std.specs.Prelude.{IfOk, IfSome}
+use Rattle.std.proofs.lemmas.Bool.{ltb-false, eqb-true}
+use Rattle.portmap_wire.specs.Registration.{Registration, IsRegistration, fields}
+use Rattle.portmap_wire.specs.RequestReading.{name_in, fields_in}
+use Rattle.portmap_wire.specs.declared.name.NameFault.{NameFault}
+use Rattle.portmap_wire.specs.declared.request.TheConstants.{BODY_MOST}
+use Rattle.portmap_wire.specs.declared.reply_writing.TheConstants.{PORT2_RESP}
+use Rattle.portmap_wire.specs.declared.reply_reading.ReplyFault.{ReplyFault}
+use Rattle.portmap_wire.proofs.NameLemmas.{IsBytes}
 use Rattle.std.proofs.lemmas.Bool.{le-ltb}
 use Rattle.portmap_wire.specs.declared.reply_reading.ReplyFault.TheVariants as fault
-use Rattle.portmap_wire.specs.ReplyReading.{registered_answer, with_name, LookUpsAreReadBack}
-use Rattle.portmap_wire.proofs.FieldLemmas.{FitsFields, fields_again}
-use Rattle.portmap_wire.proofs.RequestLaws.{name_again}
+use Rattle.portmap_wire.specs.ReplyReading.{registered_answer, with_name, port2_result, port2_answer, GivesReply, IsFound, LookUpsAreReadBack}
+use Rattle.portmap_wire.proofs.FieldLemmas.{FitsFields, fields_again, fields_take}
+use Rattle.portmap_wire.proofs.RequestLaws.{name_again, name_takes}
 
 pub look_ups : LookUpsAreReadBack
 look_ups None more h = refl
 look_ups (Some g) more is =
-    let total : 13 + length g.name + length g.extra ≤ 8192 = is.fits in
+    let total : 13 + length g.name + length g.extra ≤ BODY_MOST = is.fits in
     let fits : FitsFields g = record { port = is.port; kind = is.kind; proto = is.proto; high = is.high; low = is.low } in
-    let t : ltb 8192 (13 + length g.name + length g.extra) ≡ false = le-ltb _ _ total in
+    let t : ltb BODY_MOST (13 + length g.name + length g.extra) ≡ false = le-ltb _ _ total in
     ap registered_answer (fields_again g more fits (omega arith) (omega arith))
     ∙ (ap (with_name g) (name_again g.name is.name) ∙ ap (λ (b : Bool). cond b (Err fault.Strange) (Ok (Some g))) t)
+
+-- ---- what is found is spelled so
+
+passed : {A E : Type 0} (b : Bool) (d : E) (r : Result A E) (y : A) → cond b (Err d) r ≡ Ok y → (b ≡ false) × (r ≡ Ok y)
+passed true d r y e = absurd cc
+passed false d r y e = (refl, e)
+
+tagged : {A E : Type 0} (b : Bool) (d : E) (r : Result A E) (y : A) → cond b r (Err d) ≡ Ok y → (b ≡ true) × (r ≡ Ok y)
+tagged true d r y e = (refl, e)
+tagged false d r y e = absurd cc
+
+coded : (b : Bool) (r : Result (Option Registration) ReplyFault) (g : Registration) → cond b r (Ok None) ≡ Ok (Some g) → (b ≡ true) × (r ≡ Ok (Some g))
+coded true r g e = (refl, e)
+coded false r g e = absurd cc
+
+same_found : (h g : Registration) → ◌≡◌ {A = Result (Option Registration) ReplyFault} (Ok (Some h)) (Ok (Some g)) → h ≡ g
+same_found h g e = cc
+
+named_takes : (h g : Registration) (read : Result (List ℕ) NameFault) → with_name h read ≡ Ok (Some g) → (n : List ℕ) × (read ≡ Ok n) × (ltb BODY_MOST (13 + length h.name + length h.extra) ≡ false) × (h ≡ g)
+named_takes h g (Ok n) e = let a = passed (ltb BODY_MOST (13 + length h.name + length h.extra)) fault.Strange (Ok (Some h)) (Some g) e in (n, refl, a.0, same_found h g a.1)
+named_takes h g (Err f) e = absurd cc
+
+registered_takes : (o : Option (Registration × List ℕ)) (g : Registration) → registered_answer o ≡ Ok (Some g) → (f : Registration × List ℕ) × (o ≡ Some f) × (with_name f.0 (name_in f.0.name) ≡ Ok (Some g))
+registered_takes None g e = absurd cc
+registered_takes (Some f) g e = (f, refl, e)
+
+Behind : List ℕ → Registration → Type 0
+Behind rest g = IsRegistration g × ((more : List ℕ) × (rest ≡ fields g ++ more))
+
+fields_behind : (rest : List ℕ) (g : Registration) → IsBytes rest → registered_answer (fields_in rest) ≡ Ok (Some g) → Behind rest g
+unfolding Behind
+fields_behind rest g fits e =
+    let w = registered_takes (fields_in rest) g e in
+    let h = w.0.0 in
+    let t = fields_take rest h w.0.1 fits w.1 in
+    let m = named_takes h g (name_in h.name) w.2 in
+    let short : 13 + length h.name + length h.extra ≤ BODY_MOST = ltb-false _ _ m.2 in
+    let is : IsRegistration h = record {
+      port = t.fits.port;
+      kind = t.fits.kind;
+      proto = t.fits.proto;
+      high = t.fits.high;
+      low = t.fits.low;
+      name = (name_takes h.name m.0 t.name_fits m.1).1;
+      fits = short;
+    } in
+    subst (λ (x : Registration). IsRegistration x × ((more : List ℕ) × (rest ≡ fields x ++ more))) m.3 (is, (w.0.1, t.text))
+
+pub look_up_takes : (q : List ℕ) (g : Registration) → IsBytes q → port2_answer q ≡ Ok (Some g) → IsFound q g
+unfolding Behind
+look_up_takes [] g fits e = absurd cc
+look_up_takes (tag ∷ []) g fits e = absurd (let a = tagged (eqb tag PORT2_RESP) (fault.BadTag tag) (Err fault.Short) (Some g) e in let no : ◌≡◌ {A = Result (Option Registration) ReplyFault} (Err fault.Short) (Ok (Some g)) = a.1 in cc)
+look_up_takes (tag ∷ code ∷ rest) g fits e =
+    let a = tagged (eqb tag PORT2_RESP) (fault.BadTag tag) (port2_result (code ∷ rest)) (Some g) e in
+    let b = coded (eqb code 0) (registered_answer (fields_in rest)) g a.1 in
+    let f = fields_behind rest g (λ i. fits (suc (suc i))) b.1 in
+    record {
+      registration = f.0;
+      more = f.1.0;
+      text = (λ i. eqb-true _ _ a.0 i ∷ eqb-true _ _ b.0 i ∷ f.1.1 i);
+    }
+
+pub look_up_found : (q : List ℕ) (answer : Result (Option Registration) ReplyFault) → IsBytes q → GivesReply answer (port2_answer q) → IfOk answer (λ found. IfSome found (λ g. IsFound q g))
+look_up_found q (Ok None) fits h = tt
+look_up_found q (Ok (Some g)) fits h = look_up_takes q g fits h
+look_up_found q (Err f) fits h = tt

@@ -189,30 +189,30 @@ same_head p q t u small less e =
       text = ap (λ (x : List ℕ). drop 4 x) e;
     }
 
-module _ (port : ℕ) (lines : List Line) (small : port < 2 ^ 32) (are : All IsLine lines) where
-  head_of : (other : ℕ) (others : List Line) (h : Lists (names_reply port lines) other others) → SameHead port other (flat_map names_line lines) h.text
-  head_of other others h = same_head port other (flat_map names_line lines) h.text small h.port_is h.bytes_are
+module _ (bytes : List ℕ) (port : ℕ) (lines : List Line) (l : Lists bytes port lines) where
+  head_of : (other : ℕ) (others : List Line) (h : Lists bytes other others) → SameHead port other l.text h.text
+  head_of other others h = same_head port other l.text h.text l.port_is h.port_is (sym l.bytes_are ∙ h.bytes_are)
 
-  same_lines : (other : ℕ) (others : List Line) → Lists (names_reply port lines) other others → lines ≡ others
+  same_lines : (other : ℕ) (others : List Line) → Lists bytes other others → lines ≡ others
   same_lines other others h =
-      let g = goes_on others lines (flat_map names_line lines) [] (subst (λ (t : List ℕ). ListsTo t others []) (sym (head_of other others h).text) h.lines_are) (written lines are) in
+      let g = goes_on others lines l.text [] (subst (λ (t : List ℕ). ListsTo t others []) (sym (head_of other others h).text) h.lines_are) l.lines_are in
       g.lines_are ∙ ap (λ (m : List Line). others ++ m) (none_left g.more g.more_are) ∙ append-nil others
 
-  no_fault : (f : ListFault) → IsListFault (names_reply port lines) f → f ≡ fault.NoMemory
-  no_fault fault.Short h = absurd (omega (arith, h, length-append (be4 port) (flat_map names_line lines)))
+  no_fault : (f : ListFault) → IsListFault bytes f → f ≡ fault.NoMemory
+  no_fault fault.Short h = absurd (omega (arith, h, ap length l.bytes_are, length-append (be4 port) l.text))
   no_fault (fault.StrangeLine at) h =
-      let e : flat_map names_line lines ≡ h.text = (same_head port h.port (flat_map names_line lines) h.text small h.port_is h.bytes_are).text in
-      let g = goes_on h.line.lines lines (flat_map names_line lines) h.line.rest (subst (λ (t : List ℕ). ListsTo t h.line.lines h.line.rest) (sym e) h.line.lines_are) (written lines are) in
+      let e : l.text ≡ h.text = (same_head port h.port l.text h.text l.port_is h.port_is (sym l.bytes_are ∙ h.bytes_are)).text in
+      let g = goes_on h.line.lines lines l.text h.line.rest (subst (λ (t : List ℕ). ListsTo t h.line.lines h.line.rest) (sym e) h.line.lines_are) l.lines_are in
       absurd (not_strange g.more h.line.rest g.more_are h.line.strange)
   no_fault fault.NoMemory h = refl
 
-  read_back : IsReadBack (names_reply port lines) port lines
-  read_back = record {
-    list = record { port_is = small; text = flat_map names_line lines; bytes_are = refl; lines_are = written lines are };
+  pub lists_once : IsReadBack bytes port lines
+  lists_once = record {
+    list = l;
     port_is = λ other others h. (head_of other others h).port;
     lines_are = same_lines;
     faultless = no_fault;
   }
 
 pub names_read_back : NamesAreReadBack
-names_read_back port lines small are = read_back port lines small are
+names_read_back port lines small are = lists_once (names_reply port lines) port lines (record { port_is = small; text = flat_map names_line lines; bytes_are = refl; lines_are = written lines are })

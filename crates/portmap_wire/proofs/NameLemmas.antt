@@ -7,6 +7,7 @@ use Rattle.std.proofs.lemmas.Bool.Decides.{nat_tests}
 use Rattle.std.proofs.lemmas.List.Sums.{fails_before_first}
 use Rattle.std.proofs.lemmas.List.Quantifiers.{position-Some}
 use Rattle.std.proofs.lemmas.List.Elements.{All-from_get_or}
+use Rattle.portmap_wire.specs.declared.name.TheConstants.{NAME_MOST}
 use Rattle.portmap_wire.specs.Name.{is_control, IsNameByte, IsName}
 
 -- each element is in a byte's range
@@ -31,5 +32,5 @@ each_fails p bytes e i lt = fails_before_first p bytes i 0 (elim (cases_lt (posi
   | inr above ↦ omega arith
 ])
 
-pub is_name : (bytes : List ℕ) → IsBytes bytes → 0 < length bytes → length bytes ≤ 255 → None ≡ position is_control bytes → IsName bytes
+pub is_name : (bytes : List ℕ) → IsBytes bytes → 0 < length bytes → length bytes ≤ NAME_MOST → None ≡ position is_control bytes → IsName bytes
 is_name bytes fits some short e = record { some = some; short = short; each = All-from_get_or IsNameByte bytes 0 (λ i lt. passes (get_or bytes i 0) (fits i) (each_fails is_control bytes e i lt)) }

@@ -7,6 +7,8 @@ use Rattle.portmap_wire.specs.Name.{is_control, IsName}
 use Rattle.portmap_wire.specs.Registration.{Registration, IsRegistration, fields, be2}
 use Rattle.portmap_wire.specs.declared.name.NameFault.{NameFault}
 use Rattle.portmap_wire.specs.declared.name.NameFault.TheVariants as name_fault
+use Rattle.portmap_wire.specs.declared.name.TheConstants.{NAME_MOST}
+use Rattle.portmap_wire.specs.declared.request.TheConstants.{BODY_MOST, ALIVE2_REQ, PORT_PLEASE2_REQ, NAMES_REQ, DUMP_REQ, KILL_REQ, STOP_REQ}
 use Rattle.portmap_wire.specs.declared.request.Malformed.{Malformed}
 use Rattle.portmap_wire.specs.declared.request.Malformed.TheVariants as malformed
 use Rattle.portmap_wire.specs.declared.request.Request.{Request}
@@ -39,7 +41,7 @@ scanned bytes n (Some at) e = absurd cc
 pub name_takes : (bytes n : List ℕ) → IsBytes bytes → name_in bytes ≡ Ok n → (bytes ≡ n) × IsName bytes
 name_takes bytes n fits e =
     let a = guard (eqb (length bytes) 0) name_fault.Empty _ n e in
-    let b = guard (ltb 255 (length bytes)) name_fault.TooLong _ n a.1 in
+    let b = guard (ltb NAME_MOST (length bytes)) name_fault.TooLong _ n a.1 in
     let c = scanned bytes n (position is_control bytes) b.1 in
     let some : length bytes ≡ 0 → ⊥ = eqb-false _ _ a.0 in
     (c.1, is_name bytes fits (omega arith) (ltb-false _ _ b.0) c.0)
@@ -52,7 +54,7 @@ pub name_again : (bytes : List ℕ) → IsName bytes → name_in bytes ≡ Ok by
 name_again bytes name =
     let some : 0 < length bytes = name.some in
     let t1 : eqb (length bytes) 0 ≡ false = ne_eqb _ _ (omega arith) in
-    let t2 : ltb 255 (length bytes) ≡ false = le-ltb _ _ name.short in
+    let t2 : ltb NAME_MOST (length bytes) ≡ false = le-ltb _ _ name.short in
     rw (t1, t2) (unscanned bytes (position is_control bytes) refl name)
 
 -- ---- requests
@@ -81,17 +83,17 @@ filled_takes (Some f) r e =
 length-fields : (g : Registration) → length (fields g) ≡ 12 + length g.name + length g.extra
 length-fields g = omega (arith, length-append (g.name ++ be2 (length g.extra)) g.extra, length-append g.name (be2 (length g.extra)))
 
-pub alive_takes : (rest : List ℕ) (r : Request) → IsBytes rest → alive_in rest ≡ Ok r → Spells (120 ∷ rest) r
+pub alive_takes : (rest : List ℕ) (r : Request) → IsBytes rest → alive_in rest ≡ Ok r → Spells (ALIVE2_REQ ∷ rest) r
 unfolding alive_in
 alive_takes rest r fits e =
     let a = guard (ltb (length rest) 12) malformed.Short _ r e in
-    let b = guard (ltb 8191 (length rest)) malformed.LengthsDisagree _ r a.1 in
+    let b = guard (ltb BODY_MOST (1 + length rest)) malformed.LengthsDisagree _ r a.1 in
     let w = filled_takes (fields_in rest) r b.1 in
     let g = w.0.0 in
     let t = fields_take rest g w.0.1 fits w.1 in
     let text : rest ≡ fields g = t.text ∙ ap (λ (z : List ℕ). fields g ++ z) w.2 ∙ append-nil (fields g) in
     let m = with_name_takes g (name_in g.name) r w.3 in
-    let short : length rest ≤ 8191 = ltb-false _ _ b.0 in
+    let short : 1 + length rest ≤ BODY_MOST = ltb-false _ _ b.0 in
     let is : IsRegistration g = record {
       port = t.fits.port;
       kind = t.fits.kind;
@@ -101,22 +103,22 @@ alive_takes rest r fits e =
       name = (name_takes g.name m.0 t.name_fits m.1).1;
       fits = omega (arith, ap length text, length-fields g);
     } in
-    let all : Spells (120 ∷ rest) (Alive g) = record { request_is = is; text = ap (λ (z : List ℕ). 120 ∷ z) text } in
-    subst (λ (x : Request). Spells (120 ∷ rest) x) m.2 all
+    let all : Spells (ALIVE2_REQ ∷ rest) (Alive g) = record { request_is = is; text = ap (λ (z : List ℕ). ALIVE2_REQ ∷ z) text } in
+    subst (λ (x : Request). Spells (ALIVE2_REQ ∷ rest) x) m.2 all
 
-port_takes : (rest : List ℕ) (r : Request) → IsBytes rest → named (λ n. Port n) (name_in rest) ≡ Ok r → Spells (122 ∷ rest) r
+port_takes : (rest : List ℕ) (r : Request) → IsBytes rest → named (λ n. Port n) (name_in rest) ≡ Ok r → Spells (PORT_PLEASE2_REQ ∷ rest) r
 port_takes rest r fits e =
     let m = named_takes (λ n. Port n) (name_in rest) r e in
     let t = name_takes rest m.0 fits m.1 in
-    let all : Spells (122 ∷ rest) (Port m.0) = record { request_is = subst IsName t.0 t.1; text = ap (λ (z : List ℕ). 122 ∷ z) t.0 } in
-    subst (λ (x : Request). Spells (122 ∷ rest) x) m.2 all
+    let all : Spells (PORT_PLEASE2_REQ ∷ rest) (Port m.0) = record { request_is = subst IsName t.0 t.1; text = ap (λ (z : List ℕ). PORT_PLEASE2_REQ ∷ z) t.0 } in
+    subst (λ (x : Request). Spells (PORT_PLEASE2_REQ ∷ rest) x) m.2 all
 
-stop_takes : (rest : List ℕ) (r : Request) → IsBytes rest → named (λ n. Stop n) (name_in rest) ≡ Ok r → Spells (115 ∷ rest) r
+stop_takes : (rest : List ℕ) (r : Request) → IsBytes rest → named (λ n. Stop n) (name_in rest) ≡ Ok r → Spells (STOP_REQ ∷ rest) r
 stop_takes rest r fits e =
     let m = named_takes (λ n. Stop n) (name_in rest) r e in
     let t = name_takes rest m.0 fits m.1 in
-    let all : Spells (115 ∷ rest) (Stop m.0) = record { request_is = subst IsName t.0 t.1; text = ap (λ (z : List ℕ). 115 ∷ z) t.0 } in
-    subst (λ (x : Request). Spells (115 ∷ rest) x) m.2 all
+    let all : Spells (STOP_REQ ∷ rest) (Stop m.0) = record { request_is = subst IsName t.0 t.1; text = ap (λ (z : List ℕ). STOP_REQ ∷ z) t.0 } in
+    subst (λ (x : Request). Spells (STOP_REQ ∷ rest) x) m.2 all
 
 one_takes : (tag : ℕ) (only r : Request) (rest : List ℕ) → IsRequest only → tag ∷ [] ≡ body_of only → alone only rest ≡ Ok r → Spells (tag ∷ rest) r
 one_takes tag only r rest is text e =
@@ -130,17 +132,17 @@ request_takes [] r fits e = absurd cc
 request_takes (tag ∷ rest) r fits e =
     let P : ℕ → Type 0 = λ t. Spells (t ∷ rest) r in
     let in_rest = IsBytes-rest tag rest fits in
-    elim (chosen (eqb tag 120) (alive_in rest) _ (Ok r) e) [
+    elim (chosen (eqb tag ALIVE2_REQ) (alive_in rest) _ (Ok r) e) [
       | inl p ↦ subst P (sym (eqb-true _ _ p.0)) (alive_takes rest r in_rest p.1)
-      | inr a ↦ elim (chosen (eqb tag 122) (named (λ n. Port n) (name_in rest)) _ (Ok r) a.1) [
+      | inr a ↦ elim (chosen (eqb tag PORT_PLEASE2_REQ) (named (λ n. Port n) (name_in rest)) _ (Ok r) a.1) [
         | inl p ↦ subst P (sym (eqb-true _ _ p.0)) (port_takes rest r in_rest p.1)
-        | inr b ↦ elim (chosen (eqb tag 110) (alone Names rest) _ (Ok r) b.1) [
-          | inl p ↦ subst P (sym (eqb-true _ _ p.0)) (one_takes 110 Names r rest tt refl p.1)
-          | inr d ↦ elim (chosen (eqb tag 100) (alone Dump rest) _ (Ok r) d.1) [
-            | inl p ↦ subst P (sym (eqb-true _ _ p.0)) (one_takes 100 Dump r rest tt refl p.1)
-            | inr f ↦ elim (chosen (eqb tag 107) (alone Kill rest) _ (Ok r) f.1) [
-              | inl p ↦ subst P (sym (eqb-true _ _ p.0)) (one_takes 107 Kill r rest tt refl p.1)
-              | inr g ↦ elim (chosen (eqb tag 115) (named (λ n. Stop n) (name_in rest)) _ (Ok r) g.1) [
+        | inr b ↦ elim (chosen (eqb tag NAMES_REQ) (alone Names rest) _ (Ok r) b.1) [
+          | inl p ↦ subst P (sym (eqb-true _ _ p.0)) (one_takes NAMES_REQ Names r rest tt refl p.1)
+          | inr d ↦ elim (chosen (eqb tag DUMP_REQ) (alone Dump rest) _ (Ok r) d.1) [
+            | inl p ↦ subst P (sym (eqb-true _ _ p.0)) (one_takes DUMP_REQ Dump r rest tt refl p.1)
+            | inr f ↦ elim (chosen (eqb tag KILL_REQ) (alone Kill rest) _ (Ok r) f.1) [
+              | inl p ↦ subst P (sym (eqb-true _ _ p.0)) (one_takes KILL_REQ Kill r rest tt refl p.1)
+              | inr g ↦ elim (chosen (eqb tag STOP_REQ) (named (λ n. Stop n) (name_in rest)) _ (Ok r) g.1) [
                 | inl p ↦ subst P (sym (eqb-true _ _ p.0)) (stop_takes rest r in_rest p.1)
                 | inr h ↦ let last : ◌≡◌ {A = Result Request Malformed} (Err malformed.UnknownTag) (Ok r) = h.1 in absurd cc
               ]
@@ -154,12 +156,12 @@ alive_again : (g : Registration) → IsRegistration g → alive_in (fields g) �
 unfolding alive_in
 alive_again g is =
     let len = length-fields g in
-    let total : 13 + length g.name + length g.extra ≤ 8192 = is.fits in
+    let total : 13 + length g.name + length g.extra ≤ BODY_MOST = is.fits in
     let fits : FitsFields g = record { port = is.port; kind = is.kind; proto = is.proto; high = is.high; low = is.low } in
     let read : fields_in (fields g) ≡ Some (g, []) = ap fields_in (sym (append-nil (fields g))) ∙ fields_again g [] fits (omega arith) (omega arith) in
     let t1 : ltb (length (fields g)) 12 ≡ false = le-ltb _ _ (omega arith) in
-    let t2 : ltb 8191 (length (fields g)) ≡ false = le-ltb _ _ (omega arith) in
-    ap (λ (b : Bool). cond b (Err malformed.Short) (cond (ltb 8191 (length (fields g))) (Err malformed.LengthsDisagree) (filled (fields_in (fields g))))) t1
+    let t2 : ltb BODY_MOST (1 + length (fields g)) ≡ false = le-ltb _ _ (omega arith) in
+    ap (λ (b : Bool). cond b (Err malformed.Short) (cond (ltb BODY_MOST (1 + length (fields g))) (Err malformed.LengthsDisagree) (filled (fields_in (fields g))))) t1
     ∙ (ap (λ (b : Bool). cond b (Err malformed.LengthsDisagree) (filled (fields_in (fields g)))) t2
     ∙ (ap filled read ∙ ap (with_name g) (name_again g.name is.name)))
 

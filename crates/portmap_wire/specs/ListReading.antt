@@ -123,6 +123,10 @@ pub record IsReadBack (bytes : List ℕ) (port : ℕ) (lines : List Line) : Type
   pub lines_are : (other : ℕ) (others : List Line) → Lists bytes other others → lines ≡ others
   pub faultless : (f : ListFault) → IsListFault bytes f → f ≡ fault.NoMemory
 
+-- bytes are one list at most, and then have no fault but want of memory
+abbrev pub ListsHaveOneReading : Type 0
+ListsHaveOneReading = (bytes : List ℕ) (port : ℕ) (lines : List Line) → Lists bytes port lines → IsReadBack bytes port lines
+
 -- what `write_names` writes is read as what it was given: what is read is this list, and there is no fault but want of
 -- memory
 abbrev pub NamesAreReadBack : Type 0

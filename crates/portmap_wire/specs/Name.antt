@@ -1,5 +1,6 @@
 -- What a node's name is. Profile: the User's Guide sets no limit and names no bytes.
 use Rattle.std.specs.Prelude.{ℕ, Bool, ◌≢◌, ◌<◌, ◌≤◌, List, length, All, nat_lt, ◌==◌, ◌||◌}
+use Rattle.portmap_wire.specs.declared.name.TheConstants.{NAME_MOST}
 
 -- a byte that no name has: a control character of ASCII
 abbrev pub is_control : ℕ → Bool
@@ -9,12 +10,8 @@ is_control b = nat_lt b 32 || (b == 127)
 abbrev pub IsNameByte : ℕ → Type 0
 IsNameByte b = (32 ≤ b) × (b ≢ 127) × (b < 256)
 
--- the most bytes of a name
-abbrev pub name_most : ℕ
-name_most = 255
-
--- 1 to 255 such bytes
+-- 1 to NAME_MOST such bytes
 pub record IsName (bytes : List ℕ) : Type 0 where
   pub some : 0 < length bytes
-  pub short : length bytes ≤ name_most
+  pub short : length bytes ≤ NAME_MOST
   pub each : All IsNameByte bytes

@@ -1,7 +1,10 @@
 -- What a node registers, and how its fields are spelled: ERTS User's Guide, EPMD Protocol, "Register a Node in EPMD".
-use Rattle.std.specs.Prelude.{ℕ, ◌+◌, ◌<◌, ◌≤◌, ◌^◌, List, [], ◌∷◌, ◌++◌, length}
+use Rattle.std.specs.Prelude.{ℕ, ◌+◌, ◌<◌, ◌≤◌, ◌^◌, List, [], ◌∷◌, ◌++◌, length, Bool, nat_eq}
+use Rattle.std.specs.Cmp.Lexicographic.{pointwise}
+use Rattle.std.specs.Ordering.{on, eq_of_both}
 use Rattle.std.specs.Int.{w16, to_be_bytes}
 use Rattle.portmap_wire.specs.Name.{IsName}
+use Rattle.portmap_wire.specs.declared.request.TheConstants.{BODY_MOST}
 
 -- PortNo, NodeType, Protocol, HighestVersion, LowestVersion, NodeName and Extra, in the order of the guide
 pub record Registration : Type 0 where
@@ -21,7 +24,7 @@ be2 n = to_be_bytes w16 n
 abbrev pub fields : Registration → List ℕ
 fields g = be2 g.port ++ (g.kind ∷ g.proto ∷ []) ++ be2 g.high ++ be2 g.low ++ be2 (length g.name) ++ g.name ++ be2 (length g.extra) ++ g.extra
 
--- each field is in range, and a request of 8,192 bytes holds them all (the limit: profile)
+-- each field is in range, and a request of BODY_MOST bytes holds them all (the limit: profile)
 pub record IsRegistration (g : Registration) : Type 0 where
   pub port : g.port < 2 ^ 16
   pub kind : g.kind < 2 ^ 8
@@ -29,4 +32,8 @@ pub record IsRegistration (g : Registration) : Type 0 where
   pub high : g.high < 2 ^ 16
   pub low : g.low < 2 ^ 16
   pub name : IsName g.name
-  pub fits : 13 + length g.name + length g.extra ≤ 8192
+  pub fits : 13 + length g.name + length g.extra ≤ BODY_MOST
+
+-- two registrations are equal, as a test: field by field
+abbrev pub are_same : Registration → Registration → Bool
+are_same = eq_of_both (on (λ g. g.port) nat_eq) (eq_of_both (on (λ g. g.kind) nat_eq) (eq_of_both (on (λ g. g.proto) nat_eq) (eq_of_both (on (λ g. g.high) nat_eq) (eq_of_both (on (λ g. g.low) nat_eq) (eq_of_both (on (λ g. g.name) (pointwise nat_eq)) (on (λ g. g.extra) (pointwise nat_eq)))))))

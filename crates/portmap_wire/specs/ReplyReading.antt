@@ -6,6 +6,9 @@ use Rattle.portmap_wire.specs.Registration.{Registration, IsRegistration}
 use Rattle.portmap_wire.specs.RequestReading.{name_in, fields_in}
 use Rattle.portmap_wire.specs.Reply.{alive_reply, port2_reply}
 use Rattle.portmap_wire.specs.declared.name.NameFault.{NameFault}
+use Rattle.portmap_wire.specs.declared.name.NameFault.TheVariants as name_fault
+use Rattle.portmap_wire.specs.declared.request.TheConstants.{BODY_MOST}
+use Rattle.portmap_wire.specs.declared.reply_writing.TheConstants.{ALIVE2_X_RESP, ALIVE2_RESP, PORT2_RESP, WIDE_VERSION}
 use Rattle.portmap_wire.specs.declared.reply_reading.AliveReply.{AliveReply}
 use Rattle.portmap_wire.specs.declared.reply_reading.AliveReply.TheVariants.{Given, Refused}
 use Rattle.portmap_wire.specs.declared.reply_reading.ReplyFault.{ReplyFault}
@@ -28,13 +31,20 @@ short_answer (code ∷ rest) =
 
 abbrev pub alive_answer : List ℕ → Result AliveReply ReplyFault
 alive_answer [] = Err fault.Short
-alive_answer (tag ∷ rest) = if tag == 118 then wide_answer rest else if tag == 121 then short_answer rest else Err (fault.BadTag tag)
+alive_answer (tag ∷ rest) = if tag == ALIVE2_X_RESP then wide_answer rest else if tag == ALIVE2_RESP then short_answer rest else Err (fault.BadTag tag)
 
 -- ---- the answer to PORT_PLEASE2_REQ
 
+-- the fault of a name within an answer
+abbrev pub in_reply : NameFault → ReplyFault
+in_reply name_fault.NoMemory = fault.NoMemory
+in_reply name_fault.Empty = fault.Strange
+in_reply name_fault.TooLong = fault.Strange
+in_reply (name_fault.BadByte at) = fault.Strange
+
 -- fields that a registration can have
 abbrev pub with_name : Registration → Result (List ℕ) NameFault → Result (Option Registration) ReplyFault
-with_name g (Ok name) = if nat_lt 8192 (13 + length g.name + length g.extra) then Err fault.Strange else Ok (Some g)
+with_name g (Ok name) = if nat_lt BODY_MOST (13 + length g.name + length g.extra) then Err fault.Strange else Ok (Some g)
 with_name g (Err e) = Err fault.Strange
 
 abbrev pub registered_answer : Option (Registration × List ℕ) → Result (Option Registration) ReplyFault
@@ -47,7 +57,13 @@ port2_result (code ∷ rest) = if code == 0 then registered_answer (fields_in re
 
 abbrev pub port2_answer : List ℕ → Result (Option Registration) ReplyFault
 port2_answer [] = Err fault.Short
-port2_answer (tag ∷ rest) = if tag == 119 then port2_result rest else Err (fault.BadTag tag)
+port2_answer (tag ∷ rest) = if tag == PORT2_RESP then port2_result rest else Err (fault.BadTag tag)
+
+-- a registration stands, as it is spelled, at the front of an answer
+pub record IsFound (bytes : List ℕ) (g : Registration) : Type 0 where
+  pub registration : IsRegistration g
+  pub more : List ℕ
+  pub text : bytes ≡ port2_reply (Some g) ++ more
 
 -- what was answered is what the bytes say, unless memory ran out
 abbrev pub GivesReply : {X : Type 0} → Result X ReplyFault → Result X ReplyFault → Type 0
@@ -59,8 +75,12 @@ GivesReply (Err fault.Strange) said = said ≡ Err fault.Strange
 
 -- ---- what was written is read, whatever follows it
 
+-- code 0 gives the creation, any other refuses
+abbrev pub told : ℕ → ℕ → AliveReply
+told code creation = if code == 0 then Given creation else Refused code
+
 abbrev pub AlivesAreReadBack : Type 0
-AlivesAreReadBack = (high creation : ℕ) (more : List ℕ) → creation < 2 ^ 32 → (high < 6 → creation < 2 ^ 16) → alive_answer (alive_reply high 0 creation ++ more) ≡ Ok (Given creation)
+AlivesAreReadBack = (high code creation : ℕ) (more : List ℕ) → creation < 2 ^ 32 → (high < WIDE_VERSION → creation < 2 ^ 16) → alive_answer (alive_reply high code creation ++ more) ≡ Ok (told code creation)
 
 abbrev pub LookUpsAreReadBack : Type 0
 LookUpsAreReadBack = (found : Option Registration) (more : List ℕ) → IfSome found IsRegistration → port2_answer (port2_reply found ++ more) ≡ Ok found

@@ -2,17 +2,18 @@
 use Rattle.std.specs.Prelude.{◌≡◌, List, ℕ, [], ◌∷◌, ◌++◌, length}
 use Rattle.portmap_wire.specs.Name.{IsName}
 use Rattle.portmap_wire.specs.Registration.{IsRegistration, fields, be2}
+use Rattle.portmap_wire.specs.declared.request.TheConstants.{ALIVE2_REQ, PORT_PLEASE2_REQ, NAMES_REQ, DUMP_REQ, KILL_REQ, STOP_REQ}
 use Rattle.portmap_wire.specs.declared.request.Request.{Request}
 use Rattle.portmap_wire.specs.declared.request.Request.TheVariants.{Alive, Port, Names, Dump, Kill, Stop}
 
--- ALIVE2_REQ 120, PORT_PLEASE2_REQ 122, NAMES_REQ 110, DUMP_REQ 100, KILL_REQ 107, STOP_REQ 115, and what follows
+-- the first byte says which request it is; what follows it
 abbrev pub body_of : Request → List ℕ
-body_of (Alive g) = 120 ∷ fields g
-body_of (Port name) = 122 ∷ name
-body_of Names = 110 ∷ []
-body_of Dump = 100 ∷ []
-body_of Kill = 107 ∷ []
-body_of (Stop name) = 115 ∷ name
+body_of (Alive g) = ALIVE2_REQ ∷ fields g
+body_of (Port name) = PORT_PLEASE2_REQ ∷ name
+body_of Names = NAMES_REQ ∷ []
+body_of Dump = DUMP_REQ ∷ []
+body_of Kill = KILL_REQ ∷ []
+body_of (Stop name) = STOP_REQ ∷ name
 
 -- its parts are ones that can be spelled
 abbrev pub IsRequest : Request → Type 0

@@ -2,10 +2,12 @@
 -- of `read_request`.
 use Rattle.std.specs.Prelude.{◌≡◌, ℕ, ◌+◌, List, [], ◌∷◌, length, take, drop, slice_index, Option, Some, None, Result, Ok, Err, nat_lt, ◌==◌, position, if◌then◌else◌}
 use Rattle.std.specs.Int.{w16, from_be_bytes}
-use Rattle.portmap_wire.specs.Name.{is_control, name_most}
+use Rattle.portmap_wire.specs.Name.{is_control}
 use Rattle.portmap_wire.specs.Registration.{Registration}
+use Rattle.portmap_wire.specs.declared.name.TheConstants.{NAME_MOST}
 use Rattle.portmap_wire.specs.declared.name.NameFault.{NameFault}
 use Rattle.portmap_wire.specs.declared.name.NameFault.TheVariants as name_fault
+use Rattle.portmap_wire.specs.declared.request.TheConstants.{BODY_MOST, ALIVE2_REQ, PORT_PLEASE2_REQ, NAMES_REQ, DUMP_REQ, KILL_REQ, STOP_REQ}
 use Rattle.portmap_wire.specs.declared.request.Malformed.{Malformed}
 use Rattle.portmap_wire.specs.declared.request.Malformed.TheVariants as malformed
 use Rattle.portmap_wire.specs.declared.request.Request.{Request}
@@ -21,7 +23,7 @@ unless_found (Some at) bytes = Err (name_fault.BadByte at)
 abbrev pub name_in : List ℕ → Result (List ℕ) NameFault
 name_in bytes =
     if length bytes == 0 then Err name_fault.Empty
-    else if nat_lt name_most (length bytes) then Err name_fault.TooLong
+    else if nat_lt NAME_MOST (length bytes) then Err name_fault.TooLong
     else unless_found (position is_control bytes) bytes
 
 -- what was answered is what the bytes say, unless memory ran out
@@ -86,21 +88,21 @@ abbrev pub filled : Option (Registration × List ℕ) → Result Request Malform
 filled None = Err malformed.LengthsDisagree
 filled (Some f) = if length f.1 == 0 then with_name f.0 (name_in f.0.name) else Err malformed.LengthsDisagree
 
--- what stands behind the byte 120
+-- what stands behind ALIVE2_REQ
 unfoldable pub alive_in : List ℕ → Result Request Malformed
 alive_in rest =
     if nat_lt (length rest) 12 then Err malformed.Short
-    else if nat_lt 8191 (length rest) then Err malformed.LengthsDisagree
+    else if nat_lt BODY_MOST (1 + length rest) then Err malformed.LengthsDisagree
     else filled (fields_in rest)
 
 unfoldable pub by_tag : ℕ → List ℕ → Result Request Malformed
 by_tag tag rest =
-    if tag == 120 then alive_in rest
-    else if tag == 122 then named (λ name. Port name) (name_in rest)
-    else if tag == 110 then alone Names rest
-    else if tag == 100 then alone Dump rest
-    else if tag == 107 then alone Kill rest
-    else if tag == 115 then named (λ name. Stop name) (name_in rest)
+    if tag == ALIVE2_REQ then alive_in rest
+    else if tag == PORT_PLEASE2_REQ then named (λ name. Port name) (name_in rest)
+    else if tag == NAMES_REQ then alone Names rest
+    else if tag == DUMP_REQ then alone Dump rest
+    else if tag == KILL_REQ then alone Kill rest
+    else if tag == STOP_REQ then named (λ name. Stop name) (name_in rest)
     else Err malformed.UnknownTag
 
 abbrev pub request_in : List ℕ → Result Request Malformed

@@ -6,7 +6,6 @@ mod fields_writing;
 mod list;
 mod list_reading;
 mod list_writing;
-mod missing;
 mod name;
 mod registration;
 mod reply_reading;
@@ -19,17 +18,23 @@ mod tests;
 
 pub use list::{DumpLine, Line};
 pub use list_reading::{
-    ListFault, lines_have_one_reading, names_are_read_back, read_dump, read_names,
+    ListFault, lines_have_one_reading, lists_have_one_reading, names_are_read_back, read_dump,
+    read_names,
 };
 pub use list_writing::{ListReply, write_dump, write_names};
-pub use missing::{alive_missing, port2_missing};
-pub use name::{Name, NameFault};
+pub use name::{NAME_MOST, Name, NameFault};
 pub use registration::{ExtraFault, Reg};
 pub use reply_reading::{
-    AliveReply, ReplyFault, alives_are_read_back, look_ups_are_read_back, read_alive, read_port2,
+    AliveReply, ReplyFault, alive_missing, alives_are_read_back, look_ups_are_read_back,
+    port2_missing, read_alive, read_port2,
 };
-pub use reply_writing::{WIDE_VERSION, write_alive, write_port2};
-pub use request::{BODY_MOST, Malformed, Request, bodies_are_one, spelling_is_one};
+pub use reply_writing::{
+    ALIVE2_RESP, ALIVE2_X_RESP, PORT2_RESP, WIDE_VERSION, write_alive, write_port2,
+};
+pub use request::{
+    ALIVE2_REQ, BODY_MOST, DUMP_REQ, KILL_REQ, Malformed, NAMES_REQ, PORT_PLEASE2_REQ, Request,
+    STOP_REQ, bodies_are_one, spelling_is_one,
+};
 pub use request_reading::read_request;
 pub use request_writing::{write_lookup, write_registration, write_request, write_stop};
 pub use std::alloc::AllocError as NoMemory;

@@ -2,12 +2,12 @@
 ghost use Rattle.std.specs.Prelude.{◌≡◌, ◌++◌, ◌<◌, ℕ, List, [], length, position, IfOk, IfSome, IfErr, MatchBool, MatchOption, None, Err};
 ghost use Rattle.std.specs.Str.Parse.{AllDigits};
 ghost use Rattle.portmap_wire.specs.Reply.{be4};
-ghost use Rattle.portmap_wire.specs.ListReading.{WritesPort, EndsInDigits, HasShape, HasNoReading, ReadsLine, is_newline, HasNoNewline, IsCut, ListsTo, IsLines, Lists, IsList, StrangeIn, IsLinesFault, IsListFault, LinesHaveOneReading, NamesAreReadBack};
+ghost use Rattle.portmap_wire.specs.ListReading.{WritesPort, EndsInDigits, HasShape, HasNoReading, ReadsLine, is_newline, HasNoNewline, IsCut, ListsTo, IsLines, Lists, IsList, StrangeIn, IsLinesFault, IsListFault, LinesHaveOneReading, ListsHaveOneReading, NamesAreReadBack};
 
 use crate::NoMemory;
 use crate::list::Line;
 use crate::name::{Name, NameFault, is_name};
-use std::alloc::Global;
+use std::alloc::{AllocFailed, Global};
 
 /// Why bytes are no list.
 #[derive(Clone, Copy, Debug, PartialEq, Eq)]
@@ -17,6 +17,28 @@ pub enum ListFault {
     /// The line of this number, the first such one, from 0, is not a name's, or is not ended by byte 10.
     StrangeLine(usize),
     NoMemory,
+}
+
+impl From<NoMemory> for ListFault {
+    ghost use Rattle.std.specs.Prelude.{◌≡◌};
+    ghost use Rattle.portmap_wire.specs.declared.list_reading.ListFault.TheVariants as fault;
+
+    ghost from_gives = { λ _ e. e ≡ fault.NoMemory };
+
+    fn from(_refused: NoMemory) -> ListFault {
+        ListFault::NoMemory
+    }
+}
+
+impl<T: Drop> From<AllocFailed<T>> for ListFault {
+    ghost use Rattle.std.specs.Prelude.{◌≡◌};
+    ghost use Rattle.portmap_wire.specs.declared.list_reading.ListFault.TheVariants as fault;
+
+    ghost from_gives = { λ _ e. e ≡ fault.NoMemory };
+
+    fn from(_refused: AllocFailed<T>) -> ListFault {
+        ListFault::NoMemory
+    }
 }
 
 /// Where the digits at the end begin.
@@ -43,10 +65,7 @@ fn port_of(digits: &[u8]) -> Option<u16>
     for digit in digits {
         value = value * 10 + u32::from(*digit - b'0');
     }
-    if value > 65535 {
-        return None;
-    }
-    Some(value as u16)
+    u16::try_from(value).ok()
 }
 
 /// The name and the port of a line, where it has the shape of one. The name is not looked at.
@@ -145,30 +164,37 @@ fn without_memory(text: &[u8]) -> ListFault
     }
 }
 
+/// The lines that this text is, as far as memory goes.
+fn collect_lines(alloc: Global, text: &[u8]) -> Result<Vec<Line>, ListFault>
+    ensures found { IfOk result (λ lines. ListsTo text.now lines.items []) }
+    ensures fault { IfErr result (λ fault. IsLinesFault text.now fault) }
+{
+    let mut lines = Vec::new(alloc);
+    let mut rest = text;
+    while !rest.is_empty() {
+        let strange = ListFault::StrangeLine(lines.len());
+        let Some((front, after)) = cut_line(rest) else {
+            return Err(strange);
+        };
+        let Some(line) = read_line(alloc, front)? else {
+            return Err(strange);
+        };
+        lines.push(line)?;
+        rest = after;
+    }
+    Ok(lines)
+}
+
 /// The lines that this text is.
 fn read_lines(alloc: Global, text: &[u8]) -> Result<Vec<Line>, ListFault>
     ensures found { IfOk result (λ lines. ListsTo text.now lines.items []) }
     ensures fault { IfErr result (λ fault. IsLinesFault text.now fault) }
     ensures memory { result ≡ Err ListFault.NoMemory → IsLines text.now }
 {
-    let mut lines = Vec::new(alloc);
-    let mut rest = text;
-    while !rest.is_empty() {
-        let Some((front, after)) = cut_line(rest) else {
-            return Err(ListFault::StrangeLine(lines.len()));
-        };
-        match read_line(alloc, front) {
-            Ok(Some(line)) => {
-                let Ok(()) = lines.push(line) else {
-                    return Err(without_memory(text));
-                };
-            }
-            Ok(None) => return Err(ListFault::StrangeLine(lines.len())),
-            Err(_) => return Err(without_memory(text)),
-        }
-        rest = after;
+    match collect_lines(alloc, text) {
+        Err(ListFault::NoMemory) => Err(without_memory(text)),
+        other => other,
     }
-    Ok(lines)
 }
 
 /// The port at the front of a list, and the text behind it, whatever that is.
@@ -199,6 +225,11 @@ pub fn read_names(alloc: Global, bytes: &[u8]) -> Result<(u32, Vec<Line>), ListF
 /// A law: a text is the line of one name and port at most.
 pub fn lines_have_one_reading()
     ensures { LinesHaveOneReading }
+{}
+
+/// A law: bytes are one list at most, and then have no fault but want of memory.
+pub fn lists_have_one_reading()
+    ensures { ListsHaveOneReading }
 {}
 
 /// A law: what `write_names` wrote is read as what it was given, and as nothing else.

@@ -71,20 +71,17 @@ impl ListReply {
     pub fn new(alloc: Global, port: u16) -> Result<ListReply, NoMemory>
         ensures { IfOk result (λ r. r ≡ be4 port) }
     {
-        match Vec::from_slice(alloc, &u32::from(port).to_be_bytes()) {
-            Ok(bytes) => Ok(ListReply { bytes }),
-            Err(_) => Err(NoMemory),
-        }
+        Ok(ListReply {
+            bytes: Vec::from_slice(alloc, &u32::from(port).to_be_bytes())?,
+        })
     }
 
     /// With one more line of the answer to NAMES_REQ.
     pub fn with_names_line(mut self, name: &Name, port: u16) -> Result<ListReply, NoMemory>
         ensures { IfOk result (λ r. r ≡ self ++ names_line (record { name = name.now; port = port })) }
     {
-        match put_names_line(&mut self.bytes, name, port) {
-            Ok(()) => Ok(self),
-            Err(_) => Err(NoMemory),
-        }
+        put_names_line(&mut self.bytes, name, port)?;
+        Ok(self)
     }
 
     /// With one more line of the answer to DUMP_REQ, of an active name where there is a slot, else of a retired one.
@@ -96,10 +93,8 @@ impl ListReply {
     ) -> Result<ListReply, NoMemory>
         ensures { IfOk result (λ r. r ≡ self ++ dump_line (record { name = name.now; port = port; slot = slot })) }
     {
-        match put_dump_line(&mut self.bytes, name, port, slot) {
-            Ok(()) => Ok(self),
-            Err(_) => Err(NoMemory),
-        }
+        put_dump_line(&mut self.bytes, name, port, slot)?;
+        Ok(self)
     }
 
     /// The reply's bytes.

@@ -1,5 +1,5 @@
 //! A node's name.
-ghost use Rattle.std.specs.Prelude.{◌≡◌, position, IfOk, Ok, Err, IsOk, MatchBool};
+ghost use Rattle.std.specs.Prelude.{◌≡◌, ◌≢◌, position, IfOk, Ok, Err, IsOk, MatchBool, MatchResult};
 ghost use Rattle.portmap_wire.specs.Name.{IsName, is_control};
 ghost use Rattle.portmap_wire.specs.RequestReading.{GivesName, name_in};
 
@@ -20,6 +20,17 @@ pub enum NameFault {
     /// The byte at this place, the first such one, is below 32 or 127.
     BadByte(usize),
     NoMemory,
+}
+
+impl From<NoMemory> for NameFault {
+    ghost use Rattle.std.specs.Prelude.{◌≡◌};
+    ghost use Rattle.portmap_wire.specs.declared.name.NameFault.TheVariants as fault;
+
+    ghost from_gives = { λ _ e. e ≡ fault.NoMemory };
+
+    fn from(_refused: NoMemory) -> NameFault {
+        NameFault::NoMemory
+    }
 }
 
 /// A node's name: 1 to 255 bytes, none of them a control character. Bytes from 128 up are taken as they are.
@@ -46,17 +57,29 @@ fn first_control(bytes: &[u8]) -> Option<usize>
     bytes.iter().position(|b| *b < 32 || *b == 127)
 }
 
+/// The first fault of bytes that are no name, in the order of `NameFault`.
+fn check_name(bytes: &[u8]) -> Result<(), NameFault>
+    ensures name { MatchResult result (λ _. IsName bytes.now) (λ _. IsName bytes.now → ⊥) }
+    ensures exact { MatchResult result (λ _. name_in bytes.now ≡ Ok bytes.now) (λ fault. name_in bytes.now ≡ Err fault) }
+    ensures memory { result ≢ Err NameFault.NoMemory }
+{
+    if bytes.is_empty() {
+        return Err(NameFault::Empty);
+    }
+    if bytes.len() > NAME_MOST {
+        return Err(NameFault::TooLong);
+    }
+    match first_control(bytes) {
+        Some(at) => Err(NameFault::BadByte(at)),
+        None => Ok(()),
+    }
+}
+
 /// Whether bytes are a name. `Name::read` says why they are none.
 pub(crate) fn is_name(bytes: &[u8]) -> bool
     ensures { MatchBool result (IsName bytes.now) (IsName bytes.now → ⊥) }
 {
-    if bytes.is_empty() || NAME_MOST < bytes.len() {
-        return false;
-    }
-    match first_control(bytes) {
-        Some(_at) => false,
-        None => true,
-    }
+    check_name(bytes).is_ok()
 }
 
 impl Name {
@@ -69,19 +92,10 @@ impl Name {
         // Memory is asked for last.
         ensures memory { result ≡ Err NameFault.NoMemory → IsOk (name_in bytes.now) }
     {
-        if bytes.is_empty() {
-            return Err(NameFault::Empty);
-        }
-        if bytes.len() > NAME_MOST {
-            return Err(NameFault::TooLong);
-        }
-        if let Some(at) = first_control(bytes) {
-            return Err(NameFault::BadByte(at));
-        }
-        match Vec::from_slice(alloc, bytes) {
-            Ok(bytes) => Ok(Name { bytes }),
-            Err(_) => Err(NameFault::NoMemory),
-        }
+        check_name(bytes)?;
+        Ok(Name {
+            bytes: Vec::from_slice(alloc, bytes)?,
+        })
     }
 
     /// Its bytes.
@@ -96,10 +110,9 @@ impl Name {
     pub fn try_copy(&self, alloc: Global) -> Result<Name, NoMemory>
         ensures same { IfOk result (λ n. n ≡ self.now) }
     {
-        match Vec::from_slice(alloc, self.bytes()) {
-            Ok(bytes) => Ok(Name { bytes }),
-            Err(_) => Err(NoMemory),
-        }
+        Ok(Name {
+            bytes: Vec::from_slice(alloc, self.bytes())?,
+        })
     }
 }
 

@@ -3,6 +3,7 @@ ghost use Rattle.std.specs.Prelude.{◌≡◌, ◌↔◌, ◌+◌, ◌<◌, ◌�
 
 use crate::NoMemory;
 use crate::name::Name;
+use crate::request::BODY_MOST;
 use std::alloc::Global;
 use std::marker::Model;
 
@@ -12,6 +13,17 @@ pub enum ExtraFault {
     /// With these extra bytes the request would have more than 8,192.
     TooLong,
     NoMemory,
+}
+
+impl From<NoMemory> for ExtraFault {
+    ghost use Rattle.std.specs.Prelude.{◌≡◌};
+    ghost use Rattle.portmap_wire.specs.declared.registration.ExtraFault.TheVariants as fault;
+
+    ghost from_gives = { λ _ e. e ≡ fault.NoMemory };
+
+    fn from(_refused: NoMemory) -> ExtraFault {
+        ExtraFault::NoMemory
+    }
 }
 
 /// A node's registration, by the fields of ALIVE2_REQ in the ERTS User's Guide. Any number is taken in each field, and is
@@ -57,24 +69,39 @@ impl Reg {
         extra: &[u8],
     ) -> Result<Reg, ExtraFault>
         ensures ok { IfOk result (λ g. g ≡ record { port = port; kind = kind; proto = proto; high = high; low = low; name = name; extra = extra.now }) }
-        ensures fits { OnOk result (13 + length name + length extra.now ≤ 8192) }
-        ensures too_long { result ≡ Err ExtraFault.TooLong ↔ (8192 < 13 + length name + length extra.now) }
+        ensures fits { OnOk result (13 + length name + length extra.now ≤ BODY_MOST) }
+        ensures too_long { result ≡ Err ExtraFault.TooLong ↔ (BODY_MOST < 13 + length name + length extra.now) }
     {
-        if extra.len() > 8192 - 13 - name.bytes().len() {
+        if 13 + name.bytes().len() + extra.len() > BODY_MOST as usize {
             return Err(ExtraFault::TooLong);
         }
-        match Vec::from_slice(alloc, extra) {
-            Ok(extra) => Ok(Reg {
-                port,
-                kind,
-                proto,
-                high,
-                low,
-                name,
-                extra,
-            }),
-            Err(_) => Err(ExtraFault::NoMemory),
-        }
+        Ok(Reg::fitting(alloc, port, kind, proto, high, low, name, extra)?)
+    }
+
+    /// A registration of these fields, whose size was measured.
+    pub(crate) fn fitting(
+        alloc: Global,
+        port: u16,
+        kind: u8,
+        proto: u8,
+        high: u16,
+        low: u16,
+        name: Name,
+        extra: &[u8],
+    ) -> Result<Reg, NoMemory>
+        requires fits { 13 + length name + length extra.now ≤ BODY_MOST }
+        ensures { IfOk result (λ g. g ≡ record { port = port; kind = kind; proto = proto; high = high; low = low; name = name; extra = extra.now }) }
+    {
+        let extra = Vec::from_slice(alloc, extra)?;
+        Ok(Reg {
+            port,
+            kind,
+            proto,
+            high,
+            low,
+            name,
+            extra,
+        })
     }
 
     /// A second one.
@@ -82,17 +109,48 @@ impl Reg {
         ensures same { IfOk result (λ g. g ≡ self.now) }
     {
         let name = self.name.try_copy(alloc)?;
-        match Vec::from_slice(alloc, self.extra.as_slice()) {
-            Ok(extra) => Ok(Reg {
-                port: self.port,
-                kind: self.kind,
-                proto: self.proto,
-                high: self.high,
-                low: self.low,
-                name,
-                extra,
-            }),
-            Err(_) => Err(NoMemory),
-        }
+        Reg::fitting(
+            alloc,
+            self.port,
+            self.kind,
+            self.proto,
+            self.high,
+            self.low,
+            name,
+            &self.extra,
+        )
     }
+}
+
+impl PartialEq for Reg {
+    ghost use Rattle.std.specs.Prelude.{◌≡◌, ◌↔◌, nat_eq, IsTrue};
+    ghost use Rattle.std.specs.Cmp.Lexicographic.{pointwise};
+    ghost use Rattle.std.specs.Ordering.{on, eq_of_both};
+    ghost use Rattle.std.proofs.Common.{rules};
+    ghost use Rattle.std.specs.Cmp.Rules.{comparing};
+    ghost use Rattle.portmap_wire.specs.Registration.{are_same};
+
+    ghost eq = { are_same };
+
+    ghost laws = { Prim.search (comparing, rules) };
+
+    fn eq(&self, other: &Reg) -> bool
+        ensures eq { result ≡ are_same self.now other.now }
+        ensures same { IsTrue result ↔ (self.now ≡ other.now) }
+    {
+        self.port == other.port
+            && self.kind == other.kind
+            && self.proto == other.proto
+            && self.high == other.high
+            && self.low == other.low
+            && self.name == other.name
+            && self.extra.as_slice() == other.extra.as_slice()
+    }
+}
+
+impl Eq for Reg {
+    ghost use Rattle.std.proofs.Common.{rules};
+    ghost use Rattle.std.specs.Cmp.Rules.{comparing};
+
+    ghost laws = { Prim.search (comparing, rules) };
 }

@@ -1,4 +1,4 @@
-//! The two replies of fixed fields.
+//! Writing the answers to a registration and to a look-up.
 ghost use Rattle.std.specs.Prelude.{◌≡◌, ◌<◌, ◌^◌, IfOk, option_map};
 ghost use Rattle.portmap_wire.specs.Reply.{alive_reply, port2_reply};
 
@@ -6,6 +6,13 @@ use crate::NoMemory;
 use crate::fields_writing::put_fields;
 use crate::registration::Reg;
 use std::alloc::Global;
+
+// The first byte of each reply.
+pub const ALIVE2_X_RESP: u8 = 118;
+
+pub const ALIVE2_RESP: u8 = 121;
+
+pub const PORT2_RESP: u8 = 119;
 
 /// The least highest version of a node that is answered by ALIVE2_X_RESP, with a creation of 4 bytes.
 pub const WIDE_VERSION: u16 = 6;
@@ -18,18 +25,19 @@ pub fn write_alive(alloc: Global, high: u16, code: u8, creation: u32) -> Result<
 {
     if high < WIDE_VERSION {
         let [a, b] = (creation as u16).to_be_bytes();
-        Vec::from_slice(alloc, &[121, code, a, b]).map_err(|_| NoMemory)
+        Vec::from_slice(alloc, &[ALIVE2_RESP, code, a, b])
     } else {
         let [a, b, c, d] = creation.to_be_bytes();
-        Vec::from_slice(alloc, &[118, code, a, b, c, d]).map_err(|_| NoMemory)
+        Vec::from_slice(alloc, &[ALIVE2_X_RESP, code, a, b, c, d])
     }
 }
 
-fn port2_bytes(alloc: Global, found: Option<&Reg>) -> Result<Vec<u8>, NoMemory>
+/// The answer to a look-up, PORT2_RESP: the registration, or that there is none.
+pub fn write_port2(alloc: Global, found: Option<&Reg>) -> Result<Vec<u8>, NoMemory>
     ensures { IfOk result (λ v. v.items ≡ port2_reply (option_map (λ g. g.now) found.entry)) }
 {
     let mut out = Vec::new(alloc);
-    out.push(119)?;
+    out.push(PORT2_RESP)?;
     match found {
         None => out.push(1)?,
         Some(reg) => {
@@ -38,11 +46,4 @@ fn port2_bytes(alloc: Global, found: Option<&Reg>) -> Result<Vec<u8>, NoMemory>
         }
     }
     Ok(out)
-}
-
-/// The answer to a look-up, PORT2_RESP: the registration, or that there is none.
-pub fn write_port2(alloc: Global, found: Option<&Reg>) -> Result<Vec<u8>, NoMemory>
-    ensures { IfOk result (λ v. v.items ≡ port2_reply (option_map (λ g. g.now) found.entry)) }
-{
-    port2_bytes(alloc, found).map_err(|_| NoMemory)
 }

@@ -1,26 +1,17 @@
 //! Reading a request.
 ghost use Rattle.std.specs.Prelude.{◌≡◌, ◌≢◌, IfOk, IfErr, Err, IsOk};
-ghost use Rattle.portmap_wire.specs.RequestReading.{Gives, request_in, alive_in, named, name_in, in_request};
+ghost use Rattle.portmap_wire.specs.RequestReading.{Gives, request_in, alive_in};
 ghost use Rattle.portmap_wire.specs.Request.{Spells, IsMalformed};
-ghost use Rattle.portmap_wire.specs.declared.request.Request.TheVariants.{Port, Stop};
 
 use crate::fields_reading::{fields_at, registration_of};
-use crate::name::{Name, NameFault};
-use crate::registration::ExtraFault;
-use crate::request::{Malformed, Request};
+use crate::name::Name;
+use crate::request::{
+    ALIVE2_REQ, BODY_MOST, DUMP_REQ, KILL_REQ, Malformed, NAMES_REQ, PORT_PLEASE2_REQ, Request,
+    STOP_REQ,
+};
 use std::alloc::Global;
 
-/// The fault of a name within a request.
-fn fault_in_request(fault: NameFault) -> Malformed
-    ensures { result ≡ in_request fault }
-{
-    match fault {
-        NameFault::NoMemory => Malformed::NoMemory,
-        other => Malformed::Name(other),
-    }
-}
-
-/// The registration behind the byte 120.
+/// The registration behind ALIVE2_REQ.
 #[tactic(auto, unfolding(crate::specs::RequestReading::alive_in))]
 fn read_alive_request(alloc: Global, rest: &[u8]) -> Result<Request, Malformed>
     ensures exact { Gives result (alive_in rest.now) }
@@ -29,46 +20,17 @@ fn read_alive_request(alloc: Global, rest: &[u8]) -> Result<Request, Malformed>
     if rest.len() < 12 {
         return Err(Malformed::Short);
     }
-    if rest.len() > 8191 {
+    if 1 + rest.len() > BODY_MOST as usize {
         return Err(Malformed::LengthsDisagree);
     }
-    let Some(fields) = fields_at(rest) else {
+    let Ok(fields) = fields_at(rest) else {
         return Err(Malformed::LengthsDisagree);
     };
     if !fields.rest.is_empty() {
         return Err(Malformed::LengthsDisagree);
     }
-    let name = match Name::read(alloc, fields.name) {
-        Ok(name) => name,
-        Err(fault) => return Err(fault_in_request(fault)),
-    };
-    match registration_of(alloc, &fields, name) {
-        Ok(reg) => Ok(Request::Alive(reg)),
-        Err(ExtraFault::NoMemory) => Err(Malformed::NoMemory),
-        Err(ExtraFault::TooLong) => unreachable!(),
-    }
-}
-
-/// What stands behind the byte 122.
-fn read_port(alloc: Global, rest: &[u8]) -> Result<Request, Malformed>
-    ensures exact { Gives result (named (λ name. Port name) (name_in rest.now)) }
-    ensures memory { result ≡ Err Malformed.NoMemory → IsOk (named (λ name. Port name) (name_in rest.now)) }
-{
-    match Name::read(alloc, rest) {
-        Ok(name) => Ok(Request::Port(name)),
-        Err(fault) => Err(fault_in_request(fault)),
-    }
-}
-
-/// What stands behind the byte 115.
-fn read_stop(alloc: Global, rest: &[u8]) -> Result<Request, Malformed>
-    ensures exact { Gives result (named (λ name. Stop name) (name_in rest.now)) }
-    ensures memory { result ≡ Err Malformed.NoMemory → IsOk (named (λ name. Stop name) (name_in rest.now)) }
-{
-    match Name::read(alloc, rest) {
-        Ok(name) => Ok(Request::Stop(name)),
-        Err(fault) => Err(fault_in_request(fault)),
-    }
+    let name = Name::read(alloc, fields.name)?;
+    Ok(Request::Alive(registration_of(alloc, &fields, name)?))
 }
 
 /// The request by its first byte.
@@ -79,13 +41,13 @@ fn read_by_tag(alloc: Global, body: &[u8]) -> Result<Request, Malformed>
 {
     match body {
         [] => Err(Malformed::Short),
-        [120, rest @ ..] => read_alive_request(alloc, rest),
-        [122, rest @ ..] => read_port(alloc, rest),
-        [110] => Ok(Request::Names),
-        [100] => Ok(Request::Dump),
-        [107] => Ok(Request::Kill),
-        [115, rest @ ..] => read_stop(alloc, rest),
-        [110 | 100 | 107, ..] => Err(Malformed::LengthsDisagree),
+        [ALIVE2_REQ, rest @ ..] => read_alive_request(alloc, rest),
+        [PORT_PLEASE2_REQ, name @ ..] => Ok(Request::Port(Name::read(alloc, name)?)),
+        [NAMES_REQ] => Ok(Request::Names),
+        [DUMP_REQ] => Ok(Request::Dump),
+        [KILL_REQ] => Ok(Request::Kill),
+        [STOP_REQ, name @ ..] => Ok(Request::Stop(Name::read(alloc, name)?)),
+        [NAMES_REQ | DUMP_REQ | KILL_REQ, ..] => Err(Malformed::LengthsDisagree),
         [_, ..] => Err(Malformed::UnknownTag),
     }
 }

@@ -3,13 +3,16 @@ ghost use Rattle.std.specs.Prelude.{◌≡◌, ◌+◌, ◌≤◌, [], ◌∷◌
 ghost use Rattle.portmap_wire.specs.Name.{IsName};
 ghost use Rattle.portmap_wire.specs.Registration.{be2};
 ghost use Rattle.portmap_wire.specs.Request.{IsRequest, Spells, body_of, sent};
+ghost use Rattle.portmap_wire.specs.declared.request.TheConstants.{BODY_MOST};
 ghost use Rattle.portmap_wire.specs.declared.request.Request.TheVariants.{Alive, Port, Stop};
 
 use crate::NoMemory;
 use crate::fields_writing::put_fields;
 use crate::name::Name;
 use crate::registration::Reg;
-use crate::request::Request;
+use crate::request::{
+    ALIVE2_REQ, DUMP_REQ, KILL_REQ, NAMES_REQ, PORT_PLEASE2_REQ, Request, STOP_REQ,
+};
 use std::alloc::Global;
 
 /// The length of a body in two bytes, and its first byte.
@@ -28,7 +31,7 @@ pub fn write_registration(alloc: Global, reg: &Reg) -> Result<Vec<u8>, NoMemory>
     ensures is_request { IsRequest (Alive reg.now) }
 {
     let length = 13 + reg.name.bytes().len() + reg.extra.len();
-    let mut out = head(alloc, length as u16, 120)?;
+    let mut out = head(alloc, length as u16, ALIVE2_REQ)?;
     put_fields(&mut out, reg)?;
     Ok(out)
 }
@@ -48,7 +51,7 @@ pub fn write_lookup(alloc: Global, name: &Name) -> Result<Vec<u8>, NoMemory>
     ensures text { IfOk result (λ v. v.items ≡ sent (Port name.now)) }
     ensures is_request { IsRequest (Port name.now) }
 {
-    write_named(alloc, 122, name)
+    write_named(alloc, PORT_PLEASE2_REQ, name)
 }
 
 /// STOP_REQ as it is sent.
@@ -56,22 +59,22 @@ pub fn write_stop(alloc: Global, name: &Name) -> Result<Vec<u8>, NoMemory>
     ensures text { IfOk result (λ v. v.items ≡ sent (Stop name.now)) }
     ensures is_request { IsRequest (Stop name.now) }
 {
-    write_named(alloc, 115, name)
+    write_named(alloc, STOP_REQ, name)
 }
 
 /// The request as it is sent: its length in two bytes, and its body.
 pub fn write_request(alloc: Global, request: &Request) -> Result<Vec<u8>, NoMemory>
     ensures text { IfOk result (λ v. v.items ≡ sent request.now) }
-    ensures small { length (body_of request.now) ≤ 8192 }
+    ensures small { length (body_of request.now) ≤ BODY_MOST }
     // So `read_request` takes the body, and gives this request.
     ensures spells { Spells (body_of request.now) request.now }
 {
     match request {
         Request::Alive(reg) => write_registration(alloc, reg),
         Request::Port(name) => write_lookup(alloc, name),
-        Request::Names => head(alloc, 1, 110),
-        Request::Dump => head(alloc, 1, 100),
-        Request::Kill => head(alloc, 1, 107),
+        Request::Names => head(alloc, 1, NAMES_REQ),
+        Request::Dump => head(alloc, 1, DUMP_REQ),
+        Request::Kill => head(alloc, 1, KILL_REQ),
         Request::Stop(name) => write_stop(alloc, name),
     }
 }
