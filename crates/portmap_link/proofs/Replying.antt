@@ -7,14 +7,14 @@ use Rattle.portmap_link.specs.declared.single.OnceFault.{OnceFault}
 use Rattle.portmap_link.specs.declared.single.OnceFault.TheVariants.{ReadFault, NoMemory, WriteFault, TooManyTurns}
 use Rattle.portmap_link.specs.Once.{Devices, IsHeard, RepliesInPart, Telling, Did}
 
-in_part : (cfg : Configuration) (old new : Devices) (reply : List ℕ) (fate : Fate) (sent : ℕ) → IsHeard cfg old.left new.left reply fate → sent < length reply → Appends old.held new.held (take sent reply) → RepliesInPart cfg old new sent
+in_part : (cfg : Configuration) (old new : Devices) (reply : List ℕ) (fate : Fate) (sent : ℕ) → IsHeard cfg old.left new.left old.pulls new.pulls reply fate → sent < length reply → Appends old.held new.held (take sent reply) → RepliesInPart cfg old new sent
 in_part cfg old new reply fate sent heard rest writes = record {
   fate = fate;
   replies = record { read = heard.read; reply = reply; reads = heard.reads; just = heard.just; hears = heard.hears; writes = writes };
   rest = rest;
 }
 
-pub did_part : (cfg : Configuration) (old new : Devices) (reply : List ℕ) (fate : Fate) (fault : OnceFault) → IsHeard cfg old.left new.left reply fate → Telling reply old.held new.held (Err fault) → Did cfg old new (Err fault)
+pub did_part : (cfg : Configuration) (old new : Devices) (reply : List ℕ) (fate : Fate) (fault : OnceFault) → IsHeard cfg old.left new.left old.pulls new.pulls reply fate → Telling reply old.held new.held (Err fault) → Did cfg old new (Err fault)
 did_part cfg old new reply fate ReadFault heard told = absurd told
 did_part cfg old new reply fate NoMemory heard told = absurd told
 did_part cfg old new reply fate (WriteFault sent) heard told = in_part cfg old new reply fate sent heard told.0 told.1

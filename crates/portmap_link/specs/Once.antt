@@ -1,41 +1,48 @@
 -- What `once` does with its devices.
-use Rattle.std.specs.Prelude.{◌≡◌, ◌≢◌, ℕ, ◌-◌, ◌<◌, ◌≤◌, List, length, take, Option, Some, None, Result, Ok, Err, ◌⊎◌}
+use Rattle.std.specs.Prelude.{◌≡◌, ◌≢◌, ℕ, ◌+◌, ◌-◌, ◌<◌, ◌≤◌, List, [], ◌∷◌, ◌++◌, length, take, Option, Some, None, Result, Ok, Err, ◌⊎◌}
 use Rattle.std.specs.declared.vec.Vec.{Vec}
 use Rattle.std.specs.declared.alloc.Global.{Global}
-use Rattle.std.specs.Io.KnownBytes.{Keeps, Appends, Consumes, IsAtEnd}
+use Rattle.std.specs.Io.KnownBytes.{Keeps, Appends, Consumes}
 use Rattle.portmap_feed.specs.Stream.{More, first_request}
 use Rattle.portmap_core.specs.Config.{Configuration}
 use Rattle.portmap_core.specs.Run.{Hears, waiting_state}
 use Rattle.portmap_core.specs.State.{State}
 use Rattle.portmap_core.specs.declared.event.Fate.{Fate}
 use Rattle.portmap_core.specs.declared.event.Fate.TheVariants.{Close}
+use Rattle.portmap_link.specs.Asking.{GoesOn, IsAskedAgain, IsPutAgain, IsEnded}
+use Rattle.portmap_link.specs.declared.device.Pull.{Pull}
+use Rattle.portmap_link.specs.declared.device.Pull.TheVariants.{Piece}
+use Rattle.portmap_link.specs.declared.device.Put.{Put}
 use Rattle.portmap_link.specs.declared.single.Heard.{Heard}
 use Rattle.portmap_link.specs.declared.single.OnceFault.{OnceFault}
 use Rattle.portmap_link.specs.declared.single.OnceFault.TheVariants.{ReadFault, NoMemory, WriteFault, TooManyTurns}
+use Rattle.portmap_link.specs.declared.single.TheConstants.{PULL_MOST}
 
--- the bytes that are left and that were written, before and after a call, where the devices tell them
+-- the devices before or after a call: the bytes that are left and that were written, where they tell them, and what each
+-- pull answered
 pub record Devices : Type 0 where
   pub left : Option (List ℕ)
   pub held : Option (List ℕ)
+  pub pulls : List Pull
 
--- so many bytes are pulled at once, at most
-abbrev pub pull_most : ℕ
-pull_most = 512
-
--- these bytes were read, and the last pull alone decided: without it the request was not whole
-pub record IsJustRead (read : List ℕ) : Type 0 where
+-- these bytes were read, and the last pull alone decided: without it the request was not whole. It gave a piece, and after
+-- each one before it the input was asked again
+pub record IsJustRead (read : List ℕ) (asked answered : List Pull) : Type 0 where
   pub decided : first_request read ≢ More
   pub last : ℕ
-  pub small : last ≤ pull_most
+  pub small : last ≤ PULL_MOST
   pub within : last ≤ length read
   pub before : first_request (take (length read - last) read) ≡ More
+  pub earlier : List Pull
+  pub goes_on : GoesOn IsAskedAgain asked earlier
+  pub told : answered ≡ earlier ++ Piece last ∷ []
 
 -- a request was read, is told so, and this much of the reply was written and nothing else
 pub record Replies (cfg : Configuration) (old new : Devices) (written : List ℕ → List ℕ) (fate : Fate) : Type 0 where
   pub read : List ℕ
   pub reply : List ℕ
   pub reads : Consumes old.left new.left read
-  pub just : IsJustRead read
+  pub just : IsJustRead read old.pulls new.pulls
   pub hears : Hears cfg read reply fate
   pub writes : Appends old.held new.held (written reply)
 
@@ -52,10 +59,10 @@ pub record ReadsOnly (old new : Devices) : Type 0 where
   pub more : first_request read ≡ More
   pub writes : Keeps old.held new.held
 
--- the same, and no more bytes will come
+-- the same, and the input has ended
 pub record Ends (old new : Devices) (fate : Fate) : Type 0 where
   pub reads_only : ReadsOnly old new
-  pub ended : IsAtEnd new.left
+  pub ended : IsEnded new.left old.pulls new.pulls
   pub closes : fate ≡ Close
 
 abbrev pub Did : Configuration → Devices → Devices → Result Fate OnceFault → Type 0
@@ -64,6 +71,13 @@ Did cfg old new (Err ReadFault) = ReadsOnly old new
 Did cfg old new (Err NoMemory) = Keeps old.held new.held
 Did cfg old new (Err (WriteFault sent)) = RepliesInPart cfg old new sent
 Did cfg old new (Err (TooManyTurns sent)) = RepliesInPart cfg old new sent ⊎ ((sent ≡ 0) × ReadsOnly old new)
+
+-- at most so many pulls and puts were made, by their answers before and after; where it gave up for want of turns all were
+-- made and one more was due: no answer said that the input had ended or that a device had failed
+pub record MakesTurns (turns : ℕ) (asked answered : List Pull) (offered taken : List Put) (ended : Result Fate OnceFault) : Type 0 where
+  pub most : length answered + length taken ≤ length asked + length offered + turns
+  pub all : (sent : ℕ) → ended ≡ Err (TooManyTurns sent) → length answered + length taken ≡ length asked + length offered + turns
+  pub due : (sent : ℕ) → ended ≡ Err (TooManyTurns sent) → GoesOn IsAskedAgain asked answered × GoesOn IsPutAgain offered taken
 
 -- ---- the two halves
 
@@ -87,23 +101,24 @@ pub record Awaits (old new : Option (List ℕ)) : Type 0 where
   pub more : first_request read ≡ More
 
 -- a request was read, and is told so
-pub record IsHeard (cfg : Configuration) (old new : Option (List ℕ)) (reply : List ℕ) (fate : Fate) : Type 0 where
+pub record IsHeard (cfg : Configuration) (old new : Option (List ℕ)) (asked answered : List Pull) (reply : List ℕ) (fate : Fate) : Type 0 where
   pub read : List ℕ
   pub reads : Consumes old new read
-  pub just : IsJustRead read
+  pub just : IsJustRead read asked answered
   pub hears : Hears cfg read reply fate
 
 -- what was heard, or that the input ended before that
-abbrev pub HearsReply : Configuration → Option (List ℕ) → Option (List ℕ) → Option (Vec ℕ Global × Fate) → Type 0
-HearsReply cfg old new None = Awaits old new × IsAtEnd new
-HearsReply cfg old new (Some said) = IsHeard cfg old new said.0.items said.1
+abbrev pub HearsReply : Configuration → Option (List ℕ) → Option (List ℕ) → List Pull → List Pull → Option (Vec ℕ Global × Fate) → Type 0
+HearsReply cfg old new asked answered None = Awaits old new × IsEnded new asked answered
+HearsReply cfg old new asked answered (Some said) = IsHeard cfg old new asked answered said.0.items said.1
 
-abbrev pub Hearing : Configuration → Option (List ℕ) → Option (List ℕ) → Result Heard OnceFault → Type 0
-Hearing cfg old new (Ok heard) = HearsReply cfg old new heard.reply
-Hearing cfg old new (Err ReadFault) = Awaits old new
-Hearing cfg old new (Err NoMemory) = Unit {0}
-Hearing cfg old new (Err (WriteFault sent)) = ⊥
-Hearing cfg old new (Err (TooManyTurns sent)) = (sent ≡ 0) × Awaits old new
+-- by the bytes that were left and the answers of the pulls, before and after
+abbrev pub Hearing : Configuration → Option (List ℕ) → Option (List ℕ) → List Pull → List Pull → Result Heard OnceFault → Type 0
+Hearing cfg old new asked answered (Ok heard) = HearsReply cfg old new asked answered heard.reply
+Hearing cfg old new asked answered (Err ReadFault) = Awaits old new
+Hearing cfg old new asked answered (Err NoMemory) = Unit {0}
+Hearing cfg old new asked answered (Err (WriteFault sent)) = ⊥
+Hearing cfg old new asked answered (Err (TooManyTurns sent)) = (sent ≡ 0) × Awaits old new
 
 -- a reply was written, or a front of it
 abbrev pub Telling : List ℕ → Option (List ℕ) → Option (List ℕ) → Result Unit OnceFault → Type 0

@@ -11,6 +11,7 @@ mod tests;
 
 pub use crate::adapters::{Both, Reading, Writing};
 pub use crate::device::{Device, Input, Output, Pull, Put};
-pub use crate::outbox::{Flush, NoMemory, Outbox, send};
+pub use crate::outbox::{Flush, Outbox, send};
 pub use crate::past::Past;
-pub use crate::single::{OnceFault, once};
+pub use crate::single::{OnceFault, once, tell};
+pub use portmap_core::NoMemory;

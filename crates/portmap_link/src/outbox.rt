@@ -3,7 +3,7 @@ ghost use Rattle.std.specs.Prelude.{◌≡◌, ℕ, ◌+◌, ◌-◌, ◌≤◌,
 ghost use Rattle.std.specs.Io.KnownBytes.{Keeps, Appends};
 ghost use Rattle.portmap_link.specs.Flush.{flush_is_fault, Sends};
 
-use crate::{Output, Put};
+use crate::{NoMemory, Output, Put};
 use std::alloc::Global;
 use std::marker::Model;
 
@@ -17,10 +17,6 @@ pub enum Flush {
     /// The output has failed, for good.
     Fault,
 }
-
-/// Memory ran out.
-#[derive(Clone, Copy, Debug, PartialEq, Eq)]
-pub struct NoMemory;
 
 /// Puts the bytes until all of them are written or the output answers otherwise, and says how many were written.
 pub fn send<W: Output>(output: &mut W, bytes: &[u8]) -> (usize, Flush)
@@ -79,10 +75,7 @@ impl Outbox {
         ensures err { OnErr result (self.new ≡ self.old) }
     {
         drop_sent(&mut self.bytes, &mut self.sent);
-        match self.bytes.extend_from_slice(bytes) {
-            Ok(()) => Ok(()),
-            Err(_) => Err(NoMemory),
-        }
+        self.bytes.extend_from_slice(bytes)
     }
 
     /// The bytes that wait, the first one first.
