@@ -6,6 +6,7 @@ use Rattle.std.proofs.lemmas.Bool.{le-ltb, ne_eqb}
 use Rattle.portmap_feed.specs.Stream.{Sight, More, Zero, TooLarge, Whole, first_request, sight_behind}
 use Rattle.portmap_wire.specs.Registration.{Registration, fields, be2}
 use Rattle.portmap_wire.specs.Request.{body_of, IsRequest, IsMalformed}
+use Rattle.portmap_wire.specs.declared.request.TheConstants.{BODY_MOST}
 use Rattle.portmap_wire.specs.declared.request.Request.{Request}
 use Rattle.portmap_wire.specs.declared.request.Request.TheVariants.{Alive, Port, Dump, Kill, Stop}
 use Rattle.portmap_wire.specs.declared.request.Request.TheVariants as request
@@ -76,7 +77,7 @@ malformed_keeps cfg s s' slot connection received piece reply fate here stage ba
 length-fields : (g : Registration) → length (fields g) ≡ 12 + length g.name + length g.extra
 length-fields g = omega (arith, length-append (g.name ++ be2 (length g.extra)) g.extra, length-append g.name (be2 (length g.extra)))
 
-body_len : (r : Request) → IsRequest r → (0 < length (body_of r)) × (length (body_of r) ≤ 8192)
+body_len : (r : Request) → IsRequest r → (0 < length (body_of r)) × (length (body_of r) ≤ BODY_MOST)
 body_len (Alive g) is = (omega arith, omega (arith, length-fields g, is.fits))
 body_len (Port name) is = (omega arith, omega (arith, is.short))
 body_len request.Names is = (omega arith, omega arith)
@@ -85,14 +86,14 @@ body_len Kill is = (omega arith, omega arith)
 body_len (Stop name) is = (omega arith, omega (arith, is.short))
 
 -- a body behind its length
-whole_behind : (body more : List ℕ) (n : ℕ) → n ≡ length body → 0 < length body → length body ≤ 8192 → sight_behind n (body ++ more) ≡ Whole body
+whole_behind : (body more : List ℕ) (n : ℕ) → n ≡ length body → 0 < length body → length body ≤ BODY_MOST → sight_behind n (body ++ more) ≡ Whole body
 whole_behind body more n e some small =
     let t1 : eqb n 0 ≡ false = ne_eqb _ _ (omega arith) in
-    let t2 : ltb 8192 n ≡ false = le-ltb _ _ (omega arith) in
+    let t2 : ltb BODY_MOST n ≡ false = le-ltb _ _ (omega arith) in
     let t3 : ltb (length (body ++ more)) n ≡ false = le-ltb _ _ (omega (arith, length-append body more)) in
     rw (t1, t2, t3) (ap (λ (k : ℕ). Whole (take k (body ++ more))) e ∙ ap Whole (take-append_seam body more))
 
-seen_whole : (body more : List ℕ) → 0 < length body → length body ≤ 8192 → first_request (be2 (length body) ++ body ++ more) ≡ Whole body
+seen_whole : (body more : List ℕ) → 0 < length body → length body ≤ BODY_MOST → first_request (be2 (length body) ++ body ++ more) ≡ Whole body
 unfolding first_request
 seen_whole body more some small =
     let n : ℕ = length body in
