@@ -82,7 +82,7 @@ pub record MakesTurns (turns : ℕ) (asked answered : List Pull) (offered taken 
 -- ---- the two halves
 
 -- the machine has read bytes, and no request is whole yet
-pub record HasRead (cfg : Configuration) (s : State) (slot : ℕ) : Type 0 where
+pub record AwaitsRequest (cfg : Configuration) (s : State) (slot : ℕ) : Type 0 where
   pub some : 1 ≤ cfg.conn_max
   pub read : List ℕ
   pub state : s ≡ waiting_state slot read
