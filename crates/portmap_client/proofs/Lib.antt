@@ -1,3 +1,4 @@
-mod Asking
+mod Answering
+mod Calling
 mod Counting
 mod Reading

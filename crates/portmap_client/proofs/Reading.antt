@@ -1,44 +1,47 @@
 -- An answer is read a piece at a time, and no further.
-use Rattle.std.proofs.Common.{◌≡◌, ℕ, ◌+◌, ◌-◌, ◌<◌, ◌≤◌, true, List, [], ◌++◌, length, take, Option, Err, sym, subst, ◌∙◌, arith, inl, inr}
-use Rattle.std.specs.Prelude.{◌⊎◌}
+use Rattle.std.proofs.Common.{◌≡◌, ℕ, ◌+◌, ◌-◌, ◌<◌, ◌≤◌, List, [], ◌++◌, length, take, Option, Ok, Err, sym, subst, arith, inl, inr}
+use Rattle.std.specs.Prelude.{◌⊎◌, Result, IsErr}
 use Rattle.std.proofs.Math.Seq.{take-append-add}
 use Rattle.std.proofs.KnownBytes.{Consumes-nil, Consumes-trans}
 use Rattle.std.proofs.lemmas.Bool.{cases_lt, false≢true}
 use Rattle.std.proofs.lemmas.List.{length-append, length-take, take-append-le}
 use Rattle.std.specs.Io.KnownBytes.{Consumes}
 use Rattle.portmap_link.specs.declared.device.Pull.{Pull}
-use Rattle.portmap_wire.specs.declared.request.Request.{Request}
-use Rattle.portmap_client.specs.Exchange.{Answers, HasRead, IsUnfinished, SaysBytes, gives_up}
-use Rattle.portmap_client.specs.declared.fault.ClientFault.{ClientFault}
+use Rattle.portmap_client.specs.Exchange.{Answers, HasRead, IsUnfinished}
+use Rattle.portmap_client.specs.declared.exchange.Awaited.{Awaited}
+use Rattle.portmap_client.specs.declared.fault.GivenUp.{GivenUp}
 
 -- nothing was read
-pub reads_none : (request : Request) (a : Option (List ℕ)) → HasRead request a a []
-reads_none request a = record { reads = Consumes-nil a; no_further = λ n none. absurd (omega (arith, none)) }
+pub reads_none : (awaited : Awaited) (a : Option (List ℕ)) → HasRead awaited a a []
+reads_none awaited a = record { reads = Consumes-nil a; no_further = λ n none. absurd (omega (arith, none)) }
 
 -- a front of what was read and of a piece more is unfinished
-front_unfinished : (request : Request) (read piece : List ℕ) (most n : ℕ) → ((k : ℕ) → k < length read → IsUnfinished request (take k read)) → length piece ≤ most
-    → ((more : List ℕ) → length more < most → IsUnfinished request (read ++ more)) → n < length (read ++ piece) → (n < length read) ⊎ (length read ≤ n) → IsUnfinished request (take n (read ++ piece))
-front_unfinished request read piece most n before small missing within (inl less) =
-    subst (IsUnfinished request) (sym (take-append-le n read piece (omega (arith, less)))) (before n less)
-front_unfinished request read piece most n before small missing within (inr more) =
+front_unfinished : (awaited : Awaited) (read piece : List ℕ) (most n : ℕ) → ((k : ℕ) → k < length read → IsUnfinished awaited (take k read)) → length piece ≤ most
+    → ((more : List ℕ) → length more < most → IsUnfinished awaited (read ++ more)) → n < length (read ++ piece) → (n < length read) ⊎ (length read ≤ n) → IsUnfinished awaited (take n (read ++ piece))
+front_unfinished awaited read piece most n before small missing within (inl less) =
+    subst (IsUnfinished awaited) (sym (take-append-le n read piece (omega (arith, less)))) (before n less)
+front_unfinished awaited read piece most n before small missing within (inr more) =
     let k : ℕ = n - length read in
     let at : length read + k ≡ n = omega (arith, more) in
     let part : length (take k piece) < most = omega (arith, length-take k piece, length-append read piece, within, small, more) in
-    subst (λ (m : ℕ). IsUnfinished request (take m (read ++ piece))) at (subst (IsUnfinished request) (sym (take-append-add read piece k)) (missing (take k piece) part))
+    subst (λ (m : ℕ). IsUnfinished awaited (take m (read ++ piece))) at (subst (IsUnfinished awaited) (sym (take-append-add read piece k)) (missing (take k piece) part))
 
 -- a piece more, of no more bytes than the answer has at least
-pub reads_on : (request : Request) (a b c : Option (List ℕ)) (read piece : List ℕ) (most : ℕ) → HasRead request a b read → Consumes b c piece → length piece ≤ most
-    → ((more : List ℕ) → length more < most → IsUnfinished request (read ++ more)) → HasRead request a c (read ++ piece)
-reads_on request a b c read piece most so_far one small missing = record {
+reads_on : (awaited : Awaited) (a b c : Option (List ℕ)) (read piece : List ℕ) (most : ℕ) → HasRead awaited a b read → Consumes b c piece → length piece ≤ most
+    → ((more : List ℕ) → length more < most → IsUnfinished awaited (read ++ more)) → HasRead awaited a c (read ++ piece)
+reads_on awaited a b c read piece most so_far one small missing = record {
   reads = Consumes-trans a b c read piece so_far.reads one;
-  no_further = λ n within. front_unfinished request read piece most n so_far.no_further small missing within (cases_lt n (length read));
+  no_further = λ n within. front_unfinished awaited read piece most n so_far.no_further small missing within (cases_lt n (length read));
 }
 
--- the same, for a call that is given up
-pub gives_up_on : (request : Request) (a b : Option (List ℕ)) (asked answered : List Pull) (read : List ℕ) (f : ClientFault) → gives_up f ≡ true → HasRead request a b read → Answers request SaysBytes a b asked answered (Err f)
-gives_up_on request a b asked answered read f given_up has_read = record {
-  read = read;
-  has_read = has_read;
-  ended = λ goes_on. absurd (false≢true (sym goes_on ∙ given_up));
-  says = λ goes_on. absurd (false≢true (sym goes_on ∙ given_up));
-}
+-- the front of a buffer that holds no more bytes than the answer has at least
+pub reads_front : (awaited : Awaited) (a b c : Option (List ℕ)) (read bytes buffer : List ℕ) (count most : ℕ) → HasRead awaited a b read → Consumes b c (take count buffer) → length buffer ≤ most
+    → bytes ≡ read → ((more : List ℕ) → length more < most → IsUnfinished awaited (bytes ++ more)) → HasRead awaited a c (read ++ take count buffer)
+reads_front awaited a b c read bytes buffer count most so_far one small same missing =
+    let piece_small : length (take count buffer) ≤ most = omega (arith, length-take count buffer, small) in
+    reads_on awaited a b c read (take count buffer) most so_far one piece_small (subst (λ (bs : List ℕ). (more : List ℕ) → length more < most → IsUnfinished awaited (bs ++ more)) same missing)
+
+-- a call that is given up says nothing of what was read
+pub stops : {X : Type 0} (awaited : Awaited) (Says : List ℕ → X → Type 0) (a b : Option (List ℕ)) (asked answered : List Pull) (read : List ℕ) (result : Result X GivenUp) → IsErr result → HasRead awaited a b read → Answers awaited Says a b asked answered result
+stops awaited Says a b asked answered read (Ok x) failed has_read = absurd (false≢true failed)
+stops awaited Says a b asked answered read (Err f) failed has_read = record { read = read; has_read = has_read; ended = λ ok. absurd (false≢true ok); says = tt }

@@ -4,8 +4,9 @@ use Rattle.portmap_link.specs.declared.device.Pull.{Pull}
 use Rattle.portmap_link.specs.declared.device.Pull.TheVariants.{Piece, End, Later, Fault}
 use Rattle.portmap_link.specs.declared.device.Put.{Put}
 use Rattle.portmap_link.specs.declared.device.Put.TheVariants.{Wrote, Later as PutLater, Fault as PutFault}
-use Rattle.portmap_client.specs.declared.fault.ClientFault.{ClientFault}
-use Rattle.portmap_client.specs.declared.fault.ClientFault.TheVariants as fault
+use Rattle.portmap_client.specs.declared.exchange.TheConstants.{LATERS_MOST}
+use Rattle.portmap_client.specs.declared.fault.GivenUp.{GivenUp}
+use Rattle.portmap_client.specs.declared.fault.GivenUp.TheVariants.{TooManyTurns}
 
 abbrev pub is_pull_later : Pull → Bool
 is_pull_later (Piece n) = false
@@ -22,28 +23,17 @@ is_put_later PutFault = false
 abbrev pub laters : List Pull → List Put → ℕ
 laters pulls puts = count_by is_pull_later pulls + count_by is_put_later puts
 
--- a call is given up at the device's thousandth Later: profile
-abbrev pub laters_most : ℕ
-laters_most = 1000
-
--- so many Laters before and after a call that failed so
-abbrev pub WaitsAt : ℕ → ℕ → ClientFault → Type 0
-WaitsAt old new fault.Write = new < old + laters_most
-WaitsAt old new fault.Read = new < old + laters_most
-WaitsAt old new fault.TooManyTurns = new ≡ old + laters_most
-WaitsAt old new fault.Short = new < old + laters_most
-WaitsAt old new (fault.BadTag tag) = new < old + laters_most
-WaitsAt old new (fault.Refused code) = new < old + laters_most
-WaitsAt old new fault.Strange = new < old + laters_most
-WaitsAt old new fault.TooLong = new < old + laters_most
-WaitsAt old new fault.NoMemory = new < old + laters_most
+-- so many Laters before and after a call that was given up so: at LATERS_MOST of them, and never later (profile)
+abbrev pub WaitsAt : ℕ → ℕ → GivenUp → Type 0
+WaitsAt old new TooManyTurns = new ≡ old + LATERS_MOST
+WaitsAt old new f = new < old + LATERS_MOST
 
 -- so many Laters before and after a call with this result
-abbrev pub Waits : {X : Type 0} → ℕ → ℕ → Result X ClientFault → Type 0
-Waits old new (Ok x) = new < old + laters_most
+abbrev pub Waits : {X : Type 0} → ℕ → ℕ → Result X GivenUp → Type 0
+Waits old new (Ok x) = new < old + LATERS_MOST
 Waits old new (Err f) = WaitsAt old new f
 
 -- the same, by a call that counts them
-abbrev pub Waited : ℕ → ℕ → Result ℕ ClientFault → Type 0
-Waited old new (Ok met) = (met < laters_most) × (new ≡ old + met)
+abbrev pub Waited : ℕ → ℕ → Result ℕ GivenUp → Type 0
+Waited old new (Ok met) = (met < LATERS_MOST) × (new ≡ old + met)
 Waited old new (Err f) = WaitsAt old new f

@@ -1,8 +1,9 @@
 //! Why a call failed.
-ghost use Rattle.std.specs.Prelude.{◌≡◌};
-ghost use Rattle.portmap_client.specs.Answer.{of_reply};
+ghost use Rattle.std.specs.Prelude.{◌≡◌, Ok, Err};
+ghost use Rattle.portmap_client.specs.Fault.{split, of_reply, of_list};
+ghost use Rattle.portmap_client.specs.declared.fault.GivenUp.TheVariants as given_up;
 
-use portmap_wire::ReplyFault;
+use portmap_wire::{ListFault, NoMemory, ReplyFault};
 
 /// Why a call of the client failed. The caller closes the stream then.
 #[derive(Clone, Copy, Debug, PartialEq, Eq)]
@@ -26,14 +27,89 @@ pub enum ClientFault {
     NoMemory,
 }
 
-/// What a fault of an answer is to a call.
-pub(crate) fn from_reply(fault: ReplyFault) -> ClientFault
-    ensures { result ≡ of_reply fault }
-{
-    match fault {
-        ReplyFault::Short => ClientFault::Short,
-        ReplyFault::BadTag(tag) => ClientFault::BadTag(tag),
-        ReplyFault::Strange => ClientFault::Strange,
-        ReplyFault::NoMemory => ClientFault::NoMemory,
+/// Why a call was given up, so that nothing is said of the answer.
+#[derive(Clone, Copy)]
+pub(crate) enum GivenUp {
+    Write,
+    Read,
+    TooManyTurns,
+    NoMemory,
+}
+
+/// What the bytes of an answer tell in place of a value.
+#[derive(Clone, Copy)]
+pub(crate) enum AnswerFault {
+    Short,
+    BadTag(u8),
+    Refused(u8),
+    Strange,
+    TooLong,
+}
+
+impl From<GivenUp> for ClientFault {
+    ghost from_gives = { λ f e. split e ≡ Err f };
+
+    fn from(fault: GivenUp) -> ClientFault {
+        match fault {
+            GivenUp::Write => ClientFault::Write,
+            GivenUp::Read => ClientFault::Read,
+            GivenUp::TooManyTurns => ClientFault::TooManyTurns,
+            GivenUp::NoMemory => ClientFault::NoMemory,
+        }
+    }
+}
+
+impl From<AnswerFault> for ClientFault {
+    ghost from_gives = { λ f e. split e ≡ Ok f };
+
+    fn from(fault: AnswerFault) -> ClientFault {
+        match fault {
+            AnswerFault::Short => ClientFault::Short,
+            AnswerFault::BadTag(tag) => ClientFault::BadTag(tag),
+            AnswerFault::Refused(code) => ClientFault::Refused(code),
+            AnswerFault::Strange => ClientFault::Strange,
+            AnswerFault::TooLong => ClientFault::TooLong,
+        }
+    }
+}
+
+impl From<ReplyFault> for ClientFault {
+    ghost from_gives = { λ f e. split e ≡ of_reply f };
+
+    fn from(fault: ReplyFault) -> ClientFault {
+        match fault {
+            ReplyFault::Short => ClientFault::Short,
+            ReplyFault::BadTag(tag) => ClientFault::BadTag(tag),
+            ReplyFault::Strange => ClientFault::Strange,
+            ReplyFault::NoMemory => ClientFault::NoMemory,
+        }
+    }
+}
+
+impl From<ListFault> for ClientFault {
+    ghost from_gives = { λ f e. split e ≡ of_list f };
+
+    fn from(fault: ListFault) -> ClientFault {
+        match fault {
+            ListFault::Short => ClientFault::Short,
+            ListFault::StrangeLine(_) => ClientFault::Strange,
+            ListFault::NoMemory => ClientFault::NoMemory,
+        }
+    }
+}
+
+impl From<NoMemory> for GivenUp {
+    ghost from_gives = { λ _ e. e ≡ given_up.NoMemory };
+
+    fn from(_: NoMemory) -> GivenUp {
+        GivenUp::NoMemory
+    }
+}
+
+impl From<NoMemory> for ClientFault {
+    ghost from_gives = { λ _ e. split e ≡ Err given_up.NoMemory };
+
+    fn from(_: NoMemory) -> ClientFault {
+        ClientFault::NoMemory
     }
 }

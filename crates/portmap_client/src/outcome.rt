@@ -1,8 +1,8 @@
 //! What a port mapper says to a command.
 ghost use Rattle.std.specs.Prelude.{◌≡◌};
-ghost use Rattle.portmap_client.specs.Answer.{kill_of, stop_of};
+ghost use Rattle.portmap_client.specs.Answer.{word_of, SaysKill, SaysStop};
 
-use crate::ClientFault;
+use crate::fault::AnswerFault;
 
 /// What a port mapper said to KILL_REQ.
 #[derive(Clone, Copy, Debug, PartialEq, Eq)]
@@ -24,40 +24,51 @@ pub enum Stop {
     NotAllowed,
 }
 
-/// The answer to KILL_REQ that these bytes are.
-pub(crate) fn read_kill(bytes: &[u8]) -> Result<Kill, ClientFault>
-    ensures { result ≡ kill_of bytes.now }
+/// The words of the answers.
+pub(crate) const OK: &[u8] = b"OK";
+
+const NO: &[u8] = b"NO";
+
+pub(crate) const STOPPED: &[u8] = b"STOPPED";
+
+const NOEXIST: &[u8] = b"NOEXIST";
+
+/// What an answer of one of two words of the same length, or of no byte at all, means.
+fn read_word<T: Copy>(
+    bytes: &[u8],
+    done: (&[u8], T),
+    undone: (&[u8], T),
+    silent: T,
+) -> Result<T, AnswerFault>
+    ensures { result ≡ word_of (done.entry.0.now, done.entry.1) (undone.entry.0.now, undone.entry.1) silent bytes.now }
 {
     if bytes.is_empty() {
-        return Ok(Kill::NotAllowed);
+        return Ok(silent);
     }
-    if bytes.len() < 2 {
-        return Err(ClientFault::Short);
+    if bytes.len() < done.0.len() {
+        return Err(AnswerFault::Short);
     }
-    if bytes == b"OK".as_slice() {
-        return Ok(Kill::Killed);
+    if bytes == done.0 {
+        return Ok(done.1);
     }
-    if bytes == b"NO".as_slice() {
-        return Ok(Kill::NotAllowed);
+    if bytes == undone.0 {
+        return Ok(undone.1);
     }
-    Err(ClientFault::Strange)
+    Err(AnswerFault::Strange)
+}
+
+/// The answer to KILL_REQ that these bytes are.
+pub(crate) fn read_kill(bytes: &[u8]) -> Result<Kill, AnswerFault>
+    ensures { SaysKill bytes.now result }
+{
+    let (done, undone) = ((OK, Kill::Killed), (NO, Kill::NotAllowed));
+    read_word(bytes, done, undone, Kill::NotAllowed)
 }
 
 /// The answer to STOP_REQ that these bytes are.
-pub(crate) fn read_stop(bytes: &[u8]) -> Result<Stop, ClientFault>
-    ensures { result ≡ stop_of bytes.now }
+pub(crate) fn read_stop(bytes: &[u8]) -> Result<Stop, AnswerFault>
+    ensures { SaysStop bytes.now result }
 {
-    if bytes.is_empty() {
-        return Ok(Stop::NotAllowed);
-    }
-    if bytes.len() < 7 {
-        return Err(ClientFault::Short);
-    }
-    if bytes == b"STOPPED".as_slice() {
-        return Ok(Stop::Stopped);
-    }
-    if bytes == b"NOEXIST".as_slice() {
-        return Ok(Stop::NoExist);
-    }
-    Err(ClientFault::Strange)
+    let (done, undone) = ((STOPPED, Stop::Stopped), (NOEXIST, Stop::NoExist));
+    read_word(bytes, done, undone, Stop::NotAllowed)
 }

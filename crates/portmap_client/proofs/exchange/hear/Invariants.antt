@@ -3,17 +3,18 @@ use Rattle.std.specs.Io.KnownBytes.{Keeps}
 use Rattle.portmap_link.specs.Asking.{GoesOn, IsAskedAgain}
 use Rattle.portmap_client.specs.Exchange.{HasRead}
 use Rattle.portmap_client.specs.Laters.{laters}
+use Rattle.portmap_client.specs.declared.exchange.TheConstants.{LATERS_MOST, LIST_MOST}
 use Rattle.portmap_client.proofs.exchange.hear.Given as goal
 
 -- these bytes were read, none further than the answer, and as many Laters were met as are counted
 abbrev pub invariant-loop-laters : goal.invariant-loop-laters
 invariant-loop-laters g l = record {
-  few : l.laters ≤ 1000;
-  has_read : HasRead l.request (g.S.Device.left l.fn.stream) (g.S.Device.left l.stream) l.read.items;
+  few : l.laters ≤ LATERS_MOST;
+  has_read : HasRead l.awaited (g.S.Device.left l.fn.stream) (g.S.Device.left l.stream) l.read.items;
   on : GoesOn IsAskedAgain (g.S.Device.pulls l.fn.stream) (g.S.Device.pulls l.stream);
   waited : l.met + laters (g.S.Device.pulls l.stream) (g.S.Device.puts l.stream) ≡ laters (g.S.Device.pulls l.fn.stream) (g.S.Device.puts l.fn.stream) + l.laters;
   held : Keeps (g.S.Device.held l.fn.stream) (g.S.Device.held l.stream);
 }
 
 abbrev pub decreases-loop-laters : goal.decreases-loop-laters
-decreases-loop-laters g l = 16777217 - length l.read.items + (1000 - l.laters)
+decreases-loop-laters g l = LIST_MOST + 1 - length l.read.items + (LATERS_MOST - l.laters)

@@ -1,13 +1,11 @@
-use Rattle.std.proofs.Common.{List, ℕ, subst}
-use Rattle.std.specs.Io.KnownBytes.{Appends}
-use Rattle.portmap_wire.specs.Request.{sent}
-use Rattle.portmap_wire.specs.declared.request.Request.TheVariants as request
-use Rattle.portmap_client.proofs.Asking.{asks_reply}
+use Rattle.std.proofs.Common.{◌∙◌}
+use Rattle.portmap_client.specs.Fault.{of_reply}
+use Rattle.portmap_client.proofs.Answering.{found_fault}
+use Rattle.portmap_client.proofs.Calling.{says_fault}
 use Rattle.portmap_client.proofs.query.lookup.Goals as goal
 
-pub returns-clause-asked : goal.returns-clause-asked
-returns-clause-asked g c =
-    let old = g.S.Device.held c.args.stream.now in
-    let new = g.S.Device.held c.exchange.new.stream in
-    let whole = subst (λ (name : List ℕ). Appends old new (sent (request.Port name))) c.in-Ok.ensures.same c.in_ok-bytes.ensures.asked in
-    rw c.from_reply.ensures (asks_reply (sent (request.Port c.args.name.now)) old new c.in-Err.fault whole)
+pub returns-in_err-read_port2 : goal.returns-in_err-read_port2
+returns-in_err-read_port2 g c =
+    let fault = c.in_err-read_port2.field-0.0 in
+    says_fault (of_reply fault) c.from_residual-in_err-read_port2.result (c.deref.ensures.value ∙ c.in_ok-request.ensures.text) c.in_ok-answer.ensures c.from_residual-in_err-read_port2.ensures.1
+    (λ read is. found_fault read c.deref-2.result.now fault (c.deref-2.ensures.value ∙ is) c.in_err-read_port2.ensures.exact)

@@ -1,0 +1,45 @@
+-- A call's faults are of two kinds: the call was given up, or the answer's bytes tell the fault.
+use Rattle.std.specs.Prelude.{Result, Ok, Err}
+use Rattle.portmap_wire.specs.declared.reply_reading.ReplyFault.{ReplyFault}
+use Rattle.portmap_wire.specs.declared.reply_reading.ReplyFault.TheVariants as reply
+use Rattle.portmap_wire.specs.declared.list_reading.ListFault.{ListFault}
+use Rattle.portmap_wire.specs.declared.list_reading.ListFault.TheVariants as list
+use Rattle.portmap_client.specs.declared.fault.AnswerFault.{AnswerFault}
+use Rattle.portmap_client.specs.declared.fault.AnswerFault.TheVariants as answer
+use Rattle.portmap_client.specs.declared.fault.ClientFault.{ClientFault}
+use Rattle.portmap_client.specs.declared.fault.ClientFault.TheVariants as fault
+use Rattle.portmap_client.specs.declared.fault.GivenUp.{GivenUp}
+use Rattle.portmap_client.specs.declared.fault.GivenUp.TheVariants.{Write, Read, TooManyTurns, NoMemory}
+
+-- what the answer's bytes tell, or why the call was given up
+abbrev pub split : ClientFault → Result AnswerFault GivenUp
+split fault.Write = Err Write
+split fault.Read = Err Read
+split fault.TooManyTurns = Err TooManyTurns
+split fault.Short = Ok answer.Short
+split (fault.BadTag tag) = Ok (answer.BadTag tag)
+split (fault.Refused code) = Ok (answer.Refused code)
+split fault.Strange = Ok answer.Strange
+split fault.TooLong = Ok answer.TooLong
+split fault.NoMemory = Err NoMemory
+
+abbrev pub told_fault : {X : Type 0} → Result AnswerFault GivenUp → Result (Result X AnswerFault) GivenUp
+told_fault (Ok f) = Ok (Err f)
+told_fault (Err f) = Err f
+
+-- the same of a call's result: what the answer's bytes tell, a value or a fault, or why the call was given up
+abbrev pub told : {X : Type 0} → Result X ClientFault → Result (Result X AnswerFault) GivenUp
+told (Ok x) = Ok (Ok x)
+told (Err f) = told_fault (split f)
+
+-- the same of a fault of a reply, and of a list
+abbrev pub of_reply : ReplyFault → Result AnswerFault GivenUp
+of_reply reply.Short = Ok answer.Short
+of_reply (reply.BadTag tag) = Ok (answer.BadTag tag)
+of_reply reply.Strange = Ok answer.Strange
+of_reply reply.NoMemory = Err NoMemory
+
+abbrev pub of_list : ListFault → Result AnswerFault GivenUp
+of_list list.Short = Ok answer.Short
+of_list (list.StrangeLine at) = Ok answer.Strange
+of_list list.NoMemory = Err NoMemory
