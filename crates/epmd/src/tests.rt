@@ -146,3 +146,42 @@ fn want_of_memory_is_told(rt: HostRuntime) {
         give_up(&mut errors) == 3 && errors.as_slice() == b"epmd: out of memory\n".as_slice()
     );
 }
+
+/// A reader that is interrupted so often, and then gives the request for the list of names.
+#[derive(Drop)]
+struct Interrupted {
+    times: u32,
+}
+
+impl Read for Interrupted {
+    fn read(&mut self, buffer: &mut [u8]) -> io::Result<usize> {
+        if self.times > 0 {
+            self.times -= 1;
+            return Err(io::Error::from(ErrorKind::Interrupted));
+        }
+        match buffer {
+            [length, one, tag, ..] => {
+                *length = 0;
+                *one = 1;
+                *tag = 0x6E;
+                Ok(3)
+            }
+            _ => Ok(0),
+        }
+    }
+}
+
+/// The status behind so many interruptions.
+fn status_behind(alloc: Global, times: u32) -> u8 {
+    let mut input = Reading::new(Interrupted { times });
+    let mut output = Writing::new(Vec::new(alloc));
+    let mut errors = Vec::new(alloc);
+    do_once(alloc, &mut input, &mut output, &mut errors)
+}
+
+#[test]
+fn a_million_turns_are_made(rt: HostRuntime) {
+    // One turn more reads the request, and one writes the reply.
+    assert_eq!(rt; status_behind(rt.alloc(), 999_998), 0);
+    assert_eq!(rt; status_behind(rt.alloc(), 999_999), 3);
+}

@@ -5,7 +5,7 @@ use Rattle.std.specs.declared.vec.Vec.{Vec}
 use Rattle.std.specs.declared.alloc.Global.{Global}
 use Rattle.portmap_wire.specs.ReplyReading.{alive_answer, port2_answer}
 use Rattle.portmap_wire.specs.ListReading.{Lists, StrangeAt}
-use Rattle.portmap_wire.specs.Registration.{Registration}
+use Rattle.portmap_wire.specs.Node.{Node}
 use Rattle.portmap_wire.specs.Reply.{be4}
 use Rattle.portmap_wire.specs.declared.reply_reading.AliveReply.TheVariants.{Given, Refused}
 use Rattle.portmap_wire.specs.declared.reply_reading.ReplyFault.{ReplyFault}
@@ -36,7 +36,7 @@ SaysCreation read (Err (fault.Refused code)) = alive_answer read ≡ Ok (Refused
 SaysCreation read (Err f) = HasFault (alive_answer read) f
 
 -- what a look-up found
-abbrev pub SaysFound : List ℕ → Result (Option Registration) AnswerFault → Type 0
+abbrev pub SaysFound : List ℕ → Result (Option Node) AnswerFault → Type 0
 SaysFound read (Ok found) = port2_answer read ≡ Ok found
 SaysFound read (Err f) = HasFault (port2_answer read) f
 

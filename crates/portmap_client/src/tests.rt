@@ -297,8 +297,12 @@ fn a_dump_is_given_as_it_came(rt: HostRuntime) -> Result<(), Fail> {
 // Whether both lists are too long where they have no end.
 fn are_too_long(alloc: Global) -> bool {
     let long = Some(ClientFault::TooLong);
-    names(alloc, &mut Fountain::new()).err() == long
-        && dump(alloc, &mut Fountain::new()).err() == long
+    let mut listed = Fountain::new();
+    let mut dumped = Fountain::new();
+    names(alloc, &mut listed).err() == long
+        && dump(alloc, &mut dumped).err() == long
+        && listed.given == 16_777_217
+        && dumped.given == 16_777_217
 }
 
 #[test]

@@ -6,7 +6,7 @@ use Rattle.std.specs.Cmp.{nat_cmp_total}
 use Rattle.std.specs.Ordering.{nat_cmp}
 use Rattle.std.proofs.lemmas.Bool.{cases_eq}
 use Rattle.portmap_feed.specs.Stream.{Sight, More, Zero, TooLarge, Whole, first_request}
-use Rattle.portmap_wire.specs.Registration.{Registration}
+use Rattle.portmap_wire.specs.Node.{Node}
 use Rattle.portmap_wire.specs.declared.request.Request.{Request}
 use Rattle.portmap_wire.specs.declared.request.Request.TheVariants.{Alive, Port, Dump, Kill, Stop}
 use Rattle.portmap_wire.specs.declared.request.Request.TheVariants as request
@@ -129,7 +129,7 @@ module _ (cfg : Configuration) (s : State) (slot : ℕ) (connection : Connection
   closed_owned : IsOwned cfg (settled s slot connection (closed s.names))
   closed_owned = stays_owned Done s.halted refl
 
-  register_owned : (g : Registration) (creation : ℕ) → connection.local ≡ true → is_active g.name s.names ≡ false → is_full_for cfg.known_max g.name s.names ≡ false → MayTake s.names (Alive g) creation
+  register_owned : (g : Node) (creation : ℕ) → connection.local ≡ true → is_active g.name s.names ≡ false → is_full_for cfg.known_max g.name s.names ≡ false → MayTake s.names (Alive g) creation
       → IsOwned cfg (settled s slot connection (registers s.names slot g creation))
   register_owned g creation local inactive room legal = record {
     names = kept_registers cfg.known_max creation slot s.names g owned.names inactive room free legal;

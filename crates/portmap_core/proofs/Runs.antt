@@ -4,7 +4,7 @@ use Rattle.std.specs.FinMap as map
 use Rattle.std.proofs.Math.Seq.{take-append_seam}
 use Rattle.std.proofs.lemmas.Bool.{le-ltb, ne_eqb}
 use Rattle.portmap_feed.specs.Stream.{Sight, More, Zero, TooLarge, Whole, first_request, sight_behind}
-use Rattle.portmap_wire.specs.Registration.{Registration, fields, be2}
+use Rattle.portmap_wire.specs.Node.{Node, fields, be2}
 use Rattle.portmap_wire.specs.Request.{body_of, IsRequest, IsMalformed}
 use Rattle.portmap_wire.specs.declared.request.TheConstants.{BODY_MOST}
 use Rattle.portmap_wire.specs.declared.request.Request.{Request}
@@ -74,7 +74,7 @@ malformed_keeps cfg s s' slot connection received piece reply fate here stage ba
 
 -- ---- a request that was written
 
-length-fields : (g : Registration) → length (fields g) ≡ 12 + length g.name + length g.extra
+length-fields : (g : Node) → length (fields g) ≡ 12 + length g.name + length g.extra
 length-fields g = omega (arith, length-append (g.name ++ be2 (length g.extra)) g.extra, length-append g.name (be2 (length g.extra)))
 
 body_len : (r : Request) → IsRequest r → (0 < length (body_of r)) × (length (body_of r) ≤ BODY_MOST)

@@ -4,7 +4,7 @@
 -- hosts: profile. The cases stand in the order of the table of docs/PROTOCOL.md.
 use Rattle.std.specs.Prelude.{◌≡◌, ℕ, Bool, not, ◌||◌, List, [], ◌++◌, map as list_map, length, ◌==◌, Option, Some, None, option_map, codes, ◌⊎◌, if◌then◌else◌}
 use Rattle.portmap_feed.specs.Stream.{Sight, More, Zero, TooLarge, Whole}
-use Rattle.portmap_wire.specs.Registration.{Registration}
+use Rattle.portmap_wire.specs.Node.{Node}
 use Rattle.portmap_wire.specs.Request.{Spells, IsMalformed}
 use Rattle.portmap_wire.specs.Reply.{alive_reply, port2_reply}
 use Rattle.portmap_wire.specs.List.{names_reply, dump_reply}
@@ -94,10 +94,10 @@ stop_served cfg names name = if not cfg.relaxed then closed names else stops nam
 -- ---- ALIVE2
 
 -- the name becomes active, and the connection holds it
-abbrev pub registers : rows.Names → ℕ → Registration → ℕ → Served
+abbrev pub registers : rows.Names → ℕ → Node → ℕ → Served
 registers names slot g creation = record { reply = alive_reply g.high 0 creation; fate = Stay; stage = Holding; names = rows.registered g creation slot names; stopped = None }
 
-abbrev pub alive_served : Configuration → rows.Names → ℕ → Registration → ℕ → Served
+abbrev pub alive_served : Configuration → rows.Names → ℕ → Node → ℕ → Served
 alive_served cfg names slot g creation =
     if rows.is_active g.name names then replied names (alive_reply g.high 1 0)
     else if rows.is_full_for cfg.known_max g.name names then replied names (alive_reply g.high 2 0)

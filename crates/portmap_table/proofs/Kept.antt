@@ -10,7 +10,7 @@ use Rattle.std.proofs.lemmas.List.Edits.{length-remove}
 use Rattle.std.proofs.lemmas.List.Elements.{All-push, All-append, All-take, All-drop}
 use Rattle.std.proofs.lemmas.List.Quantifiers.{position-Some}
 use Rattle.std.proofs.lemmas.Option.{slice_get_within, get_or_from_slice_get}
-use Rattle.portmap_wire.specs.Registration.{Registration}
+use Rattle.portmap_wire.specs.Node.{Node}
 use Rattle.portmap_wire.specs.Reply.{is_short}
 use Rattle.portmap_table.specs.declared.creation.TheConstants.{SHORT_MOST, COUNTER_LEAST}
 use Rattle.portmap_table.specs.declared.row.Row.{Row}
@@ -76,7 +76,7 @@ new_owner rows row slot d free e =
     let keys = distinct_with nat_eq_equiv slot (map slot_of rows) [] (key_is_new nat_eq_equiv slot_of slot rows (none_at (λ row. row.slot == slot) rows free)) tt (rw append-nil d) in
     rw (map-append slot_of rows (row ∷ []), e) (rw append-nil at keys)
 
-kept_with : (known_max c slot : ℕ) (names : Names) (g : Registration) (o : Option ℕ) → AreKept known_max names → is_active g.name names ≡ false → (is_some (retired_row g.name names) ≡ false → known_len names < known_max) → owns_name slot names ≡ false → IsCreationFor g.high c → position (had_name g.name) names.retired ≡ o → AreKept known_max (record { active = names.active ++ record { reg = g; creation = c; slot = slot } ∷ []; retired = without_at o names.retired })
+kept_with : (known_max c slot : ℕ) (names : Names) (g : Node) (o : Option ℕ) → AreKept known_max names → is_active g.name names ≡ false → (is_some (retired_row g.name names) ≡ false → known_len names < known_max) → owns_name slot names ≡ false → IsCreationFor g.high c → position (had_name g.name) names.retired ≡ o → AreKept known_max (record { active = names.active ++ record { reg = g; creation = c; slot = slot } ∷ []; retired = without_at o names.retired })
 kept_with known_max c slot names g None k inactive room free legal none =
     let row : Row = record { reg = g; creation = c; slot = slot } in
     let past : NonePasses (had_name g.name) names.retired = none_at (had_name g.name) names.retired (ap is_some none) in
@@ -105,13 +105,13 @@ kept_with known_max c slot names g (Some at) k inactive room free legal found =
     }
 
 -- a table keeps its facts where it registers what it offered
-pub kept_registered : (t : TableState) (g : Registration) (c slot : ℕ) → AreKept t.known_max t.names → owns_name slot t.names ≡ false → offered t g.name g.high ≡ Ok c → IsLegalCreation g.high (remembered g.name t.names) c → AreKept t.known_max (registered g c slot t.names)
+pub kept_registered : (t : TableState) (g : Node) (c slot : ℕ) → AreKept t.known_max t.names → owns_name slot t.names ≡ false → offered t g.name g.high ≡ Ok c → IsLegalCreation g.high (remembered g.name t.names) c → AreKept t.known_max (registered g c slot t.names)
 kept_registered t g c slot k free e legal =
     let tests = passed (is_active g.name t.names) (is_full_for t.known_max g.name t.names) _ c e in
     kept_with t.known_max c slot t.names g (position (had_name g.name) t.names.retired) k tests.0 (λ unknown. has_room t.known_max (known_len t.names) (is_active g.name t.names) (is_some (retired_row g.name t.names)) tests.1 tests.0 unknown) free legal.range refl
 
 -- the same of any legal creation
-pub kept_registers : (known_max c slot : ℕ) (names : Names) (g : Registration) → AreKept known_max names → is_active g.name names ≡ false → is_full_for known_max g.name names ≡ false → owns_name slot names ≡ false
+pub kept_registers : (known_max c slot : ℕ) (names : Names) (g : Node) → AreKept known_max names → is_active g.name names ≡ false → is_full_for known_max g.name names ≡ false → owns_name slot names ≡ false
     → IsLegalCreation g.high (remembered g.name names) c → AreKept known_max (registered g c slot names)
 kept_registers known_max c slot names g k inactive room free legal =
     kept_with known_max c slot names g (position (had_name g.name) names.retired) k inactive (λ unknown. has_room known_max (known_len names) (is_active g.name names) (is_some (retired_row g.name names)) room inactive unknown) free legal.range refl

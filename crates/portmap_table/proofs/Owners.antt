@@ -9,7 +9,7 @@ use Rattle.std.proofs.lemmas.List.Quantifiers.{position-Some}
 use Rattle.std.proofs.lemmas.List.Sorted.{list_any-IsPermutation}
 use Rattle.std.proofs.lemmas.Map.Keys.{IsDistinct-IsPermutation}
 use Rattle.std.proofs.lemmas.Option.{slice_get_within, get_or_from_slice_get}
-use Rattle.portmap_wire.specs.Registration.{Registration}
+use Rattle.portmap_wire.specs.Node.{Node}
 use Rattle.portmap_table.specs.declared.row.Row.{Row}
 use Rattle.portmap_table.specs.Rows.{Names, active_row, owns_name, registered, retired_last, retired_at, retired_of, same_name}
 use Rattle.portmap_table.proofs.Distinct.{keys_moved}
@@ -68,17 +68,17 @@ owner_owns name names row e = owns row.slot names ∙ find_passes (λ row. same_
 
 -- ---- a name registers
 
-registered_owns : (q : ℕ) (g : Registration) (creation slot : ℕ) (names : Names) → owns_name q (registered g creation slot names) ≡ (owns_name q names || (slot == q || false))
+registered_owns : (q : ℕ) (g : Node) (creation slot : ℕ) (names : Names) → owns_name q (registered g creation slot names) ≡ (owns_name q names || (slot == q || false))
 registered_owns q g creation slot names =
     let row : Row = record { reg = g; creation = creation; slot = slot } in
     owns q (registered g creation slot names) ∙ list_any-append (has_slot q) names.active (row ∷ []) ∙ ap (λ (b : Bool). b || (slot == q || false)) (sym (owns q names))
 
 -- the slot owns a name then
-pub owns_registered : (g : Registration) (creation slot : ℕ) (names : Names) → owns_name slot (registered g creation slot names) ≡ true
+pub owns_registered : (g : Node) (creation slot : ℕ) (names : Names) → owns_name slot (registered g creation slot names) ≡ true
 owns_registered g creation slot names = registered_owns slot g creation slot names ∙ ap (λ (b : Bool). owns_name slot names || (b || false)) (eq-eqb slot slot refl) ∙ or_true (owns_name slot names)
 
 -- and no other slot does that did not before
-pub owns_registered_other : (q : ℕ) (g : Registration) (creation slot : ℕ) (names : Names) → q ≢ slot → owns_name q (registered g creation slot names) ≡ owns_name q names
+pub owns_registered_other : (q : ℕ) (g : Node) (creation slot : ℕ) (names : Names) → q ≢ slot → owns_name q (registered g creation slot names) ≡ owns_name q names
 owns_registered_other q g creation slot names other =
     let differs : slot ≢ q = λ e. other (sym e) in
     registered_owns q g creation slot names ∙ ap (λ (b : Bool). owns_name q names || (b || false)) (ne_eqb slot q differs) ∙ or_false (owns_name q names)

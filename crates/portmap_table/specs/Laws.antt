@@ -1,6 +1,6 @@
 -- What a registration and a retirement do to each name.
 use Rattle.std.specs.Prelude.{◌≡◌, ℕ, false, List, length, take, Option, Some, find, ◌==◌}
-use Rattle.portmap_wire.specs.Registration.{Registration}
+use Rattle.portmap_wire.specs.Node.{Node}
 use Rattle.portmap_table.specs.declared.row.Row.{Row}
 use Rattle.portmap_table.specs.Rows.{Names, AreKept, same_name, is_active, active_row, retired_row, registered, retired_of, old_name}
 
@@ -10,7 +10,7 @@ row_of slot names = find (λ row. row.slot == slot) names.active
 
 -- a name that registers is active, with its registration, its creation and its slot
 abbrev pub RegisteredNamesAreActive : Type 0
-RegisteredNamesAreActive = (names : Names) (reg : Registration) (creation slot : ℕ) → is_active reg.name names ≡ false
+RegisteredNamesAreActive = (names : Names) (reg : Node) (creation slot : ℕ) → is_active reg.name names ≡ false
     → active_row reg.name (registered reg creation slot names) ≡ Some (record { reg = reg; creation = creation; slot = slot })
 
 -- a name outlives its connection: it is active no more, and its port and its creation are remembered
@@ -24,7 +24,7 @@ KnowsAlike name names names' = (active_row name names' ≡ active_row name names
 
 -- what is known of the other names stays
 abbrev pub OthersStayAtRegistration : Type 0
-OthersStayAtRegistration = (names : Names) (reg : Registration) (creation slot : ℕ) (other : List ℕ) → same_name reg.name other ≡ false
+OthersStayAtRegistration = (names : Names) (reg : Node) (creation slot : ℕ) (other : List ℕ) → same_name reg.name other ≡ false
     → KnowsAlike other names (registered reg creation slot names)
 
 abbrev pub OthersStayAtRetirement : Type 0
@@ -33,7 +33,7 @@ OthersStayAtRetirement = (names : Names) (slot : ℕ) (row : Row) (other : List 
 
 -- the newest stand last: those that stood there stay where they are
 abbrev pub RegisteredNamesStandLast : Type 0
-RegisteredNamesStandLast = (names : Names) (reg : Registration) (creation slot : ℕ)
+RegisteredNamesStandLast = (names : Names) (reg : Node) (creation slot : ℕ)
     → take (length names.active) (registered reg creation slot names).active ≡ names.active
 
 abbrev pub RetiredNamesStandLast : Type 0

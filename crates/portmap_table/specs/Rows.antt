@@ -3,7 +3,7 @@
 use Rattle.std.specs.Prelude.{ℕ, ◌+◌, ◌≤◌, ◌<◌, ◌^◌, Bool, not, nat_le, ◌&&◌, ◌||◌, List, [], ◌∷◌, ◌++◌, length, map, remove, position, find, Option, Some, None, is_some, option_map, slice_get, ◌==◌, All}
 use Rattle.std.specs.List.{IsDistinct}
 use Rattle.std.specs.Cmp.Lexicographic.{pointwise}
-use Rattle.portmap_wire.specs.Registration.{Registration}
+use Rattle.portmap_wire.specs.Node.{Node}
 use Rattle.portmap_table.specs.declared.row.Row.{Row}
 use Rattle.portmap_table.specs.declared.row.Retired.{Retired}
 use Rattle.portmap_table.specs.Creation.{IsCreationFor}
@@ -70,7 +70,7 @@ without_at None xs = xs
 without_at (Some at) xs = remove xs at
 
 -- a name that registers is the last active one, and no retired one any more
-abbrev pub registered : Registration → ℕ → ℕ → Names → Names
+abbrev pub registered : Node → ℕ → ℕ → Names → Names
 registered reg creation slot names = record {
   active = names.active ++ record { reg = reg; creation = creation; slot = slot } ∷ [];
   retired = without_at (position (λ old. same_name old.name reg.name) names.retired) names.retired;

@@ -1,6 +1,6 @@
 -- A table of names with its limit and the counter from which wide creations are taken.
 use Rattle.std.specs.Prelude.{◌≡◌, ℕ, List, Result, Ok, Err, max, if◌then◌else◌}
-use Rattle.portmap_wire.specs.Registration.{Registration}
+use Rattle.portmap_wire.specs.Node.{Node}
 use Rattle.portmap_table.specs.declared.creation.TheConstants.{COUNTER_LEAST}
 use Rattle.portmap_table.specs.Creation.{choice, counter_after}
 use Rattle.portmap_table.specs.Rows.{Names, no_names, is_active, is_full_for, remembered, registered}
@@ -27,7 +27,7 @@ offered t name high =
     else Ok (choice t.counter high (remembered name t.names))
 
 -- the table after a registration with this creation
-abbrev pub with_registration : TableState → Registration → ℕ → ℕ → TableState
+abbrev pub with_registration : TableState → Node → ℕ → ℕ → TableState
 with_registration t reg slot creation = record {
   names = registered reg creation slot t.names;
   known_max = t.known_max;

@@ -2,7 +2,7 @@
 use Rattle.std.proofs.Common.{◌≡◌, ℕ, suc, ◌+◌, ◌≤◌, Bool, true, false, cond, ltb, eqb, List, [], ◌∷◌, ◌++◌, length, Option, Some, None, Result, Ok, Err, refl, ap, subst, ◌∙◌, arith}
 use Rattle.std.specs.Prelude.{IfOk, IfSome}
 use Rattle.std.proofs.lemmas.Bool.{ltb-false, eqb-true}
-use Rattle.portmap_wire.specs.Registration.{Registration, IsRegistration, fields}
+use Rattle.portmap_wire.specs.Node.{Node, IsNode, fields}
 use Rattle.portmap_wire.specs.RequestReading.{name_in, fields_in}
 use Rattle.portmap_wire.specs.declared.name.NameFault.{NameFault}
 use Rattle.portmap_wire.specs.declared.request.TheConstants.{BODY_MOST}
@@ -34,25 +34,25 @@ tagged : {A E : Type 0} (b : Bool) (d : E) (r : Result A E) (y : A) → cond b r
 tagged true d r y e = (refl, e)
 tagged false d r y e = absurd cc
 
-coded : (b : Bool) (r : Result (Option Registration) ReplyFault) (g : Registration) → cond b r (Ok None) ≡ Ok (Some g) → (b ≡ true) × (r ≡ Ok (Some g))
+coded : (b : Bool) (r : Result (Option Node) ReplyFault) (g : Node) → cond b r (Ok None) ≡ Ok (Some g) → (b ≡ true) × (r ≡ Ok (Some g))
 coded true r g e = (refl, e)
 coded false r g e = absurd cc
 
-same_found : (h g : Registration) → ◌≡◌ {A = Result (Option Registration) ReplyFault} (Ok (Some h)) (Ok (Some g)) → h ≡ g
+same_found : (h g : Node) → ◌≡◌ {A = Result (Option Node) ReplyFault} (Ok (Some h)) (Ok (Some g)) → h ≡ g
 same_found h g e = cc
 
-named_takes : (h g : Registration) (read : Result (List ℕ) NameFault) → with_name h read ≡ Ok (Some g) → (n : List ℕ) × (read ≡ Ok n) × (ltb BODY_MOST (13 + length h.name + length h.extra) ≡ false) × (h ≡ g)
+named_takes : (h g : Node) (read : Result (List ℕ) NameFault) → with_name h read ≡ Ok (Some g) → (n : List ℕ) × (read ≡ Ok n) × (ltb BODY_MOST (13 + length h.name + length h.extra) ≡ false) × (h ≡ g)
 named_takes h g (Ok n) e = let a = passed (ltb BODY_MOST (13 + length h.name + length h.extra)) fault.Strange (Ok (Some h)) (Some g) e in (n, refl, a.0, same_found h g a.1)
 named_takes h g (Err f) e = absurd cc
 
-registered_takes : (o : Option (Registration × List ℕ)) (g : Registration) → registered_answer o ≡ Ok (Some g) → (f : Registration × List ℕ) × (o ≡ Some f) × (with_name f.0 (name_in f.0.name) ≡ Ok (Some g))
+registered_takes : (o : Option (Node × List ℕ)) (g : Node) → registered_answer o ≡ Ok (Some g) → (f : Node × List ℕ) × (o ≡ Some f) × (with_name f.0 (name_in f.0.name) ≡ Ok (Some g))
 registered_takes None g e = absurd cc
 registered_takes (Some f) g e = (f, refl, e)
 
-Behind : List ℕ → Registration → Type 0
-Behind rest g = IsRegistration g × ((more : List ℕ) × (rest ≡ fields g ++ more))
+Behind : List ℕ → Node → Type 0
+Behind rest g = IsNode g × ((more : List ℕ) × (rest ≡ fields g ++ more))
 
-fields_behind : (rest : List ℕ) (g : Registration) → IsBytes rest → registered_answer (fields_in rest) ≡ Ok (Some g) → Behind rest g
+fields_behind : (rest : List ℕ) (g : Node) → IsBytes rest → registered_answer (fields_in rest) ≡ Ok (Some g) → Behind rest g
 unfolding Behind
 fields_behind rest g fits e =
     let w = registered_takes (fields_in rest) g e in
@@ -60,7 +60,7 @@ fields_behind rest g fits e =
     let t = fields_take rest h w.0.1 fits w.1 in
     let m = named_takes h g (name_in h.name) w.2 in
     let short : 13 + length h.name + length h.extra ≤ BODY_MOST = ltb-false _ _ m.2 in
-    let is : IsRegistration h = record {
+    let is : IsNode h = record {
       port = t.fits.port;
       kind = t.fits.kind;
       proto = t.fits.proto;
@@ -69,12 +69,12 @@ fields_behind rest g fits e =
       name = (name_takes h.name m.0 t.name_fits m.1).1;
       fits = short;
     } in
-    subst (λ (x : Registration). IsRegistration x × ((more : List ℕ) × (rest ≡ fields x ++ more))) m.3 (is, (w.0.1, t.text))
+    subst (λ (x : Node). IsNode x × ((more : List ℕ) × (rest ≡ fields x ++ more))) m.3 (is, (w.0.1, t.text))
 
-pub look_up_takes : (q : List ℕ) (g : Registration) → IsBytes q → port2_answer q ≡ Ok (Some g) → IsFound q g
+pub look_up_takes : (q : List ℕ) (g : Node) → IsBytes q → port2_answer q ≡ Ok (Some g) → IsFound q g
 unfolding Behind
 look_up_takes [] g fits e = absurd cc
-look_up_takes (tag ∷ []) g fits e = absurd (let a = tagged (eqb tag PORT2_RESP) (fault.BadTag tag) (Err fault.Short) (Some g) e in let no : ◌≡◌ {A = Result (Option Registration) ReplyFault} (Err fault.Short) (Ok (Some g)) = a.1 in cc)
+look_up_takes (tag ∷ []) g fits e = absurd (let a = tagged (eqb tag PORT2_RESP) (fault.BadTag tag) (Err fault.Short) (Some g) e in let no : ◌≡◌ {A = Result (Option Node) ReplyFault} (Err fault.Short) (Ok (Some g)) = a.1 in cc)
 look_up_takes (tag ∷ code ∷ rest) g fits e =
     let a = tagged (eqb tag PORT2_RESP) (fault.BadTag tag) (port2_result (code ∷ rest)) (Some g) e in
     let b = coded (eqb code 0) (registered_answer (fields_in rest)) g a.1 in
@@ -85,7 +85,7 @@ look_up_takes (tag ∷ code ∷ rest) g fits e =
       text = (λ i. eqb-true _ _ a.0 i ∷ eqb-true _ _ b.0 i ∷ f.1.1 i);
     }
 
-pub look_up_found : (q : List ℕ) (answer : Result (Option Registration) ReplyFault) → IsBytes q → GivesReply answer (port2_answer q) → IfOk answer (λ found. IfSome found (λ g. IsFound q g))
+pub look_up_found : (q : List ℕ) (answer : Result (Option Node) ReplyFault) → IsBytes q → GivesReply answer (port2_answer q) → IfOk answer (λ found. IfSome found (λ g. IsFound q g))
 look_up_found q (Ok None) fits h = tt
 look_up_found q (Ok (Some g)) fits h = look_up_takes q g fits h
 look_up_found q (Err f) fits h = tt

@@ -4,12 +4,12 @@ use Rattle.std.specs.Int.{w16, from_be_bytes}
 use Rattle.std.proofs.lemmas.Bool.{ltb-false, le-ltb, cases_lt}
 use Rattle.std.proofs.lemmas.List.{take_at, drop_at, take-append-drop, drop-drop, length-append, length-take, length-drop, get_or-drop, get_or-take, get_or_past}
 use Rattle.std.proofs.lemmas.Nat.{be_bytes_2, from_be_bytes-to_be_bytes_2}
-use Rattle.portmap_wire.specs.Registration.{Registration, fields, be2}
+use Rattle.portmap_wire.specs.Node.{Node, fields, be2}
 use Rattle.portmap_wire.specs.RequestReading.{u16_in, fields_in}
 use Rattle.portmap_wire.proofs.NameLemmas.{IsBytes}
 
 -- the numbers are in range
-pub record FitsFields (g : Registration) : Type 0 where
+pub record FitsFields (g : Node) : Type 0 where
   pub port : g.port < 2 ^ 16
   pub kind : g.kind < 2 ^ 8
   pub proto : g.proto < 2 ^ 8
@@ -65,7 +65,7 @@ in_parts q n x =
     (cut n 10 q ∙ ap (λ (t : List ℕ). take n (drop 10 q) ++ t) last)))))
 
 -- what is read from the front
-pub read_at : (q : List ℕ) → Registration
+pub read_at : (q : List ℕ) → Node
 read_at q = record { port = u16_in q 0; kind = get_or q 2 0; proto = get_or q 3 0; high = u16_in q 4; low = u16_in q 6; name = take (u16_in q 8) (drop 10 q); extra = take (u16_in q (10 + u16_in q 8)) (drop (12 + u16_in q 8) q) }
 
 spelled : (q : List ℕ) → IsBytes q → 12 + u16_in q 8 + u16_in q (10 + u16_in q 8) ≤ length q → q ≡ fields (read_at q) ++ drop (12 + u16_in q 8 + u16_in q (10 + u16_in q 8)) q
@@ -85,32 +85,32 @@ spelled q fits long =
     λ i. one i ++ both i ++ three i ++ four i ++ five i ++ take n (drop 10 q) ++ seven i ++ take x (drop (12 + n) q) in
     in_parts q n x ∙ sym (ap (λ (t : List ℕ). t ++ drop (12 + n + x) q) parts ∙ regroup (take 2 q) (take 2 (drop 2 q)) (take 2 (drop 4 q)) (take 2 (drop 6 q)) (take 2 (drop 8 q)) (take n (drop 10 q)) (take 2 (drop (10 + n) q)) (take x (drop (12 + n) q)) (drop (12 + n + x) q))
 
-pub record Takes (q : List ℕ) (g : Registration) (rest : List ℕ) : Type 0 where
+pub record Takes (q : List ℕ) (g : Node) (rest : List ℕ) : Type 0 where
   pub text : q ≡ fields g ++ rest
   pub fits : FitsFields g
   pub name_fits : IsBytes g.name
 
-pub fields_take : (q : List ℕ) (g : Registration) (rest : List ℕ) → IsBytes q → fields_in q ≡ Some (g, rest) → Takes q g rest
+pub fields_take : (q : List ℕ) (g : Node) (rest : List ℕ) → IsBytes q → fields_in q ≡ Some (g, rest) → Takes q g rest
 unfolding fields_in read_at
 fields_take q g rest fits e =
     let a = guard_none (ltb (length q) 12) _ (g, rest) e in
     let b = guard_none (ltb (length q) (12 + u16_in q 8)) _ (g, rest) a.1 in
     let c = guard_none (ltb (length q) (12 + u16_in q 8 + u16_in q (10 + u16_in q 8))) _ (g, rest) b.1 in
     let long : 12 + u16_in q 8 + u16_in q (10 + u16_in q 8) ≤ length q = ltb-false _ _ c.0 in
-    let is : ◌≡◌ {A = Registration × List ℕ} (read_at q, drop (12 + u16_in q 8 + u16_in q (10 + u16_in q 8)) q) (g, rest) = some_is _ _ c.1 in
+    let is : ◌≡◌ {A = Node × List ℕ} (read_at q, drop (12 + u16_in q 8 + u16_in q (10 + u16_in q 8)) q) (g, rest) = some_is _ _ c.1 in
     let all : Takes q (read_at q) (drop (12 + u16_in q 8 + u16_in q (10 + u16_in q 8)) q) = record {
       text = spelled q fits long;
       fits = record { port = u16_below q 0 fits; kind = fits 2; proto = fits 3; high = u16_below q 4 fits; low = u16_below q 6 fits };
       name_fits = in_part (u16_in q 8) 10 q fits;
     } in
-    subst (λ (p : Registration × List ℕ). Takes q p.0 p.1) is all
+    subst (λ (p : Node × List ℕ). Takes q p.0 p.1) is all
 
 -- ---- from the fields to the bytes
 
-head : Registration → List ℕ
+head : Node → List ℕ
 head g = be2 g.port ++ (g.kind ∷ g.proto ∷ []) ++ be2 g.high ++ be2 g.low ++ be2 (length g.name)
 
-split_fields : (g : Registration) (rest : List ℕ) → fields g ++ rest ≡ (head g ++ g.name) ++ (be2 (length g.extra) ++ (g.extra ++ rest))
+split_fields : (g : Node) (rest : List ℕ) → fields g ++ rest ≡ (head g ++ g.name) ++ (be2 (length g.extra) ++ (g.extra ++ rest))
 unfolding head
 split_fields g rest = let e : (head g ++ g.name ++ be2 (length g.extra) ++ g.extra) ++ rest ≡ (head g ++ g.name) ++ (be2 (length g.extra) ++ (g.extra ++ rest)) = simp append_assoc in e
 
@@ -123,7 +123,7 @@ three : (a b c d : List ℕ) → a ++ b ++ c ++ d ≡ a ++ (b ++ (c ++ d))
 three a b c d = simp append_assoc
 
 -- reading, from what stands where
-reads : (q : List ℕ) (g : Registration) (rest : List ℕ) (n x : ℕ) → 12 + n + x ≤ length q → u16_in q 8 ≡ n → u16_in q (10 + n) ≡ x
+reads : (q : List ℕ) (g : Node) (rest : List ℕ) (n x : ℕ) → 12 + n + x ≤ length q → u16_in q 8 ≡ n → u16_in q (10 + n) ≡ x
     → u16_in q 0 ≡ g.port → get_or q 2 0 ≡ g.kind → get_or q 3 0 ≡ g.proto → u16_in q 4 ≡ g.high → u16_in q 6 ≡ g.low
     → take n (drop 10 q) ≡ g.name → take x (drop (12 + n) q) ≡ g.extra → drop (12 + n + x) q ≡ rest → fields_in q ≡ Some (g, rest)
 unfolding fields_in
@@ -133,7 +133,7 @@ reads q g rest n x long en ex p0 p1 p2 p3 p4 p5 p6 p7 =
     let t3 : ltb (length q) (12 + n + x) ≡ false = le-ltb _ _ long in
     rw (t1, en, t2, ex, t3) (λ i. Some (record { port = p0 i; kind = p1 i; proto = p2 i; high = p3 i; low = p4 i; name = p5 i; extra = p6 i }, p7 i))
 
-pub fields_again : (g : Registration) (rest : List ℕ) → FitsFields g → length g.name < 2 ^ 16 → length g.extra < 2 ^ 16 → fields_in (fields g ++ rest) ≡ Some (g, rest)
+pub fields_again : (g : Node) (rest : List ℕ) → FitsFields g → length g.name < 2 ^ 16 → length g.extra < 2 ^ 16 → fields_in (fields g ++ rest) ≡ Some (g, rest)
 unfolding head
 fields_again g rest fits name_fits extra_fits =
     let q = fields g ++ rest in

@@ -4,7 +4,7 @@ use Rattle.std.specs.Prelude.{IfOk, IfErr, ◌≢◌, position}
 use Rattle.std.proofs.lemmas.Bool.{ltb-false, le-ltb, eqb-true, eqb-false, ne_eqb}
 use Rattle.std.proofs.lemmas.List.{append-nil, nil_from_length, length-append}
 use Rattle.portmap_wire.specs.Name.{is_control, IsName}
-use Rattle.portmap_wire.specs.Registration.{Registration, IsRegistration, fields, be2}
+use Rattle.portmap_wire.specs.Node.{Node, IsNode, fields, be2}
 use Rattle.portmap_wire.specs.declared.name.NameFault.{NameFault}
 use Rattle.portmap_wire.specs.declared.name.NameFault.TheVariants as name_fault
 use Rattle.portmap_wire.specs.declared.name.TheConstants.{NAME_MOST}
@@ -70,17 +70,17 @@ alone_takes : (only r : Request) (rest : List ℕ) → alone only rest ≡ Ok r 
 alone_takes only r [] e = (refl, cc)
 alone_takes only r (b ∷ bs) e = absurd cc
 
-with_name_takes : (g : Registration) (read : Result (List ℕ) NameFault) (r : Request) → with_name g read ≡ Ok r → (n : List ℕ) × (read ≡ Ok n) × (Alive g ≡ r)
+with_name_takes : (g : Node) (read : Result (List ℕ) NameFault) (r : Request) → with_name g read ≡ Ok r → (n : List ℕ) × (read ≡ Ok n) × (Alive g ≡ r)
 with_name_takes g (Ok n) r e = (n, refl, cc)
 with_name_takes g (Err f) r e = absurd cc
 
-filled_takes : (o : Option (Registration × List ℕ)) (r : Request) → filled o ≡ Ok r → (f : Registration × List ℕ) × (o ≡ Some f) × (f.1 ≡ []) × (with_name f.0 (name_in f.0.name) ≡ Ok r)
+filled_takes : (o : Option (Node × List ℕ)) (r : Request) → filled o ≡ Ok r → (f : Node × List ℕ) × (o ≡ Some f) × (f.1 ≡ []) × (with_name f.0 (name_in f.0.name) ≡ Ok r)
 filled_takes None r e = absurd cc
 filled_takes (Some f) r e =
     let g = guard_after (eqb (length f.1) 0) malformed.LengthsDisagree _ r e in
     (f, refl, nil_from_length f.1 (eqb-true _ _ g.0), g.1)
 
-length-fields : (g : Registration) → length (fields g) ≡ 12 + length g.name + length g.extra
+length-fields : (g : Node) → length (fields g) ≡ 12 + length g.name + length g.extra
 length-fields g = omega (arith, length-append (g.name ++ be2 (length g.extra)) g.extra, length-append g.name (be2 (length g.extra)))
 
 pub alive_takes : (rest : List ℕ) (r : Request) → IsBytes rest → alive_in rest ≡ Ok r → Spells (ALIVE2_REQ ∷ rest) r
@@ -94,7 +94,7 @@ alive_takes rest r fits e =
     let text : rest ≡ fields g = t.text ∙ ap (λ (z : List ℕ). fields g ++ z) w.2 ∙ append-nil (fields g) in
     let m = with_name_takes g (name_in g.name) r w.3 in
     let short : 1 + length rest ≤ BODY_MOST = ltb-false _ _ b.0 in
-    let is : IsRegistration g = record {
+    let is : IsNode g = record {
       port = t.fits.port;
       kind = t.fits.kind;
       proto = t.fits.proto;
@@ -152,7 +152,7 @@ request_takes (tag ∷ rest) r fits e =
       ]
     ]
 
-alive_again : (g : Registration) → IsRegistration g → alive_in (fields g) ≡ Ok (Alive g)
+alive_again : (g : Node) → IsNode g → alive_in (fields g) ≡ Ok (Alive g)
 unfolding alive_in
 alive_again g is =
     let len = length-fields g in

@@ -1,7 +1,7 @@
 -- Fields where they lie, as a registration and what follows it.
 use Rattle.std.specs.Prelude.{List, ℕ}
-use Rattle.portmap_wire.specs.Registration.{Registration}
+use Rattle.portmap_wire.specs.Node.{Node}
 use Rattle.portmap_wire.specs.declared.fields_reading.Fields.{Fields}
 
-abbrev pub in_place : Fields → Registration × List ℕ
+abbrev pub in_place : Fields → Node × List ℕ
 in_place f = (record { port = f.port; kind = f.kind; proto = f.proto; high = f.high; low = f.low; name = f.name.now; extra = f.extra.now }, f.rest.now)

@@ -1,5 +1,5 @@
 pub mod Name
-pub mod Registration
+pub mod Node
 pub mod Request
 pub mod FieldsReading
 pub mod RequestReading

@@ -1,7 +1,7 @@
 -- The replies as bytes: ERTS User's Guide, EPMD Protocol.
 use Rattle.std.specs.Prelude.{ℕ, Bool, List, [], ◌∷◌, Option, Some, None, nat_lt, if◌then◌else◌}
 use Rattle.std.specs.Int.{w32, to_be_bytes}
-use Rattle.portmap_wire.specs.Registration.{Registration, fields, be2}
+use Rattle.portmap_wire.specs.Node.{Node, fields, be2}
 use Rattle.portmap_wire.specs.declared.reply_writing.TheConstants.{ALIVE2_X_RESP, ALIVE2_RESP, PORT2_RESP, WIDE_VERSION}
 
 -- a number in four bytes, the high one first
@@ -17,6 +17,6 @@ abbrev pub alive_reply : ℕ → ℕ → ℕ → List ℕ
 alive_reply high code creation = if is_short high then ALIVE2_RESP ∷ code ∷ be2 creation else ALIVE2_X_RESP ∷ code ∷ be4 creation
 
 -- PORT2_RESP: result 1 for a name that is not registered
-abbrev pub port2_reply : Option Registration → List ℕ
+abbrev pub port2_reply : Option Node → List ℕ
 port2_reply None = PORT2_RESP ∷ 1 ∷ []
 port2_reply (Some g) = PORT2_RESP ∷ 0 ∷ fields g

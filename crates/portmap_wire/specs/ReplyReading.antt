@@ -2,7 +2,7 @@
 -- answer are not looked at, and either tag of ALIVE2 is taken: profile.
 use Rattle.std.specs.Prelude.{◌≡◌, ℕ, ◌+◌, ◌<◌, ◌^◌, List, [], ◌∷◌, ◌++◌, length, take, Option, Some, None, Result, Ok, Err, IfSome, nat_lt, ◌==◌, if◌then◌else◌}
 use Rattle.std.specs.Int.{w16, w32, from_be_bytes}
-use Rattle.portmap_wire.specs.Registration.{Registration, IsRegistration}
+use Rattle.portmap_wire.specs.Node.{Node, IsNode}
 use Rattle.portmap_wire.specs.RequestReading.{name_in, fields_in}
 use Rattle.portmap_wire.specs.Reply.{alive_reply, port2_reply}
 use Rattle.portmap_wire.specs.declared.name.NameFault.{NameFault}
@@ -43,25 +43,25 @@ in_reply name_fault.TooLong = fault.Strange
 in_reply (name_fault.BadByte at) = fault.Strange
 
 -- fields that a registration can have
-abbrev pub with_name : Registration → Result (List ℕ) NameFault → Result (Option Registration) ReplyFault
+abbrev pub with_name : Node → Result (List ℕ) NameFault → Result (Option Node) ReplyFault
 with_name g (Ok name) = if nat_lt BODY_MOST (13 + length g.name + length g.extra) then Err fault.Strange else Ok (Some g)
 with_name g (Err e) = Err fault.Strange
 
-abbrev pub registered_answer : Option (Registration × List ℕ) → Result (Option Registration) ReplyFault
+abbrev pub registered_answer : Option (Node × List ℕ) → Result (Option Node) ReplyFault
 registered_answer None = Err fault.Short
 registered_answer (Some f) = with_name f.0 (name_in f.0.name)
 
-abbrev pub port2_result : List ℕ → Result (Option Registration) ReplyFault
+abbrev pub port2_result : List ℕ → Result (Option Node) ReplyFault
 port2_result [] = Err fault.Short
 port2_result (code ∷ rest) = if code == 0 then registered_answer (fields_in rest) else Ok None
 
-abbrev pub port2_answer : List ℕ → Result (Option Registration) ReplyFault
+abbrev pub port2_answer : List ℕ → Result (Option Node) ReplyFault
 port2_answer [] = Err fault.Short
 port2_answer (tag ∷ rest) = if tag == PORT2_RESP then port2_result rest else Err (fault.BadTag tag)
 
 -- a registration stands, as it is spelled, at the front of an answer
-pub record IsFound (bytes : List ℕ) (g : Registration) : Type 0 where
-  pub registration : IsRegistration g
+pub record IsFound (bytes : List ℕ) (g : Node) : Type 0 where
+  pub registration : IsNode g
   pub more : List ℕ
   pub text : bytes ≡ port2_reply (Some g) ++ more
 
@@ -83,4 +83,4 @@ abbrev pub AlivesAreReadBack : Type 0
 AlivesAreReadBack = (high code creation : ℕ) (more : List ℕ) → creation < 2 ^ 32 → (high < WIDE_VERSION → creation < 2 ^ 16) → alive_answer (alive_reply high code creation ++ more) ≡ Ok (told code creation)
 
 abbrev pub LookUpsAreReadBack : Type 0
-LookUpsAreReadBack = (found : Option Registration) (more : List ℕ) → IfSome found IsRegistration → port2_answer (port2_reply found ++ more) ≡ Ok found
+LookUpsAreReadBack = (found : Option Node) (more : List ℕ) → IfSome found IsNode → port2_answer (port2_reply found ++ more) ≡ Ok found

@@ -1,7 +1,7 @@
 -- How each request is spelled: ERTS User's Guide, EPMD Protocol. What spells no request is malformed.
 use Rattle.std.specs.Prelude.{◌≡◌, List, ℕ, [], ◌∷◌, ◌++◌, length}
 use Rattle.portmap_wire.specs.Name.{IsName}
-use Rattle.portmap_wire.specs.Registration.{IsRegistration, fields, be2}
+use Rattle.portmap_wire.specs.Node.{IsNode, fields, be2}
 use Rattle.portmap_wire.specs.declared.request.TheConstants.{ALIVE2_REQ, PORT_PLEASE2_REQ, NAMES_REQ, DUMP_REQ, KILL_REQ, STOP_REQ}
 use Rattle.portmap_wire.specs.declared.request.Request.{Request}
 use Rattle.portmap_wire.specs.declared.request.Request.TheVariants.{Alive, Port, Names, Dump, Kill, Stop}
@@ -17,7 +17,7 @@ body_of (Stop name) = STOP_REQ ∷ name
 
 -- its parts are ones that can be spelled
 abbrev pub IsRequest : Request → Type 0
-IsRequest (Alive g) = IsRegistration g
+IsRequest (Alive g) = IsNode g
 IsRequest (Port name) = IsName name
 IsRequest Names = Unit {0}
 IsRequest Dump = Unit {0}

@@ -3,7 +3,7 @@
 use Rattle.std.specs.Prelude.{◌≡◌, ℕ, ◌+◌, List, [], ◌∷◌, length, take, drop, slice_index, Option, Some, None, Result, Ok, Err, nat_lt, ◌==◌, position, if◌then◌else◌}
 use Rattle.std.specs.Int.{w16, from_be_bytes}
 use Rattle.portmap_wire.specs.Name.{is_control}
-use Rattle.portmap_wire.specs.Registration.{Registration}
+use Rattle.portmap_wire.specs.Node.{Node}
 use Rattle.portmap_wire.specs.declared.name.TheConstants.{NAME_MOST}
 use Rattle.portmap_wire.specs.declared.name.NameFault.{NameFault}
 use Rattle.portmap_wire.specs.declared.name.NameFault.TheVariants as name_fault
@@ -41,7 +41,7 @@ abbrev pub u16_in : List ℕ → ℕ → ℕ
 u16_in bytes at = from_be_bytes w16 (take 2 (drop at bytes))
 
 -- the fields at the front, and what follows them; nothing where they are not all there
-unfoldable pub fields_in : List ℕ → Option (Registration × List ℕ)
+unfoldable pub fields_in : List ℕ → Option (Node × List ℕ)
 fields_in q =
     if nat_lt (length q) 12 then None
     else if nat_lt (length q) (12 + u16_in q 8) then None
@@ -79,12 +79,12 @@ alone request [] = Ok request
 alone request (b ∷ bs) = Err malformed.LengthsDisagree
 
 -- a registration whose name was looked at
-abbrev pub with_name : Registration → Result (List ℕ) NameFault → Result Request Malformed
+abbrev pub with_name : Node → Result (List ℕ) NameFault → Result Request Malformed
 with_name g (Ok name) = Ok (Alive g)
 with_name g (Err fault) = Err (in_request fault)
 
 -- fields that fill the body
-abbrev pub filled : Option (Registration × List ℕ) → Result Request Malformed
+abbrev pub filled : Option (Node × List ℕ) → Result Request Malformed
 filled None = Err malformed.LengthsDisagree
 filled (Some f) = if length f.1 == 0 then with_name f.0 (name_in f.0.name) else Err malformed.LengthsDisagree
 

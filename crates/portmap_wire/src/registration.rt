@@ -47,13 +47,13 @@ pub struct Reg {
 }
 
 impl Model for Reg {
-    ghost use Rattle.portmap_wire.specs.Registration.{Registration, IsRegistration};
+    ghost use Rattle.portmap_wire.specs.Node.{Node, IsNode};
 
-    ghost Value = { Registration };
+    ghost Value = { Node };
 
     ghost view = { λ g. record { port = g.port; kind = g.kind; proto = g.proto; high = g.high; low = g.low; name = g.name; extra = g.extra.items } };
 
-    ghost invariant = { λ g. IsRegistration (record { port = g.port; kind = g.kind; proto = g.proto; high = g.high; low = g.low; name = g.name; extra = g.extra.items }) };
+    ghost invariant = { λ g. IsNode (record { port = g.port; kind = g.kind; proto = g.proto; high = g.high; low = g.low; name = g.name; extra = g.extra.items }) };
 }
 
 impl Reg {
@@ -128,7 +128,7 @@ impl PartialEq for Reg {
     ghost use Rattle.std.specs.Ordering.{on, eq_of_both};
     ghost use Rattle.std.proofs.Common.{rules};
     ghost use Rattle.std.specs.Cmp.Rules.{comparing};
-    ghost use Rattle.portmap_wire.specs.Registration.{are_same};
+    ghost use Rattle.portmap_wire.specs.Node.{are_same};
 
     ghost eq = { are_same };
 

@@ -1,7 +1,7 @@
 //! Writing a request.
 ghost use Rattle.std.specs.Prelude.{◌≡◌, ◌+◌, ◌≤◌, [], ◌∷◌, ◌++◌, length, IfOk};
 ghost use Rattle.portmap_wire.specs.Name.{IsName};
-ghost use Rattle.portmap_wire.specs.Registration.{be2};
+ghost use Rattle.portmap_wire.specs.Node.{be2};
 ghost use Rattle.portmap_wire.specs.Request.{IsRequest, Spells, body_of, sent};
 ghost use Rattle.portmap_wire.specs.declared.request.TheConstants.{BODY_MOST};
 ghost use Rattle.portmap_wire.specs.declared.request.Request.TheVariants.{Alive, Port, Stop};

@@ -148,6 +148,8 @@ impl<'a> Output for Tape<'a> {
 // A stream that takes all bytes and gives the letter `a` without end. It doesn't tell its bytes.
 #[derive(Drop)]
 pub struct Fountain {
+    /// How many bytes it has given.
+    pub given: usize,
     pulls: Past<Pull>,
     puts: Past<Put>,
 }
@@ -155,6 +157,7 @@ pub struct Fountain {
 impl Fountain {
     pub fn new() -> Fountain {
         Fountain {
+            given: 0,
             pulls: Past::new(),
             puts: Past::new(),
         }
@@ -178,6 +181,7 @@ impl Device for Fountain {
 impl Input for Fountain {
     fn pull(&mut self, buffer: &mut [u8]) -> Pull {
         buffer.fill(b'a');
+        self.given = self.given.saturating_add(buffer.len());
         let answer = Pull::Piece(buffer.len());
         self.pulls.note(&answer);
         answer
