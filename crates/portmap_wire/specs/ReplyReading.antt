@@ -76,11 +76,11 @@ GivesReply (Err fault.Strange) said = said ≡ Err fault.Strange
 -- ---- what was written is read, whatever follows it
 
 -- code 0 gives the creation, any other refuses
-abbrev pub told : ℕ → ℕ → AliveReply
-told code creation = if code == 0 then Given creation else Refused code
+abbrev pub given_or_refused : ℕ → ℕ → AliveReply
+given_or_refused code creation = if code == 0 then Given creation else Refused code
 
 abbrev pub AlivesAreReadBack : Type 0
-AlivesAreReadBack = (high code creation : ℕ) (more : List ℕ) → creation < 2 ^ 32 → (high < WIDE_VERSION → creation < 2 ^ 16) → alive_answer (alive_reply high code creation ++ more) ≡ Ok (told code creation)
+AlivesAreReadBack = (high code creation : ℕ) (more : List ℕ) → creation < 2 ^ 32 → (high < WIDE_VERSION → creation < 2 ^ 16) → alive_answer (alive_reply high code creation ++ more) ≡ Ok (given_or_refused code creation)
 
 abbrev pub LookUpsAreReadBack : Type 0
 LookUpsAreReadBack = (found : Option Node) (more : List ℕ) → IfSome found IsNode → port2_answer (port2_reply found ++ more) ≡ Ok found
