@@ -24,7 +24,7 @@ use Rattle.portmap_core.specs.Serving.{MayTake, Served, ServesBody, ToldAt, clos
 use Rattle.portmap_core.specs.Step.{Closed, Connected, Faulted, Late, Leaves, Opens, Outcome, Piece, Told, late_at, settled}
 use Rattle.portmap_core.specs.Owned.{IsStageFor, IsSlotFor, IsOwned}
 use Rattle.portmap_core.specs.Laws.{StepsKeepOwned}
-use Rattle.portmap_core.proofs.Slots.{put_same, put_other, cut_same, cut_other}
+use Rattle.portmap_core.proofs.Slots.{cut_other, cut_same, ended_open, put_other, put_same}
 
 -- ---- one slot
 
@@ -107,14 +107,6 @@ ended_slots names connections owner (Some connection) e all free others = slots_
 ended_len : (connections : ConnectionMap) (owner : ℕ) (o : Option Connection) → map.get connections owner ≡ o → map.len (ended_at owner o connections) ≡ map.len connections
 ended_len connections owner None e = refl
 ended_len connections owner (Some connection) e = len_open connections owner (at_stage connection Done) connection e
-
--- a slot that is open is open after it
-ended_open : (connections : ConnectionMap) (owner slot : ℕ) (o : Option Connection) (connection : Connection) → map.get connections owner ≡ o → map.get connections slot ≡ Some connection → (c : Connection) × (map.get (ended_at owner o connections) slot ≡ Some c)
-ended_open connections owner slot None connection e here = (connection, here)
-ended_open connections owner slot (Some ending) connection e here = elim (cases_eq slot owner) [
-  | inl same ↦ (at_stage ending Done, put_same connections owner slot (at_stage ending Done) same)
-  | inr ne ↦ (connection, put_other connections owner slot (at_stage ending Done) ne ∙ here)
-]
 
 -- a connection that is open, and owns no name
 module _ (cfg : Configuration) (s : State) (slot : ℕ) (connection : Connection) (owned : IsOwned cfg s) (here : map.get s.connections slot ≡ Some connection) (free : owns_name slot s.names ≡ false) where

@@ -153,6 +153,20 @@ insert_back m k a is = same _ _ (λ q.
 pub get_inserted : (m : ConnectionMap) (k : ℕ) (a : Connection) → map.get (map.insert m k a) k ≡ Some a
 get_inserted m k a = put_same m k k a refl
 
+-- a slot that is open stays so, with a peer as near
+abbrev pub StaysOpen : ConnectionMap → ℕ → Connection → Type 0
+StaysOpen connections slot connection = (found : Connection) × (map.get connections slot ≡ Some found) × (found.local ≡ connection.local)
+
+pub ended_open : (connections : ConnectionMap) (owner slot : ℕ) (o : Option Connection) (connection : Connection) → map.get connections owner ≡ o → map.get connections slot ≡ Some connection → StaysOpen (ended_at owner o connections) slot connection
+ended_open connections owner slot None connection e here = (connection, here, refl)
+ended_open connections owner slot (Some ending) connection e here = elim (cases_eq slot owner) [
+  | inl same ↦
+      let both : Some ending ≡ Some connection = sym e ∙ ap (λ (x : ℕ). map.get connections x) (sym same) ∙ here in
+      let one : ending ≡ connection = cc in
+      (at_stage ending Done, put_same connections owner slot (at_stage ending Done) same, ap (λ (x : Connection). x.local) one)
+  | inr ne ↦ (connection, put_other connections owner slot (at_stage ending Done) ne ∙ here, refl)
+]
+
 -- what was written at a slot before another one is stopped does not matter
 ended_alike : (m : ConnectionMap) (owner slot : ℕ) (a b : Connection) (o : Option Connection) → map.insert (ended_at owner o (map.insert m slot a)) slot b ≡ map.insert (ended_at owner o m) slot b
 ended_alike m owner slot a b None = insert_again m slot a b
@@ -172,5 +186,3 @@ stopped_alike m (Some owner) slot a b c = elim (cases_eq owner slot) [
 ]
 
 pub ruleset count_laws = (len-connections)
-
-pub ruleset map_laws = (insert_again, insert_back, get_inserted)
