@@ -21,7 +21,8 @@ use Rattle.portmap_core.specs.Config.{Configuration}
 use Rattle.portmap_core.specs.Connections.{ConnectionMap, at_stage, ended, ended_at}
 use Rattle.portmap_core.specs.State.{State, empty_state, state_of}
 use Rattle.portmap_core.specs.Serving.{MayTake, Served, ServesBody, ToldAt, closed, if_local, registers, served, stops}
-use Rattle.portmap_core.specs.Step.{Closed, Connected, Faulted, Late, Leaves, Opens, Outcome, Piece, Told, late_at, settled}
+use Rattle.portmap_core.specs.Entry.{Closed, Connected, Faulted, Late, Piece}
+use Rattle.portmap_core.specs.Step.{Leaves, Opens, Outcome, Told, late_at, settled}
 use Rattle.portmap_core.specs.Owned.{IsStageFor, IsSlotFor, IsOwned}
 use Rattle.portmap_core.specs.Laws.{StepsKeepOwned}
 use Rattle.portmap_core.proofs.Slots.{cut_other, cut_same, ended_open, put_other, put_same}

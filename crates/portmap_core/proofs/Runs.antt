@@ -20,7 +20,8 @@ use Rattle.portmap_core.specs.declared.connections.Stage.TheVariants.{Waiting, H
 use Rattle.portmap_core.specs.Config.{Configuration}
 use Rattle.portmap_core.specs.State.{State}
 use Rattle.portmap_core.specs.Serving.{Served, ServesBody, ToldAt}
-use Rattle.portmap_core.specs.Step.{Entry, Outcome, Settles, Told}
+use Rattle.portmap_core.specs.Entry.{Entry}
+use Rattle.portmap_core.specs.Step.{Outcome, Settles, Told}
 use Rattle.portmap_core.specs.Run.{Run}
 use Rattle.portmap_core.specs.Owned.{IsStageFor, IsSlotFor, IsOwned}
 use Rattle.portmap_core.specs.Laws.{IsBad, WrittenIsWhole, NamesBelong, NamesBelongToConnections, owners, MalformedChangesNoName}

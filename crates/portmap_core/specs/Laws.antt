@@ -11,7 +11,8 @@ use Rattle.portmap_core.specs.declared.connections.Connection.{Connection}
 use Rattle.portmap_core.specs.declared.connections.Stage.TheVariants.{Waiting, Holding}
 use Rattle.portmap_core.specs.Config.{Configuration, IsConfiguration}
 use Rattle.portmap_core.specs.State.{State, empty_state}
-use Rattle.portmap_core.specs.Step.{Entry, Step, Says}
+use Rattle.portmap_core.specs.Entry.{Entry}
+use Rattle.portmap_core.specs.Step.{Step, Says}
 use Rattle.portmap_core.specs.Run.{Run}
 use Rattle.portmap_core.specs.Owned.{IsOwned}
 

@@ -4,6 +4,7 @@ pub mod State
 pub mod Plain
 pub mod Serving
 pub mod Next
+pub mod Entry
 pub mod Step
 pub mod Run
 pub mod Refusal

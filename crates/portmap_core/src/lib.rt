@@ -12,7 +12,7 @@ mod state;
 
 pub use config::{Config, ConfigFault};
 pub use connections::Phase;
-pub use event::{Answer, Event, Fate, Refusal};
+pub use event::{Answer, Entry, Event, Fate, Refusal};
 pub use laws::{
     entries_determine, malformed_changes_no_name, names_belong_to_connections, steps_keep_owned,
     written_is_whole,
