@@ -1,8 +1,10 @@
+pub mod BySlotLaws
 pub mod Determined
+pub mod Judged
 pub mod Runs
 pub mod Lines
 pub mod Owned
-pub mod PlainLaws
+pub mod Served
 pub mod Slots
 pub mod Steps
 pub mod Traces

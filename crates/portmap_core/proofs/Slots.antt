@@ -1,5 +1,5 @@
 -- Slots as a finite map.
-use Rattle.std.proofs.Common.{◌≡◌, ◌≢◌, ℕ, suc, zero, ◌+◌, ◌<◌, ◌≤◌, Bool, true, false, cond, List, [], ◌∷◌, ◌++◌, length, get_or, set, Option, Some, None, refl, sym, ap, subst, ◌∙◌, arith, inl, inr, add_comm}
+use Rattle.std.proofs.Common.{◌≡◌, ◌≢◌, ℕ, suc, zero, ◌+◌, ◌<◌, ◌≤◌, Bool, true, false, cond, List, [], ◌∷◌, ◌++◌, length, get_or, set, take, Option, Some, None, refl, sym, ap, subst, ◌∙◌, arith, inl, inr, add_comm}
 use Rattle.std.specs.Prelude.{count_by, is_some}
 use Rattle.std.specs.Ordering.{nat_cmp, eq_by_cmp, is_eq}
 use Rattle.std.specs.declared.cmp.Ordering.TheVariants.{Less, Equal, Greater}
@@ -7,7 +7,7 @@ use Rattle.std.specs.FinMap as map
 use Rattle.std.specs.FinMap.{nat_cmp-IsAntisymmetric}
 use Rattle.std.specs.Cmp.{nat_cmp_is, nat_cmp_total}
 use Rattle.std.proofs.lemmas.Bool.{cases_eq, cases_lt, cases_order}
-use Rattle.std.proofs.lemmas.List.{get_or-set_same, get_or-set_other, get_or_past, get_or_push, get_or_append_left, length-append}
+use Rattle.std.proofs.lemmas.List.{take_more, length-take-le, get_or-set_same, get_or-set_other, get_or_past, get_or_push, get_or_append_left, length-append}
 use Rattle.std.proofs.lemmas.List.Sums.{sum_by-cons}
 use Rattle.portmap_core.specs.declared.connections.Connection.{Connection}
 use Rattle.portmap_core.specs.declared.connections.Stage.TheVariants.{Done}
@@ -44,7 +44,7 @@ pub get-connections : (slots : List (Option Connection)) (k : ℕ) → map.get (
 get-connections slots k = map.get-from_entries nat_cmp_total (entries_from 0 slots) k ∙ (let z : k ≡ 0 + k = omega arith in ap (λ (q : ℕ). map.find nat_cmp q (entries_from 0 slots)) z) ∙ at_slot 0 k slots
 
 -- a map is what it has at each key
-same : (m n : ConnectionMap) → ((q : ℕ) → map.get m q ≡ map.get n q) → m ≡ n
+pub same : (m n : ConnectionMap) → ((q : ℕ) → map.get m q ≡ map.get n q) → m ≡ n
 same m n h = map.same_map nat_cmp_total nat_cmp-IsAntisymmetric m n h
 
 -- what insert and remove leave at a key
@@ -96,6 +96,28 @@ connections_push slots connection = same _ _ (λ q.
         | inr gt ↦ get_or_past (slots ++ Some connection ∷ []) q None (omega (arith, length-append slots (Some connection ∷ []))) ∙ sym (put_other (connections_of slots) (length slots) q connection (λ (e : q ≡ length slots). omega arith) ∙ get-connections slots q ∙ get_or_past slots q None (omega arith))
       ]
     ])
+
+-- a slot that is free changes nothing
+past_free : (slots : List (Option Connection)) (q : ℕ) → get_or (slots ++ None ∷ []) q None ≡ get_or slots q None
+past_free [] zero = refl
+past_free [] (suc q) = refl
+past_free (x ∷ slots) zero = refl
+past_free (x ∷ slots) (suc q) = past_free slots q
+
+connections_free : (slots : List (Option Connection)) → connections_of (slots ++ None ∷ []) ≡ connections_of slots
+connections_free slots = same _ _ (λ q. get-connections (slots ++ None ∷ []) q ∙ past_free slots q ∙ sym (get-connections slots q))
+
+-- one slot more
+more : (slots : List (Option Connection)) (k : ℕ) (o p : Option Connection) → k < length slots → o ≡ get_or slots k o → o ≡ p → connections_of (take (k + 1) slots) ≡ connections_of (take k slots ++ p ∷ [])
+more slots k o p lt is e = ap connections_of (take_more slots k o lt ∙ ap (λ (x : Option Connection). take k slots ++ x ∷ []) (sym is ∙ e))
+
+pub slot_free : (slots : List (Option Connection)) (k : ℕ) (o : Option Connection) → k < length slots → o ≡ get_or slots k o → o ≡ None → connections_of (take (k + 1) slots) ≡ connections_of (take k slots)
+slot_free slots k o lt is e = more slots k o None lt is e ∙ connections_free (take k slots)
+
+pub slot_taken : (slots : List (Option Connection)) (k : ℕ) (o : Option Connection) (connection : Connection) → k < length slots → o ≡ get_or slots k o → o ≡ Some connection
+    → connections_of (take (k + 1) slots) ≡ map.insert (connections_of (take k slots)) k connection
+slot_taken slots k o connection lt is e =
+    more slots k o (Some connection) lt is e ∙ connections_push (take k slots) connection ∙ ap (λ (n : ℕ). map.insert (connections_of (take k slots)) n connection) (length-take-le k slots (let l : k < length slots = lt in omega arith))
 
 pub ruleset slot_laws = (get-connections, connections-set, connections-clear, connections_push, connections_without, get_or_past)
 

@@ -1,7 +1,8 @@
 -- The open connections, as a finite map from their slots.
-use Rattle.std.specs.Prelude.{ℕ, ◌+◌, List, [], ◌∷◌, Option, Some, None}
+use Rattle.std.specs.Prelude.{ℕ, ◌+◌, List, [], ◌∷◌, Option, Some, None, T}
 use Rattle.std.specs.Ordering.{nat_cmp}
 use Rattle.std.specs.FinMap as map
+use Rattle.std.specs.FinMap.Entries.{is_sorted}
 use Rattle.portmap_core.specs.declared.connections.Connection.{Connection}
 use Rattle.portmap_core.specs.declared.connections.Stage.{Stage}
 use Rattle.portmap_core.specs.declared.connections.Stage.TheVariants.{Done}
@@ -18,6 +19,10 @@ entries_from at (Some connection ∷ slots) = (at, connection) ∷ entries_from 
 -- the connections in slots, which are numbered from 0
 abbrev pub connections_of : List (Option Connection) → ConnectionMap
 connections_of slots = map.from_entries (entries_from 0 slots)
+
+-- each slot of a list is above the one before
+abbrev pub SlotsRise : List (ℕ × Connection) → Type 0
+SlotsRise entries = T (is_sorted nat_cmp entries)
 
 -- ---- changes
 

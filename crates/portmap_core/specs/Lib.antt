@@ -1,7 +1,6 @@
 pub mod Config
 pub mod Connections
 pub mod State
-pub mod Plain
 pub mod Serving
 pub mod Next
 pub mod Entry

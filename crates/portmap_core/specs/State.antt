@@ -52,6 +52,11 @@ abbrev pub names_code : Coded Row → Coded Names
 names_code row =
     code_by (List Row × List RetiredName) (coded× (coded_list row) (coded_list retired_code)) (λ names. (names.active, names.retired)) (λ p. record { active = p.0; retired = p.1 }) (λ _. refl)
 
+abbrev pub state_code : Coded Names → Coded Connection → Coded State
+state_code names connection =
+    code_by (Names × (ConnectionMap × Bool)) (coded× names (coded× (map.code coded_ℕ connection) coded_bool))
+    (λ s. (s.names, (s.connections, s.halted))) (λ p. record { names = p.0; connections = p.1.0; halted = p.1.1 }) (λ _. refl)
+
 -- the machine: its state under its configuration
 pub record Machine : Type 0 where
   pub config : Configuration

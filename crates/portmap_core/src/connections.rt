@@ -23,7 +23,7 @@ pub enum Phase {
 }
 
 /// Where a connection stands, with what it sent so far.
-#[derive(Drop)]
+#[derive(Clone, Debug, PartialEq, Eq, Drop)]
 pub(crate) enum Stage {
     Waiting(Feed),
     Holding,
@@ -31,7 +31,7 @@ pub(crate) enum Stage {
 }
 
 /// An open connection.
-#[derive(Drop)]
+#[derive(Clone, Debug, PartialEq, Eq, Drop)]
 pub(crate) struct Connection {
     pub(crate) local: bool,
     pub(crate) stage: Stage,

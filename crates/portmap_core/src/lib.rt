@@ -1,9 +1,11 @@
 //! The port mapper's machine: events in, answers out.
 #![tactic(auto)]
 
+mod by_slot;
 mod config;
 mod connections;
 mod event;
+mod judge;
 mod laws;
 mod locality;
 mod machine;

@@ -1,20 +1,20 @@
 //! What a waiting connection is told, and what becomes of the names, as functions over their parts.
-ghost use Rattle.std.specs.Prelude.{◌≡◌, ◌++◌, true, false, None, IfOk, IfErr, OnErr, map as list_map};
+ghost use Rattle.std.specs.Prelude.{◌≡◌, ℕ, ◌<◌, ◌^◌, ◌++◌, false, None, IfOk, IfErr, OnOk, OnErr, map as list_map};
 ghost use Rattle.std.specs.List.{flat_map};
 ghost use Rattle.portmap_feed.specs.Stream.{first_request};
-ghost use Rattle.portmap_wire.specs.declared.request.Request.TheVariants.{Alive};
+ghost use Rattle.portmap_wire.specs.declared.reply_writing.TheConstants.{WIDE_VERSION};
 ghost use Rattle.portmap_wire.specs.List.{names_reply, dump_line, dump_reply};
 ghost use Rattle.portmap_table.specs.Rows.{owns_name};
 ghost use Rattle.portmap_core.specs.declared.connections.Stage.TheVariants.{Done};
 ghost use Rattle.portmap_core.specs.declared.event.Fate.TheVariants.{Close};
-ghost use Rattle.portmap_core.specs.Serving.{Serves, ServesBody, ToldAt, active_line, dump_lines, dump_served, kill_served, names_line_of, names_served, port_served, retired_line, stop_served};
-ghost use Rattle.portmap_core.specs.Next.{served_with};
+ghost use Rattle.portmap_core.specs.Serving.{MayTake, Serves, ServesBody, ToldAt, active_line, alive_served, dump_lines, dump_served, kill_served, names_line_of, names_served, port_served, retired_line, served, stop_served};
+ghost use Rattle.portmap_core.specs.Next.{CreationFits, IsOffered, Tells, changed, offered_creation, served_with};
 
 use crate::config::Config;
 use crate::connections::Stage;
 use crate::event::Fate;
 use portmap_feed::{Feed, Seen};
-use portmap_table::{RegFault, Table};
+use portmap_table::{Names, Table};
 use portmap_wire::{
     ListReply, Malformed, Name, NoMemory, Reg, Request, read_request, write_alive, write_port2,
 };
@@ -31,7 +31,7 @@ pub(crate) struct Next {
 }
 
 /// A reply, and a close.
-fn replied(reply: Vec<u8>) -> Next
+pub(crate) fn replied(reply: Vec<u8>) -> Next
     ensures text { result.reply.items ≡ reply.items }
     ensures fate { result.fate ≡ Close }
     ensures stage { result.stage ≡ Done }
@@ -46,12 +46,12 @@ fn replied(reply: Vec<u8>) -> Next
 }
 
 /// NAMES_REQ: a line for each active name, in order of registration.
-fn names_text(alloc: Global, port: u16, table: &Table) -> Result<Vec<u8>, NoMemory>
-    ensures { IfOk result (λ v. v.items ≡ names_reply port (list_map names_line_of table.now.names.active)) }
+fn names_text(alloc: Global, port: u16, names: &Names) -> Result<Vec<u8>, NoMemory>
+    ensures { IfOk result (λ v. v.items ≡ names_reply port (list_map names_line_of names.now.active)) }
 {
     let mut reply = ListReply::new(alloc, port)?;
-    for i in 0..table.active_len() {
-        let Some(row) = table.active_at(i) else {
+    for i in 0..names.active_len() {
+        let Some(row) = names.active_at(i) else {
             unreachable!()
         };
         let reg = &row.reg;
@@ -60,26 +60,26 @@ fn names_text(alloc: Global, port: u16, table: &Table) -> Result<Vec<u8>, NoMemo
     Ok(reply.into_bytes())
 }
 
-fn names(alloc: Global, config: &Config, table: &Table) -> Result<Next, NoMemory>
-    ensures { IfOk result (λ next. served_with next table.now.names ≡ names_served config.now table.now.names) }
+fn list(alloc: Global, config: &Config, names: &Names) -> Result<Next, NoMemory>
+    ensures { IfOk result (λ next. Tells next (names_served config.now names.now)) }
 {
-    Ok(replied(names_text(alloc, config.port, table)?))
+    Ok(replied(names_text(alloc, config.port, names)?))
 }
 
 /// PORT_PLEASE2_REQ.
-fn port(alloc: Global, table: &Table, name: &Name) -> Result<Next, NoMemory>
-    ensures { IfOk result (λ next. served_with next table.now.names ≡ port_served table.now.names name.now) }
+fn port(alloc: Global, names: &Names, name: &Name) -> Result<Next, NoMemory>
+    ensures { IfOk result (λ next. Tells next (port_served names.now name.now)) }
 {
-    let found = table.find(name).map(|row| &row.reg);
+    let found = names.find(name).map(|row| &row.reg);
     Ok(replied(write_port2(alloc, found)?))
 }
 
 /// Lines of DUMP_REQ, one for each active name.
-fn dump_active(mut reply: ListReply, table: &Table) -> Result<ListReply, NoMemory>
-    ensures { IfOk result (λ r. r ≡ reply ++ flat_map dump_line (list_map active_line table.now.names.active)) }
+fn dump_active(mut reply: ListReply, names: &Names) -> Result<ListReply, NoMemory>
+    ensures { IfOk result (λ r. r ≡ reply ++ flat_map dump_line (list_map active_line names.now.active)) }
 {
-    for i in 0..table.active_len() {
-        let Some(row) = table.active_at(i) else {
+    for i in 0..names.active_len() {
+        let Some(row) = names.active_at(i) else {
             unreachable!()
         };
         let reg = &row.reg;
@@ -89,11 +89,11 @@ fn dump_active(mut reply: ListReply, table: &Table) -> Result<ListReply, NoMemor
 }
 
 /// Lines of DUMP_REQ, one for each retired name.
-fn dump_retired(mut reply: ListReply, table: &Table) -> Result<ListReply, NoMemory>
-    ensures { IfOk result (λ r. r ≡ reply ++ flat_map dump_line (list_map retired_line table.now.names.retired)) }
+fn dump_retired(mut reply: ListReply, names: &Names) -> Result<ListReply, NoMemory>
+    ensures { IfOk result (λ r. r ≡ reply ++ flat_map dump_line (list_map retired_line names.now.retired)) }
 {
-    for i in 0..table.retired_len() {
-        let Some(old) = table.retired_at(i) else {
+    for i in 0..names.retired_len() {
+        let Some(old) = names.retired_at(i) else {
             unreachable!()
         };
         reply = reply.with_dump_line(old.name, old.port, None)?;
@@ -102,24 +102,24 @@ fn dump_retired(mut reply: ListReply, table: &Table) -> Result<ListReply, NoMemo
 }
 
 /// DUMP_REQ: the active names, and then the retired ones in order of retirement.
-fn dump_text(alloc: Global, port: u16, table: &Table) -> Result<Vec<u8>, NoMemory>
-    ensures { IfOk result (λ v. v.items ≡ dump_reply port (dump_lines table.now.names)) }
+fn dump_text(alloc: Global, port: u16, names: &Names) -> Result<Vec<u8>, NoMemory>
+    ensures { IfOk result (λ v. v.items ≡ dump_reply port (dump_lines names.now)) }
 {
-    let active = dump_active(ListReply::new(alloc, port)?, table)?;
-    Ok(dump_retired(active, table)?.into_bytes())
+    let active = dump_active(ListReply::new(alloc, port)?, names)?;
+    Ok(dump_retired(active, names)?.into_bytes())
 }
 
-fn dump(alloc: Global, config: &Config, table: &Table) -> Result<Next, NoMemory>
-    ensures { IfOk result (λ next. served_with next table.now.names ≡ dump_served config.now table.now.names) }
+fn dump(alloc: Global, config: &Config, names: &Names) -> Result<Next, NoMemory>
+    ensures { IfOk result (λ next. Tells next (dump_served config.now names.now)) }
 {
-    Ok(replied(dump_text(alloc, config.port, table)?))
+    Ok(replied(dump_text(alloc, config.port, names)?))
 }
 
 /// KILL_REQ.
-fn kill(alloc: Global, config: &Config, table: &Table) -> Result<Next, NoMemory>
-    ensures { IfOk result (λ next. served_with next table.now.names ≡ kill_served config.now table.now.names) }
+fn kill(alloc: Global, config: &Config, names: &Names) -> Result<Next, NoMemory>
+    ensures { IfOk result (λ next. Tells next (kill_served config.now names.now)) }
 {
-    if table.active_len() > 0 && !config.relaxed {
+    if names.active_len() > 0 && !config.relaxed {
         return Ok(replied(Vec::from_slice(alloc, b"NO")?));
     }
     Ok(Next {
@@ -130,62 +130,107 @@ fn kill(alloc: Global, config: &Config, table: &Table) -> Result<Next, NoMemory>
     })
 }
 
-/// STOP_REQ. The reply is written first, so that for want of memory nothing is changed.
-fn stop(alloc: Global, config: &Config, table: &mut Table, name: &Name) -> Result<Next, NoMemory>
-    ensures ok { IfOk result (λ next. served_with next table.new.names ≡ stop_served config.now table.old.names name.now) }
-    ensures limit { table.new.known_max ≡ table.old.known_max }
-    ensures err { OnErr result (table.new ≡ table.old) }
+/// STOP_REQ.
+fn stop(alloc: Global, config: &Config, names: &Names, name: &Name) -> Result<Next, NoMemory>
+    ensures { IfOk result (λ next. Tells next (stop_served config.now names.now name.now)) }
 {
     if !config.relaxed {
         return Ok(replied(Vec::new(alloc)));
     }
-    let Some(owner) = table.owner(name) else {
+    let Some(owner) = names.owner(name) else {
         return Ok(replied(Vec::from_slice(alloc, b"NOEXIST")?));
     };
-    let reply = Vec::from_slice(alloc, b"STOPPED")?;
-    table.retire(owner);
     Ok(Next {
         stage: Stage::Done,
-        reply,
+        reply: Vec::from_slice(alloc, b"STOPPED")?,
         fate: Fate::Close,
         stopped: Some(owner),
     })
 }
 
-/// ALIVE2_REQ of a local peer. The reply is written first, so that for want of memory nothing is changed.
+/// ALIVE2_REQ of a local peer, with this creation where the name registers.
 fn alive(
     alloc: Global,
     config: &Config,
-    table: &mut Table,
-    slot: u64,
-    reg: Reg,
+    names: &Names,
+    reg: &Reg,
+    creation: u32,
 ) -> Result<Next, NoMemory>
-    requires free { owns_name slot table.old.names ≡ false }
-    requires limit { table.old.known_max ≡ config.now.known_max }
-    ensures ok { IfOk result (λ next. Serves config.now table.old.names true slot (Alive reg) (served_with next table.new.names)) }
-    ensures limit { table.new.known_max ≡ table.old.known_max }
-    ensures err { OnErr result (table.new ≡ table.old) }
+    requires { reg.now.high < WIDE_VERSION → creation < 2 ^ 16 }
+    ensures { IfOk result (λ next. (slot : ℕ) → Tells next (alive_served config.now names.now slot reg.now creation)) }
 {
-    match table.offer(&reg.name, reg.high) {
-        Ok(creation) => {
-            let reply = write_alive(alloc, reg.high, 0, creation)?;
-            match table.register(reg, slot) {
-                Ok(_) => Ok(Next {
-                    stage: Stage::Holding,
-                    reply,
-                    fate: Fate::Stay,
-                    stopped: None,
-                }),
-                Err(_) => Err(NoMemory),
-            }
+    if names.is_active(&reg.name) {
+        return Ok(replied(write_alive(alloc, reg.high, 1, 0)?));
+    }
+    if names.is_full_for(config.known_max, &reg.name) {
+        return Ok(replied(write_alive(alloc, reg.high, 2, 0)?));
+    }
+    Ok(Next {
+        stage: Stage::Holding,
+        reply: write_alive(alloc, reg.high, 0, creation)?,
+        fate: Fate::Stay,
+        stopped: None,
+    })
+}
+
+/// What a request is told, with this creation where a name registers. Nothing is changed yet, so that for want of memory
+/// nothing is.
+pub(crate) fn told(
+    alloc: Global,
+    config: &Config,
+    names: &Names,
+    local: bool,
+    request: &Request,
+    creation: u32,
+) -> Result<Next, NoMemory>
+    requires { CreationFits request.now creation }
+    ensures { IfOk result (λ next. (slot : ℕ) → Tells next (served config.now names.now local slot request.now creation)) }
+{
+    match request {
+        Request::Names => list(alloc, config, names),
+        Request::Port(name) => port(alloc, names, name),
+        Request::Dump if local => dump(alloc, config, names),
+        Request::Kill if local => kill(alloc, config, names),
+        Request::Stop(name) if local => stop(alloc, config, names, name),
+        Request::Alive(reg) if local => alive(alloc, config, names, reg, creation),
+        Request::Dump | Request::Kill | Request::Stop(_) | Request::Alive(_) => {
+            Ok(replied(Vec::new(alloc)))
         }
-        Err(RegFault::Taken) => Ok(replied(write_alive(alloc, reg.high, 1, 0)?)),
-        Err(RegFault::NoRoom) => Ok(replied(write_alive(alloc, reg.high, 2, 0)?)),
-        Err(RegFault::NoMemory) => Err(NoMemory),
     }
 }
 
-/// What a request is told.
+/// The creation that the table offers for a request, or 0 where it offers none.
+fn creation_for(table: &Table, request: &Request) -> u32
+    ensures exact { result ≡ offered_creation table.now request.now }
+    ensures fits { CreationFits request.now result }
+    ensures legal { IsOffered table.now request.now → MayTake table.now.names request.now result }
+{
+    match request {
+        Request::Alive(reg) => table.offer(&reg.name, reg.high).unwrap_or(0),
+        Request::Port(_) | Request::Names | Request::Dump | Request::Kill | Request::Stop(_) => 0,
+    }
+}
+
+/// What a request was told is put into the table.
+fn change(table: &mut Table, slot: u64, request: Request, next: &Next) -> Result<(), NoMemory>
+    requires { owns_name slot table.old.names ≡ false }
+    ensures ok { OnOk result (table.new.names ≡ changed next.now.stage next.now.stopped slot request (offered_creation table.old request) table.old.names) }
+    ensures limit { table.new.known_max ≡ table.old.known_max }
+    ensures err { OnErr result (table.new ≡ table.old) }
+{
+    if let (Request::Alive(reg), Stage::Holding) = (request, &next.stage) {
+        return match table.register(reg, slot) {
+            Ok(_) => Ok(()),
+            Err(_) => Err(NoMemory),
+        };
+    }
+    if let Some(owner) = next.stopped {
+        table.retire(owner);
+    }
+    Ok(())
+}
+
+/// What a request is told, and what becomes of the names.
 fn answer(
     alloc: Global,
     config: &Config,
@@ -200,17 +245,10 @@ fn answer(
     ensures limit { table.new.known_max ≡ table.old.known_max }
     ensures err { OnErr result (table.new ≡ table.old) }
 {
-    match request {
-        Request::Names => names(alloc, config, table),
-        Request::Port(name) => port(alloc, table, &name),
-        Request::Dump if local => dump(alloc, config, table),
-        Request::Kill if local => kill(alloc, config, table),
-        Request::Stop(name) if local => stop(alloc, config, table, &name),
-        Request::Alive(reg) if local => alive(alloc, config, table, slot, reg),
-        Request::Dump | Request::Kill | Request::Stop(_) | Request::Alive(_) => {
-            Ok(replied(Vec::new(alloc)))
-        }
-    }
+    let creation = creation_for(table, &request);
+    let next = told(alloc, config, table.names(), local, &request, creation)?;
+    change(table, slot, request, &next)?;
+    Ok(next)
 }
 
 /// What a whole body is told.

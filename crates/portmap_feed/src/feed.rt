@@ -103,6 +103,40 @@ impl Model for Feed {
     ghost invariant = { λ feed. kept feed.bytes.items ≡ feed.bytes.items };
 }
 
+impl Clone for Feed {
+    ghost use Rattle.std.specs.Prelude.{◌≡◌};
+
+    ghost is_clone = { λ feed copy. copy ≡ feed };
+
+    fn clone(&self) -> Result<Feed, NoMemory> {
+        Ok(Feed {
+            bytes: self.bytes.clone()?,
+        })
+    }
+}
+
+impl PartialEq for Feed {
+    ghost use Rattle.std.specs.Prelude.{◌==◌};
+    ghost use Rattle.std.specs.Cmp.Lexicographic.{pointwise};
+    ghost use Rattle.std.proofs.Common.{rules};
+    ghost use Rattle.std.specs.Cmp.Rules.{comparing};
+
+    ghost eq = { pointwise ◌==◌ };
+
+    ghost laws = { Prim.search (comparing, rules) };
+
+    fn eq(&self, other: &Feed) -> bool {
+        self.bytes.as_slice() == other.bytes.as_slice()
+    }
+}
+
+impl Eq for Feed {
+    ghost use Rattle.std.proofs.Common.{rules};
+    ghost use Rattle.std.specs.Cmp.Rules.{comparing};
+
+    ghost laws = { Prim.search (comparing, rules) };
+}
+
 impl Feed {
     /// A feed that has received nothing. It takes no memory.
     #[tactic(auto, unfolding(crate::specs::Stream::kept))]

@@ -1,5 +1,5 @@
 //! Which creation a node is given.
-ghost use Rattle.std.specs.Prelude.{◌≡◌};
+ghost use Rattle.std.specs.Prelude.{◌≡◌, ◌↔◌, IsTrue};
 ghost use Rattle.portmap_table.specs.Creation.{IsCounter, IsLegalCreation, IsCreationFor, ChoiceIsLegal, choice, counter_after, short_choice, successor, wide_choice};
 
 use portmap_wire::WIDE_VERSION;
@@ -36,6 +36,23 @@ fn short_choice(last: Option<u32>) -> u32
         Some(last) if 1 <= last && last <= SHORT_MOST => last % SHORT_MOST + 1,
         _ => 1,
     }
+}
+
+/// Whether a name may get this creation from a node of this highest version, where the last one is remembered for it.
+pub fn is_legal(high: u16, last: Option<u32>, creation: u32) -> bool
+    ensures { IsTrue result ↔ IsLegalCreation high last creation }
+{
+    let least = if high < WIDE_VERSION {
+        1
+    } else {
+        COUNTER_LEAST
+    };
+    let most = if high < WIDE_VERSION {
+        SHORT_MOST
+    } else {
+        u32::MAX
+    };
+    least <= creation && creation <= most && last != Some(creation)
 }
 
 /// A creation for a node of this highest version, whose name had the last one.

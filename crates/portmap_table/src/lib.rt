@@ -3,11 +3,14 @@
 
 mod creation;
 mod laws;
+mod names;
+mod parts;
 mod place;
 mod row;
 mod table;
 
-pub use creation::choice_is_legal;
+pub use creation::{choice_is_legal, is_legal};
 pub use laws::{names_outlive_connections, newest_names_stand_last, other_names_stay};
+pub use names::Names;
 pub use row::{Old, Retired, Row};
 pub use table::{RegFault, Table};

@@ -7,5 +7,5 @@ use Rattle.portmap_core.proofs.serve.dump_active.Goals as goal
 
 pub loop-i-preserved : goal.loop-i-preserved
 loop-i-preserved c =
-    with_line dump_line active_line c.args.table.now.names.active c.loop-i.i c.in-Some.row.now c.args.reply c.loop-i.reply c.in_ok-reply.reply (sym c.in-Some.ensures) c.loop-i.invariant
+    with_line dump_line active_line c.args.names.now.active c.loop-i.i c.in-Some.row.now c.args.reply c.loop-i.reply c.in_ok-reply.reply (sym c.in-Some.ensures) c.loop-i.invariant
     (c.in_ok-reply.ensures ∙ ap (λ (g : Node). c.loop-i.reply ++ dump_line (record { name = g.name; port = g.port; slot = Some c.in-Some.row.now.slot })) c.reg.view_is)

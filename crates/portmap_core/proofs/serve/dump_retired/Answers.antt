@@ -7,4 +7,4 @@ use Rattle.portmap_core.proofs.serve.dump_retired.Goals as goal
 
 pub loop-i-preserved : goal.loop-i-preserved
 loop-i-preserved c =
-    with_line dump_line retired_line c.args.table.now.names.retired c.loop-i.i (retired_name c.in-Some.old) c.args.reply c.loop-i.reply c.in_ok-reply.reply (sym c.in-Some.ensures) c.loop-i.invariant c.in_ok-reply.ensures
+    with_line dump_line retired_line c.args.names.now.retired c.loop-i.i (retired_name c.in-Some.old) c.args.reply c.loop-i.reply c.in_ok-reply.reply (sym c.in-Some.ensures) c.loop-i.invariant c.in_ok-reply.ensures

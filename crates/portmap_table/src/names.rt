@@ -1,0 +1,199 @@
+//! The names that are known, active and retired.
+ghost use Rattle.std.specs.Prelude.{◌≡◌, ◌↔◌, false, IsTrue, length, option_copied, option_map, slice_get, Some, IfOk, OnOk, OnErr, position, [], ◌∷◌, ◌++◌, ◌+◌, ◌<◌, ◌≤◌, vec_len, vec_capacity};
+ghost use Rattle.portmap_table.specs.Rows.{active_row, is_active, is_full_for, no_names, owner_of, owns_name, registered, remembered, retired_at, retired_name, retired_of, same_name, without_at};
+
+use crate::parts::{copy_all, same_all};
+use crate::place::{active_row, forget, last_creation, slot_place};
+use crate::row::{Old, Retired, Row};
+use portmap_wire::{Name, NoMemory, Reg};
+use std::alloc::Global;
+use std::marker::Model;
+
+/// The names that are known.
+#[derive(Debug, Drop)]
+pub struct Names {
+    active: Vec<Row>,
+    // It has room for each active row besides, so that retiring takes no memory.
+    retired: Vec<Old>,
+}
+
+impl Model for Names {
+    ghost use Rattle.std.specs.Prelude.{◌+◌, ◌≤◌, vec_len, vec_capacity};
+    ghost use Rattle.portmap_table.specs.Rows.{Names};
+
+    ghost Value = { Names };
+
+    ghost view = { λ n. record { active = n.active.items; retired = n.retired.items } };
+
+    ghost invariant = { λ n. vec_len n.active + vec_len n.retired ≤ vec_capacity n.retired };
+}
+
+/// Makes room for one more active row, and for that and each other one among the retired names.
+fn make_room(active: &mut Vec<Row>, retired: &mut Vec<Old>) -> Result<(), NoMemory>
+    ensures active { active.new.items ≡ active.old.items }
+    ensures retired { retired.new.items ≡ retired.old.items }
+    ensures room { OnOk result (vec_len active.new < vec_capacity active.new) }
+    ensures retired_room { OnOk result (vec_len active.new + vec_len retired.new < vec_capacity retired.new) }
+    ensures kept { vec_capacity retired.old ≤ vec_capacity retired.new }
+{
+    retired.reserve(active.len() + 1)?;
+    active.reserve(1)
+}
+
+/// A name becomes the last active one, and is a retired one no more.
+fn enter(active: &mut Vec<Row>, retired: &mut Vec<Old>, row: Row)
+    requires { vec_len active.old < vec_capacity active.old }
+    ensures active { active.new.items ≡ active.old.items ++ row ∷ [] }
+    ensures retired { retired.new.items ≡ without_at (position (λ old. same_name old.name row.reg.name) retired.old.items) retired.old.items }
+    ensures few { vec_len active.new + vec_len retired.new ≤ vec_len active.old + vec_len retired.old + 1 }
+    ensures room { vec_capacity retired.new ≡ vec_capacity retired.old }
+{
+    forget(retired, &row.reg.name);
+    active.push_reserved(row);
+}
+
+/// The active name at this place becomes the last retired one.
+fn leave(active: &mut Vec<Row>, retired: &mut Vec<Old>, at: usize)
+    requires place { at < vec_len active.old }
+    requires room { vec_len retired.old < vec_capacity retired.old }
+    ensures names { retired_at (Some at) (record { active = active.old.items; retired = retired.old.items }) ≡ record { active = active.new.items; retired = retired.new.items } }
+    ensures few { vec_len active.new + vec_len retired.new ≡ vec_len active.old + vec_len retired.old }
+    ensures room { vec_capacity retired.new ≡ vec_capacity retired.old }
+{
+    let row = active.remove(at);
+    retired.push_reserved(Old::of(row));
+}
+
+impl Names {
+    /// None is known. It takes no memory.
+    pub fn new(alloc: Global) -> Names
+        ensures { result ≡ no_names }
+    {
+        Names {
+            active: Vec::new(alloc),
+            retired: Vec::new(alloc),
+        }
+    }
+
+    /// A name becomes active, with this creation, and is owned by the connection in this slot.
+    pub fn register(&mut self, reg: Reg, creation: u32, slot: u64) -> Result<(), NoMemory>
+        ensures ok { OnOk result (self.new ≡ registered reg creation slot self.old) }
+        ensures err { OnErr result (self.new ≡ self.old) }
+    {
+        make_room(&mut self.active, &mut self.retired)?;
+        let row = Row {
+            reg,
+            creation,
+            slot,
+        };
+        enter(&mut self.active, &mut self.retired, row);
+        Ok(())
+    }
+
+    /// Retires the name that a slot owns, and says whether it owned one. It takes no memory.
+    pub fn retire(&mut self, slot: u64) -> bool
+        ensures found { result ≡ owns_name slot self.old }
+        ensures retired { self.new ≡ retired_of slot self.old }
+    {
+        match slot_place(self.active.as_slice(), slot) {
+            None => false,
+            Some(at) => {
+                leave(&mut self.active, &mut self.retired, at);
+                true
+            }
+        }
+    }
+
+    /// The row of an active name.
+    pub fn find(&self, name: &Name) -> Option<&Row>
+        ensures { option_copied result ≡ active_row name.now self.now }
+    {
+        active_row(self.active.as_slice(), name)
+    }
+
+    /// The slot that owns an active name.
+    pub fn owner(&self, name: &Name) -> Option<u64>
+        ensures { result ≡ owner_of name.now self.now }
+    {
+        self.find(name).map(|row| row.slot)
+    }
+
+    /// Whether a slot owns an active name.
+    pub(crate) fn holds(&self, slot: u64) -> bool
+        ensures { result ≡ owns_name slot self.now }
+    {
+        slot_place(self.active.as_slice(), slot).is_some()
+    }
+
+    /// Whether a name is active.
+    pub fn is_active(&self, name: &Name) -> bool
+        ensures { result ≡ is_active name.now self.now }
+    {
+        self.find(name).is_some()
+    }
+
+    /// The creation that is remembered for a retired name.
+    pub fn remembered(&self, name: &Name) -> Option<u32>
+        ensures { result ≡ remembered name.now self.now }
+    {
+        last_creation(self.retired.as_slice(), name)
+    }
+
+    /// Whether as many names are known as may be, and this is none of them.
+    pub fn is_full_for(&self, known_max: u32, name: &Name) -> bool
+        ensures { result ≡ is_full_for known_max name.now self.now }
+    {
+        let Names { active, retired } = self;
+        active.len() + retired.len() >= known_max as usize
+            && !self.is_active(name)
+            && self.remembered(name).is_none()
+    }
+
+    /// How many names are active.
+    pub fn active_len(&self) -> usize
+        ensures { result ≡ length self.now.active }
+    {
+        self.active.len()
+    }
+
+    /// The active name at this place, in order of registration.
+    pub fn active_at(&self, i: usize) -> Option<&Row>
+        ensures { option_copied result ≡ slice_get self.now.active i }
+    {
+        self.active.get(i)
+    }
+
+    /// How many names are retired.
+    pub fn retired_len(&self) -> usize
+        ensures { result ≡ length self.now.retired }
+    {
+        self.retired.len()
+    }
+
+    /// The retired name at this place, in order of retirement.
+    pub fn retired_at(&self, i: usize) -> Option<Retired<'_>>
+        ensures { option_map retired_name result ≡ slice_get self.now.retired i }
+    {
+        self.retired.get(i).map(|old| old.lend())
+    }
+
+    /// A second one.
+    pub fn try_copy(&self, alloc: Global) -> Result<Names, NoMemory>
+        ensures same { IfOk result (λ copy. copy ≡ self.now) }
+    {
+        let active = copy_all(alloc, self.active.as_slice())?;
+        let mut retired = copy_all(alloc, self.retired.as_slice())?;
+        retired.reserve(active.len())?;
+        Ok(Names { active, retired })
+    }
+
+    /// Whether they are the same in every respect. It takes no memory.
+    pub fn same(&self, other: &Names) -> bool
+        ensures { IsTrue result ↔ (self.now ≡ other.now) }
+    {
+        if !same_all(self.active.as_slice(), other.active.as_slice()) {
+            return false;
+        }
+        same_all(self.retired.as_slice(), other.retired.as_slice())
+    }
+}
