@@ -9,8 +9,6 @@ mod lists;
 mod outcome;
 mod query;
 mod registration;
-#[cfg(test)]
-mod tests;
 
 pub use crate::commands::{kill, stop};
 pub use crate::fault::ClientFault;

@@ -23,8 +23,3 @@ pub use locality::{Ip, is_local};
 pub use machine::Core;
 pub use portmap_wire::NoMemory;
 pub use state::State;
-
-#[cfg(test)]
-mod large_values;
-#[cfg(test)]
-mod tests;

@@ -219,6 +219,3 @@ impl Feed {
         self.bytes.truncate(len);
     }
 }
-
-#[cfg(test)]
-mod tests;

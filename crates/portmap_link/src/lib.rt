@@ -6,8 +6,6 @@ mod device;
 mod outbox;
 mod past;
 mod single;
-#[cfg(test)]
-mod tests;
 
 pub use crate::adapters::{Both, Reading, Writing};
 pub use crate::device::{Device, Input, Output, Pull, Put};

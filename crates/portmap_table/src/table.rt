@@ -167,6 +167,3 @@ impl Table {
         self.names.retired_at(i)
     }
 }
-
-#[cfg(test)]
-mod tests;

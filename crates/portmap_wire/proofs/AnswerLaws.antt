@@ -13,7 +13,7 @@ use Rattle.std.proofs.lemmas.Bool.{le-ltb}
 use Rattle.portmap_wire.specs.declared.reply_reading.ReplyFault.TheVariants as fault
 use Rattle.portmap_wire.specs.ReplyReading.{registered_answer, with_name, port2_result, port2_answer, GivesReply, IsFound, LookUpsAreReadBack}
 use Rattle.portmap_wire.proofs.FieldLemmas.{FitsFields, fields_again, fields_take}
-use Rattle.portmap_wire.proofs.RequestLaws.{name_again, name_takes}
+use Rattle.portmap_wire.proofs.RequestLaws.{guard, guard_after, name_again, name_takes}
 
 pub look_ups : LookUpsAreReadBack
 look_ups None more h = refl
@@ -26,14 +26,6 @@ look_ups (Some g) more is =
 
 -- ---- what is found is spelled so
 
-passed : {A E : Type 0} (b : Bool) (d : E) (r : Result A E) (y : A) → cond b (Err d) r ≡ Ok y → (b ≡ false) × (r ≡ Ok y)
-passed true d r y e = absurd cc
-passed false d r y e = (refl, e)
-
-tagged : {A E : Type 0} (b : Bool) (d : E) (r : Result A E) (y : A) → cond b r (Err d) ≡ Ok y → (b ≡ true) × (r ≡ Ok y)
-tagged true d r y e = (refl, e)
-tagged false d r y e = absurd cc
-
 coded : (b : Bool) (r : Result (Option Node) ReplyFault) (g : Node) → cond b r (Ok None) ≡ Ok (Some g) → (b ≡ true) × (r ≡ Ok (Some g))
 coded true r g e = (refl, e)
 coded false r g e = absurd cc
@@ -42,7 +34,7 @@ same_found : (h g : Node) → ◌≡◌ {A = Result (Option Node) ReplyFault} (O
 same_found h g e = cc
 
 named_takes : (h g : Node) (read : Result (List ℕ) NameFault) → with_name h read ≡ Ok (Some g) → (n : List ℕ) × (read ≡ Ok n) × (ltb BODY_MOST (13 + length h.name + length h.extra) ≡ false) × (h ≡ g)
-named_takes h g (Ok n) e = let a = passed (ltb BODY_MOST (13 + length h.name + length h.extra)) fault.Strange (Ok (Some h)) (Some g) e in (n, refl, a.0, same_found h g a.1)
+named_takes h g (Ok n) e = let a = guard (ltb BODY_MOST (13 + length h.name + length h.extra)) fault.Strange (Ok (Some h)) (Some g) e in (n, refl, a.0, same_found h g a.1)
 named_takes h g (Err f) e = absurd cc
 
 registered_takes : (o : Option (Node × List ℕ)) (g : Node) → registered_answer o ≡ Ok (Some g) → (f : Node × List ℕ) × (o ≡ Some f) × (with_name f.0 (name_in f.0.name) ≡ Ok (Some g))
@@ -74,9 +66,9 @@ fields_behind rest g fits e =
 pub look_up_takes : (q : List ℕ) (g : Node) → IsBytes q → port2_answer q ≡ Ok (Some g) → IsFound q g
 unfolding Behind
 look_up_takes [] g fits e = absurd cc
-look_up_takes (tag ∷ []) g fits e = absurd (let a = tagged (eqb tag PORT2_RESP) (fault.BadTag tag) (Err fault.Short) (Some g) e in let no : ◌≡◌ {A = Result (Option Node) ReplyFault} (Err fault.Short) (Ok (Some g)) = a.1 in cc)
+look_up_takes (tag ∷ []) g fits e = absurd (let a = guard_after (eqb tag PORT2_RESP) (fault.BadTag tag) (Err fault.Short) (Some g) e in let no : ◌≡◌ {A = Result (Option Node) ReplyFault} (Err fault.Short) (Ok (Some g)) = a.1 in cc)
 look_up_takes (tag ∷ code ∷ rest) g fits e =
-    let a = tagged (eqb tag PORT2_RESP) (fault.BadTag tag) (port2_result (code ∷ rest)) (Some g) e in
+    let a = guard_after (eqb tag PORT2_RESP) (fault.BadTag tag) (port2_result (code ∷ rest)) (Some g) e in
     let b = coded (eqb code 0) (registered_answer (fields_in rest)) g a.1 in
     let f = fields_behind rest g (λ i. fits (suc (suc i))) b.1 in
     record {

@@ -19,11 +19,11 @@ use Rattle.portmap_wire.proofs.NameLemmas.{IsBytes, is_name, no_control}
 use Rattle.portmap_wire.proofs.FieldLemmas.{FitsFields, fields_take, fields_again}
 
 -- which way a test went, where one way fails
-guard : {A E : Type 0} (b : Bool) (d : E) (r : Result A E) (y : A) → cond b (Err d) r ≡ Ok y → (b ≡ false) × (r ≡ Ok y)
+pub guard : {A E : Type 0} (b : Bool) (d : E) (r : Result A E) (y : A) → cond b (Err d) r ≡ Ok y → (b ≡ false) × (r ≡ Ok y)
 guard true d r y e = absurd cc
 guard false d r y e = (refl, e)
 
-guard_after : {A E : Type 0} (b : Bool) (d : E) (r : Result A E) (y : A) → cond b r (Err d) ≡ Ok y → (b ≡ true) × (r ≡ Ok y)
+pub guard_after : {A E : Type 0} (b : Bool) (d : E) (r : Result A E) (y : A) → cond b r (Err d) ≡ Ok y → (b ≡ true) × (r ≡ Ok y)
 guard_after true d r y e = (refl, e)
 guard_after false d r y e = absurd cc
 

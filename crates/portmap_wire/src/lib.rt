@@ -13,8 +13,6 @@ mod reply_writing;
 mod request;
 mod request_reading;
 mod request_writing;
-#[cfg(test)]
-mod tests;
 
 pub use list::{DumpLine, Line};
 pub use list_reading::{

@@ -1,0 +1,19 @@
+//! Calls over memory and over sockets, with the bytes of worked examples of the protocol.
+mod commands;
+mod example;
+mod lists;
+mod look_ups;
+mod registrations;
+mod sockets;
+
+use portmap_wire::Line;
+
+/// Whether these are so many lines of the name `a` and port 5000.
+fn are_lines_of_a(lines: &[Line], count: usize) -> bool {
+    for line in lines {
+        if line.port != 5000 || line.name.bytes() != b"a".as_slice() {
+            return false;
+        }
+    }
+    lines.len() == count
+}

@@ -1,0 +1,403 @@
+//! Records worked out by hand from the format, and what they are read as and written from.
+use crate::tests::cases::{Case, all_hold};
+use portmap_core::{Config, Entry, Fate};
+use portmap_record::{
+    CheckFault, Record, RecordFault, WriteRecordFault, check, read_record, readings_agree,
+    records_are_read, records_are_unique, verdicts_agree, what_is_read_is_a_record, write_record,
+};
+use std::alloc::Global;
+use std::test::Fail;
+
+/// Port 4369, not relaxed, two connections and two names at most: a node registers `a`, and another one looks it up.
+const SESSION: [u8; 109] = [
+    0x45, 0x50, 0x4D, 0x53, 1, 0, 0x11, 0x11, 0, 0, 0, 2, 0, 0, 0, 2, //
+    1, 1, 0, 0, 0, 0, 0, 0, 0, 0, //
+    2, 0, 0, 0, 0, 0, 0, 0, 0, 0, 0x10, 0, 0x0E, 0x78, 0x13, 0x88, 0x4D, 0, 0, 6, 0, 5, 0, 1, 0x61,
+    0, 0, 0, 0, 0, 0, 6, 0x76, 0, 0, 0, 0, 4, //
+    1, 1, 0, 0, 0, 0, 0, 0, 0, 1, //
+    2, 0, 0, 0, 0, 0, 0, 0, 1, 0, 4, 0, 2, 0x7A, 0x61, 1, 0, 0, 0, 0x0F, 0x77, 0, 0x13, 0x88, 0x4D,
+    0, 0, 6, 0, 5, 0, 1, 0x61, 0, 0,
+];
+
+/// An entry, with its bytes in place.
+#[derive(Clone, Copy)]
+enum Kept {
+    Connected(bool, u64),
+    Piece(u64, &'static [u8], &'static [u8], Fate),
+    Closed(u64),
+    Faulted(u64),
+    Late(u64, Fate),
+}
+
+/// The entries of `SESSION`.
+const ENTRIES: &[Kept] = &[
+    Kept::Connected(true, 0),
+    Kept::Piece(
+        0,
+        &[
+            0, 0x0E, 0x78, 0x13, 0x88, 0x4D, 0, 0, 6, 0, 5, 0, 1, 0x61, 0, 0,
+        ],
+        &[0x76, 0, 0, 0, 0, 4],
+        Fate::Stay,
+    ),
+    Kept::Connected(true, 1),
+    Kept::Piece(
+        1,
+        &[0, 2, 0x7A, 0x61],
+        &[0x77, 0, 0x13, 0x88, 0x4D, 0, 0, 6, 0, 5, 0, 1, 0x61, 0, 0],
+        Fate::Close,
+    ),
+];
+
+/// What stands behind the header of `SESSION`, in place of its entries, and the entry that it is.
+const OTHERS: &[(&[u8], Kept)] = &[
+    (&[1, 0, 0, 0, 0, 0, 0, 0, 0, 3], Kept::Connected(false, 3)),
+    (
+        &[1, 1, 255, 255, 255, 255, 255, 255, 255, 255],
+        Kept::Connected(true, 18_446_744_073_709_551_615),
+    ),
+    (&[3, 0, 0, 0, 0, 0, 0, 1, 2], Kept::Closed(258)),
+    (&[4, 0, 0, 0, 1, 0, 0, 0, 0], Kept::Faulted(4_294_967_296)),
+    (&[5, 0, 0, 0, 0, 0, 0, 0, 9, 0], Kept::Late(9, Fate::Stay)),
+    (&[5, 0, 0, 0, 0, 0, 0, 0, 9, 1], Kept::Late(9, Fate::Close)),
+    (&[5, 0, 0, 0, 0, 0, 0, 0, 9, 2], Kept::Late(9, Fate::Halt)),
+    (
+        &[
+            2, 0, 0, 0, 0, 0, 0, 0, 7, 0, 3, 0, 1, 0x6B, 2, 0, 0, 0, 2, 0x4F, 0x4B,
+        ],
+        Kept::Piece(7, &[0, 1, 0x6B], b"OK", Fate::Halt),
+    ),
+    (
+        &[2, 0, 0, 0, 0, 0, 0, 0, 7, 0, 0, 0, 0, 0, 0, 0],
+        Kept::Piece(7, &[], &[], Fate::Stay),
+    ),
+];
+
+/// Bytes in the place of others in `SESSION`, and what it is then read as: so many entries, or a fault.
+const CHANGED: &[(usize, &[u8], Result<usize, RecordFault>)] = &[
+    (0, &[], Ok(4)),
+    (0, &[0x44], Err(RecordFault::BadMagic)),
+    (3, &[0x54, 2], Err(RecordFault::BadMagic)),
+    (4, &[2], Err(RecordFault::BadVersion(2))),
+    (4, &[0, 2], Err(RecordFault::BadVersion(0))),
+    (5, &[1], Ok(4)),
+    (5, &[2], Err(RecordFault::BadConfig)),
+    (8, &[0, 0, 0, 0], Err(RecordFault::BadConfig)),
+    (8, &[0, 1, 0, 0], Err(RecordFault::BadConfig)),
+    (8, &[0, 0, 255, 255], Ok(4)),
+    (12, &[0, 0, 0, 0], Err(RecordFault::BadConfig)),
+    (12, &[0, 1, 0, 0, 6], Err(RecordFault::BadConfig)),
+    (12, &[0, 0, 255, 255], Ok(4)),
+    (16, &[0], Err(RecordFault::BadEntry(16))),
+    (16, &[6], Err(RecordFault::BadEntry(16))),
+    (17, &[2], Err(RecordFault::BadEntry(16))),
+    (53, &[3], Err(RecordFault::BadEntry(26))),
+    (89, &[255], Err(RecordFault::BadEntry(74))),
+    (90, &[255, 255, 255, 255], Err(RecordFault::Truncated(74))),
+];
+
+/// The first bytes alone, of these lengths, and what they are read as.
+const CUT: &[(usize, usize, Result<usize, RecordFault>)] = &[
+    (0, 15, Err(RecordFault::Truncated(0))),
+    (16, 16, Ok(0)),
+    (17, 25, Err(RecordFault::Truncated(16))),
+    (26, 26, Ok(1)),
+    (27, 63, Err(RecordFault::Truncated(26))),
+    (64, 64, Ok(2)),
+    (65, 73, Err(RecordFault::Truncated(64))),
+    (74, 74, Ok(3)),
+    (75, 108, Err(RecordFault::Truncated(74))),
+    (109, 109, Ok(4)),
+];
+
+/// Whole records of no entries, or bytes that are none.
+const ALONE: &[(&[u8], Result<usize, RecordFault>)] = &[
+    (&[0x45, 0x51], Err(RecordFault::BadMagic)),
+    (&[0x50], Err(RecordFault::BadMagic)),
+    (&[0x45, 0x50, 0x4D], Err(RecordFault::Truncated(0))),
+    (
+        &[0x45, 0x50, 0x4D, 0x53, 7],
+        Err(RecordFault::BadVersion(7)),
+    ),
+    (
+        &[0x45, 0x50, 0x4D, 0x53, 1, 9],
+        Err(RecordFault::Truncated(0)),
+    ),
+];
+
+fn is_kept(entry: &Entry, kept: &Kept) -> bool {
+    match (entry, kept) {
+        (Entry::Connected { local, slot }, Kept::Connected(is_local, at)) => {
+            local == is_local && slot == at
+        }
+        (
+            Entry::Piece {
+                slot,
+                bytes,
+                reply,
+                fate,
+            },
+            Kept::Piece(at, piece, said, then),
+        ) => {
+            slot == at && bytes.as_slice() == *piece && reply.as_slice() == *said && fate == then
+        }
+        (Entry::Closed { slot }, Kept::Closed(at)) => slot == at,
+        (Entry::Faulted { slot }, Kept::Faulted(at)) => slot == at,
+        (Entry::Late { slot, fate }, Kept::Late(at, then)) => slot == at && fate == then,
+        _ => false,
+    }
+}
+
+fn are_kept(entries: &[Entry], kept: &[Kept]) -> bool {
+    for (entry, one) in entries.iter().zip(kept) {
+        if !is_kept(entry, one) {
+            return false;
+        }
+    }
+    entries.len() == kept.len()
+}
+
+fn is_config(config: &Config) -> bool {
+    config.port == 4369 && !config.relaxed && config.conn_max == 2 && config.known_max == 2
+}
+
+fn is_session(alloc: Global) -> Result<bool, Fail> {
+    let session = read_record(alloc, &SESSION)?;
+    Ok(is_config(&session.config) && are_kept(&session.entries, ENTRIES))
+}
+
+/// Whether what is read is written as it was.
+fn is_written_back(alloc: Global, bytes: &[u8]) -> Result<bool, Fail> {
+    let session = read_record(alloc, bytes)?;
+    let written = write_record(alloc, &session)?;
+    Ok(written.as_slice() == bytes)
+}
+
+/// How many entries these bytes are the record of.
+fn count_of(alloc: Global, bytes: &[u8]) -> Result<usize, RecordFault> {
+    let session = read_record(alloc, bytes)?;
+    Ok(session.entries.len())
+}
+
+/// The first length at which `SESSION`, cut there, is read as something else than `CUT` says.
+fn first_miscut(alloc: Global) -> Option<usize> {
+    for (from, to, told) in CUT {
+        for length in *from..=*to {
+            let (front, _) = SESSION.split_at(length.min(109));
+            if count_of(alloc, front) != *told {
+                return Some(length);
+            }
+        }
+    }
+    None
+}
+
+fn changed(alloc: Global, at: usize, bytes: &[u8]) -> Result<Vec<u8>, Fail> {
+    let mut all = Vec::with_capacity(alloc, 109)?;
+    for (place, byte) in SESSION.iter().enumerate() {
+        let new = match place.checked_sub(at) {
+            Some(index) => bytes.get(index).unwrap_or(byte),
+            None => byte,
+        };
+        all.push(*new)?;
+    }
+    Ok(all)
+}
+
+fn first_mischanged(alloc: Global) -> Result<Option<usize>, Fail> {
+    for (number, (at, bytes, told)) in CHANGED.iter().enumerate() {
+        let all = changed(alloc, *at, bytes)?;
+        if count_of(alloc, &all) != *told {
+            return Ok(Some(number));
+        }
+    }
+    Ok(None)
+}
+
+fn first_misread_alone(alloc: Global) -> Option<usize> {
+    ALONE
+        .iter()
+        .position(|(bytes, told)| count_of(alloc, bytes) != *told)
+}
+
+/// The header of `SESSION`, and these bytes behind it.
+fn behind_header(alloc: Global, bytes: &[u8]) -> Result<Vec<u8>, Fail> {
+    let mut all = Vec::from_slice(alloc, &SESSION[..16])?;
+    all.extend_from_slice(bytes)?;
+    Ok(all)
+}
+
+fn is_one_entry(alloc: Global, all: &[u8], kept: &Kept) -> Result<bool, Fail> {
+    let session = read_record(alloc, all)?;
+    Ok(session.entries.len() == 1 && is_kept(&session.entries[0], kept))
+}
+
+fn first_misread_entry(alloc: Global) -> Result<Option<usize>, Fail> {
+    for (number, (bytes, kept)) in OTHERS.iter().enumerate() {
+        let all = behind_header(alloc, bytes)?;
+        if !is_one_entry(alloc, &all, kept)? || !is_written_back(alloc, &all)? {
+            return Ok(Some(number));
+        }
+    }
+    Ok(None)
+}
+
+fn empty(alloc: Global) -> Result<Record, Fail> {
+    Ok(Record {
+        config: Config::new(4369, true, 65_535, 1)?,
+        entries: Vec::new(alloc),
+    })
+}
+
+/// Adds a piece of so many bytes, answered by so many.
+fn add_piece(alloc: Global, session: &mut Record, piece: usize, reply: usize) -> Result<(), Fail> {
+    let entry = Entry::Piece {
+        slot: 5,
+        bytes: vec![in alloc; 0x61; piece]?,
+        reply: vec![in alloc; 0x62; reply]?,
+        fate: Fate::Stay,
+    };
+    session.entries.push(entry)?;
+    Ok(())
+}
+
+fn is_piece(entries: &[Entry], piece: usize, reply: usize) -> bool {
+    match entries {
+        [
+            Entry::Piece {
+                bytes,
+                reply: said,
+                ..
+            },
+        ] => bytes.len() == piece && said.len() == reply && bytes.last() == Some(&0x61),
+        _ => false,
+    }
+}
+
+/// Whether a piece of so many bytes is written, in a record of so many, and read back.
+fn comes_back(alloc: Global, piece: usize, reply: usize, whole: usize) -> Result<bool, Fail> {
+    let mut session = empty(alloc)?;
+    add_piece(alloc, &mut session, piece, reply)?;
+    let written = write_record(alloc, &session)?;
+    let again = read_record(alloc, &written)?;
+    Ok(written.len() == whole && is_piece(&again.entries, piece, reply))
+}
+
+/// How many bytes are written for pieces of these lengths.
+fn written_for(alloc: Global, pieces: &[usize]) -> Result<Result<usize, WriteRecordFault>, Fail> {
+    let mut session = empty(alloc)?;
+    for piece in pieces {
+        add_piece(alloc, &mut session, *piece, 0)?;
+    }
+    Ok(write_record(alloc, &session).map(|bytes| bytes.len()))
+}
+
+fn add_closes(session: &mut Record, count: u64) -> Result<(), Fail> {
+    for slot in 0..count {
+        session.entries.push(Entry::Closed { slot })?;
+    }
+    Ok(())
+}
+
+fn are_closes(entries: &[Entry]) -> bool {
+    for (at, entry) in entries.iter().enumerate() {
+        if !is_kept(entry, &Kept::Closed(at as u64)) {
+            return false;
+        }
+    }
+    entries.len() == 10_000
+}
+
+fn many_come_back(alloc: Global) -> Result<bool, Fail> {
+    let mut session = empty(alloc)?;
+    add_closes(&mut session, 10_000)?;
+    let written = write_record(alloc, &session)?;
+    let again = read_record(alloc, &written)?;
+    Ok(written.len() == 90_016 && are_closes(&again.entries))
+}
+
+#[test]
+fn a_session_is_read_and_written_back(rt: HostRuntime) -> Result<(), Fail> {
+    assert!(rt; is_session(rt.alloc())?);
+    assert!(rt; is_written_back(rt.alloc(), &SESSION)?);
+    Ok(())
+}
+
+#[test]
+fn a_session_that_is_cut_is_faulted_at_its_last_entry(rt: HostRuntime) {
+    assert_eq!(rt; first_miscut(rt.alloc()), None);
+    assert_eq!(rt; first_misread_alone(rt.alloc()), None);
+}
+
+#[test]
+fn a_changed_byte_is_faulted_where_it_is_in_no_table(rt: HostRuntime) -> Result<(), Fail> {
+    assert_eq!(rt; first_mischanged(rt.alloc())?, None);
+    Ok(())
+}
+
+#[test]
+fn each_kind_of_entry_is_read_and_written_back(rt: HostRuntime) -> Result<(), Fail> {
+    assert_eq!(rt; first_misread_entry(rt.alloc())?, None);
+    let late = behind_header(rt.alloc(), &[5, 0, 0, 0, 0, 0, 0, 0, 9, 3])?;
+    assert_eq!(rt; count_of(rt.alloc(), &late), Err(RecordFault::BadEntry(16)));
+    Ok(())
+}
+
+#[test]
+fn a_piece_of_65535_bytes_comes_back(rt: HostRuntime) -> Result<(), Fail> {
+    assert!(rt; comes_back(rt.alloc(), 65_535, 3, 65_570)?);
+    assert!(rt; comes_back(rt.alloc(), 1, 70_000, 70_033)?);
+    Ok(())
+}
+
+#[test]
+fn the_first_piece_that_is_too_long_is_told(rt: HostRuntime) -> Result<(), Fail> {
+    assert_eq!(rt;
+        written_for(rt.alloc(), &[65_536])?,
+        Err(WriteRecordFault::TooLong(0))
+    );
+    assert_eq!(rt;
+        written_for(rt.alloc(), &[1, 65_536, 65_536])?,
+        Err(WriteRecordFault::TooLong(1))
+    );
+    assert_eq!(rt; written_for(rt.alloc(), &[])?, Ok(16));
+    Ok(())
+}
+
+#[test]
+fn ten_thousand_entries_come_back(rt: HostRuntime) -> Result<(), Fail> {
+    assert!(rt; many_come_back(rt.alloc())?);
+    Ok(())
+}
+
+/// The last byte of `SESSION` in its place, how many bytes of it there are, and what is found of them.
+struct Found(u8, usize, Result<(), CheckFault>);
+
+const FOUND: &[Found] = &[
+    Found(0, 109, Ok(())),
+    Found(0, 74, Ok(())),
+    Found(0, 16, Ok(())),
+    Found(1, 109, Err(CheckFault::Illegal(3))),
+];
+
+impl Case for Found {
+    fn holds(&self, alloc: Global) -> Result<bool, Fail> {
+        let all = changed(alloc, 108, &[self.0])?;
+        let session = read_record(alloc, &all[..self.1.min(all.len())])?;
+        Ok(check(alloc, &session) == self.2)
+    }
+}
+
+#[test]
+fn a_record_is_a_run_or_broken_at_one_place(rt: HostRuntime) -> Result<(), Fail> {
+    verdicts_agree();
+    all_hold(&rt, FOUND)
+}
+
+#[test]
+fn the_laws_of_records_are_calls_that_do_nothing() {
+    records_are_unique();
+    readings_agree();
+    records_are_read();
+    what_is_read_is_a_record();
+}

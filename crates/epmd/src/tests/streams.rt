@@ -1,0 +1,99 @@
+//! Readers and writers that answer as they are told, or fail.
+ghost use Rattle.std.specs.Prelude.{◌≤◌, IfOk};
+
+use std::io;
+use std::io::{ErrorKind, Read, Write};
+
+/// What one call is answered.
+#[derive(Clone, Copy)]
+pub enum Told {
+    Count(usize),
+    Error(ErrorKind),
+}
+
+/// A stream that answers from a list, and notes how often it was asked.
+#[derive(Drop)]
+pub struct Script<'a> {
+    told: &'a [Told],
+    pub asked: usize,
+}
+
+/// A stream that was asked nothing yet.
+pub fn scripted(told: &[Told]) -> Script<'_> {
+    Script { told, asked: 0 }
+}
+
+impl<'a> Script<'a> {
+    /// The next count, at most `most`.
+    fn next(&mut self, most: usize) -> io::Result<usize>
+        ensures { IfOk result (λ n. n ≤ most) }
+    {
+        let told = self.told.get(self.asked).copied();
+        self.asked = self.asked.saturating_add(1);
+        match told {
+            Some(Told::Count(n)) => Ok(n.min(most)),
+            Some(Told::Error(kind)) => Err(io::Error::from(kind)),
+            None => Ok(0),
+        }
+    }
+}
+
+impl<'a> Read for Script<'a> {
+    fn read(&mut self, buffer: &mut [u8]) -> io::Result<usize> {
+        self.next(buffer.len())
+    }
+}
+
+impl<'a> Write for Script<'a> {
+    fn write(&mut self, bytes: &[u8]) -> io::Result<usize> {
+        self.next(bytes.len())
+    }
+
+    fn flush(&mut self) -> io::Result<()> {
+        Ok(())
+    }
+}
+
+/// A stream whose every call fails, but that takes bytes which it passes on to no one.
+#[derive(Drop)]
+pub struct Broken;
+
+impl Read for Broken {
+    fn read(&mut self, _buffer: &mut [u8]) -> io::Result<usize> {
+        Err(io::Error::from(ErrorKind::Other))
+    }
+}
+
+impl Write for Broken {
+    fn write(&mut self, buffer: &[u8]) -> io::Result<usize> {
+        Ok(buffer.len())
+    }
+
+    fn flush(&mut self) -> io::Result<()> {
+        Err(io::Error::from(ErrorKind::Other))
+    }
+}
+
+/// A reader that is interrupted so often, and then gives the request for the list of names.
+#[derive(Drop)]
+pub struct Interrupted {
+    pub times: u32,
+}
+
+impl Read for Interrupted {
+    fn read(&mut self, buffer: &mut [u8]) -> io::Result<usize> {
+        if self.times > 0 {
+            self.times -= 1;
+            return Err(io::Error::from(ErrorKind::Interrupted));
+        }
+        match buffer {
+            [length, one, tag, ..] => {
+                *length = 0;
+                *one = 1;
+                *tag = 0x6E;
+                Ok(3)
+            }
+            _ => Ok(0),
+        }
+    }
+}
