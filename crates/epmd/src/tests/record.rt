@@ -394,6 +394,33 @@ fn a_record_is_a_run_or_broken_at_one_place(rt: HostRuntime) -> Result<(), Fail>
     all_hold(&rt, FOUND)
 }
 
+/// Whether these bytes are told apart: no record, a run, or none. Memory is ample.
+fn is_judged(alloc: Global, bytes: &[u8]) -> bool {
+    match read_record(alloc, bytes) {
+        Ok(session) => check(alloc, &session) != Err(CheckFault::NoMemory),
+        Err(fault) => fault != RecordFault::NoMemory,
+    }
+}
+
+/// The first place at which some byte makes `SESSION` none of these.
+fn first_unjudged(alloc: Global) -> Result<Option<usize>, Fail> {
+    for at in 0..SESSION.len() {
+        for byte in 0..=255 {
+            let all = changed(alloc, at, &[byte])?;
+            if !is_judged(alloc, &all) {
+                return Ok(Some(at));
+            }
+        }
+    }
+    Ok(None)
+}
+
+#[test]
+fn whatever_a_byte_of_a_session_is_it_is_judged(rt: HostRuntime) -> Result<(), Fail> {
+    assert_eq!(rt; first_unjudged(rt.alloc())?, None);
+    Ok(())
+}
+
 #[test]
 fn the_laws_of_records_are_calls_that_do_nothing() {
     records_are_unique();
