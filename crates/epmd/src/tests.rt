@@ -12,4 +12,5 @@ mod record;
 mod streams;
 mod table;
 mod tape;
+mod transcript;
 mod wire;

@@ -21,7 +21,7 @@ const SESSION: [u8; 109] = [
 
 /// An entry, with its bytes in place.
 #[derive(Clone, Copy)]
-enum Kept {
+pub enum Kept {
     Connected(bool, u64),
     Piece(u64, &'static [u8], &'static [u8], Fate),
     Closed(u64),
@@ -30,7 +30,7 @@ enum Kept {
 }
 
 /// The entries of `SESSION`.
-const ENTRIES: &[Kept] = &[
+pub const ENTRIES: &[Kept] = &[
     Kept::Connected(true, 0),
     Kept::Piece(
         0,
