@@ -1,21 +1,30 @@
 //! What the command does, with what it writes and the status that it ends with.
-ghost use Rattle.std.specs.Prelude.{◌≡◌, ◌⊎◌, Result};
+ghost use Rattle.std.specs.Prelude.{◌≡◌, ◌⊎◌, false, Result, Err, Bool};
+ghost use Rattle.std.specs.Io.KnownBytes.{Keeps};
 ghost use Rattle.portmap_core.specs.declared.event.Fate.{Fate};
-ghost use Rattle.portmap_link.specs.Adapters.{reading_inner, reading_pulls, writing_inner, writing_puts, writing_broken};
-ghost use Rattle.portmap_link.specs.Once.{Did, MakesTurns};
+ghost use Rattle.portmap_link.specs.Adapters.{writing_inner, writing_puts, writing_broken, streams};
+ghost use Rattle.portmap_link.specs.Asking.{MakesTurns};
+ghost use Rattle.portmap_link.specs.Once.{Did};
 ghost use Rattle.portmap_link.specs.declared.single.OnceFault.{OnceFault};
-ghost use Rattle.epmd.specs.Actions.{once_config, EndsWith, line_of};
+ghost use Rattle.portmap_record.specs.Playing.{Plays};
+ghost use Rattle.portmap_record.specs.declared.playing.PlayFault.{PlayFault};
+ghost use Rattle.epmd.specs.Actions.{once_config, status_of, line_of, Passes, EndsWith, failure_of_once, failure_of_play, status_of_fate, status_of_verdict, IsOfFile, tells};
 
+use crate::words::Action;
 use portmap_core::{Config, Fate};
 use portmap_link::{OnceFault, Reading, Writing, once};
+use portmap_record::{PlayFault, play, tell_verdict};
 use std::alloc::Global;
 use std::io::{Read, Write};
 
 /// All went well.
 pub const DONE: u8 = 0;
 
-/// The words of the command are none that it knows.
-pub const BAD_WORDS: u8 = 2;
+/// A recorded session is no run of the machine.
+pub const NO_RUN: u8 = 1;
+
+/// The words of the command are none that it knows, or a record is none.
+pub const REFUSED: u8 = 2;
 
 /// A device failed, or memory ran out.
 pub const FAILED: u8 = 3;
@@ -35,27 +44,104 @@ const FIRST_CREATION: u32 = 4;
 /// How many pulls and puts one connection gets.
 const TURNS: u64 = 1_000_000;
 
+/// How many pulls and puts a recorded session gets.
+const FILE_TURNS: u64 = 1_000_000_000;
+
 const BAD_WORD: &[u8] = b"epmd: bad word 0\n";
+
+const BAD_RECORD: &[u8] = b"epmd: bad record\n";
 
 const DEVICE_FAILED: &[u8] = b"epmd: input or output failed\n";
 
 const MEMORY_RAN_OUT: &[u8] = b"epmd: out of memory\n";
 
-/// What is printed of a fault.
-fn line_of(fault: OnceFault) -> &'static [u8]
-    ensures { result.now ≡ line_of fault }
-{
-    match fault {
-        OnceFault::NoMemory => MEMORY_RAN_OUT,
-        OnceFault::ReadFault | OnceFault::WriteFault { .. } | OnceFault::TooManyTurns { .. } => {
-            DEVICE_FAILED
+/// Why an action is not done.
+#[derive(Clone, Copy, Debug, PartialEq, Eq)]
+pub enum Failure {
+    /// The words are none that the command knows: they are compared as a whole, so the first one is named.
+    BadWords,
+    /// The bytes of a recorded session are no record.
+    BadRecord,
+    /// The input or the output failed, or took too many turns, or the input has too many bytes.
+    Device,
+    /// Memory ran out.
+    Memory,
+}
+
+impl From<OnceFault> for Failure {
+    ghost use Rattle.std.specs.Prelude.{◌≡◌};
+    ghost use Rattle.epmd.specs.Actions.{failure_of_once};
+
+    ghost from_gives = { λ f e. e ≡ failure_of_once f };
+
+    fn from(fault: OnceFault) -> Failure {
+        match fault {
+            OnceFault::NoMemory => Failure::Memory,
+            OnceFault::ReadFault | OnceFault::WriteFault { .. } | OnceFault::TooManyTurns { .. } =>
+                Failure::Device,
         }
     }
 }
 
-/// Writes one line of text. A failure of standard error changes nothing else.
-fn tell<E: Write>(errors: &mut E, line: &[u8]) {
-    let _ = errors.write_all(line);
+impl From<PlayFault> for Failure {
+    ghost use Rattle.std.specs.Prelude.{◌≡◌};
+    ghost use Rattle.epmd.specs.Actions.{failure_of_play};
+
+    ghost from_gives = { λ f e. e ≡ failure_of_play f };
+
+    fn from(fault: PlayFault) -> Failure {
+        match fault {
+            PlayFault::NoMemory => Failure::Memory,
+            PlayFault::Bad(_) => Failure::BadRecord,
+            PlayFault::ReadFault
+            | PlayFault::TooLong
+            | PlayFault::WriteFault { .. }
+            | PlayFault::TooManyTurns { .. } => Failure::Device,
+        }
+    }
+}
+
+/// The status that tells a failure.
+fn status_of(failure: Failure) -> u8
+    ensures { result ≡ status_of failure }
+{
+    match failure {
+        Failure::BadWords | Failure::BadRecord => REFUSED,
+        Failure::Device | Failure::Memory => FAILED,
+    }
+}
+
+/// What is printed of a failure.
+fn line_of(failure: Failure) -> &'static [u8]
+    ensures { result.now ≡ line_of failure }
+{
+    match failure {
+        Failure::BadWords => BAD_WORD,
+        Failure::BadRecord => BAD_RECORD,
+        Failure::Device => DEVICE_FAILED,
+        Failure::Memory => MEMORY_RAN_OUT,
+    }
+}
+
+/// Writes the line that tells a failure, and gives the status that does. A failure of `errors` changes nothing else.
+pub fn fail<E: Write>(errors: &mut E, failure: Failure) -> u8
+    ensures { result ≡ status_of failure }
+{
+    let _ = errors.write_all(line_of(failure));
+    status_of(failure)
+}
+
+/// Has the output pass on all that it took, and gives the status that was reached, or that of a device that failed.
+fn end<W: Write, E: Write>(output: &mut Writing<W>, errors: &mut E, status: u8) -> u8
+    ensures passes { Passes status result (writing_broken output.new) }
+    ensures silent { writing_broken output.new ≡ false → errors.new ≡ errors.old }
+    ensures held { Keeps (W.contents (writing_inner output.old)) (W.contents (writing_inner output.new)) }
+    ensures puts { writing_puts output.new ≡ writing_puts output.old }
+{
+    if output.finish() {
+        return status;
+    }
+    fail(errors, Failure::Device)
 }
 
 /// Serves one connection to its end, or to a fault.
@@ -64,10 +150,10 @@ fn serve_once<R: Read, W: Write>(
     input: &mut Reading<R>,
     output: &mut Writing<W>,
 ) -> Result<Fate, OnceFault>
-    ensures did { Did once_config
-        (record { left = R.remaining (reading_inner input.old); held = W.contents (writing_inner output.old); pulls = reading_pulls input.old })
-        (record { left = R.remaining (reading_inner input.new); held = W.contents (writing_inner output.new); pulls = reading_pulls input.new }) result }
-    ensures turns { MakesTurns TURNS (reading_pulls input.old) (reading_pulls input.new) (writing_puts output.old) (writing_puts output.new) result }
+    ensures did { let seen = streams R.remaining W.contents in
+        Did once_config (seen input.old output.old) (seen input.new output.new) result }
+    ensures turns { let seen = streams R.remaining W.contents in
+        MakesTurns TURNS (seen input.old output.old) (seen input.new output.new) result (λ sent. Err (OnceFault.TooManyTurns sent)) }
 {
     let Ok(config) = Config::new(PORT, false, CONNECTIONS_MOST, NAMES_MOST) else {
         unreachable!()
@@ -88,45 +174,72 @@ pub fn do_once<R: Read, W: Write, E: Write>(
     output: &mut Writing<W>,
     errors: &mut E,
 ) -> u8
-    ensures status { (result ≡ DONE) ⊎ (result ≡ FAILED) }
     ensures silent { result ≡ DONE → errors.new ≡ errors.old }
     // What was read and written, in how many turns, and why the status is so: one that is not 0 comes of a fault, or of an
     // output that failed to pass on what it took.
     ensures served { (ended : Result Fate OnceFault)
-        × Did once_config
-        (record { left = R.remaining (reading_inner input.old); held = W.contents (writing_inner output.old); pulls = reading_pulls input.old })
-        (record { left = R.remaining (reading_inner input.new); held = W.contents (writing_inner output.new); pulls = reading_pulls input.new }) ended
-        × MakesTurns TURNS (reading_pulls input.old) (reading_pulls input.new) (writing_puts output.old) (writing_puts output.new) ended
-        × EndsWith result ended (writing_broken output.new) }
+        × (let seen = streams R.remaining W.contents in
+        Did once_config (seen input.old output.old) (seen input.new output.new) ended
+        × MakesTurns TURNS (seen input.old output.old) (seen input.new output.new) ended (λ sent. Err (OnceFault.TooManyTurns sent)))
+        × EndsWith status_of_fate failure_of_once result ended (writing_broken output.new) }
 {
     match serve_once(alloc, input, output) {
-        Ok(_) => {
-            if output.finish() {
-                return DONE;
-            }
-            tell(errors, DEVICE_FAILED);
-            FAILED
-        }
-        Err(fault) => {
-            tell(errors, line_of(fault));
-            FAILED
-        }
+        Ok(_) => end(output, errors, DONE),
+        Err(fault) => fail(errors, Failure::from(fault)),
     }
 }
 
-/// Says that the words are none that the command knows, and which one is the first: they are compared as a whole, so it is
-/// the first one.
-pub fn refuse<E: Write>(errors: &mut E) -> u8
-    ensures { result ≡ BAD_WORDS }
+/// Judges a recorded session and tells of it as the action asks.
+fn show<R: Read, W: Write>(
+    alloc: Global,
+    action: &Action,
+    input: &mut Reading<R>,
+    output: &mut Writing<W>,
+) -> Result<bool, PlayFault>
+    requires { IsOfFile action.now }
+    ensures did { let seen = streams R.remaining W.contents in
+        Plays (tells action.now) (seen input.old output.old) (seen input.new output.new) result }
+    ensures turns { let seen = streams R.remaining W.contents in
+        MakesTurns FILE_TURNS (seen input.old output.old) (seen input.new output.new) result (λ sent. Err (PlayFault.TooManyTurns sent)) }
 {
-    tell(errors, BAD_WORD);
-    BAD_WORDS
+    match action {
+        Action::Once => unreachable!(),
+        Action::Check(_) => tell_verdict(alloc, input, output, FILE_TURNS),
+        Action::Play(_) => play(alloc, input, output, FILE_TURNS),
+    }
 }
 
-/// Says that memory ran out before the words were read.
-pub fn give_up<E: Write>(errors: &mut E) -> u8
-    ensures { result ≡ FAILED }
+/// The status that tells whether a session is a run.
+fn status_of_verdict(is_run: bool) -> u8
+    ensures { result ≡ status_of_verdict is_run }
 {
-    tell(errors, MEMORY_RAN_OUT);
-    FAILED
+    if is_run { DONE } else { NO_RUN }
+}
+
+/// Reads a recorded session from `input`, to its end, and writes to `output` what is found of it: for `Check` whether it is a
+/// run of the port mapper's machine, for `Play` every entry before that. Status 0 for a run, 1 for none. Status 2 where the
+/// bytes are no record, status 3 where a device failed, `FILE_TURNS` pulls and puts were made and one more was due, the input
+/// has more bytes than a session may have, or memory ran out: `errors` then gets one line.
+///
+/// The output is flushed at the end, as by `do_once`.
+pub fn do_file<R: Read, W: Write, E: Write>(
+    alloc: Global,
+    action: &Action,
+    input: &mut Reading<R>,
+    output: &mut Writing<W>,
+    errors: &mut E,
+) -> u8
+    requires { IsOfFile action.now }
+    ensures silent { (result ≡ DONE) ⊎ (result ≡ NO_RUN) → errors.new ≡ errors.old }
+    // What was read and written, in how many turns, and why the status is so.
+    ensures shown { (ended : Result Bool PlayFault)
+        × (let seen = streams R.remaining W.contents in
+        Plays (tells action.now) (seen input.old output.old) (seen input.new output.new) ended
+        × MakesTurns FILE_TURNS (seen input.old output.old) (seen input.new output.new) ended (λ sent. Err (PlayFault.TooManyTurns sent)))
+        × EndsWith status_of_verdict failure_of_play result ended (writing_broken output.new) }
+{
+    match show(alloc, action, input, output) {
+        Ok(is_run) => end(output, errors, status_of_verdict(is_run)),
+        Err(fault) => fail(errors, Failure::from(fault)),
+    }
 }

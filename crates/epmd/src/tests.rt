@@ -8,6 +8,7 @@ mod feed;
 mod link;
 mod machine;
 mod nodes;
+mod playing;
 mod record;
 mod streams;
 mod table;

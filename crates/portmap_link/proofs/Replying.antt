@@ -1,11 +1,12 @@
 -- A request was heard, and its reply was written in part.
-use Rattle.std.proofs.Common.{ℕ, ◌<◌, List, length, take, Err, inl}
+use Rattle.std.proofs.Common.{◌≡◌, ℕ, ◌<◌, List, length, take, Err, inl, refl}
 use Rattle.std.specs.Io.KnownBytes.{Appends}
 use Rattle.portmap_core.specs.Config.{Configuration}
 use Rattle.portmap_core.specs.declared.event.Fate.{Fate}
 use Rattle.portmap_link.specs.declared.single.OnceFault.{OnceFault}
 use Rattle.portmap_link.specs.declared.single.OnceFault.TheVariants.{ReadFault, NoMemory, WriteFault, TooManyTurns}
-use Rattle.portmap_link.specs.Once.{Devices, IsHeard, RepliesInPart, Telling, Did}
+use Rattle.portmap_link.specs.Asking.{Devices, GoesOn, IsPutAgain}
+use Rattle.portmap_link.specs.Once.{IsHeard, RepliesInPart, Telling, Did}
 
 in_part : (cfg : Configuration) (old new : Devices) (reply : List ℕ) (fate : Fate) (sent : ℕ) → IsHeard cfg old.left new.left old.pulls new.pulls reply fate → sent < length reply → Appends old.held new.held (take sent reply) → RepliesInPart cfg old new sent
 in_part cfg old new reply fate sent heard rest writes = record {
@@ -14,8 +15,9 @@ in_part cfg old new reply fate sent heard rest writes = record {
   rest = rest;
 }
 
-pub did_part : (cfg : Configuration) (old new : Devices) (reply : List ℕ) (fate : Fate) (fault : OnceFault) → IsHeard cfg old.left new.left old.pulls new.pulls reply fate → Telling reply old.held new.held (Err fault) → Did cfg old new (Err fault)
-did_part cfg old new reply fate ReadFault heard told = absurd told
-did_part cfg old new reply fate NoMemory heard told = absurd told
-did_part cfg old new reply fate (WriteFault sent) heard told = in_part cfg old new reply fate sent heard told.0 told.1
-did_part cfg old new reply fate (TooManyTurns sent) heard told = inl (in_part cfg old new reply fate sent heard told.0 told.1)
+pub did_part : (cfg : Configuration) (old new : Devices) (reply : List ℕ) (fate : Fate) (fault : OnceFault) → IsHeard cfg old.left new.left old.pulls new.pulls reply fate → Telling reply old.held new.held (Err fault)
+    → ((sent : ℕ) → fault ≡ TooManyTurns sent → GoesOn IsPutAgain old.puts new.puts) → Did cfg old new (Err fault)
+did_part cfg old new reply fate ReadFault heard told due = absurd told
+did_part cfg old new reply fate NoMemory heard told due = absurd told
+did_part cfg old new reply fate (WriteFault sent) heard told due = in_part cfg old new reply fate sent heard told.0 told.1
+did_part cfg old new reply fate (TooManyTurns sent) heard told due = inl (in_part cfg old new reply fate sent heard told.0 told.1, due sent refl)

@@ -1,9 +1,10 @@
 -- Devices over the readers and writers of the standard library.
-use Rattle.std.specs.Prelude.{ℕ, Bool, true, false, ◌==◌, if◌then◌else◌, Result, Ok, Err, List}
+use Rattle.std.specs.Prelude.{ℕ, Bool, true, false, ◌==◌, if◌then◌else◌, Result, Ok, Err, List, Option}
 use Rattle.std.specs.IoError.{error_kind}
 use Rattle.std.specs.declared.io.Error.{Error}
 use Rattle.std.specs.declared.io.ErrorKind.{ErrorKind}
 use Rattle.std.specs.declared.io.ErrorKind.TheVariants.{Interrupted, WouldBlock}
+use Rattle.portmap_link.specs.Asking.{Devices}
 use Rattle.portmap_link.specs.declared.adapters.stream.Both.{Both}
 use Rattle.portmap_link.specs.declared.adapters.reader.Reading.{Reading}
 use Rattle.portmap_link.specs.declared.adapters.writer.Writing.{Writing}
@@ -67,3 +68,7 @@ both_puts b = b.puts
 -- whether it has failed
 abbrev pub both_broken : {S : Type 0} → Both S → Bool
 both_broken b = b.failed
+
+-- what contracts see of a reader and a writer together
+abbrev pub streams : {R W : Type 0} → (R → Option (List ℕ)) → (W → Option (List ℕ)) → Reading R → Writing W → Devices
+streams remaining contents input output = record { left = remaining input.inner; held = contents output.inner; pulls = input.pulls; puts = output.puts }

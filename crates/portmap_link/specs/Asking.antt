@@ -1,7 +1,7 @@
--- Whether a device is asked again.
-use Rattle.std.specs.Prelude.{◌≡◌, ℕ, List, [], ◌∷◌, ◌++◌, Option}
+-- Whether a device is asked again, and how often.
+use Rattle.std.specs.Prelude.{◌≡◌, ℕ, ◌+◌, ◌≤◌, List, [], ◌∷◌, ◌++◌, length, Option}
 use Rattle.std.specs.List.{AllByRecursion}
-use Rattle.std.specs.Io.KnownBytes.{IsAtEnd}
+use Rattle.std.specs.Io.KnownBytes.{Keeps, IsAtEnd}
 use Rattle.portmap_link.specs.declared.device.Pull.{Pull}
 use Rattle.portmap_link.specs.declared.device.Pull.TheVariants.{Piece, End, Later as PullLater, Fault as PullFault}
 use Rattle.portmap_link.specs.declared.device.Put.{Put}
@@ -32,3 +32,23 @@ pub record IsEnded (left : Option (List ℕ)) (old new : List Pull) : Type 0 whe
   pub before : List Pull
   pub goes_on : GoesOn IsAskedAgain old before
   pub last : new ≡ before ++ End ∷ []
+
+-- the devices of a call at one time: the bytes that are left to read and that were written, where they tell them, and what
+-- each pull and each put answered
+pub record Devices : Type 0 where
+  pub left : Option (List ℕ)
+  pub held : Option (List ℕ)
+  pub pulls : List Pull
+  pub puts : List Put
+
+abbrev pub devices : {R W : Type 0} → (R → Option (List ℕ)) → (W → Option (List ℕ)) → (R → List Pull) → (W → List Put) → R → W → Devices
+devices left held pulls puts input output = record { left = left input; held = held output; pulls = pulls input; puts = puts output }
+
+-- the output was offered nothing
+abbrev pub WritesNothing : Devices → Devices → Type 0
+WritesNothing old new = Keeps old.held new.held × (new.puts ≡ old.puts)
+
+-- a call made so many pulls and puts at most, and exactly as many where it ended for want of more
+pub record MakesTurns {X : Type 0} (turns : ℕ) (old new : Devices) (ended : X) (too_many : ℕ → X) : Type 0 where
+  pub most : length new.pulls + length new.puts ≤ length old.pulls + length old.puts + turns
+  pub all : (sent : ℕ) → ended ≡ too_many sent → length new.pulls + length new.puts ≡ length old.pulls + length old.puts + turns

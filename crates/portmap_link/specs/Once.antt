@@ -1,29 +1,21 @@
 -- What `once` does with its devices.
-use Rattle.std.specs.Prelude.{◌≡◌, ◌≢◌, ℕ, ◌+◌, ◌-◌, ◌<◌, ◌≤◌, List, [], ◌∷◌, ◌++◌, length, take, Option, Some, None, Result, Ok, Err, ◌⊎◌}
+use Rattle.std.specs.Prelude.{◌≡◌, ◌≢◌, ℕ, ◌-◌, ◌<◌, ◌≤◌, List, [], ◌∷◌, ◌++◌, length, take, Option, Some, None, Result, Ok, Err, ◌⊎◌}
 use Rattle.std.specs.declared.vec.Vec.{Vec}
 use Rattle.std.specs.declared.alloc.Global.{Global}
-use Rattle.std.specs.Io.KnownBytes.{Keeps, Appends, Consumes}
+use Rattle.std.specs.Io.KnownBytes.{Appends, Consumes}
 use Rattle.portmap_feed.specs.Stream.{More, first_request}
 use Rattle.portmap_core.specs.Config.{Configuration}
 use Rattle.portmap_core.specs.Run.{Hears, waiting_state}
 use Rattle.portmap_core.specs.State.{State}
 use Rattle.portmap_core.specs.declared.event.Fate.{Fate}
 use Rattle.portmap_core.specs.declared.event.Fate.TheVariants.{Close}
-use Rattle.portmap_link.specs.Asking.{GoesOn, IsAskedAgain, IsPutAgain, IsEnded}
+use Rattle.portmap_link.specs.Asking.{Devices, WritesNothing, GoesOn, IsAskedAgain, IsPutAgain, IsEnded}
 use Rattle.portmap_link.specs.declared.device.Pull.{Pull}
 use Rattle.portmap_link.specs.declared.device.Pull.TheVariants.{Piece}
-use Rattle.portmap_link.specs.declared.device.Put.{Put}
 use Rattle.portmap_link.specs.declared.single.Heard.{Heard}
 use Rattle.portmap_link.specs.declared.single.OnceFault.{OnceFault}
 use Rattle.portmap_link.specs.declared.single.OnceFault.TheVariants.{ReadFault, NoMemory, WriteFault, TooManyTurns}
 use Rattle.portmap_link.specs.declared.single.TheConstants.{PULL_MOST}
-
--- the devices before or after a call: the bytes that are left and that were written, where they tell them, and what each
--- pull answered
-pub record Devices : Type 0 where
-  pub left : Option (List ℕ)
-  pub held : Option (List ℕ)
-  pub pulls : List Pull
 
 -- these bytes were read, and the last pull alone decided: without it the request was not whole. It gave a piece, and after
 -- each one before it the input was asked again
@@ -57,7 +49,7 @@ pub record ReadsOnly (old new : Devices) : Type 0 where
   pub read : List ℕ
   pub reads : Consumes old.left new.left read
   pub more : first_request read ≡ More
-  pub writes : Keeps old.held new.held
+  pub writes : WritesNothing old new
 
 -- the same, and the input has ended
 pub record Ends (old new : Devices) (fate : Fate) : Type 0 where
@@ -65,19 +57,14 @@ pub record Ends (old new : Devices) (fate : Fate) : Type 0 where
   pub ended : IsEnded new.left old.pulls new.pulls
   pub closes : fate ≡ Close
 
+-- what `once` did, by its answer. Where it gave up for want of turns one more was due: after every answer so far the device
+-- is asked again
 abbrev pub Did : Configuration → Devices → Devices → Result Fate OnceFault → Type 0
 Did cfg old new (Ok fate) = Replies cfg old new (λ reply. reply) fate ⊎ Ends old new fate
 Did cfg old new (Err ReadFault) = ReadsOnly old new
-Did cfg old new (Err NoMemory) = Keeps old.held new.held
+Did cfg old new (Err NoMemory) = WritesNothing old new
 Did cfg old new (Err (WriteFault sent)) = RepliesInPart cfg old new sent
-Did cfg old new (Err (TooManyTurns sent)) = RepliesInPart cfg old new sent ⊎ ((sent ≡ 0) × ReadsOnly old new)
-
--- at most so many pulls and puts were made, by their answers before and after; where it gave up for want of turns all were
--- made and one more was due: no answer said that the input had ended or that a device had failed
-pub record MakesTurns (turns : ℕ) (asked answered : List Pull) (offered taken : List Put) (ended : Result Fate OnceFault) : Type 0 where
-  pub most : length answered + length taken ≤ length asked + length offered + turns
-  pub all : (sent : ℕ) → ended ≡ Err (TooManyTurns sent) → length answered + length taken ≡ length asked + length offered + turns
-  pub due : (sent : ℕ) → ended ≡ Err (TooManyTurns sent) → GoesOn IsAskedAgain asked answered × GoesOn IsPutAgain offered taken
+Did cfg old new (Err (TooManyTurns sent)) = (RepliesInPart cfg old new sent × GoesOn IsPutAgain old.puts new.puts) ⊎ ((sent ≡ 0) × ReadsOnly old new × GoesOn IsAskedAgain old.pulls new.pulls)
 
 -- ---- the two halves
 

@@ -1,11 +1,15 @@
 //! Whole actions of the program, over memory.
-use crate::actions::{do_once, give_up, refuse};
+ghost use Rattle.epmd.specs.Actions.{IsOfFile};
+
+use crate::actions::{Failure, do_file, do_once, fail};
 use crate::tests::bytes::{
     ALIVE_A, Bytes, DUMP, FOURTH, KILL, NAMES, NONE_LISTED, NOT_FOUND, NOTHING, PORT_A, STOP_A,
 };
-use crate::tests::cases::{Case, all_hold, is_so};
+use crate::tests::cases::{Case, all_hold};
+use crate::tests::record::changed;
 use crate::tests::streams::{Broken, Interrupted};
-use crate::words::asks_once;
+use crate::tests::transcript::{LOOK_UP_LINES, WRONG_LOOK_UP_LINES};
+use crate::words::{Action, read_words};
 use portmap_link::{Reading, Writing};
 use std::alloc::Global;
 use std::io::{Read, Write};
@@ -82,15 +86,33 @@ fn an_output_that_passes_nothing_on_is_told(rt: HostRuntime) {
     assert!(rt; is_told(rt.alloc(), &mut Reading::new(NAMES), &mut output));
 }
 
-/// Words, and whether they ask for one request.
-struct Words(&'static [&'static str], bool);
+/// What words ask for, with the path.
+#[derive(Clone, Copy)]
+enum Asked {
+    Once,
+    Check(&'static str),
+    Play(&'static str),
+    Nothing,
+}
+
+/// Words, and what they ask for.
+struct Words(&'static [&'static str], Asked);
 
 const WORDS: &[Words] = &[
-    Words(&["-once"], true),
-    Words(&[], false),
-    Words(&["-once", "-once"], false),
-    Words(&["-names"], false),
-    Words(&["-onc"], false),
+    Words(&["-once"], Asked::Once),
+    Words(&["-check", "a"], Asked::Check("a")),
+    Words(&["-play", "/tmp/session"], Asked::Play("/tmp/session")),
+    Words(&["-check", "-play"], Asked::Check("-play")),
+    Words(&["-play", ""], Asked::Play("")),
+    Words(&[], Asked::Nothing),
+    Words(&["-once", "-once"], Asked::Nothing),
+    Words(&["-check"], Asked::Nothing),
+    Words(&["-play"], Asked::Nothing),
+    Words(&["-play", "a", "b"], Asked::Nothing),
+    Words(&["-check", "a", "-once"], Asked::Nothing),
+    Words(&["a", "-check"], Asked::Nothing),
+    Words(&["-names"], Asked::Nothing),
+    Words(&["-onc"], Asked::Nothing),
 ];
 
 /// A list of these words.
@@ -102,30 +124,195 @@ fn words_of(alloc: Global, texts: &[&str]) -> Result<Vec<String>, Fail> {
     Ok(words)
 }
 
-impl Case for Words {
-    fn holds(&self, alloc: Global) -> Result<bool, Fail> {
-        let words = words_of(alloc, self.0)?;
-        Ok(asks_once(&words) == self.1)
+fn is_asked(action: Option<&Action>, asked: Asked) -> bool {
+    match (action, asked) {
+        (Some(Action::Once), Asked::Once) => true,
+        (Some(Action::Check(path)), Asked::Check(text)) => path.as_str() == text,
+        (Some(Action::Play(path)), Asked::Play(text)) => path.as_str() == text,
+        (None, Asked::Nothing) => true,
+        _ => false,
     }
 }
 
-fn refusal_is_told(alloc: Global) -> bool {
-    let mut errors = Vec::new(alloc);
-    refuse(&mut errors) == 2 && errors.as_slice() == b"epmd: bad word 0\n".as_slice()
+impl Case for Words {
+    fn holds(&self, alloc: Global) -> Result<bool, Fail> {
+        let words = words_of(alloc, self.0)?;
+        Ok(is_asked(read_words(alloc, &words)?.as_ref(), self.1))
+    }
 }
 
 #[test]
-fn other_words_are_refused(rt: HostRuntime) -> Result<(), Fail> {
-    is_so(&rt, Ok(refusal_is_told(rt.alloc())))?;
+fn an_action_is_one_list_of_words(rt: HostRuntime) -> Result<(), Fail> {
     all_hold(&rt, WORDS)
 }
 
+/// A failure, its status and its line.
+struct Failed(Failure, u8, Bytes);
+
+const FAILURES: &[Failed] = &[
+    Failed(Failure::BadWords, 2, b"epmd: bad word 0\n"),
+    Failed(Failure::BadRecord, 2, b"epmd: bad record\n"),
+    Failed(Failure::Device, 3, b"epmd: input or output failed\n"),
+    Failed(Failure::Memory, 3, b"epmd: out of memory\n"),
+];
+
+impl Case for Failed {
+    fn holds(&self, alloc: Global) -> Result<bool, Fail> {
+        let mut errors = Vec::new(alloc);
+        Ok(fail(&mut errors, self.0) == self.1 && errors.as_slice() == self.2)
+    }
+}
+
 #[test]
-fn want_of_memory_is_told(rt: HostRuntime) {
-    let mut errors = Vec::new(rt.alloc());
+fn each_failure_has_a_status_and_a_line(rt: HostRuntime) -> Result<(), Fail> {
+    all_hold(&rt, FAILURES)
+}
+
+/// What is asked for of a session: its transcript, or the verdict alone.
+#[derive(Clone, Copy)]
+enum Text {
+    Transcript,
+    Verdict,
+}
+
+fn action_of(alloc: Global, text: Text) -> Action
+    ensures { IsOfFile result }
+{
+    let path = String::new(alloc);
+    match text {
+        Text::Transcript => Action::Play(path),
+        Text::Verdict => Action::Check(path),
+    }
+}
+
+/// What is asked for of a session, of which so many bytes are there, the last one of all being this: the status, what is
+/// written, and the line of the errors.
+struct Shown {
+    text: Text,
+    last: u8,
+    length: usize,
+    status: u8,
+    written: Bytes,
+    errors: Bytes,
+}
+
+const PLAYED: Shown = Shown {
+    text: Text::Transcript,
+    last: 0,
+    length: 109,
+    status: 0,
+    written: LOOK_UP_LINES,
+    errors: NOTHING,
+};
+
+const CUT: Shown = Shown {
+    length: 108,
+    status: 2,
+    written: NOTHING,
+    errors: b"epmd: bad record\n",
+    ..PLAYED
+};
+
+const SHOWN: &[Shown] = &[
+    PLAYED,
+    Shown {
+        last: 1,
+        status: 1,
+        written: WRONG_LOOK_UP_LINES,
+        ..PLAYED
+    },
+    Shown {
+        length: 16,
+        written: b"run of 0 entries\n",
+        ..PLAYED
+    },
+    Shown {
+        text: Text::Verdict,
+        written: b"run of 4 entries\n",
+        ..PLAYED
+    },
+    Shown {
+        text: Text::Verdict,
+        last: 1,
+        status: 1,
+        written: b"broken at entry 3\n",
+        ..PLAYED
+    },
+    CUT,
+    Shown {
+        text: Text::Verdict,
+        ..CUT
+    },
+    Shown { length: 0, ..CUT },
+];
+
+/// The status that ends what is asked for of a session, if the line of the errors is this.
+fn status_of<R: Read, W: Write>(
+    alloc: Global,
+    text: Text,
+    input: &mut Reading<R>,
+    output: &mut Writing<W>,
+    line: &[u8],
+) -> Option<u8> {
+    let mut errors = Vec::new(alloc);
+    let status = do_file(alloc, &action_of(alloc, text), input, output, &mut errors);
+    (errors.as_slice() == line).then_some(status)
+}
+
+impl Shown {
+    fn ends_so(&self, alloc: Global, session: &[u8], output: &mut Writing<Vec<u8>>) -> bool {
+        let mut input = Reading::new(&session[..self.length.min(session.len())]);
+        status_of(alloc, self.text, &mut input, output, self.errors) == Some(self.status)
+    }
+}
+
+impl Case for Shown {
+    fn holds(&self, alloc: Global) -> Result<bool, Fail> {
+        let session = changed(alloc, 108, &[self.last])?;
+        let mut output = Writing::new(Vec::new(alloc));
+        let is_right = self.ends_so(alloc, &session, &mut output);
+        Ok(is_right && output.into_inner().as_slice() == self.written)
+    }
+}
+
+#[test]
+fn a_recorded_session_is_judged_and_shown(rt: HostRuntime) -> Result<(), Fail> {
+    all_hold(&rt, SHOWN)
+}
+
+/// Whether status 3 and the line of a failed device come of a session over these.
+fn session_is_told<R: Read, W: Write>(
+    alloc: Global,
+    input: &mut Reading<R>,
+    output: &mut Writing<W>,
+) -> bool {
+    let line = b"epmd: input or output failed\n";
+    status_of(alloc, Text::Transcript, input, output, line) == Some(3)
+}
+
+#[test]
+fn a_session_over_devices_that_fail_is_told(rt: HostRuntime) -> Result<(), Fail> {
+    let mut taken = Writing::new(Vec::new(rt.alloc()));
+    assert!(rt; session_is_told(rt.alloc(), &mut Reading::new(Broken), &mut taken));
+    assert!(rt; taken.into_inner().is_empty());
+    Ok(())
+}
+
+#[test]
+fn a_session_to_a_full_output_is_told(rt: HostRuntime) -> Result<(), Fail> {
+    let session = changed(rt.alloc(), 108, &[0])?;
+    let mut room = [0u8; 100];
+    let mut full = Writing::new(room.as_mut_slice());
+    assert!(rt; session_is_told(rt.alloc(), &mut Reading::new(session.as_slice()), &mut full));
+    let mut broken = Writing::new(Broken);
     assert!(rt;
-        give_up(&mut errors) == 3 && errors.as_slice() == b"epmd: out of memory\n".as_slice()
+        session_is_told(
+            rt.alloc(),
+            &mut Reading::new(session.as_slice()),
+            &mut broken
+        )
     );
+    Ok(())
 }
 
 /// So many interruptions, and whether the request behind them is still answered: else status 3 is told.

@@ -97,7 +97,7 @@ const CHANGED: &[(usize, &[u8], Result<usize, RecordFault>)] = &[
 ];
 
 /// The first bytes alone, of these lengths, and what they are read as.
-const CUT: &[(usize, usize, Result<usize, RecordFault>)] = &[
+pub const CUT: &[(usize, usize, Result<usize, RecordFault>)] = &[
     (0, 15, Err(RecordFault::Truncated(0))),
     (16, 16, Ok(0)),
     (17, 25, Err(RecordFault::Truncated(16))),
@@ -192,7 +192,8 @@ fn first_miscut(alloc: Global) -> Option<usize> {
     None
 }
 
-fn changed(alloc: Global, at: usize, bytes: &[u8]) -> Result<Vec<u8>, Fail> {
+/// `SESSION` with these bytes from this place on.
+pub fn changed(alloc: Global, at: usize, bytes: &[u8]) -> Result<Vec<u8>, Fail> {
     let mut all = Vec::with_capacity(alloc, 109)?;
     for (place, byte) in SESSION.iter().enumerate() {
         let new = match place.checked_sub(at) {

@@ -46,28 +46,26 @@ const EVERY_KIND: &[Kept] = &[
     Kept::Late(18446744073709551615, Fate::Halt),
 ];
 
-const LISTS: &[Listed] = &[
-    Listed(&[], Verdict::Run, b"run of 0 entries\n"),
-    Listed(
-        ENTRIES,
-        Verdict::Run,
-        b"0 connect 0 local
+/// The transcript of a registration and a look-up.
+pub const LOOK_UP_LINES: &[u8] = b"0 connect 0 local
 1 piece 0 get 000e7813884d00000600050001610000 say 760000000004 stay
 2 connect 1 local
 3 piece 1 get 00027a61 say 770013884d00000600050001610000 close
 run of 4 entries
-",
-    ),
-    Listed(
-        WRONG_LOOK_UP,
-        Verdict::Broken(3),
-        b"0 connect 0 local
+";
+
+/// That of the wrong look-up.
+pub const WRONG_LOOK_UP_LINES: &[u8] = b"0 connect 0 local
 1 piece 0 get 000e7813884d00000600050001610000 say 760000000004 stay
 2 connect 1 local
 3 piece 1 get 00027a61 say 770013884d00000600050001610001 close
 broken at entry 3
-",
-    ),
+";
+
+const LISTS: &[Listed] = &[
+    Listed(&[], Verdict::Run, b"run of 0 entries\n"),
+    Listed(ENTRIES, Verdict::Run, LOOK_UP_LINES),
+    Listed(WRONG_LOOK_UP, Verdict::Broken(3), WRONG_LOOK_UP_LINES),
     Listed(
         EVERY_KIND,
         Verdict::Broken(0),

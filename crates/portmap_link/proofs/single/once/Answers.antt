@@ -1,15 +1,16 @@
-use Rattle.std.proofs.Common.{ℕ, List, Option, Vec, Global, Err, subst}
+use Rattle.std.proofs.Common.{ℕ, List, Option, Vec, Global, Err, ap, subst}
 use Rattle.std.proofs.lemmas.Result.{err_from_is_err_and}
 use Rattle.portmap_core.specs.declared.event.Fate.{Fate}
-use Rattle.portmap_link.specs.Once.{Devices, HearsReply, Telling}
+use Rattle.portmap_link.specs.Asking.{Devices, devices}
+use Rattle.portmap_link.specs.Once.{HearsReply, Telling}
 use Rattle.portmap_link.proofs.Replying.{did_part}
 use Rattle.portmap_link.proofs.single.once.Goals as goal
 
 pub returns-in_err-tell-clause-did : goal.returns-in_err-tell-clause-did
 returns-in_err-tell-clause-did g c =
-    let old : Devices = record { left = g.R.Device.left c.args.input.now; held = g.W.Device.held c.args.output.now; pulls = g.R.Device.pulls c.args.input.now } in
-    let new : Devices = record { left = g.R.Device.left c.hear.new.input; held = g.W.Device.held c.tell.new.output; pulls = g.R.Device.pulls c.hear.new.input } in
+    let old : Devices = devices g.R.Device.left g.W.Device.held g.R.Device.pulls g.W.Device.puts c.args.input.now c.args.output.now in
+    let new : Devices = devices g.R.Device.left g.W.Device.held g.R.Device.pulls g.W.Device.puts c.hear.new.input c.tell.new.output in
     let heard = subst (λ (o : Option (Vec ℕ Global × Fate)). HearsReply c.args.config old.left new.left old.pulls new.pulls o) c.in-Some.is c.in_ok-reply.ensures.heard in
     let told = subst (λ (reply : List ℕ). Telling reply old.held new.held (Err c.in_err-tell.field-0.0)) c.deref.ensures.value c.in_err-tell.ensures.told in
     let p = err_from_is_err_and c.from_residual-in_err-tell.result c.from_residual-in_err-tell.ensures.1 in
-    rw (p.1, p.2) (did_part c.args.config old new c.in-Some.reply.items c.in-Some.fate c.in_err-tell.field-0.0 heard told)
+    rw (p.1, p.2) (did_part c.args.config old new c.in-Some.reply.items c.in-Some.fate c.in_err-tell.field-0.0 heard told (λ sent e. c.in_err-tell.ensures.due sent (ap Err e)))
