@@ -74,7 +74,7 @@ slots_closed names after connections slot others all here closed = λ q. elim (c
 len_open : (connections : ConnectionMap) (slot : ℕ) (connection here : Connection) → map.get connections slot ≡ Some here → map.len (map.insert connections slot connection) ≡ map.len connections
 len_open connections slot connection here e = map.len-insert nat_cmp_total connections slot connection ∙ ap (λ (o : Option Connection). cond (is_some o) (map.len connections) (map.len connections + 1)) e
 
-len_fresh : (connections : ConnectionMap) (slot : ℕ) (connection : Connection) → map.get connections slot ≡ None → map.len (map.insert connections slot connection) ≡ map.len connections + 1
+pub len_fresh : (connections : ConnectionMap) (slot : ℕ) (connection : Connection) → map.get connections slot ≡ None → map.len (map.insert connections slot connection) ≡ map.len connections + 1
 len_fresh connections slot connection e = map.len-insert nat_cmp_total connections slot connection ∙ ap (λ (o : Option Connection). cond (is_some o) (map.len connections) (map.len connections + 1)) e
 
 fewer : (b : Bool) (n : ℕ) → cond b (n - 1) n ≤ n
