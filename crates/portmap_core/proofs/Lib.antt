@@ -9,3 +9,4 @@ pub mod Slots
 pub mod Steps
 pub mod Traces
 pub mod Hearing
+pub mod Counts

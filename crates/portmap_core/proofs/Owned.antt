@@ -74,14 +74,14 @@ slots_closed names after connections slot others all here closed = λ q. elim (c
 len_open : (connections : ConnectionMap) (slot : ℕ) (connection here : Connection) → map.get connections slot ≡ Some here → map.len (map.insert connections slot connection) ≡ map.len connections
 len_open connections slot connection here e = map.len-insert nat_cmp_total connections slot connection ∙ ap (λ (o : Option Connection). cond (is_some o) (map.len connections) (map.len connections + 1)) e
 
-len_fresh : (connections : ConnectionMap) (slot : ℕ) (connection : Connection) → map.get connections slot ≡ None → map.len (map.insert connections slot connection) ≡ map.len connections + 1
+pub len_fresh : (connections : ConnectionMap) (slot : ℕ) (connection : Connection) → map.get connections slot ≡ None → map.len (map.insert connections slot connection) ≡ map.len connections + 1
 len_fresh connections slot connection e = map.len-insert nat_cmp_total connections slot connection ∙ ap (λ (o : Option Connection). cond (is_some o) (map.len connections) (map.len connections + 1)) e
 
 fewer : (b : Bool) (n : ℕ) → cond b (n - 1) n ≤ n
 fewer true n = omega arith
 fewer false n = omega arith
 
-len_less : (connections : ConnectionMap) (slot : ℕ) → map.len (map.remove connections slot) ≤ map.len connections
+pub len_less : (connections : ConnectionMap) (slot : ℕ) → map.len (map.remove connections slot) ≤ map.len connections
 len_less connections slot = rw (map.len-remove nat_cmp_total connections slot) (fewer (map.contains_key connections slot) (map.len connections))
 
 -- ---- states
@@ -105,7 +105,7 @@ ended_slots : (names : rows.Names) (connections : ConnectionMap) (owner : ℕ) (
 ended_slots names connections owner None e all free others = slots_closed names (retired_of owner names) connections owner others all free e
 ended_slots names connections owner (Some connection) e all free others = slots_with names (retired_of owner names) connections owner (at_stage connection Done) others all free
 
-ended_len : (connections : ConnectionMap) (owner : ℕ) (o : Option Connection) → map.get connections owner ≡ o → map.len (ended_at owner o connections) ≡ map.len connections
+pub ended_len : (connections : ConnectionMap) (owner : ℕ) (o : Option Connection) → map.get connections owner ≡ o → map.len (ended_at owner o connections) ≡ map.len connections
 ended_len connections owner None e = refl
 ended_len connections owner (Some connection) e = len_open connections owner (at_stage connection Done) connection e
 

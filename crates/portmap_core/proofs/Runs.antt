@@ -21,13 +21,18 @@ use Rattle.portmap_core.specs.Config.{Configuration}
 use Rattle.portmap_core.specs.State.{State}
 use Rattle.portmap_core.specs.Serving.{Served, ServesBody, ToldAt}
 use Rattle.portmap_core.specs.Entry.{Entry}
-use Rattle.portmap_core.specs.Step.{Outcome, Settles, Told}
+use Rattle.portmap_core.specs.Step.{Outcome, Settles, Step, Told}
 use Rattle.portmap_core.specs.Run.{Run}
 use Rattle.portmap_core.specs.Owned.{IsStageFor, IsSlotFor, IsOwned}
 use Rattle.portmap_core.specs.Laws.{IsBad, WrittenIsWhole, NamesBelong, NamesBelongToConnections, owners, MalformedChangesNoName}
 use Rattle.portmap_core.proofs.Owned.{owned_empty, steps_keep}
 
 -- ---- names after a run
+
+-- a run and one step more are a run
+pub run_more : (cfg : Configuration) (es : List Entry) (e : Entry) (s mid s' : State) → Run cfg s es mid → Step cfg mid e s' → Run cfg s (es ++ e ∷ []) s'
+run_more cfg [] e s mid s' run step = (s', subst (λ (x : State). Step cfg x e s') run step, refl)
+run_more cfg (x ∷ es) e s mid s' run step = (run.0, run.1, run_more cfg es e run.0 mid s' run.2 step)
 
 run_owned : (cfg : Configuration) (es : List Entry) (s s' : State) → IsOwned cfg s → Run cfg s es s' → IsOwned cfg s'
 run_owned cfg [] s s' owned run = subst (λ (x : State). IsOwned cfg x) (sym run) owned

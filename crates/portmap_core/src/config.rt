@@ -5,7 +5,7 @@ ghost use Rattle.portmap_core.specs.Config.{configured, IsConfiguration};
 use std::marker::Model;
 
 /// The most that a limit may be.
-const LIMIT_MOST: u32 = 65_535;
+pub const LIMIT_MOST: u32 = 65_535;
 
 /// Why these limits are none.
 #[derive(Clone, Copy, Debug, PartialEq, Eq)]

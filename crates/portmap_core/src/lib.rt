@@ -12,7 +12,7 @@ mod machine;
 mod serve;
 mod state;
 
-pub use config::{Config, ConfigFault};
+pub use config::{Config, ConfigFault, LIMIT_MOST};
 pub use connections::Phase;
 pub use event::{Answer, Entry, Event, Fate, Refusal};
 pub use laws::{

@@ -230,7 +230,7 @@ fn change(table: &mut Table, slot: u64, request: Request, next: &Next) -> Result
     Ok(())
 }
 
-/// What a request is told, and what becomes of the names.
+/// What a request is told, with its reply once more, and what becomes of the names.
 fn answer(
     alloc: Global,
     config: &Config,
@@ -238,20 +238,23 @@ fn answer(
     local: bool,
     slot: u64,
     request: Request,
-) -> Result<Next, NoMemory>
+) -> Result<(Next, Vec<u8>), NoMemory>
     requires free { owns_name slot table.old.names ≡ false }
     requires limit { table.old.known_max ≡ config.now.known_max }
-    ensures ok { IfOk result (λ next. Serves config.now table.old.names local slot request (served_with next table.new.names)) }
+    ensures ok { IfOk result (λ r. Serves config.now table.old.names local slot request (served_with r.0 table.new.names)) }
+    ensures again { IfOk result (λ r. r.1.items ≡ r.0.reply.items) }
     ensures limit { table.new.known_max ≡ table.old.known_max }
     ensures err { OnErr result (table.new ≡ table.old) }
 {
     let creation = creation_for(table, &request);
     let next = told(alloc, config, table.names(), local, &request, creation)?;
+    // Before anything is changed, so that for want of memory nothing is.
+    let again = next.reply.clone()?;
     change(table, slot, request, &next)?;
-    Ok(next)
+    Ok((next, again))
 }
 
-/// What a whole body is told.
+/// What a whole body is told, with the reply once more.
 fn serve(
     alloc: Global,
     config: &Config,
@@ -259,10 +262,11 @@ fn serve(
     local: bool,
     slot: u64,
     body: &[u8],
-) -> Result<Next, NoMemory>
+) -> Result<(Next, Vec<u8>), NoMemory>
     requires free { owns_name slot table.old.names ≡ false }
     requires limit { table.old.known_max ≡ config.now.known_max }
-    ensures ok { IfOk result (λ next. ServesBody config.now table.old.names local slot body.now (served_with next table.new.names)) }
+    ensures ok { IfOk result (λ r. ServesBody config.now table.old.names local slot body.now (served_with r.0 table.new.names)) }
+    ensures again { IfOk result (λ r. r.1.items ≡ r.0.reply.items) }
     ensures limit { table.new.known_max ≡ table.old.known_max }
     ensures err { OnErr result (table.new ≡ table.old) }
 {
@@ -274,11 +278,11 @@ fn serve(
             | Malformed::UnknownTag
             | Malformed::LengthsDisagree
             | Malformed::Name(_),
-        ) => Ok(replied(Vec::new(alloc))),
+        ) => Ok((replied(Vec::new(alloc)), Vec::new(alloc))),
     }
 }
 
-/// What a piece does to a waiting connection. For want of memory it gives the feed back as it was.
+/// What a piece does to a waiting connection, with the reply once more. For want of memory it gives the feed back as it was.
 pub(crate) fn advance(
     alloc: Global,
     config: &Config,
@@ -287,29 +291,33 @@ pub(crate) fn advance(
     slot: u64,
     mut feed: Feed,
     piece: &[u8],
-) -> Result<Next, Feed>
+) -> Result<(Next, Vec<u8>), Feed>
     requires free { owns_name slot table.old.names ≡ false }
     requires limit { table.old.known_max ≡ config.now.known_max }
-    ensures ok { IfOk result (λ next. ToldAt config.now table.old.names local slot (feed ++ piece.now) (first_request (feed ++ piece.now)) (served_with next table.new.names)) }
+    ensures ok { IfOk result (λ r. ToldAt config.now table.old.names local slot (feed ++ piece.now) (first_request (feed ++ piece.now)) (served_with r.0 table.new.names)) }
+    ensures again { IfOk result (λ r. r.1.items ≡ r.0.reply.items) }
     ensures limit { table.new.known_max ≡ table.old.known_max }
     ensures err { IfErr result (λ back. (back ≡ feed) × (table.new ≡ table.old)) }
 {
     let before = feed.kept().len();
     match feed.push(piece) {
         Err(_) => Err(feed),
-        Ok(Seen::More) => Ok(Next {
-            stage: Stage::Waiting(feed),
-            reply: Vec::new(alloc),
-            fate: Fate::Stay,
-            stopped: None,
-        }),
-        Ok(Seen::Bad(_)) => Ok(replied(Vec::new(alloc))),
+        Ok(Seen::More) => {
+            let next = Next {
+                stage: Stage::Waiting(feed),
+                reply: Vec::new(alloc),
+                fate: Fate::Stay,
+                stopped: None,
+            };
+            Ok((next, Vec::new(alloc)))
+        }
+        Ok(Seen::Bad(_)) => Ok((replied(Vec::new(alloc)), Vec::new(alloc))),
         Ok(Seen::Whole) => {
             let Some(body) = feed.body() else {
                 unreachable!()
             };
             match serve(alloc, config, table, local, slot, body) {
-                Ok(next) => Ok(next),
+                Ok(told) => Ok(told),
                 Err(_) => {
                     feed.cut(before);
                     Err(feed)
