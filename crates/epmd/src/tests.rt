@@ -4,6 +4,7 @@ mod actions;
 mod bytes;
 mod cases;
 mod client;
+mod desk;
 mod feed;
 mod link;
 mod machine;

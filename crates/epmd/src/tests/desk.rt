@@ -1,0 +1,317 @@
+//! Many workers on one table: the desk, its seats, and what one worker reads of another.
+ghost use Rattle.std.specs.Prelude.{◌≡◌};
+
+use crate::tests::bytes::{ALIVE_A, ALIVE_B, FOUND_A, KILL, PORT_A};
+use portmap_book::{Book, Conn, Desk, FinishFault, PARTS, SEATS_MOST, Seat};
+use portmap_core::{Answer, Config, Fate, Phase};
+use std::alloc::Global;
+use std::marker::Brand;
+use std::rt::Clock;
+use std::sync::Wait;
+use std::sync::atomic::{AtomicU64, Ordering};
+use std::sync::ledger::{Blank, Ledger};
+use std::test::Fail;
+use std::thread;
+use std::thread::Threads;
+use std::time::Duration;
+
+fn book(alloc: Global, relaxed: bool) -> Option<Book> {
+    let config = Config::new(4369, relaxed, 2, 4096).ok()?;
+    Book::new(alloc, config, 4).ok()
+}
+
+fn is_said(answer: &Answer, reply: &[u8], wanted: Fate) -> bool {
+    match answer {
+        Answer::Said { bytes, fate } => bytes.as_slice() == reply && *fate == wanted,
+        Answer::Connected(_) | Answer::Gone => false,
+    }
+}
+
+/// Whether the answer gives a creation of four bytes.
+fn is_registered(answer: &Answer) -> bool {
+    match answer {
+        Answer::Said { bytes, fate } => {
+            bytes.len() == 6 && bytes.starts_with(&[0x76, 0]) && *fate == Fate::Stay
+        }
+        Answer::Connected(_) | Answer::Gone => false,
+    }
+}
+
+fn is_gone(answer: &Answer) -> bool {
+    match answer {
+        Answer::Gone => true,
+        Answer::Connected(_) | Answer::Said { .. } => false,
+    }
+}
+
+/// A node connects, registers and leaves: the places of the three entries.
+fn round<L: Ledger, R: Wait>(
+    rt: &R,
+    alloc: Global,
+    desk: &Desk<L>,
+    seat: &mut Seat<L>,
+    request: &[u8],
+) -> Option<[u64; 3]> {
+    let (opened, conn) = desk.connect(rt, alloc, seat, true).ok()?;
+    let (said, answer) = desk.piece(rt, alloc, seat, &conn, request).ok()?;
+    let (closed, gone) = desk.close(rt, alloc, seat, conn).ok()?;
+    (is_registered(&answer) && is_gone(&gone)).then_some([opened, said, closed])
+}
+
+/// Whether 500 nodes in turn come and leave, and the places of their entries rise.
+fn rounds<L: Ledger, R: Wait>(
+    rt: &R,
+    alloc: Global,
+    desk: &Desk<L>,
+    seat: &mut Seat<L>,
+    request: &[u8],
+) -> bool {
+    let mut next = 0;
+    for _ in 0..500 {
+        match round(rt, alloc, desk, seat, request) {
+            Some([opened, said, closed]) if next <= opened && opened < said && said < closed => {
+                next = closed;
+            }
+            _ => return false,
+        }
+    }
+    true
+}
+
+/// A worker's seat when it is done, and whether all went well.
+fn worked<L: Ledger, R: Wait>(
+    rt: &R,
+    alloc: Global,
+    desk: &Desk<L>,
+    mut seat: Seat<L>,
+    request: &[u8],
+) -> (Seat<L>, bool) {
+    let is_right = rounds(rt, alloc, desk, &mut seat, request);
+    (seat, is_right)
+}
+
+/// How a desk of two workers ends.
+#[derive(Clone, Copy, Debug, PartialEq, Eq)]
+enum Ended {
+    /// All is counted: so many by each, and so many in the book.
+    Whole([u64; 3]),
+    /// A seat is missing: so many are counted, of so many.
+    Missing(u64, u64),
+}
+
+fn ended<L: Ledger>(desk: Desk<L>, seats: Vec<Seat<L>>, counts: [u64; 2]) -> Ended {
+    match desk.finish(seats) {
+        Ok(book) => Ended::Whole([counts[0], counts[1], book.count()]),
+        Err(FinishFault::SeatsMissing { have, logged, .. }) => Ended::Missing(have, logged),
+    }
+}
+
+/// Two threads at one desk, each with a seat and a name of its own. The second seat may get lost.
+fn two_workers<L: Ledger + Send + Sync, R: Threads + Wait + Sync>(
+    rt: &R,
+    alloc: Global,
+    blank: Blank,
+    is_lost: bool,
+) -> Option<Ended>
+    requires name { blank.name ≡ L.name }
+    requires parts { blank.parts ≡ L.parts }
+    requires enough { blank.parts ≡ PARTS }
+{
+    let desk: Desk<L> = Desk::new(blank, book(alloc, false)?);
+    let one = desk.seat(rt)?;
+    let two = desk.seat(rt)?;
+    let shared = &desk;
+    let ((one, is_one), (two, is_two)) = thread::join(
+        rt,
+        move || worked(rt, alloc, shared, one, ALIVE_A),
+        move || worked(rt, alloc, shared, two, ALIVE_B),
+    );
+    if !is_one || !is_two {
+        return None;
+    }
+    let counts = [one.count(), two.count()];
+    let mut seats = Vec::new(alloc);
+    seats.push(one).ok()?;
+    if !is_lost {
+        seats.push(two).ok()?;
+    }
+    Some(ended(desk, seats, counts))
+}
+
+#[test]
+fn two_workers_count_all_that_is_logged(rt: HostRuntime) -> Result<(), Fail> {
+    let ended = two_workers::<Brand, HostRuntime>(&rt, rt.alloc(), Blank::new(PARTS), false);
+    assert_eq!(rt; ended, Some(Ended::Whole([1500, 1500, 3000])));
+    Ok(())
+}
+
+#[test]
+fn a_seat_that_is_lost_is_missed(rt: HostRuntime) -> Result<(), Fail> {
+    let ended = two_workers::<Brand, HostRuntime>(&rt, rt.alloc(), Blank::new(PARTS), true);
+    assert_eq!(rt; ended, Some(Ended::Missing(1500, 3000)));
+    Ok(())
+}
+
+/// The places of the first three entries of a desk.
+fn first_places<L: Ledger, R: Wait>(rt: &R, alloc: Global, blank: Blank) -> Option<[u64; 3]>
+    requires name { blank.name ≡ L.name }
+    requires parts { blank.parts ≡ L.parts }
+    requires enough { blank.parts ≡ PARTS }
+{
+    let desk: Desk<L> = Desk::new(blank, book(alloc, false)?);
+    let mut seat = desk.seat(rt)?;
+    round(rt, alloc, &desk, &mut seat, ALIVE_A)
+}
+
+#[test]
+fn entries_have_places_from_0_on(rt: HostRuntime) -> Result<(), Fail> {
+    assert_eq!(rt;
+        first_places::<Brand, HostRuntime>(&rt, rt.alloc(), Blank::new(PARTS)),
+        Some([0, 1, 2])
+    );
+    Ok(())
+}
+
+/// Whether a desk makes 64 seats, and no more.
+fn seats_end<L: Ledger, R: Wait>(rt: &R, alloc: Global, blank: Blank) -> Option<bool>
+    requires name { blank.name ≡ L.name }
+    requires parts { blank.parts ≡ L.parts }
+    requires enough { blank.parts ≡ PARTS }
+{
+    let desk: Desk<L> = Desk::new(blank, book(alloc, false)?);
+    let mut seats = Vec::new(alloc);
+    for _ in 0..SEATS_MOST {
+        seats.push(desk.seat(rt)?).ok()?;
+    }
+    Some(seats.len() == 64 && desk.seat(rt).is_none())
+}
+
+#[test]
+fn a_desk_makes_64_seats(rt: HostRuntime) -> Result<(), Fail> {
+    assert_eq!(rt;
+        seats_end::<Brand, HostRuntime>(&rt, rt.alloc(), Blank::new(PARTS)),
+        Some(true)
+    );
+    Ok(())
+}
+
+/// Whether a connection that waits is done once its time is over, and gone once it fails.
+fn fails_late<L: Ledger, R: Wait>(
+    rt: &R,
+    alloc: Global,
+    desk: &Desk<L>,
+    seat: &mut Seat<L>,
+    conn: Conn<L>,
+) -> Option<bool> {
+    let before = desk.phase(rt, &conn);
+    let (_, late) = desk.late(rt, alloc, seat, &conn).ok()?;
+    let after = desk.phase(rt, &conn);
+    let (_, gone) = desk.fault(rt, alloc, seat, conn).ok()?;
+    let stood = before == Some(Phase::Waiting) && after == Some(Phase::Done);
+    Some(stood && is_said(&late, &[], Fate::Close) && is_gone(&gone))
+}
+
+/// Whether a port mapper has ended once it is killed, and not before.
+fn is_killed<L: Ledger, R: Wait>(
+    rt: &R,
+    alloc: Global,
+    desk: &Desk<L>,
+    seat: &mut Seat<L>,
+) -> Option<bool> {
+    let (_, conn) = desk.connect(rt, alloc, seat, true).ok()?;
+    let before = desk.halted(rt);
+    let (_, answer) = desk.piece(rt, alloc, seat, &conn, KILL).ok()?;
+    Some(!before && desk.halted(rt) && is_said(&answer, b"OK", Fate::Halt))
+}
+
+fn one_worker<L: Ledger, R: Wait>(rt: &R, alloc: Global, blank: Blank) -> Option<bool>
+    requires name { blank.name ≡ L.name }
+    requires parts { blank.parts ≡ L.parts }
+    requires enough { blank.parts ≡ PARTS }
+{
+    let desk: Desk<L> = Desk::new(blank, book(alloc, false)?);
+    let mut seat = desk.seat(rt)?;
+    let (_, conn) = desk.connect(rt, alloc, &mut seat, false).ok()?;
+    let is_first = conn.slot() == 0;
+    let has_failed = fails_late(rt, alloc, &desk, &mut seat, conn)?;
+    Some(is_first && has_failed && is_killed(rt, alloc, &desk, &mut seat)?)
+}
+
+#[test]
+fn a_worker_is_told_what_the_machine_says(rt: HostRuntime) -> Result<(), Fail> {
+    assert_eq!(rt;
+        one_worker::<Brand, HostRuntime>(&rt, rt.alloc(), Blank::new(PARTS)),
+        Some(true)
+    );
+    Ok(())
+}
+
+/// A worker registers a name, and says so by the flag.
+fn registers<L: Ledger, R: Wait + Clock>(
+    rt: &R,
+    alloc: Global,
+    desk: &Desk<L>,
+    mut seat: Seat<L>,
+    flag: &AtomicU64,
+) -> Option<bool> {
+    let (_, conn) = desk.connect(rt, alloc, &mut seat, true).ok()?;
+    let (_, answer) = desk.piece(rt, alloc, &mut seat, &conn, ALIVE_A).ok()?;
+    flag.store(1, Ordering::SeqCst);
+    Some(is_registered(&answer))
+}
+
+/// Waits for the flag, for a bounded time.
+fn is_raised<R: Clock>(rt: &R, flag: &AtomicU64) -> bool {
+    for _ in 0..10_000u32 {
+        if flag.load(Ordering::SeqCst) == 1 {
+            return true;
+        }
+        thread::sleep(rt, Duration::from_millis(1));
+    }
+    false
+}
+
+/// Another worker looks the name up once the flag is there.
+fn finds<L: Ledger, R: Wait + Clock>(
+    rt: &R,
+    alloc: Global,
+    desk: &Desk<L>,
+    mut seat: Seat<L>,
+    flag: &AtomicU64,
+) -> Option<bool> {
+    let (_, conn) = desk.connect(rt, alloc, &mut seat, true).ok()?;
+    let is_there = is_raised(rt, flag);
+    let (_, answer) = desk.piece(rt, alloc, &mut seat, &conn, PORT_A).ok()?;
+    Some(is_there && is_said(&answer, FOUND_A, Fate::Close))
+}
+
+fn one_reads_the_other<L: Ledger + Send + Sync, R: Threads + Wait + Clock + Sync>(
+    rt: &R,
+    alloc: Global,
+    blank: Blank,
+) -> Option<bool>
+    requires name { blank.name ≡ L.name }
+    requires parts { blank.parts ≡ L.parts }
+    requires enough { blank.parts ≡ PARTS }
+{
+    let desk: Desk<L> = Desk::new(blank, book(alloc, false)?);
+    let one = desk.seat(rt)?;
+    let two = desk.seat(rt)?;
+    let flag = AtomicU64::new(0);
+    let (shared, flag) = (&desk, &flag);
+    let (is_registered, is_found) = thread::join(
+        rt,
+        move || registers(rt, alloc, shared, one, flag),
+        move || finds(rt, alloc, shared, two, flag),
+    );
+    Some(is_registered? && is_found?)
+}
+
+#[test]
+fn one_worker_reads_what_another_wrote(rt: HostRuntime) -> Result<(), Fail> {
+    assert_eq!(rt;
+        one_reads_the_other::<Brand, HostRuntime>(&rt, rt.alloc(), Blank::new(PARTS)),
+        Some(true)
+    );
+    Ok(())
+}
