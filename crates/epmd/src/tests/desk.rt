@@ -99,7 +99,7 @@ enum Ended {
     Missing(u64, u64),
 }
 
-fn ended<L: Ledger>(desk: Desk<L>, seats: Vec<Seat<L>>, counts: [u64; 2]) -> Ended {
+fn ending_of<L: Ledger>(desk: Desk<L>, seats: Vec<Seat<L>>, counts: [u64; 2]) -> Ended {
     match desk.finish(seats) {
         Ok(book) => Ended::Whole([counts[0], counts[1], book.count()]),
         Err(FinishFault::SeatsMissing { have, logged, .. }) => Ended::Missing(have, logged),
@@ -135,7 +135,7 @@ fn two_workers<L: Ledger + Send + Sync, R: Threads + Wait + Sync>(
     if !is_lost {
         seats.push(two).ok()?;
     }
-    Some(ended(desk, seats, counts))
+    Some(ending_of(desk, seats, counts))
 }
 
 #[test]
