@@ -1,9 +1,15 @@
 //! Many workers on one table: the desk, its seats, and what one worker reads of another.
 ghost use Rattle.std.specs.Prelude.{◌≡◌};
 
-use crate::tests::bytes::{ALIVE_A, ALIVE_B, FOUND_A, KILL, PORT_A};
-use portmap_book::{Book, Conn, Desk, FinishFault, PARTS, SEATS_MOST, Seat};
-use portmap_core::{Answer, Config, Fate, Phase};
+use crate::tests::bytes::{ALIVE_A, ALIVE_B, FIFTH, FOUND_A, FOURTH, KILL, PORT_A};
+use crate::tests::cases::{Case, all_hold};
+use crate::tests::record::Kept;
+use crate::tests::transcript::entry;
+use portmap_book::{
+    Book, Conn, Desk, FinishFault, GatherFault, PARTS, SEATS_MOST, Seat, Ticket, gather,
+    tickets_agree,
+};
+use portmap_core::{Answer, Config, Entry, Event, Fate, Phase};
 use std::alloc::Global;
 use std::marker::Brand;
 use std::rt::Clock;
@@ -27,14 +33,9 @@ fn is_said(answer: &Answer, reply: &[u8], wanted: Fate) -> bool {
     }
 }
 
-/// Whether the answer gives a creation of four bytes.
-fn is_registered(answer: &Answer) -> bool {
-    match answer {
-        Answer::Said { bytes, fate } => {
-            bytes.len() == 6 && bytes.starts_with(&[0x76, 0]) && *fate == Fate::Stay
-        }
-        Answer::Connected(_) | Answer::Gone => false,
-    }
+/// Whether the reply gives a creation of four bytes.
+fn is_registered(reply: &[u8], fate: Fate) -> bool {
+    reply.len() == 6 && reply.starts_with(&[0x76, 0]) && fate == Fate::Stay
 }
 
 fn is_gone(answer: &Answer) -> bool {
@@ -44,50 +45,86 @@ fn is_gone(answer: &Answer) -> bool {
     }
 }
 
-/// A node connects, registers and leaves: the places of the three entries.
+/// A node connects, registers and leaves: a ticket for each of the three entries.
 fn round<L: Ledger, R: Wait>(
     rt: &R,
     alloc: Global,
     desk: &Desk<L>,
     seat: &mut Seat<L>,
     request: &[u8],
-) -> Option<[u64; 3]> {
+) -> Option<[Ticket; 3]> {
     let (opened, conn) = desk.connect(rt, alloc, seat, true).ok()?;
+    let slot = conn.slot();
     let (said, answer) = desk.piece(rt, alloc, seat, &conn, request).ok()?;
     let (closed, gone) = desk.close(rt, alloc, seat, conn).ok()?;
-    (is_registered(&answer) && is_gone(&gone)).then_some([opened, said, closed])
+    let registered = Entry::Piece {
+        slot,
+        bytes: request.to_vec(alloc).ok()?,
+        reply: reply_of(answer)?,
+        fate: Fate::Stay,
+    };
+    if !is_gone(&gone) {
+        return None;
+    }
+    Some([
+        ticket(opened, Entry::Connected { local: true, slot }),
+        ticket(said, registered),
+        ticket(closed, Entry::Closed { slot }),
+    ])
 }
 
-/// Whether 500 nodes in turn come and leave, and the places of their entries rise.
+fn ticket(place: u64, entry: Entry) -> Ticket {
+    Ticket { place, entry }
+}
+
+/// The reply to a registration that succeeds.
+fn reply_of(answer: Answer) -> Option<Vec<u8>> {
+    match answer {
+        Answer::Said { bytes, fate } if is_registered(&bytes, fate) => Some(bytes),
+        Answer::Said { .. } | Answer::Connected(_) | Answer::Gone => None,
+    }
+}
+
+/// Keeps the tickets, whose places rise from this one on, and gives the place behind the last.
+fn kept(tickets: &mut Vec<Ticket>, next: u64, three: [Ticket; 3]) -> Option<u64> {
+    let mut next = next;
+    for ticket in three {
+        if ticket.place < next {
+            return None;
+        }
+        next = ticket.place.saturating_add(1);
+        tickets.push(ticket).ok()?;
+    }
+    Some(next)
+}
+
+/// 500 nodes in turn come and leave. None where something went wrong.
 fn rounds<L: Ledger, R: Wait>(
     rt: &R,
     alloc: Global,
     desk: &Desk<L>,
     seat: &mut Seat<L>,
     request: &[u8],
-) -> bool {
+) -> Option<Vec<Ticket>> {
+    let mut tickets = Vec::new(alloc);
     let mut next = 0;
     for _ in 0..500 {
-        match round(rt, alloc, desk, seat, request) {
-            Some([opened, said, closed]) if next <= opened && opened < said && said < closed => {
-                next = closed;
-            }
-            _ => return false,
-        }
+        let three = round(rt, alloc, desk, seat, request)?;
+        next = kept(&mut tickets, next, three)?;
     }
-    true
+    Some(tickets)
 }
 
-/// A worker's seat when it is done, and whether all went well.
+/// A worker's seat when it is done, and its tickets.
 fn worked<L: Ledger, R: Wait>(
     rt: &R,
     alloc: Global,
     desk: &Desk<L>,
     mut seat: Seat<L>,
     request: &[u8],
-) -> (Seat<L>, bool) {
-    let is_right = rounds(rt, alloc, desk, &mut seat, request);
-    (seat, is_right)
+) -> (Seat<L>, Option<Vec<Ticket>>) {
+    let tickets = rounds(rt, alloc, desk, &mut seat, request);
+    (seat, tickets)
 }
 
 /// How a desk of two workers ends.
@@ -99,11 +136,30 @@ enum Ended {
     Missing(u64, u64),
 }
 
-fn ending_of<L: Ledger>(desk: Desk<L>, seats: Vec<Seat<L>>, counts: [u64; 2]) -> Ended {
+/// The book tells whether the tickets are its log.
+fn ending_of<L: Ledger>(
+    alloc: Global,
+    desk: Desk<L>,
+    seats: Vec<Seat<L>>,
+    counts: [u64; 2],
+    tickets: Vec<Ticket>,
+) -> Option<Ended> {
     match desk.finish(seats) {
-        Ok(book) => Ended::Whole([counts[0], counts[1], book.count()]),
-        Err(FinishFault::SeatsMissing { have, logged, .. }) => Ended::Missing(have, logged),
+        Ok(book) => {
+            gather(alloc, &book, tickets).ok()?;
+            Some(Ended::Whole([counts[0], counts[1], book.count()]))
+        }
+        Err(FinishFault::SeatsMissing { have, logged, .. }) => Some(Ended::Missing(have, logged)),
     }
+}
+
+/// All tickets of two workers.
+fn joined(one: Option<Vec<Ticket>>, two: Option<Vec<Ticket>>) -> Option<Vec<Ticket>> {
+    let mut all = one?;
+    for ticket in two? {
+        all.push(ticket).ok()?;
+    }
+    Some(all)
 }
 
 /// Two threads at one desk, each with a seat and a name of its own. The second seat may get lost.
@@ -121,21 +177,18 @@ fn two_workers<L: Ledger + Send + Sync, R: Threads + Wait + Sync>(
     let one = desk.seat(rt)?;
     let two = desk.seat(rt)?;
     let shared = &desk;
-    let ((one, is_one), (two, is_two)) = thread::join(
+    let ((one, first), (two, second)) = thread::join(
         rt,
         move || worked(rt, alloc, shared, one, ALIVE_A),
         move || worked(rt, alloc, shared, two, ALIVE_B),
     );
-    if !is_one || !is_two {
-        return None;
-    }
     let counts = [one.count(), two.count()];
     let mut seats = Vec::new(alloc);
     seats.push(one).ok()?;
     if !is_lost {
         seats.push(two).ok()?;
     }
-    Some(ending_of(desk, seats, counts))
+    ending_of(alloc, desk, seats, counts, joined(first, second)?)
 }
 
 #[test]
@@ -160,7 +213,8 @@ fn first_places<L: Ledger, R: Wait>(rt: &R, alloc: Global, blank: Blank) -> Opti
 {
     let desk: Desk<L> = Desk::new(blank, book(alloc, false)?);
     let mut seat = desk.seat(rt)?;
-    round(rt, alloc, &desk, &mut seat, ALIVE_A)
+    let [opened, said, closed] = round(rt, alloc, &desk, &mut seat, ALIVE_A)?;
+    Some([opened.place, said.place, closed.place])
 }
 
 #[test]
@@ -257,7 +311,7 @@ fn registers<L: Ledger, R: Wait + Clock>(
     let (_, conn) = desk.connect(rt, alloc, &mut seat, true).ok()?;
     let (_, answer) = desk.piece(rt, alloc, &mut seat, &conn, ALIVE_A).ok()?;
     flag.store(1, Ordering::SeqCst);
-    Some(is_registered(&answer))
+    Some(is_said(&answer, FOURTH, Fate::Stay))
 }
 
 /// Waits for the flag, for a bounded time.
@@ -314,4 +368,74 @@ fn one_worker_reads_what_another_wrote(rt: HostRuntime) -> Result<(), Fail> {
         Some(true)
     );
     Ok(())
+}
+
+/// Tickets for the log of a node that connects, registers and leaves, and what is found of them.
+struct Gathered(&'static [(u64, Kept)], Result<(), GatherFault>);
+
+const OPENED: Kept = Kept::Connected(true, 0);
+
+const REGISTERED: Kept = Kept::Piece(0, ALIVE_A, FOURTH, Fate::Stay);
+
+const LEFT: Kept = Kept::Closed(0);
+
+const GATHERED: &[Gathered] = &[
+    Gathered(&[(0, OPENED), (1, REGISTERED), (2, LEFT)], Ok(())),
+    Gathered(&[(2, LEFT), (0, OPENED), (1, REGISTERED)], Ok(())),
+    Gathered(
+        &[(0, OPENED), (1, REGISTERED), (2, LEFT), (1, REGISTERED)],
+        Err(GatherFault::Twice(1)),
+    ),
+    Gathered(
+        &[(0, OPENED), (3, LEFT), (3, LEFT)],
+        Err(GatherFault::Stranger(3)),
+    ),
+    Gathered(
+        &[(0, OPENED), (1, Kept::Piece(0, ALIVE_A, FIFTH, Fate::Stay))],
+        Err(GatherFault::Differs(1)),
+    ),
+    Gathered(
+        &[(0, OPENED), (2, Kept::Faulted(0))],
+        Err(GatherFault::Differs(2)),
+    ),
+    Gathered(
+        &[(0, Kept::Connected(false, 0))],
+        Err(GatherFault::Differs(0)),
+    ),
+    Gathered(&[(0, OPENED), (2, LEFT)], Err(GatherFault::Missing(1))),
+    Gathered(&[], Err(GatherFault::Missing(0))),
+];
+
+/// The book of a node that connects, registers and leaves.
+fn one_node(alloc: Global) -> Option<Book> {
+    let mut book = book(alloc, false)?;
+    book.act(alloc, Event::Connect { local: true }).ok()?;
+    let bytes = ALIVE_A.to_vec(alloc).ok()?;
+    book.act(alloc, Event::Piece { slot: 0, bytes }).ok()?;
+    book.act(alloc, Event::Close { slot: 0 }).ok()?;
+    Some(book)
+}
+
+fn tickets_of(alloc: Global, table: &[(u64, Kept)]) -> Result<Vec<Ticket>, Fail> {
+    let mut tickets = Vec::new(alloc);
+    for (place, kept) in table {
+        tickets.push(ticket(*place, entry(alloc, kept)?))?;
+    }
+    Ok(tickets)
+}
+
+impl Case for Gathered {
+    fn holds(&self, alloc: Global) -> Result<bool, Fail> {
+        let tickets = tickets_of(alloc, self.0)?;
+        match one_node(alloc) {
+            Some(book) => Ok(gather(alloc, &book, tickets) == self.1),
+            None => Ok(false),
+        }
+    }
+}
+
+#[test]
+fn tickets_are_the_log_or_the_first_fault_is_told(rt: HostRuntime) -> Result<(), Fail> {
+    tickets_agree();
+    all_hold(&rt, GATHERED)
 }

@@ -93,7 +93,8 @@ const LAST_LINES: &[Found] = &[
     Found(10000, Verdict::Broken(10), b"broken at entry 10\n"),
 ];
 
-fn entry(alloc: Global, kept: &Kept) -> Result<Entry, AllocError> {
+/// The entry of a table.
+pub fn entry(alloc: Global, kept: &Kept) -> Result<Entry, AllocError> {
     Ok(match kept {
         Kept::Connected(local, slot) => Entry::Connected {
             local: *local,
