@@ -1,5 +1,6 @@
 -- How bytes are sent.
-use Rattle.std.specs.Prelude.{◌≡◌, ℕ, List, [], ◌∷◌, ◌++◌, map, sum, Bool, true, false}
+use Rattle.std.specs.Prelude.{◌≡◌, ℕ, List, [], ◌∷◌, ◌++◌, map, sum, Bool, true, false, Option}
+use Rattle.std.specs.Io.KnownBytes.{Appends}
 use Rattle.portmap_link.specs.declared.device.Put.{Put}
 use Rattle.portmap_link.specs.declared.device.Put.TheVariants.{Wrote, Later as PutLater, Fault as PutFault}
 use Rattle.portmap_link.specs.declared.outbox.Flush.{Flush}
@@ -22,3 +23,12 @@ pub record Sends (old new : List Put) (count : ℕ) (flush : Flush) : Type 0 whe
   pub counts : List ℕ
   pub total : sum counts ≡ count
   pub answers : new ≡ old ++ map Wrote counts ++ ending_of flush
+
+-- what was written, and after it what waits, is what waited before
+abbrev pub Moves : Option (List ℕ) → Option (List ℕ) → List ℕ → List ℕ → Type 0
+Moves old new before after = (written : List ℕ) × Appends old new written × (written ++ after ≡ before)
+
+-- the last of the answers after `old` was this one
+pub record LastPut (old new : List Put) (last : Put) : Type 0 where
+  pub before : List Put
+  pub grows : new ≡ old ++ before ++ last ∷ []

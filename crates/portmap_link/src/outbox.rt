@@ -1,7 +1,7 @@
 //! Bytes that wait to be written.
 ghost use Rattle.std.specs.Prelude.{◌≡◌, ℕ, ◌+◌, ◌-◌, ◌≤◌, ◌||◌, ◌↔◌, List, [], ◌++◌, length, take, drop, vec_len, OnOk, OnErr};
 ghost use Rattle.std.specs.Io.KnownBytes.{Keeps, Appends};
-ghost use Rattle.portmap_link.specs.Flush.{flush_is_fault, Sends};
+ghost use Rattle.portmap_link.specs.Flush.{flush_is_fault, Sends, Moves};
 
 use crate::{NoMemory, Output, Put};
 use std::alloc::Global;
@@ -89,8 +89,7 @@ impl Outbox {
     /// Puts what waits until nothing does or the output answers otherwise. What was not written waits on.
     #[tactic(auto, using(crate::proofs::Sending::drop_is_nil))]
     pub fn flush<W: Output>(&mut self, output: &mut W) -> Flush
-        ensures written { (written : List ℕ) × Appends (W.held output.old) (W.held output.new) written
-            × (written ++ self.new ≡ self.old) }
+        ensures written { Moves (W.held output.old) (W.held output.new) self.old self.new }
         ensures empty { (result ≡ Flush.Empty) ↔ (self.new ≡ []) }
         ensures answers { Sends (W.puts output.old) (W.puts output.new) (length self.old - length self.new) result }
         ensures calls { length (W.puts output.new) ≤ length (W.puts output.old) + length self.old + 1 }

@@ -1,5 +1,7 @@
 //! A stream of the standard library as a device, which is read and written.
 ghost use Rattle.std.specs.Prelude.{◌≡◌, [], false};
+ghost use Rattle.std.specs.Borrow.{sem, Lends};
+ghost use Rattle.portmap_link.specs.contracts.adapters.stream.Both.{the_row};
 ghost use Rattle.portmap_link.specs.Adapters.{both_inner, both_pulls, both_puts, both_broken};
 
 use super::{read_once, write_once};
@@ -30,6 +32,14 @@ impl<S: Read + Write> Both<S> {
             pulls: Past::new(),
             puts: Past::new(),
         }
+    }
+
+    /// The stream within, to be set or registered. Who reads or writes it goes around the device.
+    pub fn get_mut(&mut self) -> &mut S
+        ensures value { result.now ≡ both_inner self.old }
+        ensures* writes_back { sem 𝓛 (Lends (the_row S.row) S.row self.entry result (λ w. record self.old { inner = w })) }
+    {
+        &mut self.inner
     }
 
     /// The stream, as the last call left it.
