@@ -9,7 +9,7 @@ ghost use Rattle.portmap_daemon.specs.Carrying.{IsRead, FollowsAnswer, FollowsNo
 
 use crate::{Gate, Point};
 use portmap_book::{ActFault, Conn, Desk, Seat};
-use portmap_core::{Answer, Fate, Refusal};
+use portmap_core::{Answer, Fate, Phase, Refusal};
 use portmap_link::{Flush, Input, Outbox, Output, Pull};
 use std::alloc::Global;
 use std::sync::Wait;
@@ -139,6 +139,28 @@ impl<L: Ledger> Carrier<L> {
             Err(fault) => next_of(fault),
         }
     }
+
+    /// Whether the connection was stopped, or its request is done with, and nothing waits to be written.
+    pub(crate) fn is_done<R: Wait>(&self, rt: &R, desk: &Desk<L>) -> bool {
+        self.out.pending().is_empty() && desk.phase(rt, &self.conn) == Some(Phase::Done)
+    }
+
+    /// Writes what waits, as far as the link takes it. Whether some waits on.
+    pub(crate) fn waits<I: Output>(&mut self, link: &mut I) -> bool {
+        self.out.flush(link) == Flush::Later
+    }
+
+    /// The connection, to be closed. What waits is lost.
+    pub(crate) fn into_conn(self) -> Conn<L>
+        ensures { result ≡ self.conn }
+    {
+        let Carrier {
+            conn,
+            out: _,
+            due: _,
+        } = self;
+        conn
+    }
 }
 
 /// The bytes that an answer says.
@@ -175,7 +197,7 @@ fn next_after(fate: Fate, flush: Flush) -> Next
 }
 
 /// What is next where the desk has refused.
-fn next_of(fault: ActFault) -> Next
+pub(crate) fn next_of(fault: ActFault) -> Next
     ensures { result ≡ next_of fault }
 {
     match fault {
