@@ -1,16 +1,14 @@
 -- A piece is read between two writings.
-use Rattle.std.specs.Prelude.{◌⊎◌}
-use Rattle.std.proofs.Common.{◌≡◌, ◌≤◌, ℕ, List, [], ◌∷◌, ◌++◌, length, take, map, Option, Some, None, refl, sym, ap, ◌∙◌, append_assoc, inl, inr, arith}
+use Rattle.std.proofs.Common.{◌≡◌, ◌≤◌, ℕ, List, [], ◌∷◌, ◌++◌, length, take, map, Option, Some, None, sym, ap, ◌∙◌, append_assoc, inl, inr, arith}
 use Rattle.std.proofs.lemmas.List.{length-take}
 use Rattle.std.proofs.KnownBytes.{Appends-trans, Appends-kept}
-use Rattle.std.specs.Io.KnownBytes.{Keeps, Consumes, Appends}
+use Rattle.std.specs.Io.KnownBytes.{Keeps, Consumes}
 use Rattle.portmap_core.specs.declared.event.Answer.{Answer}
 use Rattle.portmap_link.specs.Asking.{Devices}
 use Rattle.portmap_link.specs.Flush.{Moves, LastPut, Sends, ending_of}
 use Rattle.portmap_link.specs.declared.device.Put.{Put}
 use Rattle.portmap_link.specs.declared.device.Put.TheVariants.{Wrote}
 use Rattle.portmap_link.specs.declared.device.Put.TheVariants as put
-use Rattle.portmap_link.specs.declared.device.Pull.{Pull}
 use Rattle.portmap_link.specs.declared.device.Pull.TheVariants as pull
 use Rattle.portmap_link.specs.declared.outbox.Flush.{Flush}
 use Rattle.portmap_link.specs.declared.outbox.Flush.TheVariants as flush

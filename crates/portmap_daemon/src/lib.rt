@@ -3,10 +3,18 @@
 
 mod carrier;
 mod gate;
+mod listener;
+mod peer;
+mod running;
 mod serving;
+mod socket_source;
+mod sockets;
 mod source;
+mod stream_link;
 
 pub use crate::carrier::{Carrier, Next, PULL_MOST};
 pub use crate::gate::{Gate, Open, Point};
+pub use crate::peer::is_local_peer;
+pub use crate::running::{RunEnd, RunFault, Settings, TIMEOUT_MOST, run, run_gated};
 pub use crate::serving::{Outcome, serve};
 pub use crate::source::{Source, Turn};

@@ -59,7 +59,10 @@ impl<L: Ledger, S: Source + Drop, G: Gate, R: Wait> Worker<'_, L, S, G, R> {
             self.source.end(key);
             return true;
         };
-        match self.desk.connect(self.rt, self.alloc, &mut self.seat, local) {
+        match self
+            .desk
+            .connect(self.rt, self.alloc, &mut self.seat, local)
+        {
             Ok((_, conn)) => {
                 place.insert(Carrier::new(self.alloc, conn));
                 true
@@ -196,7 +199,9 @@ impl<L: Ledger, S: Source + Drop, G: Gate, R: Wait> Worker<'_, L, S, G, R> {
         let mut worker = self;
         while let Some((_, carrier)) = worker.held.pop_first() {
             let conn = carrier.into_conn();
-            let _ = worker.desk.close(worker.rt, worker.alloc, &mut worker.seat, conn);
+            let _ = worker
+                .desk
+                .close(worker.rt, worker.alloc, &mut worker.seat, conn);
         }
         worker.seat
     }

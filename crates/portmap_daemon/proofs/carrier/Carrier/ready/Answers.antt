@@ -10,8 +10,8 @@ pub returns-in-Ok-clause-told : goal.returns-in-Ok-clause-told
 returns-in-Ok-clause-told g c = (
   take c.in-Piece.n c.pull.new.buffer,
   is_read _ _ _ _ c.in-Piece.ensures.bytes.1 (omega (arith, c.pull.auto.buffer))
-    (read_between _ _ _ _ _ c.flush.ensures.left c.in-Piece.ensures.bytes.2 c.reply-next.ensures.left)
-    (c.reply-next.ensures.pulls ∙ c.in-Piece.ensures.noted ∙ ap (λ (t : List Pull). t ++ Piece c.in-Piece.n ∷ []) c.flush.ensures.pulls),
+      (read_between _ _ _ _ _ c.flush.ensures.left c.in-Piece.ensures.bytes.2 c.reply-next.ensures.left)
+      (c.reply-next.ensures.pulls ∙ c.in-Piece.ensures.noted ∙ ap (λ (t : List Pull). t ++ Piece c.in-Piece.n ∷ []) c.flush.ensures.pulls),
   c.in-Ok.ensures.told,
 )
 
@@ -22,4 +22,4 @@ returns-in-Ok-clause-written g c =
 pub returns-in-Ok-clause-next : goal.returns-in-Ok-clause-next
 returns-in-Ok-clause-next g c =
     follows_flush c.in-Ok.answer _ _ _ _ _ _ _ c.flush.ensures.answers
-      (subst (λ (puts : List Put). FollowsAnswer c.in-Ok.answer puts (g.I.Device.puts c.reply-next.new.link) c.reply-next.new.self.out c.reply-next.result) c.in-Piece.ensures.puts c.reply-next.ensures.next)
+    (subst (λ (puts : List Put). FollowsAnswer c.in-Ok.answer puts (g.I.Device.puts c.reply-next.new.link) c.reply-next.new.self.out c.reply-next.result) c.in-Piece.ensures.puts c.reply-next.ensures.next)

@@ -1,0 +1,6 @@
+use Rattle.std.proofs.Common.{◌≡◌, vec_len, length}
+use Rattle.portmap_daemon.proofs.running.jobs_of.Given as goal
+
+-- one for each so far
+abbrev pub invariant-loop-sockets : goal.invariant-loop-sockets
+invariant-loop-sockets g l = vec_len l.jobs ≡ length l.yielded

@@ -1,0 +1,87 @@
+//! The source of a worker over sockets.
+use crate::sockets::Sockets;
+use crate::stream_link::StreamLink;
+use crate::{Source, Turn};
+use std::rt::Clock;
+use std::sync::atomic::{AtomicBool, Ordering};
+use std::time::Instant;
+
+/// How often the poll is asked within one turn, where what it reports comes to nothing: other workers took it.
+const ROUNDS: u32 = 64;
+
+/// A worker's sockets with a clock.
+#[derive(Drop)]
+pub(crate) struct SocketSource<'a, R: Clock> {
+    sockets: Sockets,
+    clock: &'a R,
+    /// When the worker began, where the clock can be read.
+    begun: Option<Instant>,
+    /// Whether a poll has failed, of this worker or of another one.
+    failed: &'a AtomicBool,
+}
+
+impl<'a, R: Clock> SocketSource<'a, R> {
+    pub(crate) fn new(
+        sockets: Sockets,
+        clock: &'a R,
+        failed: &'a AtomicBool,
+    ) -> SocketSource<'a, R> {
+        SocketSource {
+            sockets,
+            clock,
+            begun: Instant::now(clock).ok(),
+            failed,
+        }
+    }
+
+    /// The milliseconds since the worker began. Where the clock can't be read, a millisecond passes with each answer of the poll.
+    fn now(&self) -> u64 {
+        let next = self.sockets.now().saturating_add(1);
+        let Some(begun) = &self.begun else {
+            return next;
+        };
+        match begun.elapsed(self.clock) {
+            Ok(time) => u64::try_from(time.as_millis()).unwrap_or(next),
+            Err(_) => next,
+        }
+    }
+
+    /// Asks the poll. What is to be told by the time alone, or where it has failed.
+    fn ask(&mut self) -> Option<Turn> {
+        if !self.sockets.wait() {
+            self.failed.store(true, Ordering::SeqCst);
+            return Some(Turn::Stop);
+        }
+        let now = self.now();
+        if self.sockets.pass(now) {
+            Some(Turn::Idle)
+        } else {
+            None
+        }
+    }
+}
+
+impl<R: Clock> Source for SocketSource<'_, R> {
+    type Link = StreamLink;
+
+    fn turn(&mut self) -> Turn {
+        self.sockets.put_back();
+        for _ in 0..ROUNDS {
+            if let Some(turn) = self.sockets.next() {
+                return turn;
+            }
+            if let Some(turn) = self.ask() {
+                return turn;
+            }
+        }
+        Turn::Idle
+    }
+
+    fn link(&mut self, key: u64) -> Option<&mut StreamLink> {
+        self.sockets.link(key)
+    }
+
+    fn end(&mut self, key: u64) {
+        self.sockets.end(key)
+    }
+}
