@@ -2,9 +2,9 @@
 
 .PHONY: run epmd test
 
-# Builds the proved program and runs what it can do so far: one request from standard input.
+# Builds the proved daemon and serves on port 4369.
 run: epmd
-	./build/epmd -once
+	./build/epmd
 
 # Proves the program and all below it, and leaves it at build/epmd. The run, at the end of its input, writes nothing.
 epmd:

@@ -1,2 +1,3 @@
 pub mod Actions
 pub mod Words
+pub mod Daemon

@@ -30,13 +30,13 @@ pub const REFUSED: u8 = 2;
 pub const FAILED: u8 = 3;
 
 /// The port that the port mapper tells of itself.
-const PORT: u16 = 4369;
+pub const PORT: u16 = 4369;
 
 /// How many connections may be open at once.
-const CONNECTIONS_MOST: u32 = 1024;
+pub const CONNECTIONS_MOST: u32 = 1024;
 
 /// How many names may be known at once.
-const NAMES_MOST: u32 = 4096;
+pub const NAMES_MOST: u32 = 4096;
 
 /// Where creations start.
 const FIRST_CREATION: u32 = 4;
@@ -53,6 +53,8 @@ const BAD_RECORD: &[u8] = b"epmd: bad record\n";
 
 const DEVICE_FAILED: &[u8] = b"epmd: input or output failed\n";
 
+const POLLING_FAILED: &[u8] = b"epmd: polling failed\n";
+
 const MEMORY_RAN_OUT: &[u8] = b"epmd: out of memory\n";
 
 /// Why an action is not done.
@@ -64,6 +66,8 @@ pub enum Failure {
     BadRecord,
     /// The input or the output failed, or took too many turns, or the input has too many bytes.
     Device,
+    /// Readiness of sockets can't be had.
+    Polling,
     /// Memory ran out.
     Memory,
 }
@@ -107,7 +111,7 @@ fn status_of(failure: Failure) -> u8
 {
     match failure {
         Failure::BadWords | Failure::BadRecord => REFUSED,
-        Failure::Device | Failure::Memory => FAILED,
+        Failure::Device | Failure::Polling | Failure::Memory => FAILED,
     }
 }
 
@@ -119,6 +123,7 @@ fn line_of(failure: Failure) -> &'static [u8]
         Failure::BadWords => BAD_WORD,
         Failure::BadRecord => BAD_RECORD,
         Failure::Device => DEVICE_FAILED,
+        Failure::Polling => POLLING_FAILED,
         Failure::Memory => MEMORY_RAN_OUT,
     }
 }
@@ -203,7 +208,7 @@ fn show<R: Read, W: Write>(
         MakesTurns FILE_TURNS (seen input.old output.old) (seen input.new output.new) result (λ sent. Err (PlayFault.TooManyTurns sent)) }
 {
     match action {
-        Action::Once => unreachable!(),
+        Action::Serve | Action::Once => unreachable!(),
         Action::Check(_) => tell_verdict(alloc, input, output, FILE_TURNS),
         Action::Play(_) => play(alloc, input, output, FILE_TURNS),
     }

@@ -8,6 +8,8 @@ use std::alloc::Global;
 /// What the command is asked to do.
 #[derive(Drop)]
 pub enum Action {
+    /// To serve as the daemon.
+    Serve,
     /// To answer one request from standard input, on standard output.
     Once,
     /// To judge the recorded session in the file of this path.
@@ -21,6 +23,7 @@ pub fn read_words(alloc: Global, words: &[String]) -> Result<Option<Action>, NoM
     ensures { IfOk result (λ asked. option_map asked_in asked ≡ asked_by (map string_bytes words.now)) }
 {
     let action = match words {
+        [] => Action::Serve,
         [word] if word.as_str() == "-once" => Action::Once,
         [word, path] if word.as_str() == "-check" => Action::Check(String::from_str(alloc, path)?),
         [word, path] if word.as_str() == "-play" => Action::Play(String::from_str(alloc, path)?),
