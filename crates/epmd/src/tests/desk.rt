@@ -26,7 +26,7 @@ fn book(alloc: Global, relaxed: bool) -> Option<Book> {
     Book::new(alloc, config, 4).ok()
 }
 
-fn is_said(answer: &Answer, reply: &[u8], wanted: Fate) -> bool {
+pub fn is_said(answer: &Answer, reply: &[u8], wanted: Fate) -> bool {
     match answer {
         Answer::Said { bytes, fate } => bytes.as_slice() == reply && *fate == wanted,
         Answer::Connected(_) | Answer::Gone => false,
@@ -266,7 +266,7 @@ fn fails_late<L: Ledger, R: Wait>(
 }
 
 /// Whether a port mapper has ended once it is killed, and not before.
-fn is_killed<L: Ledger, R: Wait>(
+pub fn is_killed<L: Ledger, R: Wait>(
     rt: &R,
     alloc: Global,
     desk: &Desk<L>,
@@ -315,7 +315,7 @@ fn registers<L: Ledger, R: Wait + Clock>(
 }
 
 /// Waits for the flag, for a bounded time.
-fn is_raised<R: Clock>(rt: &R, flag: &AtomicU64) -> bool {
+pub fn is_raised<R: Clock>(rt: &R, flag: &AtomicU64) -> bool {
     for _ in 0..10_000u32 {
         if flag.load(Ordering::SeqCst) == 1 {
             return true;

@@ -148,7 +148,7 @@ fn is_kept(entry: &Entry, kept: &Kept) -> bool {
     }
 }
 
-fn are_kept(entries: &[Entry], kept: &[Kept]) -> bool {
+pub fn are_kept(entries: &[Entry], kept: &[Kept]) -> bool {
     for (entry, one) in entries.iter().zip(kept) {
         if !is_kept(entry, one) {
             return false;

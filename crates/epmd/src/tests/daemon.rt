@@ -1,0 +1,267 @@
+//! The daemon over sockets of this host: each story at a port of its own, with a client that ends it.
+use crate::tests::bytes::{ALIVE_A, FOUND_A, KILL, NAMES, NOT_FOUND, PORT_A};
+use crate::tests::gates::Meet;
+use portmap_core::Config;
+use portmap_daemon::{Gate, Open, RunEnd, RunFault, Settings, run_gated};
+use std::alloc::Global;
+use std::io::{Read, Write};
+use std::net::{Ipv4Addr, Net, TcpListener, TcpStream};
+use std::rt::Clock;
+use std::sync::Wait;
+use std::test::Fail;
+use std::thread;
+use std::thread::Threads;
+use std::time::Duration;
+
+/// What a client does with the daemon.
+#[derive(Clone, Copy, PartialEq, Eq)]
+enum Story {
+    /// A node registers, is listed, and leaves.
+    Leaves,
+    /// A node registers, and its connection is reset.
+    Resets,
+    /// A connection says nothing, for longer than it may, and a node that is registered neither.
+    Silent,
+    /// Names are long, and a peer that asks for their list doesn't read it.
+    Stalls,
+    /// Eight peers ask for the list of names, one after the other, and read nothing.
+    Crowds,
+}
+
+impl Story {
+    /// A port of its own.
+    fn port(self) -> u16 {
+        match self {
+            Story::Leaves => 14_369,
+            Story::Resets => 14_370,
+            Story::Silent => 14_371,
+            Story::Stalls => 14_372,
+            Story::Crowds => 14_373,
+        }
+    }
+}
+
+/// Connects, as soon as the daemon listens. A read fails after ten seconds.
+fn connect<R: Net<Stream = TcpStream> + Clock>(rt: &R, port: u16) -> Option<TcpStream> {
+    for _ in 0..500u32 {
+        if let Ok(stream) = TcpStream::connect(rt, (Ipv4Addr::LOCALHOST, port)) {
+            let patience = Duration::from_secs(10);
+            stream.set_read_timeout(Some(patience)).ok()?;
+            return Some(stream);
+        }
+        thread::sleep(rt, Duration::from_millis(10));
+    }
+    None
+}
+
+/// A connection over which this was sent.
+fn sent<R: Net<Stream = TcpStream> + Clock>(
+    rt: &R,
+    port: u16,
+    request: &[u8],
+) -> Option<TcpStream> {
+    let mut stream = connect(rt, port)?;
+    stream.write_all(request).ok()?;
+    Some(stream)
+}
+
+/// Whether the request is answered so, and the connection closed behind it. A reply has at most 64 bytes.
+fn is_answered<R: Net<Stream = TcpStream> + Clock>(
+    rt: &R,
+    port: u16,
+    request: &[u8],
+    reply: &[u8],
+) -> Option<bool> {
+    let mut stream = sent(rt, port, request)?;
+    let mut whole = [0; 64];
+    let got = whole.get_mut(..reply.len())?;
+    stream.read_exact(got).ok()?;
+    let is_same = *got == *reply;
+    let behind = stream.read(&mut [0; 1]).ok()?;
+    Some(is_same && behind == 0)
+}
+
+/// Whether the request comes to be answered so, within ten seconds.
+fn comes_to<R: Net<Stream = TcpStream> + Clock>(
+    rt: &R,
+    port: u16,
+    request: &[u8],
+    reply: &[u8],
+) -> bool {
+    for _ in 0..1000u32 {
+        if is_answered(rt, port, request, reply) == Some(true) {
+            return true;
+        }
+        thread::sleep(rt, Duration::from_millis(10));
+    }
+    false
+}
+
+/// The connection of a node that is registered as `a`.
+fn registered<R: Net<Stream = TcpStream> + Clock>(rt: &R, port: u16) -> Option<TcpStream> {
+    let mut stream = sent(rt, port, ALIVE_A)?;
+    let mut reply = [0; 6];
+    stream.read_exact(&mut reply).ok()?;
+    if reply.starts_with(&[0x76, 0]) {
+        Some(stream)
+    } else {
+        None
+    }
+}
+
+/// The list of names of the daemon at port 14,369, which is 0x3821, with `a` in it.
+const LISTED: &[u8] = b"\x00\x00\x38\x21name a at port 5000\n";
+
+fn leaves<R: Net<Stream = TcpStream> + Clock>(rt: &R, port: u16) -> Option<bool> {
+    let node = registered(rt, port)?;
+    let is_listed = is_answered(rt, port, NAMES, LISTED)?;
+    let is_found = is_answered(rt, port, PORT_A, FOUND_A)?;
+    drop(node);
+    Some(is_listed && is_found && comes_to(rt, port, PORT_A, NOT_FOUND))
+}
+
+/// A connection that is closed with bytes unread is reset.
+fn resets<R: Net<Stream = TcpStream> + Clock>(rt: &R, port: u16) -> Option<bool> {
+    let node = sent(rt, port, ALIVE_A)?;
+    let is_found = comes_to(rt, port, PORT_A, FOUND_A);
+    drop(node);
+    Some(is_found && comes_to(rt, port, PORT_A, NOT_FOUND))
+}
+
+fn is_silent<R: Net<Stream = TcpStream> + Clock>(rt: &R, port: u16) -> Option<bool> {
+    let _node = registered(rt, port)?;
+    let mut silent = connect(rt, port)?;
+    let is_closed = silent.read(&mut [0; 1]).ok()? == 0;
+    Some(is_closed && is_answered(rt, port, PORT_A, FOUND_A)?)
+}
+
+/// A registration of a name of 255 bytes, the first of which is this one.
+fn long_registration(alloc: Global, first: u8) -> Option<Vec<u8>> {
+    let mut request = [
+        0x01, 0x0C, 0x78, 0x13, 0x88, 0x4D, 0x00, 0x00, 0x06, 0x00, 0x05, 0x00, 0xFF, first,
+    ]
+    .to_vec(alloc)
+    .ok()?;
+    request.resize(268, 0x6E).ok()?;
+    request.resize(270, 0).ok()?;
+    Some(request)
+}
+
+/// The connections of 64 nodes whose names are long: their list has more than 16,000 bytes.
+fn long_nodes<R: Net<Stream = TcpStream> + Clock>(
+    rt: &R,
+    alloc: Global,
+    port: u16,
+) -> Option<Vec<TcpStream>> {
+    let mut nodes = Vec::new(alloc);
+    for first in 0x30..0x70u8 {
+        let request = long_registration(alloc, first)?;
+        nodes.push(sent(rt, port, &request)?).ok()?;
+    }
+    Some(nodes)
+}
+
+fn stalls<R: Net<Stream = TcpStream> + Clock>(rt: &R, alloc: Global, port: u16) -> Option<bool> {
+    let _nodes = long_nodes(rt, alloc, port)?;
+    let _stalled = sent(rt, port, NAMES)?;
+    let _node = registered(rt, port)?;
+    is_answered(rt, port, PORT_A, FOUND_A)
+}
+
+fn crowds<R: Net<Stream = TcpStream> + Clock>(rt: &R, alloc: Global, port: u16) -> Option<bool> {
+    let mut peers = Vec::new(alloc);
+    for _ in 0..8u32 {
+        peers.push(sent(rt, port, NAMES)?).ok()?;
+        thread::sleep(rt, Duration::from_millis(20));
+    }
+    Some(peers.len() == 8)
+}
+
+/// Whether the story goes as it should. The daemon is told to end in any case.
+fn goes_well<R: Net<Stream = TcpStream> + Clock>(rt: &R, alloc: Global, story: Story) -> bool {
+    let port = story.port();
+    let told = match story {
+        Story::Leaves => leaves(rt, port),
+        Story::Resets => resets(rt, port),
+        Story::Silent => is_silent(rt, port),
+        Story::Stalls => stalls(rt, alloc, port),
+        Story::Crowds => crowds(rt, alloc, port),
+    };
+    let has_ended = is_answered(rt, port, KILL, b"OK");
+    told == Some(true) && has_ended == Some(true)
+}
+
+/// The daemon of a story, with two workers: it may be told to end with names active.
+fn serve<G: Gate + Sync, R: Net + Threads + Wait + Clock + Sync>(
+    rt: &R,
+    alloc: Global,
+    story: Story,
+    gate: &G,
+) -> Result<RunEnd, RunFault> {
+    let Ok(config) = Config::new(story.port(), true, 1024, 4096) else {
+        return Err(RunFault::NoMemory);
+    };
+    let mut addresses = Vec::new(alloc);
+    addresses.push([127, 0, 0, 1])?;
+    let settings = Settings {
+        config,
+        first: 4,
+        addresses,
+        timeout: if story == Story::Silent { 1 } else { 60 },
+        workers: 2,
+    };
+    run_gated(rt, alloc, settings, gate)
+}
+
+/// Whether each of two workers has told what it served, together one act at least.
+fn have_served(ended: &Result<RunEnd, RunFault>) -> bool {
+    match ended {
+        Ok(end) => end.served.len() == 2 && end.served.iter().any(|served| *served > 0),
+        Err(_) => false,
+    }
+}
+
+/// Whether the daemon serves the client of the story and ends with it.
+fn holds<G, R>(rt: &R, alloc: Global, story: Story, gate: &G) -> bool
+where
+    G: Gate + Sync,
+    R: Net<Listener = TcpListener, Stream = TcpStream> + Threads + Wait + Clock + Sync,
+{
+    let (ended, told) = thread::join(
+        rt,
+        move || serve(rt, alloc, story, gate),
+        move || goes_well(rt, alloc, story),
+    );
+    told && have_served(&ended)
+}
+
+#[test]
+fn a_node_registers_and_leaves(rt: HostRuntime) -> Result<(), Fail> {
+    assert!(rt; holds(&rt, rt.alloc(), Story::Leaves, &Open));
+    Ok(())
+}
+
+#[test]
+fn a_name_is_free_once_its_connection_is_reset(rt: HostRuntime) -> Result<(), Fail> {
+    assert!(rt; holds(&rt, rt.alloc(), Story::Resets, &Open));
+    Ok(())
+}
+
+#[test]
+fn a_silent_connection_is_closed_and_a_registered_one_is_not(rt: HostRuntime) -> Result<(), Fail> {
+    assert!(rt; holds(&rt, rt.alloc(), Story::Silent, &Open));
+    Ok(())
+}
+
+#[test]
+fn a_peer_that_reads_nothing_stops_no_other(rt: HostRuntime) -> Result<(), Fail> {
+    assert!(rt; holds(&rt, rt.alloc(), Story::Stalls, &Open));
+    Ok(())
+}
+
+#[test]
+fn a_worker_that_is_held_stops_no_other(rt: HostRuntime) -> Result<(), Fail> {
+    let gate = Meet::new(&rt);
+    assert!(rt; holds(&rt, rt.alloc(), Story::Crowds, &gate) && gate.have_met());
+    Ok(())
+}
