@@ -89,6 +89,7 @@ fn an_output_that_passes_nothing_on_is_told(rt: HostRuntime) {
 /// What words ask for, with the path.
 #[derive(Clone, Copy)]
 enum Asked {
+    Serve,
     Once,
     Check(&'static str),
     Play(&'static str),
@@ -104,7 +105,7 @@ const WORDS: &[Words] = &[
     Words(&["-play", "/tmp/session"], Asked::Play("/tmp/session")),
     Words(&["-check", "-play"], Asked::Check("-play")),
     Words(&["-play", ""], Asked::Play("")),
-    Words(&[], Asked::Nothing),
+    Words(&[], Asked::Serve),
     Words(&["-once", "-once"], Asked::Nothing),
     Words(&["-check"], Asked::Nothing),
     Words(&["-play"], Asked::Nothing),
@@ -126,6 +127,7 @@ fn words_of(alloc: Global, texts: &[&str]) -> Result<Vec<String>, Fail> {
 
 fn is_asked(action: Option<&Action>, asked: Asked) -> bool {
     match (action, asked) {
+        (Some(Action::Serve), Asked::Serve) => true,
         (Some(Action::Once), Asked::Once) => true,
         (Some(Action::Check(path)), Asked::Check(text)) => path.as_str() == text,
         (Some(Action::Play(path)), Asked::Play(text)) => path.as_str() == text,
