@@ -7,6 +7,10 @@ use Rattle.epmd.specs.declared.words.Action.TheVariants as action
 -- what is asked for; a path is its bytes
 pub data Asked : Type 0 where
   Serve : Asked
+  Names : Asked
+  Kill : Asked
+  Stop : List ℕ → Asked
+  Dump : Asked
   Once : Asked
   Check : List ℕ → Asked
   Play : List ℕ → Asked
@@ -14,6 +18,10 @@ pub data Asked : Type 0 where
 -- an action without its memory
 abbrev pub asked_in : Action → Asked
 asked_in action.Serve = Serve
+asked_in action.Names = Names
+asked_in action.Kill = Kill
+asked_in (action.Stop name) = Stop name
+asked_in action.Dump = Dump
 asked_in action.Once = Once
 asked_in (action.Check path) = Check (string_bytes path)
 asked_in (action.Play path) = Play (string_bytes path)

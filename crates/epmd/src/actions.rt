@@ -208,9 +208,9 @@ fn show<R: Read, W: Write>(
         MakesTurns FILE_TURNS (seen input.old output.old) (seen input.new output.new) result (λ sent. Err (PlayFault.TooManyTurns sent)) }
 {
     match action {
-        Action::Serve | Action::Once => unreachable!(),
         Action::Check(_) => tell_verdict(alloc, input, output, FILE_TURNS),
         Action::Play(_) => play(alloc, input, output, FILE_TURNS),
+        _ => unreachable!(),
     }
 }
 

@@ -3,6 +3,7 @@ ghost use Rattle.std.specs.Prelude.{◌≡◌, map, option_map, string_bytes, If
 ghost use Rattle.epmd.specs.Words.{asked_in, asked_by};
 
 use portmap_link::NoMemory;
+use portmap_wire::Name;
 use std::alloc::Global;
 
 /// What the command is asked to do.
@@ -10,6 +11,14 @@ use std::alloc::Global;
 pub enum Action {
     /// To serve as the daemon.
     Serve,
+    /// To print the names that the daemon on this host knows.
+    Names,
+    /// To have it end.
+    Kill,
+    /// To have it forget that a name is active.
+    Stop(Name),
+    /// To print all that it knows.
+    Dump,
     /// To answer one request from standard input, on standard output.
     Once,
     /// To judge the recorded session in the file of this path.
