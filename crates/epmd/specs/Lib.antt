@@ -1,3 +1,4 @@
 pub mod Actions
 pub mod Words
 pub mod Daemon
+pub mod Commands

@@ -23,6 +23,9 @@ pub const DONE: u8 = 0;
 /// A recorded session is no run of the machine.
 pub const NO_RUN: u8 = 1;
 
+/// A port mapper that runs did not do what it was asked to, or can't be asked.
+pub const NOT_DONE: u8 = 1;
+
 /// The words of the command are none that it knows, or a record is none.
 pub const REFUSED: u8 = 2;
 
@@ -57,6 +60,14 @@ const POLLING_FAILED: &[u8] = b"epmd: polling failed\n";
 
 const MEMORY_RAN_OUT: &[u8] = b"epmd: out of memory\n";
 
+const NO_CONNECTION: &[u8] = b"epmd: Cannot connect to local epmd\n";
+
+const STRANGE_ANSWER: &[u8] = b"epmd: strange answer\n";
+
+const KILL_REFUSED: &[u8] = b"epmd: kill not allowed\n";
+
+const STOP_REFUSED: &[u8] = b"epmd: stop not allowed\n";
+
 /// Why an action is not done.
 #[derive(Clone, Copy, Debug, PartialEq, Eq)]
 pub enum Failure {
@@ -70,6 +81,14 @@ pub enum Failure {
     Polling,
     /// Memory ran out.
     Memory,
+    /// The port mapper of this host can't be reached.
+    NoConnection,
+    /// It can't be asked to the end, or its answer is none.
+    StrangeAnswer,
+    /// It may not be ended.
+    KillRefused,
+    /// It may not be told to forget that a name is active.
+    StopRefused,
 }
 
 impl From<OnceFault> for Failure {
@@ -112,6 +131,10 @@ fn status_of(failure: Failure) -> u8
     match failure {
         Failure::BadWords | Failure::BadRecord => REFUSED,
         Failure::Device | Failure::Polling | Failure::Memory => FAILED,
+        Failure::NoConnection
+        | Failure::StrangeAnswer
+        | Failure::KillRefused
+        | Failure::StopRefused => NOT_DONE,
     }
 }
 
@@ -125,6 +148,10 @@ fn line_of(failure: Failure) -> &'static [u8]
         Failure::Device => DEVICE_FAILED,
         Failure::Polling => POLLING_FAILED,
         Failure::Memory => MEMORY_RAN_OUT,
+        Failure::NoConnection => NO_CONNECTION,
+        Failure::StrangeAnswer => STRANGE_ANSWER,
+        Failure::KillRefused => KILL_REFUSED,
+        Failure::StopRefused => STOP_REFUSED,
     }
 }
 
@@ -137,7 +164,7 @@ pub fn fail<E: Write>(errors: &mut E, failure: Failure) -> u8
 }
 
 /// Has the output pass on all that it took, and gives the status that was reached, or that of a device that failed.
-fn end<W: Write, E: Write>(output: &mut Writing<W>, errors: &mut E, status: u8) -> u8
+pub fn end<W: Write, E: Write>(output: &mut Writing<W>, errors: &mut E, status: u8) -> u8
     ensures passes { Passes status result (writing_broken output.new) }
     ensures silent { writing_broken output.new ≡ false → errors.new ≡ errors.old }
     ensures held { Keeps (W.contents (writing_inner output.old)) (W.contents (writing_inner output.new)) }

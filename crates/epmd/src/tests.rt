@@ -4,6 +4,7 @@ mod actions;
 mod bytes;
 mod cases;
 mod client;
+mod commands;
 mod daemon;
 mod desk;
 mod feed;

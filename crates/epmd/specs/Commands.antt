@@ -1,0 +1,111 @@
+-- What the command does as a client of the port mapper that runs: epmd(1) for `-names`, `-kill` and `-stop` and for what they
+-- print. `-dump`, what is told of answers that are not allowed or strange, and each status: profile.
+use Rattle.std.specs.Prelude.{◌≡◌, ◌≢◌, ℕ, List, [], ◌∷◌, ◌++◌, codes, Bool, Option, Result, Ok, Err, ◌⊎◌}
+use Rattle.std.specs.List.{flat_map}
+use Rattle.std.specs.Fmt.{decimal}
+use Rattle.std.specs.declared.vec.Vec.{Vec}
+use Rattle.std.specs.declared.alloc.Global.{Global}
+use Rattle.portmap_wire.specs.List.{names_line}
+use Rattle.portmap_wire.specs.declared.list.Line.{Line}
+use Rattle.portmap_wire.specs.declared.request.Request.TheVariants as request
+use Rattle.portmap_link.specs.Once.{Telling}
+use Rattle.portmap_link.specs.declared.single.OnceFault.{OnceFault}
+use Rattle.portmap_client.specs.Answer.{SaysNames, SaysDump, SaysKill, SaysStop}
+use Rattle.portmap_client.specs.Exchange.{StreamView, Calls}
+use Rattle.portmap_client.specs.declared.fault.ClientFault.{ClientFault}
+use Rattle.portmap_client.specs.declared.fault.ClientFault.TheVariants as client
+use Rattle.portmap_client.specs.declared.outcome.Kill.{Kill}
+use Rattle.portmap_client.specs.declared.outcome.Kill.TheVariants as kill
+use Rattle.portmap_client.specs.declared.outcome.Stop.{Stop}
+use Rattle.portmap_client.specs.declared.outcome.Stop.TheVariants as stop
+use Rattle.epmd.specs.Actions.{status_of, EndsWith, failure_of_once}
+use Rattle.epmd.specs.declared.actions.Failure.{Failure}
+use Rattle.epmd.specs.declared.actions.Failure.TheVariants.{Memory, StrangeAnswer, KillRefused, StopRefused}
+use Rattle.epmd.specs.declared.actions.TheConstants as the
+use Rattle.epmd.specs.declared.commands.Answer.{Answer}
+use Rattle.epmd.specs.declared.commands.Answer.TheVariants as answer
+use Rattle.epmd.specs.declared.commands.Page.{Page}
+use Rattle.epmd.specs.declared.words.Action.{Action}
+use Rattle.epmd.specs.declared.words.Action.TheVariants.{Serve, Names, Kill as AskKill, Stop as AskStop, Dump, Once, Check, Play}
+
+-- ---- what is asked
+
+-- an action of a client
+abbrev pub IsOfClient : Action → Type 0
+IsOfClient Serve = ⊥
+IsOfClient Names = Unit {0}
+IsOfClient AskKill = Unit {0}
+IsOfClient (AskStop name) = Unit {0}
+IsOfClient Dump = Unit {0}
+IsOfClient Once = ⊥
+IsOfClient (Check path) = ⊥
+IsOfClient (Play path) = ⊥
+
+-- the result of a call, as that of an action
+abbrev pub answered : {X : Type 0} → (X → Answer) → Result X ClientFault → Result Answer ClientFault
+answered make (Ok x) = Ok (make x)
+answered make (Err fault) = Err fault
+
+-- the action's request out and its answer in, by the stream before and after
+abbrev pub Asks : Action → StreamView → StreamView → Result Answer ClientFault → Type 0
+Asks Names old new ended = (called : Result (ℕ × Vec Line Global) ClientFault) × Calls request.Names SaysNames old new called × (ended ≡ answered answer.Names called)
+Asks AskKill old new ended = (called : Result Kill ClientFault) × Calls request.Kill SaysKill old new called × (ended ≡ answered answer.Kill called)
+Asks (AskStop name) old new ended = (called : Result Stop ClientFault) × Calls (request.Stop name) SaysStop old new called × (ended ≡ answered answer.Stop called)
+Asks Dump old new ended = (called : Result (ℕ × Vec ℕ Global) ClientFault) × Calls request.Dump SaysDump old new called × (ended ≡ answered answer.Dump called)
+Asks action old new ended = ⊥
+
+-- ---- what is told
+
+-- the first line of both lists
+abbrev pub head_line : ℕ → List ℕ
+head_line port = codes "epmd: up and running on port " ++ decimal port ++ codes " with data:" ++ 10 ∷ []
+
+abbrev pub names_text : ℕ → List Line → List ℕ
+names_text port lines = head_line port ++ flat_map names_line lines
+
+abbrev pub dump_text : ℕ → List ℕ → List ℕ
+dump_text port text = head_line port ++ text
+
+abbrev pub kill_told : Kill → Result (List ℕ × ℕ) Failure
+kill_told kill.Killed = Ok (codes "Killed" ++ 10 ∷ [], the.DONE)
+kill_told kill.NotAllowed = Err KillRefused
+
+abbrev pub stop_told : Stop → Result (List ℕ × ℕ) Failure
+stop_told stop.Stopped = Ok (codes "STOPPED" ++ 10 ∷ [], the.DONE)
+stop_told stop.NoExist = Ok (codes "NOEXIST" ++ 10 ∷ [], the.NOT_DONE)
+stop_told stop.NotAllowed = Err StopRefused
+
+-- a text for standard output and the status, or a failure
+abbrev pub answer_told : Answer → Result (List ℕ × ℕ) Failure
+answer_told (answer.Names list) = Ok (names_text list.0 list.1.items, the.DONE)
+answer_told (answer.Dump dump) = Ok (dump_text dump.0 dump.1.items, the.DONE)
+answer_told (answer.Kill said) = kill_told said
+answer_told (answer.Stop said) = stop_told said
+
+abbrev pub failure_of_client : ClientFault → Failure
+failure_of_client client.NoMemory = Memory
+failure_of_client fault = StrangeAnswer
+
+-- the page of a text and a status, or the failure, or there was no memory for the page
+abbrev pub IsTold : Result (List ℕ × ℕ) Failure → Result Page Failure → Type 0
+IsTold told (Ok page) = told ≡ Ok (page.text.items, page.status)
+IsTold told (Err failure) = (told ≡ Err failure) ⊎ (failure ≡ Memory)
+
+-- what is told of a call
+abbrev pub IsToldOf : Result Answer ClientFault → Result Page Failure → Type 0
+IsToldOf (Ok a) told = IsTold (answer_told a) told
+IsToldOf (Err fault) told = told ≡ Err (failure_of_client fault)
+
+-- ---- how it ends
+
+-- a text was written whole and passed on, or a front of it, as the output failed
+pub record Prints (text : List ℕ) (told status : ℕ) (old new : Option (List ℕ)) (broken : Bool) : Type 0 where
+  pub written : Result Unit OnceFault
+  pub telling : Telling text old new written
+  pub ends : EndsWith (λ _. told) failure_of_once status written broken
+
+-- by what is to be told: a page is printed, and then errors get a line only where the output failed; or a failure is told, and
+-- the output is left alone
+abbrev pub Tells : Result Page Failure → ℕ → Option (List ℕ) → Option (List ℕ) → Bool → Type 0 → Type 0 → Type 0
+Tells (Ok page) status old new broken untouched silent = Prints page.text.items page.status status old new broken × (status ≢ the.FAILED → silent)
+Tells (Err failure) status old new broken untouched silent = (status ≡ status_of failure) × untouched
