@@ -20,3 +20,4 @@ mod table;
 mod tape;
 mod transcript;
 mod wire;
+mod workers;
