@@ -1,28 +1,32 @@
--- What the daemon is set to where no word says otherwise, and how its end is told: epmd(1) for the port, the addresses and the
--- time-out; the rest is profile.
-use Rattle.std.specs.Prelude.{◌≡◌, ℕ, ◌%◌, ◌/◌, ◌^◌, [], ◌∷◌, Option, Some, None, Result, Ok, Err}
+-- What the daemon of a command is set to, and how its end is told. Profile.
+use Rattle.std.specs.Prelude.{◌≡◌, ℕ, ◌%◌, ◌/◌, ◌^◌, Option, Some, None, Result, Ok, Err}
 use Rattle.std.specs.Duration.{as_nanos}
 use Rattle.std.specs.declared.time.Duration.{Duration}
 use Rattle.portmap_daemon.specs.declared.running.RunEnd.{RunEnd}
 use Rattle.portmap_daemon.specs.declared.running.RunFault.{RunFault}
 use Rattle.portmap_daemon.specs.declared.running.RunFault.TheVariants.{Listen, Poll, NoMemory}
 use Rattle.portmap_daemon.specs.declared.running.Settings.{Settings}
-use Rattle.epmd.specs.Actions.{once_config}
+use Rattle.portmap_core.specs.Config.{Configuration}
 use Rattle.epmd.specs.declared.actions.TheConstants as actions
 use Rattle.epmd.specs.declared.daemon.TheConstants as the
+use Rattle.epmd.specs.declared.words.Command.{Command}
 
 -- where creations start: at the seconds since 1970, as far as 32 bits hold them
 abbrev pub first_by : Option Duration → ℕ
 first_by None = 0
 first_by (Some now) = as_nanos now / 1_000_000_000 % 2 ^ 32
 
--- these are the settings where nothing else is asked for: the configuration is that of one connection
-pub record HasDefaults (settings : Settings) (now : Option Duration) : Type 0 where
-  pub config : settings.config ≡ once_config
+-- the port mapper of a command
+abbrev pub config_of : Command → Configuration
+config_of command = record { port = command.port; relaxed = command.relaxed; conn_max = actions.CONNECTIONS_MOST; known_max = actions.NAMES_MOST }
+
+-- these are the settings of the command at this time
+pub record SetsAs (command : Command) (now : Option Duration) (settings : Settings) : Type 0 where
+  pub config : settings.config ≡ config_of command
   pub first : settings.first ≡ first_by now
-  pub addresses : settings.addresses.items ≡ (0 ∷ 0 ∷ 0 ∷ 0 ∷ []) ∷ []
-  pub timeout : settings.timeout ≡ 60
-  pub workers : settings.workers ≡ 4
+  pub addresses : settings.addresses.items ≡ command.addresses.items
+  pub timeout : settings.timeout ≡ command.timeout
+  pub workers : settings.workers ≡ command.workers
 
 -- the status that tells the end
 abbrev pub status_of_end : Result RunEnd RunFault → ℕ

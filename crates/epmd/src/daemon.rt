@@ -1,10 +1,9 @@
 //! The daemon: what it is set to, and how its end is told.
-ghost use Rattle.std.specs.Prelude.{◌≡◌, ◌<◌, ◌≤◌, vec_len, IfOk, IsOk};
-ghost use Rattle.portmap_book.specs.declared.desk.TheConstants.{SEATS_MOST};
-ghost use Rattle.portmap_daemon.specs.declared.running.TheConstants.{TIMEOUT_MOST};
-ghost use Rattle.epmd.specs.Daemon.{HasDefaults, first_by, status_of_end};
+ghost use Rattle.std.specs.Prelude.{◌≡◌, false, IfOk, IsOk};
+ghost use Rattle.epmd.specs.Daemon.{SetsAs, first_by, status_of_end};
 
-use crate::actions::{CONNECTIONS_MOST, DONE, Failure, NAMES_MOST, PORT, fail};
+use crate::actions::{CONNECTIONS_MOST, DONE, Failure, NAMES_MOST, fail};
+use crate::words::Command;
 use portmap_core::Config;
 use portmap_daemon::{RunEnd, RunFault, Settings};
 use portmap_link::NoMemory;
@@ -15,15 +14,6 @@ use std::time::Duration;
 
 /// The daemon could not listen where it was to.
 pub const NOT_SERVED: u8 = 1;
-
-/// Every address of the host.
-const ANYWHERE: [u8; 4] = [0, 0, 0, 0];
-
-/// For how many seconds a connection may move no byte.
-const TIMEOUT: u32 = 60;
-
-/// How many workers serve.
-const WORKERS: u32 = 4;
 
 /// Where creations start, by the time since 1970: its seconds, so that a name which registers with the next daemon most likely gets
 /// another creation. 0 where the time is not known.
@@ -36,43 +26,63 @@ fn first_by(now: Option<Duration>) -> u32
     }
 }
 
-/// What a daemon is set to that is told nothing else, at this time since 1970.
-pub fn default_settings(alloc: Global, now: Option<Duration>) -> Result<Settings, NoMemory>
-    ensures { IfOk result (λ settings. HasDefaults settings now) }
+/// What the daemon of this command is set to, at this time since 1970.
+pub fn settings(
+    alloc: Global,
+    command: &Command,
+    now: Option<Duration>,
+) -> Result<Settings, NoMemory>
+    ensures { IfOk result (λ settings. SetsAs command.now now settings) }
 {
-    let Ok(config) = Config::new(PORT, false, CONNECTIONS_MOST, NAMES_MOST) else {
+    let Ok(config) = Config::new(command.port, command.relaxed, CONNECTIONS_MOST, NAMES_MOST) else {
         unreachable!()
     };
-    let mut addresses = Vec::new(alloc);
-    addresses.push(ANYWHERE)?;
     Ok(Settings {
         config,
         first: first_by(now),
-        addresses,
-        timeout: TIMEOUT,
-        workers: WORKERS,
+        addresses: Vec::from_slice(alloc, command.addresses.as_slice())?,
+        timeout: command.timeout,
+        workers: command.workers,
     })
 }
 
-/// Tells how the daemon that was to listen on these addresses at this port has ended, and gives the status that does: `DONE` where
-/// the port mapper was told to end, `NOT_SERVED` where it can't listen, `FAILED` where readiness of sockets can't be had or memory
-/// ran out.
+/// Tells how many acts of the port mapper each worker made.
+fn tell_served<E: Write>(errors: &mut E, served: &[u64]) {
+    for (place, count) in served.iter().enumerate() {
+        let worker = place + 1;
+        let _ = writeln!(errors, "epmd: worker {worker} served {count}");
+    }
+}
+
+/// Tells at which address of the command's the daemon can't listen.
+fn tell_unheard<E: Write>(errors: &mut E, command: &Command, place: usize) {
+    if let Some(address) = command.addresses.get(place) {
+        let address = Ipv4Addr::from(*address);
+        let port = command.port;
+        let _ = writeln!(errors, "epmd: cannot listen on {address}:{port}");
+    }
+}
+
+/// Tells how the daemon of this command has ended, and gives the status that does: `DONE` where the port mapper was told to end,
+/// `NOT_SERVED` where it can't listen, `FAILED` where readiness of sockets can't be had or memory ran out. With debug output a
+/// daemon that was told to end tells how many acts each worker made, by rising number from 1.
 pub fn end_daemon<E: Write>(
     errors: &mut E,
-    addresses: &[[u8; 4]],
-    port: u16,
+    command: &Command,
     ended: &Result<RunEnd, RunFault>,
 ) -> u8
     ensures status { result ≡ status_of_end ended.now }
-    ensures silent { IsOk ended.now → errors.new ≡ errors.old }
+    ensures silent { IsOk ended.now → command.now.debug ≡ false → errors.new ≡ errors.old }
 {
     match ended {
-        Ok(_) => DONE,
-        Err(RunFault::Listen(place)) => {
-            if let Some(address) = addresses.get(*place) {
-                let address = Ipv4Addr::from(*address);
-                let _ = writeln!(errors, "epmd: cannot listen on {address}:{port}");
+        Ok(end) => {
+            if command.debug {
+                tell_served(errors, end.served.as_slice());
             }
+            DONE
+        }
+        Err(RunFault::Listen(place)) => {
+            tell_unheard(errors, command, *place);
             NOT_SERVED
         }
         Err(RunFault::Poll) => fail(errors, Failure::Polling),

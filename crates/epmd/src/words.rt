@@ -1,10 +1,18 @@
 //! The words of the command.
-ghost use Rattle.std.specs.Prelude.{◌≡◌, map, option_map, string_bytes, IfOk};
-ghost use Rattle.epmd.specs.Words.{asked_in, asked_by};
+ghost use Rattle.std.specs.Prelude.{◌≡◌, ◌≤◌, List, [], map, string_bytes, IfOk};
+ghost use Rattle.epmd.specs.Numbers.{IsWithin};
+ghost use Rattle.epmd.specs.Addresses.{AreListening};
+ghost use Rattle.epmd.specs.Meaning.{SaysCommand, Holds, status_of_fault};
+ghost use Rattle.epmd.specs.Words.{Spells, Item};
 
+use crate::actions::{FAILED, REFUSED};
+use crate::items::read_word;
+use crate::plan::Plan;
 use portmap_link::NoMemory;
 use portmap_wire::Name;
 use std::alloc::Global;
+use std::io::Write;
+use thiserror::Error;
 
 /// What the command is asked to do.
 #[derive(Drop)]
@@ -27,16 +35,107 @@ pub enum Action {
     Play(String),
 }
 
-/// The action that the words, behind the program's own name, ask for. Words that are no such list ask for none.
-pub fn read_words(alloc: Global, words: &[String]) -> Result<Option<Action>, NoMemory>
-    ensures { IfOk result (λ asked. option_map asked_in asked ≡ asked_by (map string_bytes words.now)) }
+/// What the environment says.
+#[derive(Drop)]
+pub struct Env {
+    /// The text of `ERL_EPMD_PORT`.
+    pub port: Option<String>,
+    /// Whether `ERL_EPMD_RELAXED_COMMAND_CHECK` is set.
+    pub relaxed: bool,
+}
+
+/// What the command is asked to do, and how.
+#[derive(Drop)]
+pub struct Command {
+    pub action: Action,
+    /// 1 to 65,535.
+    pub port: u16,
+    pub relaxed: bool,
+    /// What the daemon listens on.
+    pub addresses: Vec<[u8; 4]>,
+    /// For how many seconds a connection may move no byte: 1 to 86,400.
+    pub timeout: u32,
+    /// 1 to 64.
+    pub workers: u32,
+    pub debug: bool,
+}
+
+/// Why words are no command. A word is named by its number, from 0.
+#[derive(Clone, Copy, Debug, PartialEq, Eq, Error)]
+pub enum WordFault {
+    /// No such word is known.
+    #[error("bad word {0}")]
+    Unknown(usize),
+    /// No value is behind this word, which wants one.
+    #[error("bad word {0}")]
+    MissingValue(usize),
+    /// This value is none that the word before it takes.
+    #[error("bad word {0}")]
+    BadValue(usize),
+    /// This word asks for an action, and so did one before it.
+    #[error("bad word {0}")]
+    TwoCommands(usize),
+    /// The environment's text is no port, and no word says one.
+    #[error("bad port in environment")]
+    BadEnvPort,
+    #[error("out of memory")]
+    NoMemory,
+}
+
+impl From<NoMemory> for WordFault {
+    ghost use Rattle.std.specs.Prelude.{◌≡◌};
+    ghost use Rattle.epmd.specs.declared.words.WordFault.TheVariants as fault;
+
+    ghost from_gives = { λ _ e. e ≡ fault.NoMemory };
+
+    fn from(_refused: NoMemory) -> WordFault {
+        WordFault::NoMemory
+    }
+}
+
+/// The status that tells this fault.
+fn status_of(fault: WordFault) -> u8
+    ensures { result ≡ status_of_fault fault }
 {
-    let action = match words {
-        [] => Action::Serve,
-        [word] if word.as_str() == "-once" => Action::Once,
-        [word, path] if word.as_str() == "-check" => Action::Check(String::from_str(alloc, path)?),
-        [word, path] if word.as_str() == "-play" => Action::Play(String::from_str(alloc, path)?),
-        _ => return Ok(None),
-    };
-    Ok(Some(action))
+    match fault {
+        WordFault::NoMemory => FAILED,
+        _ => REFUSED,
+    }
+}
+
+/// Tells why words are no command, and gives the status that does. A failure of `errors` changes nothing else.
+pub fn refuse<E: Write>(errors: &mut E, fault: WordFault) -> u8
+    ensures { result ≡ status_of_fault fault }
+{
+    let _ = writeln!(errors, "epmd: {fault}");
+    status_of(fault)
+}
+
+/// What these words say, one behind the other.
+fn read_all(alloc: Global, words: &[String]) -> Result<Plan, WordFault>
+    ensures { IfOk result (λ plan. (items : List Item) × Spells (map string_bytes words.now) items × Holds items plan) }
+{
+    let mut plan = Plan::new();
+    let mut rest = words;
+    while let [first, behind @ ..] = rest {
+        let place = words.len() - rest.len();
+        let (said, after) = read_word(alloc, first, behind, place, plan.has_action())?;
+        plan.add(said);
+        rest = after;
+    }
+    Ok(plan)
+}
+
+/// The command that the words, behind the program's own name, and the environment say. Words are read from left to right and the
+/// first fault ends the reading; at one word the order is `Unknown`, `TwoCommands`, `MissingValue`, `BadValue`. The environment's
+/// port is looked at last, where no word says one. Want of memory can come at any value.
+pub fn read_words(alloc: Global, words: &[String], env: &Env) -> Result<Command, WordFault>
+    ensures port { IfOk result (λ command. IsWithin 1 65535 command.port) }
+    ensures timeout { IfOk result (λ command. IsWithin 1 86400 command.timeout) }
+    ensures workers { IfOk result (λ command. IsWithin 1 64 command.workers) }
+    ensures addresses { IfOk result (λ command. AreListening command.addresses.items) }
+    ensures said { IfOk result (λ command. SaysCommand (map string_bytes words.now) env.now command) }
+{
+    let plan = read_all(alloc, words)?;
+    plan.complete(alloc, env)
 }

@@ -9,7 +9,7 @@ use crate::tests::cases::{Case, all_hold};
 use crate::tests::record::changed;
 use crate::tests::streams::{Broken, Interrupted};
 use crate::tests::transcript::{LOOK_UP_LINES, WRONG_LOOK_UP_LINES};
-use crate::words::{Action, read_words};
+use crate::words::Action;
 use portmap_link::{Reading, Writing};
 use std::alloc::Global;
 use std::io::{Read, Write};
@@ -84,68 +84,6 @@ fn an_input_that_fails_is_told(rt: HostRuntime) {
 fn an_output_that_passes_nothing_on_is_told(rt: HostRuntime) {
     let mut output = Writing::new(Broken);
     assert!(rt; is_told(rt.alloc(), &mut Reading::new(NAMES), &mut output));
-}
-
-/// What words ask for, with the path.
-#[derive(Clone, Copy)]
-enum Asked {
-    Serve,
-    Once,
-    Check(&'static str),
-    Play(&'static str),
-    Nothing,
-}
-
-/// Words, and what they ask for.
-struct Words(&'static [&'static str], Asked);
-
-const WORDS: &[Words] = &[
-    Words(&["-once"], Asked::Once),
-    Words(&["-check", "a"], Asked::Check("a")),
-    Words(&["-play", "/tmp/session"], Asked::Play("/tmp/session")),
-    Words(&["-check", "-play"], Asked::Check("-play")),
-    Words(&["-play", ""], Asked::Play("")),
-    Words(&[], Asked::Serve),
-    Words(&["-once", "-once"], Asked::Nothing),
-    Words(&["-check"], Asked::Nothing),
-    Words(&["-play"], Asked::Nothing),
-    Words(&["-play", "a", "b"], Asked::Nothing),
-    Words(&["-check", "a", "-once"], Asked::Nothing),
-    Words(&["a", "-check"], Asked::Nothing),
-    Words(&["-names"], Asked::Nothing),
-    Words(&["-onc"], Asked::Nothing),
-];
-
-/// A list of these words.
-fn words_of(alloc: Global, texts: &[&str]) -> Result<Vec<String>, Fail> {
-    let mut words = Vec::new(alloc);
-    for text in texts {
-        words.push(String::from_str(alloc, text)?)?;
-    }
-    Ok(words)
-}
-
-fn is_asked(action: Option<&Action>, asked: Asked) -> bool {
-    match (action, asked) {
-        (Some(Action::Serve), Asked::Serve) => true,
-        (Some(Action::Once), Asked::Once) => true,
-        (Some(Action::Check(path)), Asked::Check(text)) => path.as_str() == text,
-        (Some(Action::Play(path)), Asked::Play(text)) => path.as_str() == text,
-        (None, Asked::Nothing) => true,
-        _ => false,
-    }
-}
-
-impl Case for Words {
-    fn holds(&self, alloc: Global) -> Result<bool, Fail> {
-        let words = words_of(alloc, self.0)?;
-        Ok(is_asked(read_words(alloc, &words)?.as_ref(), self.1))
-    }
-}
-
-#[test]
-fn an_action_is_one_list_of_words(rt: HostRuntime) -> Result<(), Fail> {
-    all_hold(&rt, WORDS)
 }
 
 /// A failure, its status and its line.

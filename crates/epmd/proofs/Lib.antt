@@ -1,0 +1,5 @@
+pub mod Digits
+pub mod Lists
+pub mod Listening
+pub mod Sayings
+pub mod Completing

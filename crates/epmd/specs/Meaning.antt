@@ -1,0 +1,80 @@
+-- The command that items and the environment make. Profile; epmd(1) has the environment's variables.
+use Rattle.std.specs.Option.{option_or}
+use Rattle.std.specs.Prelude.{◌≡◌, ℕ, ◌≤◌, List, [], ◌∷◌, if◌then◌else◌, ◌||◌, string_bytes, Option, Some, None, option_map, is_some, count_by, unwrap_or}
+use Rattle.std.specs.List.{list_any}
+use Rattle.epmd.specs.Numbers.{IsWithin, WritesWithin}
+use Rattle.epmd.specs.Addresses.{anywhere, AreListening}
+use Rattle.epmd.specs.Words.{Serve, Item, asked_in, action_of, port_of, addresses_of, timeout_of, workers_of, is_relaxed, is_debug, is_action, last_by, Spells}
+use Rattle.epmd.specs.declared.actions.TheConstants as actions
+use Rattle.epmd.specs.declared.words.WordFault.{WordFault}
+use Rattle.epmd.specs.declared.words.WordFault.TheVariants.{NoMemory}
+use Rattle.epmd.specs.declared.words.Command.{Command}
+use Rattle.epmd.specs.declared.words.Env.{Env}
+use Rattle.epmd.specs.declared.plan.Plan.{Plan}
+
+-- ---- what words have said so far
+
+-- these items have said all this
+pub record Holds (items : List Item) (plan : Plan) : Type 0 where
+  pub action : option_map asked_in plan.action ≡ last_by action_of items
+  pub actions : count_by is_action items ≡ (if is_some plan.action then 1 else 0)
+  pub port : plan.port ≡ last_by port_of items
+  pub addresses : option_map (λ addresses. addresses.items) plan.addresses ≡ last_by addresses_of items
+  pub timeout : plan.timeout ≡ last_by timeout_of items
+  pub workers : plan.workers ≡ last_by workers_of items
+  pub relaxed : plan.relaxed ≡ list_any is_relaxed items
+  pub debug : plan.debug ≡ list_any is_debug items
+
+-- one item more says this
+pub record Adds (item : Item) (old new : Plan) : Type 0 where
+  pub action : option_map asked_in new.action ≡ option_or (action_of item) (option_map asked_in old.action)
+  pub port : new.port ≡ option_or (port_of item) old.port
+  pub addresses : option_map (λ addresses. addresses.items) new.addresses ≡ option_or (addresses_of item) (option_map (λ addresses. addresses.items) old.addresses)
+  pub timeout : new.timeout ≡ option_or (timeout_of item) old.timeout
+  pub workers : new.workers ≡ option_or (workers_of item) old.workers
+  pub relaxed : new.relaxed ≡ (old.relaxed || is_relaxed item)
+  pub debug : new.debug ≡ (old.debug || is_debug item)
+
+-- ---- the command
+
+-- the port: of an item, else of the environment, else the usual one
+abbrev pub IsPort : Option ℕ → Option (List ℕ) → ℕ → Type 0
+IsPort (Some number) text port = port ≡ number
+IsPort None (Some text) port = WritesWithin 1 65535 text port
+IsPort None None port = port ≡ 4369
+
+-- the command that these items make in this environment
+pub record IsCommand (items : List Item) (env : Env) (command : Command) : Type 0 where
+  pub one : count_by is_action items ≤ 1
+  pub action : asked_in command.action ≡ unwrap_or (last_by action_of items) Serve
+  pub port : IsPort (last_by port_of items) (option_map string_bytes env.port) command.port
+  pub relaxed : command.relaxed ≡ (list_any is_relaxed items || env.relaxed)
+  pub addresses : command.addresses.items ≡ unwrap_or (last_by addresses_of items) (anywhere ∷ [])
+  pub timeout : command.timeout ≡ unwrap_or (last_by timeout_of items) 60
+  pub workers : command.workers ≡ unwrap_or (last_by workers_of items) 4
+  pub debug : command.debug ≡ list_any is_debug items
+
+-- the command of what words have said, in this environment
+pub record Completes (plan : Plan) (env : Env) (command : Command) : Type 0 where
+  pub action : asked_in command.action ≡ unwrap_or (option_map asked_in plan.action) Serve
+  pub port : IsPort plan.port (option_map string_bytes env.port) command.port
+  pub relaxed : command.relaxed ≡ (plan.relaxed || env.relaxed)
+  pub addresses : command.addresses.items ≡ unwrap_or (option_map (λ addresses. addresses.items) plan.addresses) (anywhere ∷ [])
+  pub timeout : command.timeout ≡ unwrap_or plan.timeout 60
+  pub workers : command.workers ≡ unwrap_or plan.workers 4
+  pub debug : command.debug ≡ plan.debug
+
+-- words say this command in this environment
+abbrev pub SaysCommand : List (List ℕ) → Env → Command → Type 0
+SaysCommand words env command = (items : List Item) × Spells words items × IsCommand items env command
+
+-- a daemon can serve by this command
+pub record CanServe (command : Command) : Type 0 where
+  pub addresses : AreListening command.addresses.items
+  pub timeout : IsWithin 1 86400 command.timeout
+  pub workers : IsWithin 1 64 command.workers
+
+-- the status that tells a fault
+abbrev pub status_of_fault : WordFault → ℕ
+status_of_fault NoMemory = actions.FAILED
+status_of_fault fault = actions.REFUSED
