@@ -1,13 +1,13 @@
 -- The command that items and the environment make. Profile; epmd(1) has the environment's variables.
 use Rattle.std.specs.Option.{option_or}
-use Rattle.std.specs.Prelude.{◌≡◌, ℕ, ◌≤◌, List, [], ◌∷◌, if◌then◌else◌, ◌||◌, string_bytes, Option, Some, None, option_map, is_some, count_by, unwrap_or}
+use Rattle.std.specs.Prelude.{◌≡◌, ℕ, ◌+◌, Bool, true, ◌<◌, ◌≤◌, List, [], ◌∷◌, if◌then◌else◌, ◌||◌, string_bytes, Option, Some, None, option_map, is_some, count_by, unwrap_or}
 use Rattle.std.specs.List.{list_any}
 use Rattle.epmd.specs.Numbers.{IsWithin, WritesWithin}
 use Rattle.epmd.specs.Addresses.{anywhere, AreListening}
 use Rattle.epmd.specs.Words.{Serve, Item, asked_in, action_of, port_of, addresses_of, timeout_of, workers_of, is_relaxed, is_debug, is_action, last_by, Spells}
 use Rattle.epmd.specs.declared.actions.TheConstants as actions
 use Rattle.epmd.specs.declared.words.WordFault.{WordFault}
-use Rattle.epmd.specs.declared.words.WordFault.TheVariants.{NoMemory}
+use Rattle.epmd.specs.declared.words.WordFault.TheVariants.{Unknown, MissingValue, BadValue, TwoCommands, BadEnvPort, NoMemory}
 use Rattle.epmd.specs.declared.words.Command.{Command}
 use Rattle.epmd.specs.declared.words.Env.{Env}
 use Rattle.epmd.specs.declared.plan.Plan.{Plan}
@@ -73,6 +73,25 @@ pub record CanServe (command : Command) : Type 0 where
   pub addresses : AreListening command.addresses.items
   pub timeout : IsWithin 1 86400 command.timeout
   pub workers : IsWithin 1 64 command.workers
+
+-- why the word at this place, with so many behind it, says nothing: one of the word, or of the value behind it; and two actions were
+-- asked for only where one was before
+abbrev pub IsFaultAt : ℕ → ℕ → Bool → WordFault → Type 0
+IsFaultAt place behind has_action (Unknown at) = at ≡ place
+IsFaultAt place behind has_action (MissingValue at) = (at ≡ place) × (behind ≡ 0)
+IsFaultAt place behind has_action (BadValue at) = (at ≡ place + 1) × (0 < behind)
+IsFaultAt place behind has_action (TwoCommands at) = (at ≡ place) × (has_action ≡ true)
+IsFaultAt place behind has_action BadEnvPort = ⊥
+IsFaultAt place behind has_action NoMemory = Unit {0}
+
+-- the word that a fault names is there, of so many
+abbrev pub NamesWord : ℕ → WordFault → Type 0
+NamesWord count (Unknown at) = at < count
+NamesWord count (MissingValue at) = at + 1 ≡ count
+NamesWord count (BadValue at) = (0 < at) × (at < count)
+NamesWord count (TwoCommands at) = at < count
+NamesWord count BadEnvPort = Unit {0}
+NamesWord count NoMemory = Unit {0}
 
 -- the status that tells a fault
 abbrev pub status_of_fault : WordFault → ℕ

@@ -1,7 +1,8 @@
 //! What one word of the command says, with its value.
-ghost use Rattle.std.specs.Prelude.{◌≡◌, ◌∷◌, ◌<◌, ◌≤◌, ◌^◌, ℕ, List, true, false, length, map, string_bytes, IfOk, IfSome};
+ghost use Rattle.std.specs.Prelude.{◌≡◌, ◌∷◌, ◌<◌, ◌≤◌, ◌^◌, ℕ, List, true, false, length, map, string_bytes, IfOk, IfErr, IfSome};
 ghost use Rattle.portmap_wire.specs.Name.{IsName};
 ghost use Rattle.epmd.specs.Words.{Begins, item_in, is_action};
+ghost use Rattle.epmd.specs.Meaning.{IsFaultAt};
 ghost use Rattle.epmd.specs.Values.{name_of, asks_action};
 
 use crate::addresses::read_listening;
@@ -128,6 +129,7 @@ pub fn read_word<'a>(
     ensures spelled { IfOk result (λ read. Begins (item_in read.0) (string_bytes first.now ∷ map string_bytes behind.now) (map string_bytes read.1.now)) }
     ensures fewer { IfOk result (λ read. length read.1.now ≤ length behind.now) }
     ensures one { IfOk result (λ read. is_action (item_in read.0) ≡ true → has_action ≡ false) }
+    ensures fault { IfErr result (λ fault. IsFaultAt place (length behind.now) has_action fault) }
 {
     if let Some(said) = read_plain(first.as_str()) {
         if has_action && is_action(&said) {

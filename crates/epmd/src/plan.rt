@@ -1,7 +1,7 @@
 //! What words have said so far, and the command that comes of it.
 ghost use Rattle.std.specs.Prelude.{◌≡◌, [], ◌∷◌, None, is_some, option_map, unwrap_or, string_bytes, ℕ, IfOk, IfErr};
 ghost use Rattle.epmd.specs.Addresses.{anywhere};
-ghost use Rattle.epmd.specs.Meaning.{Holds, Adds, Completes, IsPort};
+ghost use Rattle.epmd.specs.Meaning.{Holds, Adds, Completes, NamesWord, IsPort};
 ghost use Rattle.epmd.specs.Words.{item_in};
 
 use crate::actions::PORT;
@@ -95,7 +95,8 @@ impl Plan {
 
     /// The command, with what is usual where nothing was said.
     pub fn complete(self, alloc: Global, env: &Env) -> Result<Command, WordFault>
-        ensures { IfOk result (λ command. Completes self env.now command) }
+        ensures made { IfOk result (λ command. Completes self env.now command) }
+        ensures fault { (count : ℕ) → IfErr result (λ fault. NamesWord count fault) }
     {
         let Plan {
             action,

@@ -1,8 +1,8 @@
 //! The words of the command.
-ghost use Rattle.std.specs.Prelude.{◌≡◌, ◌≤◌, List, [], map, string_bytes, IfOk};
+ghost use Rattle.std.specs.Prelude.{◌≡◌, ◌≤◌, List, [], length, map, string_bytes, IfOk, IfErr};
 ghost use Rattle.epmd.specs.Numbers.{IsWithin};
 ghost use Rattle.epmd.specs.Addresses.{AreListening};
-ghost use Rattle.epmd.specs.Meaning.{SaysCommand, Holds, status_of_fault};
+ghost use Rattle.epmd.specs.Meaning.{SaysCommand, Holds, NamesWord, status_of_fault};
 ghost use Rattle.epmd.specs.Words.{Spells, Item};
 
 use crate::actions::{FAILED, REFUSED};
@@ -113,7 +113,8 @@ pub fn refuse<E: Write>(errors: &mut E, fault: WordFault) -> u8
 
 /// What these words say, one behind the other.
 fn read_all(alloc: Global, words: &[String]) -> Result<Plan, WordFault>
-    ensures { IfOk result (λ plan. (items : List Item) × Spells (map string_bytes words.now) items × Holds items plan) }
+    ensures said { IfOk result (λ plan. (items : List Item) × Spells (map string_bytes words.now) items × Holds items plan) }
+    ensures fault { IfErr result (λ fault. NamesWord (length words.now) fault) }
 {
     let mut plan = Plan::new();
     let mut rest = words;
@@ -135,6 +136,7 @@ pub fn read_words(alloc: Global, words: &[String], env: &Env) -> Result<Command,
     ensures workers { IfOk result (λ command. IsWithin 1 64 command.workers) }
     ensures addresses { IfOk result (λ command. AreListening command.addresses.items) }
     ensures said { IfOk result (λ command. SaysCommand (map string_bytes words.now) env.now command) }
+    ensures fault { IfErr result (λ fault. NamesWord (length words.now) fault) }
 {
     let plan = read_all(alloc, words)?;
     plan.complete(alloc, env)

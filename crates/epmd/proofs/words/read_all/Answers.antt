@@ -17,5 +17,5 @@ loop-rest-preserved c =
       omega (arith, c.loop-rest.invariant.1, fewer, length-take (length c.loop-rest.rest.now - 1) (drop 1 c.loop-rest.rest.now), length-drop 1 c.loop-rest.rest.now),
     )
 
-pub returns : goal.returns
-returns c = says_all string_bytes (map string_bytes c.args.words.now) c.loop-rest.rest.now c.loop-rest.plan c.in_default.len_below c.loop-rest.invariant.0
+pub returns-clause-said : goal.returns-clause-said
+returns-clause-said c = says_all string_bytes (map string_bytes c.args.words.now) c.loop-rest.rest.now c.loop-rest.plan c.in_default.len_below c.loop-rest.invariant.0
