@@ -50,8 +50,6 @@ const TURNS: u64 = 1_000_000;
 /// How many pulls and puts a recorded session gets.
 const FILE_TURNS: u64 = 1_000_000_000;
 
-const BAD_WORD: &[u8] = b"epmd: bad word 0\n";
-
 const BAD_RECORD: &[u8] = b"epmd: bad record\n";
 
 const DEVICE_FAILED: &[u8] = b"epmd: input or output failed\n";
@@ -71,8 +69,6 @@ const STOP_REFUSED: &[u8] = b"epmd: stop not allowed\n";
 /// Why an action is not done.
 #[derive(Clone, Copy, Debug, PartialEq, Eq)]
 pub enum Failure {
-    /// The words are none that the command knows: they are compared as a whole, so the first one is named.
-    BadWords,
     /// The bytes of a recorded session are no record.
     BadRecord,
     /// The input or the output failed, or took too many turns, or the input has too many bytes.
@@ -129,7 +125,7 @@ fn status_of(failure: Failure) -> u8
     ensures { result ≡ status_of failure }
 {
     match failure {
-        Failure::BadWords | Failure::BadRecord => REFUSED,
+        Failure::BadRecord => REFUSED,
         Failure::Device | Failure::Polling | Failure::Memory => FAILED,
         Failure::NoConnection
         | Failure::StrangeAnswer
@@ -143,7 +139,6 @@ fn line_of(failure: Failure) -> &'static [u8]
     ensures { result.now ≡ line_of failure }
 {
     match failure {
-        Failure::BadWords => BAD_WORD,
         Failure::BadRecord => BAD_RECORD,
         Failure::Device => DEVICE_FAILED,
         Failure::Polling => POLLING_FAILED,

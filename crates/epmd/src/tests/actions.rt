@@ -90,7 +90,6 @@ fn an_output_that_passes_nothing_on_is_told(rt: HostRuntime) {
 struct Failed(Failure, u8, Bytes);
 
 const FAILURES: &[Failed] = &[
-    Failed(Failure::BadWords, 2, b"epmd: bad word 0\n"),
     Failed(Failure::BadRecord, 2, b"epmd: bad record\n"),
     Failed(Failure::Device, 3, b"epmd: input or output failed\n"),
     Failed(Failure::Memory, 3, b"epmd: out of memory\n"),
