@@ -39,6 +39,25 @@ struct Held {
     late: bool,
 }
 
+impl Held {
+    /// There is something to tell of the link with this key. Each stands in the queue once, and there is room for all.
+    fn enqueue(&mut self, queue: &mut VecDeque<usize>, key: usize) {
+        if !self.queued {
+            self.queued = queue.push_back(key).is_ok();
+        }
+    }
+
+    /// Whether there is something to tell of it, by the time.
+    fn is_due(&mut self, now: u64, timeout: u64) -> bool {
+        if let Some(since) = self.since {
+            if now.saturating_sub(since) >= timeout {
+                self.late = true;
+            }
+        }
+        self.late || !self.link.is_watched()
+    }
+}
+
 /// The sockets of one worker. Times are in milliseconds since the worker began.
 #[derive(Drop)]
 pub(crate) struct Sockets {
@@ -124,19 +143,10 @@ impl Sockets {
             };
         }
         if held.link.may_move() {
-            self.enqueue(key);
+            held.enqueue(&mut self.queue, key);
         } else {
             // Where the poll refuses, the next look tries again.
             let _ = held.link.watch(self.poll.registry(), Token(key));
-        }
-    }
-
-    /// There is something to tell of a link. Each stands in the queue once, and there is room for all.
-    fn enqueue(&mut self, key: usize) {
-        if let Some(held) = self.links.get_mut(key) {
-            if !held.queued {
-                held.queued = self.queue.push_back(key).is_ok();
-            }
         }
     }
 
@@ -190,12 +200,12 @@ impl Sockets {
         self.queue.reserve(self.links.len().saturating_add(1)).ok()?;
         let held = Held {
             link: StreamLink::new(stream),
-            queued: false,
+            queued: true,
             since: Some(self.now),
             late: false,
         };
         let key = self.links.insert(held).ok()?;
-        self.enqueue(key);
+        let _ = self.queue.push_back(key);
         Some(Turn::Fresh {
             key: key as u64,
             local,
@@ -235,9 +245,7 @@ impl Sockets {
                 self.look = 0;
             } else if let Some(held) = self.links.get_mut(token.0) {
                 held.link.is_reported();
-                if !held.queued {
-                    held.queued = self.queue.push_back(token.0).is_ok();
-                }
+                held.enqueue(&mut self.queue, token.0);
             } else {
                 for listener in &mut self.listeners {
                     if listener.has_token(token) {
@@ -266,22 +274,11 @@ impl Sockets {
     /// Looks at every link: whether its time is over, and whether the poll has refused to report it.
     fn look_round(&mut self) {
         for key in 0..self.links.capacity() {
-            if self.is_due(key) {
-                self.enqueue(key);
+            if let Some(held) = self.links.get_mut(key) {
+                if held.is_due(self.now, self.timeout) {
+                    held.enqueue(&mut self.queue, key);
+                }
             }
         }
-    }
-
-    /// Whether there is something to tell of a link, by the time.
-    fn is_due(&mut self, key: usize) -> bool {
-        let Some(held) = self.links.get_mut(key) else {
-            return false;
-        };
-        if let Some(since) = held.since {
-            if self.now.saturating_sub(since) >= self.timeout {
-                held.late = true;
-            }
-        }
-        held.late || !held.link.is_watched()
     }
 }
