@@ -1,17 +1,21 @@
 -- Slots as a finite map.
-use Rattle.std.proofs.Common.{◌≡◌, ◌≢◌, ℕ, suc, zero, ◌+◌, ◌<◌, ◌≤◌, Bool, true, false, cond, List, [], ◌∷◌, ◌++◌, length, get_or, set, take, Option, Some, None, refl, sym, ap, subst, ◌∙◌, arith, inl, inr, add_comm}
-use Rattle.std.specs.Prelude.{count_by, is_some}
-use Rattle.std.specs.Ordering.{nat_cmp, eq_by_cmp, is_eq}
+use Rattle.std.proofs.Common.{◌≡◌, ◌≢◌, ℕ, suc, zero, ◌+◌, ◌<◌, Bool, true, false, cond, List, [], ◌∷◌, ◌++◌, length, get_or, Option, Some, None, refl, sym, ap, subst, ◌∙◌, arith, inl, inr}
+use Rattle.std.specs.Prelude.{count_by, is_some, T}
+use Rattle.std.specs.Ordering.{nat_cmp, eq_by_cmp, is_eq, is_lt}
+use Rattle.std.specs.declared.cmp.Ordering.{Ordering}
 use Rattle.std.specs.declared.cmp.Ordering.TheVariants.{Less, Equal, Greater}
 use Rattle.std.specs.FinMap as map
 use Rattle.std.specs.FinMap.{nat_cmp-IsAntisymmetric}
+use Rattle.std.specs.FinMap.Entries.{below_all, by_order, is_sorted}
 use Rattle.std.specs.Cmp.{nat_cmp_is, nat_cmp_total}
-use Rattle.std.proofs.lemmas.Bool.{cases_eq, cases_lt, cases_order}
-use Rattle.std.proofs.lemmas.List.{take_more, length-take-le, get_or-set_same, get_or-set_other, get_or_past, get_or_push, get_or_append_left, length-append}
-use Rattle.std.proofs.lemmas.List.Sums.{sum_by-cons}
+use Rattle.std.proofs.lemmas.Bool.{and_parts, cases_eq, cases_lt}
+use Rattle.std.proofs.lemmas.Bool.Decides.{nat_tests}
+use Rattle.std.proofs.lemmas.List.{append-nil, append_assoc}
+use Rattle.slab.specs.Slab.{ContainsKey, Slab, Updates, entries_from, get, with_value}
+use Rattle.slab.proofs.SlabLemmas.{Updates-with_value, length-entries_from}
 use Rattle.portmap_core.specs.declared.connections.Connection.{Connection}
 use Rattle.portmap_core.specs.declared.connections.Stage.TheVariants.{Done}
-use Rattle.portmap_core.specs.Connections.{ConnectionMap, at_stage, connections_of, ended, ended_at, entries_from, stopped_in}
+use Rattle.portmap_core.specs.Connections.{ConnectionMap, SlotsRise, at_stage, connections_of, ended, ended_at, stopped_in}
 
 pub same_key : (q : ℕ) → eq_by_cmp nat_cmp q q ≡ true
 same_key q = ap is_eq (sym (nat_cmp_is q q Equal refl))
@@ -60,86 +64,81 @@ cut_same m k q e = map.get-remove nat_cmp_total m k q ∙ ap (λ (b : Bool). con
 pub cut_other : (m : ConnectionMap) (k q : ℕ) → q ≢ k → map.get (map.remove m k) q ≡ map.get m q
 cut_other m k q ne = map.get-remove nat_cmp_total m k q ∙ ap (λ (b : Bool). cond b None (map.get m q)) (other_key q k ne)
 
-pub connections-set : (slots : List (Option Connection)) (k : ℕ) (connection : Connection) → k < length slots → connections_of (set slots k (Some connection)) ≡ map.insert (connections_of slots) k connection
-connections-set slots k connection lt = same _ _ (λ q.
-    get-connections (set slots k (Some connection)) q ∙ elim (cases_eq q k) [
-      | inl e ↦ ap (λ (x : ℕ). get_or (set slots k (Some connection)) x None) e ∙ get_or-set_same slots k (Some connection) None lt ∙ sym (put_same (connections_of slots) k q connection e)
-      | inr ne ↦ get_or-set_other slots k q (Some connection) None ne ∙ sym (put_other (connections_of slots) k q connection ne ∙ get-connections slots q)
+-- a slot of a slab is written, and one is freed
+pub connections_put : (old new : Slab Connection) (k : ℕ) (connection : Connection) → Updates old new k (Some connection) → connections_of new.slots ≡ map.insert (connections_of old.slots) k connection
+connections_put old new k connection updates = same _ _ (λ q.
+    get-connections new.slots q ∙ elim (cases_eq q k) [
+      | inl e ↦ ap (get new) e ∙ updates.changed ∙ sym (put_same (connections_of old.slots) k q connection e)
+      | inr ne ↦ updates.others q ne ∙ sym (put_other (connections_of old.slots) k q connection ne ∙ get-connections old.slots q)
     ])
 
--- past the end a write changes nothing, and there is nothing
-cleared : (slots : List (Option Connection)) (k : ℕ) → get_or (set slots k None) k None ≡ None
-cleared [] k = refl
-cleared (x ∷ slots) zero = refl
-cleared (x ∷ slots) (suc k) = cleared slots k
-
-pub connections-clear : (slots : List (Option Connection)) (k : ℕ) → connections_of (set slots k None) ≡ map.remove (connections_of slots) k
-connections-clear slots k = same _ _ (λ q.
-    get-connections (set slots k None) q ∙ elim (cases_eq q k) [
-      | inl e ↦ ap (λ (x : ℕ). get_or (set slots k None) x None) e ∙ cleared slots k ∙ sym (cut_same (connections_of slots) k q e)
-      | inr ne ↦ get_or-set_other slots k q None None ne ∙ sym (cut_other (connections_of slots) k q ne ∙ get-connections slots q)
+pub connections_cut : (old new : Slab Connection) (k : ℕ) → Updates old new k None → connections_of new.slots ≡ map.remove (connections_of old.slots) k
+connections_cut old new k updates = same _ _ (λ q.
+    get-connections new.slots q ∙ elim (cases_eq q k) [
+      | inl e ↦ ap (get new) e ∙ updates.changed ∙ sym (cut_same (connections_of old.slots) k q e)
+      | inr ne ↦ updates.others q ne ∙ sym (cut_other (connections_of old.slots) k q ne ∙ get-connections old.slots q)
     ])
 
-pub connections_without : (slots : List (Option Connection)) (k : ℕ) → length slots ≤ k → connections_of slots ≡ map.remove (connections_of slots) k
-connections_without slots k le = same _ _ (λ q.
-    elim (cases_eq q k) [
-      | inl e ↦ get-connections slots q ∙ get_or_past slots q None (omega arith) ∙ sym (cut_same (connections_of slots) k q e)
-      | inr ne ↦ sym (cut_other (connections_of slots) k q ne)
-    ])
+-- a slot is written through a reference
+pub connections-with_value : (s : Slab Connection) (k : ℕ) (connection : Connection) → ContainsKey s k → connections_of (with_value s k connection).slots ≡ map.insert (connections_of s.slots) k connection
+connections-with_value s k connection here = connections_put s _ k connection (Updates-with_value s k connection here)
 
-pub connections_push : (slots : List (Option Connection)) (connection : Connection) → connections_of (slots ++ Some connection ∷ []) ≡ map.insert (connections_of slots) (length slots) connection
-connections_push slots connection = same _ _ (λ q.
-    get-connections (slots ++ Some connection ∷ []) q ∙ elim (cases_order q (length slots)) [
-      | inl e ↦ get_or_push slots (Some connection) None q (sym e) ∙ sym (put_same (connections_of slots) (length slots) q connection e)
-      | inr o ↦ elim o [
-        | inl lt ↦ get_or_append_left slots (Some connection ∷ []) None q lt ∙ sym (put_other (connections_of slots) (length slots) q connection (λ (e : q ≡ length slots). omega arith) ∙ get-connections slots q)
-        | inr gt ↦ get_or_past (slots ++ Some connection ∷ []) q None (omega (arith, length-append slots (Some connection ∷ []))) ∙ sym (put_other (connections_of slots) (length slots) q connection (λ (e : q ≡ length slots). omega arith) ∙ get-connections slots q ∙ get_or_past slots q None (omega arith))
-      ]
-    ])
+-- entries rise from slot to slot
+all_above : (q j : ℕ) (slots : List (Option Connection)) → q < j → below_all nat_cmp q (entries_from j slots) ≡ true
+all_above q j [] lt = refl
+all_above q j (None ∷ slots) lt = all_above q (j + 1) slots (omega arith)
+all_above q j (Some connection ∷ slots) lt = let e : is_lt (nat_cmp q j) ≡ true = ap is_lt (sym (nat_cmp_is q j Less lt)) in rw e (all_above q (j + 1) slots (omega arith))
 
--- a slot that is free changes nothing
-past_free : (slots : List (Option Connection)) (q : ℕ) → get_or (slots ++ None ∷ []) q None ≡ get_or slots q None
-past_free [] zero = refl
-past_free [] (suc q) = refl
-past_free (x ∷ slots) zero = refl
-past_free (x ∷ slots) (suc q) = past_free slots q
+rising : (j : ℕ) (slots : List (Option Connection)) → SlotsRise (entries_from j slots)
+rising j [] = tt
+rising j (None ∷ slots) = rising (j + 1) slots
+rising j (Some connection ∷ slots) = rw (all_above j (j + 1) slots (omega arith)) (rising (j + 1) slots)
 
-connections_free : (slots : List (Option Connection)) → connections_of (slots ++ None ∷ []) ≡ connections_of slots
-connections_free slots = same _ _ (λ q. get-connections (slots ++ None ∷ []) q ∙ past_free slots q ∙ sym (get-connections slots q))
-
--- one slot more
-more : (slots : List (Option Connection)) (k : ℕ) (o p : Option Connection) → k < length slots → o ≡ get_or slots k o → o ≡ p → connections_of (take (k + 1) slots) ≡ connections_of (take k slots ++ p ∷ [])
-more slots k o p lt is e = ap connections_of (take_more slots k o lt ∙ ap (λ (x : Option Connection). take k slots ++ x ∷ []) (sym is ∙ e))
-
-pub slot_free : (slots : List (Option Connection)) (k : ℕ) (o : Option Connection) → k < length slots → o ≡ get_or slots k o → o ≡ None → connections_of (take (k + 1) slots) ≡ connections_of (take k slots)
-slot_free slots k o lt is e = more slots k o None lt is e ∙ connections_free (take k slots)
-
-pub slot_taken : (slots : List (Option Connection)) (k : ℕ) (o : Option Connection) (connection : Connection) → k < length slots → o ≡ get_or slots k o → o ≡ Some connection
-    → connections_of (take (k + 1) slots) ≡ map.insert (connections_of (take k slots)) k connection
-slot_taken slots k o connection lt is e =
-    more slots k o (Some connection) lt is e ∙ connections_push (take k slots) connection ∙ ap (λ (n : ℕ). map.insert (connections_of (take k slots)) n connection) (length-take-le k slots (let l : k < length slots = lt in omega arith))
-
-pub ruleset slot_laws = (get-connections, connections-set, connections-clear, connections_push, connections_without, get_or_past)
+-- so they are the map's own
+pub entries-connections : (slots : List (Option Connection)) → map.entries (connections_of slots) ≡ entries_from 0 slots
+entries-connections slots =
+    let es = entries_from 0 slots in
+    let alike : connections_of slots ≡ map.from_sorted es = same _ _ (λ q. map.get-from_entries nat_cmp_total es q ∙ sym (map.get-from_sorted nat_cmp es q (rising 0 slots))) in
+    ap map.entries alike ∙ map.entries-from_sorted nat_cmp es (rising 0 slots)
 
 -- how many slots are taken
-counted : (j : ℕ) (slots : List (Option Connection)) → map.len (map.from_entries {R = nat_cmp} (entries_from j slots)) ≡ count_by is_some slots
-counted j [] = map.len-empty nat_cmp Connection
-counted j (None ∷ slots) = counted (j + 1) slots
-counted j (Some connection ∷ slots) =
-    let m = map.from_entries {R = nat_cmp} (entries_from (j + 1) slots) in
-    let fresh : map.get m j ≡ None = map.get-from_entries nat_cmp_total (entries_from (j + 1) slots) j ∙ before (j + 1) j slots (omega arith) in
-    map.len-insert nat_cmp_total m j connection ∙ ap (λ (o : Option Connection). cond (is_some o) (map.len m) (map.len m + 1)) fresh ∙ ap (λ (n : ℕ). n + 1) (counted (j + 1) slots) ∙ add_comm (count_by is_some slots) 1 ∙ sym (sum_by-cons (λ (o : Option Connection). cond (is_some o) 1 0) (Some connection) slots)
-
 pub len-connections : (slots : List (Option Connection)) → map.len (connections_of slots) ≡ count_by is_some slots
-len-connections slots = counted 0 slots
+len-connections slots = map.len-entries (connections_of slots) ∙ ap length (entries-connections slots) ∙ length-entries_from 0 slots
 
--- a slot that has a connection lies within
-pub within : (slots : List (Option Connection)) (k : ℕ) (connection : Connection) → get_or slots k None ≡ Some connection → k < length slots
-within slots k connection e =
-    elim (cases_lt k (length slots)) [
-      | inl lt ↦ lt
-      | inr le ↦ let p : get_or slots k None ≡ None = get_or_past slots k None le in absurd cc
-    ]
+pub ruleset slot_laws = (get-connections, len-connections, entries-connections, connections_put, connections_cut, connections-with_value)
+
+-- ---- a copy, connection by connection
+
+-- what is below all entries is below each one
+below_each : (q : ℕ) (es rest : List (ℕ × Connection)) (k : ℕ) (connection : Connection) → below_all nat_cmp q (es ++ (k, connection) ∷ rest) ≡ true → q < k
+below_each q [] rest k connection below = let lt : is_lt (nat_cmp q k) ≡ true = (and_parts _ _ below).0 in grind (arith, nat_tests)
+below_each q (e ∷ es) rest k connection below = below_each q es rest k connection (and_parts (is_lt (nat_cmp q e.0)) _ below).1
+
+-- to insert above all others is to push
+put_last : (es rest : List (ℕ × Connection)) (k : ℕ) (connection : Connection) → is_sorted nat_cmp (es ++ (k, connection) ∷ rest) ≡ true → map.put nat_cmp k connection es ≡ es ++ (k, connection) ∷ []
+put_last [] rest k connection rises = refl
+put_last (e ∷ es) rest k connection rises =
+    let parts = and_parts (below_all nat_cmp e.0 (es ++ (k, connection) ∷ rest)) (is_sorted nat_cmp (es ++ (k, connection) ∷ rest)) rises in
+    let greater : nat_cmp k e.0 ≡ Greater = sym (nat_cmp_is k e.0 Greater (below_each e.0 es rest k connection parts.0)) in
+    ap (λ (o : Ordering). by_order o ((k, connection) ∷ e ∷ es) ((e.0, connection) ∷ es) (e ∷ map.put nat_cmp k connection es)) greater ∙ ap (λ (xs : List (ℕ × Connection)). e ∷ xs) (put_last es rest k connection parts.1)
+
+is_true : (b : Bool) → T b → b ≡ true
+is_true true t = refl
+is_true false t = absurd t
+
+-- what is copied, followed by what is left, is all
+pub copied_none : (source : ConnectionMap) → map.entries (map.empty {X = Connection} {R = nat_cmp}) ++ map.entries source ≡ map.entries source
+copied_none source = ap (λ (es : List (ℕ × Connection)). es ++ map.entries source) (entries-connections [])
+
+pub copied_more : (source copy : ConnectionMap) (k : ℕ) (connection : Connection) (rest : List (ℕ × Connection)) → map.entries copy ++ (k, connection) ∷ rest ≡ map.entries source → map.entries (map.insert copy k connection) ++ rest ≡ map.entries source
+copied_more source copy k connection rest all =
+    let rises = is_true _ (subst (λ (es : List (ℕ × Connection)). SlotsRise es) (sym all) (map.entries_sorted source)) in
+    ap (λ (es : List (ℕ × Connection)). es ++ rest) (map.entries-insert nat_cmp_total copy k connection ∙ put_last (map.entries copy) rest k connection rises) ∙ append_assoc (map.entries copy) ((k, connection) ∷ []) rest ∙ all
+
+pub copied_all : (source copy : ConnectionMap) → map.entries copy ++ [] ≡ map.entries source → copy ≡ source
+copied_all source copy all = map.same_entries_map copy source (sym (append-nil (map.entries copy)) ∙ all)
+
+pub ruleset copy_laws = (copied_none, copied_more, copied_all)
 
 -- ---- maps of connections
 
@@ -206,5 +205,3 @@ stopped_alike m (Some owner) slot a b c = elim (cases_eq owner slot) [
       let here = λ (x : Connection). ap (λ (o : Option Connection). map.insert (ended_at owner o (map.insert m slot x)) slot c) (put_other m slot owner x ne) ∙ ended_alike m owner slot x c (map.get m owner) in
       here a ∙ sym (here b)
 ]
-
-pub ruleset count_laws = (len-connections)

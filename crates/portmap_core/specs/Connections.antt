@@ -1,20 +1,15 @@
 -- The open connections, as a finite map from their slots.
-use Rattle.std.specs.Prelude.{ℕ, ◌+◌, List, [], ◌∷◌, Option, Some, None, T}
+use Rattle.std.specs.Prelude.{ℕ, List, Option, Some, None, T}
 use Rattle.std.specs.Ordering.{nat_cmp}
 use Rattle.std.specs.FinMap as map
 use Rattle.std.specs.FinMap.Entries.{is_sorted}
+use Rattle.slab.specs.Slab.{entries_from}
 use Rattle.portmap_core.specs.declared.connections.Connection.{Connection}
 use Rattle.portmap_core.specs.declared.connections.Stage.{Stage}
 use Rattle.portmap_core.specs.declared.connections.Stage.TheVariants.{Done}
 
 abbrev pub ConnectionMap : Type 0
 ConnectionMap = map.FinMap nat_cmp Connection
-
--- the connections in slots from a number on
-abbrev pub entries_from : ℕ → List (Option Connection) → List (ℕ × Connection)
-entries_from at [] = []
-entries_from at (None ∷ slots) = entries_from (at + 1) slots
-entries_from at (Some connection ∷ slots) = (at, connection) ∷ entries_from (at + 1) slots
 
 -- the connections in slots, which are numbered from 0
 abbrev pub connections_of : List (Option Connection) → ConnectionMap

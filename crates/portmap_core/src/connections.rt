@@ -1,13 +1,14 @@
 //! The open connections.
-ghost use Rattle.std.specs.Prelude.{◌≡◌, ℕ, ◌<◌, length, Some, None, IfOk, OnErr, IsSome, IfSome, slice_index_or, slice_set, count_by, is_some};
+ghost use Rattle.std.specs.Prelude.{◌≡◌, Some, None, IfOk, OnErr, IsSome};
 ghost use Rattle.std.specs.Option.{option_copied};
-ghost use Rattle.portmap_core.specs.Connections.{at_stage, connections_of, ended, stopped_in};
+ghost use Rattle.portmap_core.specs.Connections.{ended, stopped_in};
 ghost use Rattle.std.specs.FinMap as map;
 ghost use Rattle.portmap_core.specs.declared.connections.Connection.{Connection};
 ghost use Rattle.portmap_core.specs.State.{phase_of_stage};
 
 use portmap_feed::Feed;
 use portmap_wire::NoMemory;
+use slab::{Iter, Slab};
 use std::alloc::Global;
 use std::marker::Model;
 
@@ -50,10 +51,10 @@ impl Stage {
     }
 }
 
-/// The open connections by slot.
+/// The open connections by slot. A slot is a key of the slab.
 #[derive(Drop)]
 pub(crate) struct Connections {
-    slots: Vec<Option<Connection>>,
+    open: Slab<Connection>,
 }
 
 impl Model for Connections {
@@ -66,44 +67,7 @@ impl Model for Connections {
 
     ghost coded = { map.code coded_ℕ connection.the_row.coded };
 
-    ghost view = { λ s. connections_of s.slots.items };
-}
-
-/// The connection in a slot.
-fn at_slot(slots: &[Option<Connection>], slot: u64) -> Option<&Connection>
-    ensures { option_copied result ≡ slice_index_or slots.now slot None }
-{
-    if slot < slots.len() as u64 {
-        slots[slot as usize].as_ref()
-    } else {
-        None
-    }
-}
-
-/// The first slot that is free.
-fn free_slot(slots: &[Option<Connection>]) -> Option<usize>
-    ensures { IfSome result (λ slot. (slot < length slots.now) × (slice_index_or slots.now slot None ≡ None)) }
-{
-    slots.iter().position(|held| held.is_none())
-}
-
-/// How many slots are taken.
-fn taken(slots: &[Option<Connection>]) -> usize
-    ensures { result ≡ count_by is_some slots.now }
-{
-    slots.iter().filter(|held| held.is_some()).count()
-}
-
-/// Puts another stage into a slot, and gives the one that was there.
-fn swap_at(slots: &mut Vec<Option<Connection>>, slot: usize, stage: Stage) -> Stage
-    requires { IsSome (slice_index_or slots.old.items slot None) }
-    ensures was { (connection : Connection) → slice_index_or slots.old.items slot None ≡ Some connection → result ≡ connection.stage }
-    ensures now { (connection : Connection) → slice_index_or slots.old.items slot None ≡ Some connection → slots.new.items ≡ slice_set slots.old.items slot (Some (record { local = connection.local; stage = stage })) }
-{
-    match &mut slots[slot] {
-        Some(connection) => std::mem::replace(&mut connection.stage, stage),
-        None => unreachable!(),
-    }
+    ghost view = { λ s. connections_of s.open.slots };
 }
 
 #[tactic(auto, using(crate::proofs::Slots::slot_laws))]
@@ -113,30 +77,29 @@ impl Connections {
         ensures { result ≡ map.empty }
     {
         Connections {
-            slots: Vec::new(alloc),
+            open: Slab::new(alloc),
         }
     }
 
     /// How many are open.
-    #[tactic(auto, using(crate::proofs::Slots::count_laws))]
     pub(crate) fn len(&self) -> usize
         ensures { result ≡ map.len self.now }
     {
-        taken(self.slots.as_slice())
+        self.open.len()
     }
 
-    /// The slots, each with the connection in it.
-    pub(crate) fn slots(&self) -> &[Option<Connection>]
-        ensures { connections_of result.now ≡ self.now }
+    /// The open connections with their slots, by rising slot.
+    pub(crate) fn iter(&self) -> Iter<'_, Connection>
+        ensures { result ≡ map.entries self.now }
     {
-        self.slots.as_slice()
+        self.open.iter()
     }
 
     /// The connection in a slot.
     pub(crate) fn get(&self, slot: u64) -> Option<&Connection>
         ensures { option_copied result ≡ map.get self.now slot }
     {
-        at_slot(self.slots.as_slice(), slot)
+        self.open.get(slot as usize)
     }
 
     /// Whether the connection in an open slot comes from this host.
@@ -150,28 +113,20 @@ impl Connections {
         }
     }
 
-    /// Opens a connection in the lowest free slot.
+    /// Opens a connection in a free slot, the one that was freed last where there is one.
     pub(crate) fn add(&mut self, connection: Connection) -> Result<u64, NoMemory>
         ensures fresh { IfOk result (λ slot. map.get self.old slot ≡ None) }
         ensures added { IfOk result (λ slot. self.new ≡ map.insert self.old slot connection) }
         ensures err { OnErr result (self.new ≡ self.old) }
     {
-        if let Some(slot) = free_slot(self.slots.as_slice()) {
-            self.slots[slot] = Some(connection);
-            return Ok(slot as u64);
-        }
-        let slot = self.slots.len();
-        self.slots.push(Some(connection))?;
-        Ok(slot as u64)
+        Ok(self.open.insert(connection)? as u64)
     }
 
     /// Frees a slot. It takes no memory.
     pub(crate) fn remove(&mut self, slot: u64)
         ensures { self.new ≡ map.remove self.old slot }
     {
-        if slot < self.slots.len() as u64 {
-            self.slots[slot as usize] = None;
-        }
+        self.open.try_remove(slot as usize);
     }
 
     /// The connection in this slot, where there is one, is done.
@@ -198,6 +153,6 @@ impl Connections {
         ensures was { (connection : Connection) → map.get self.old slot ≡ Some connection → result ≡ connection.stage }
         ensures now { (connection : Connection) → map.get self.old slot ≡ Some connection → self.new ≡ map.insert self.old slot (record { local = connection.local; stage = stage }) }
     {
-        swap_at(&mut self.slots, slot as usize, stage)
+        std::mem::replace(&mut self.open[slot as usize].stage, stage)
     }
 }
