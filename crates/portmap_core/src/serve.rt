@@ -14,7 +14,7 @@ use crate::config::Config;
 use crate::connections::Stage;
 use crate::event::Fate;
 use portmap_feed::{Feed, Seen};
-use portmap_table::{Names, Table};
+use portmap_table::{Known, Table};
 use portmap_wire::{
     ListReply, Malformed, Name, NoMemory, Reg, Request, read_request, write_alive, write_port2,
 };
@@ -46,8 +46,8 @@ pub(crate) fn replied(reply: Vec<u8>) -> Next
 }
 
 /// NAMES_REQ: a line for each active name, in order of registration.
-fn names_text(alloc: Global, port: u16, names: &Names) -> Result<Vec<u8>, NoMemory>
-    ensures { IfOk result (λ v. v.items ≡ names_reply port (list_map names_line_of names.now.active)) }
+fn names_text<N: Known>(alloc: Global, port: u16, names: &N) -> Result<Vec<u8>, NoMemory>
+    ensures { IfOk result (λ v. v.items ≡ names_reply port (list_map names_line_of (N.names names.now).active)) }
 {
     let mut reply = ListReply::new(alloc, port)?;
     for i in 0..names.active_len() {
@@ -60,23 +60,23 @@ fn names_text(alloc: Global, port: u16, names: &Names) -> Result<Vec<u8>, NoMemo
     Ok(reply.into_bytes())
 }
 
-fn list(alloc: Global, config: &Config, names: &Names) -> Result<Next, NoMemory>
-    ensures { IfOk result (λ next. Tells next (names_served config.now names.now)) }
+fn list<N: Known>(alloc: Global, config: &Config, names: &N) -> Result<Next, NoMemory>
+    ensures { IfOk result (λ next. Tells next (names_served config.now (N.names names.now))) }
 {
     Ok(replied(names_text(alloc, config.port, names)?))
 }
 
 /// PORT_PLEASE2_REQ.
-fn port(alloc: Global, names: &Names, name: &Name) -> Result<Next, NoMemory>
-    ensures { IfOk result (λ next. Tells next (port_served names.now name.now)) }
+fn port<N: Known>(alloc: Global, names: &N, name: &Name) -> Result<Next, NoMemory>
+    ensures { IfOk result (λ next. Tells next (port_served (N.names names.now) name.now)) }
 {
     let found = names.find(name).map(|row| &row.reg);
     Ok(replied(write_port2(alloc, found)?))
 }
 
 /// Lines of DUMP_REQ, one for each active name.
-fn dump_active(mut reply: ListReply, names: &Names) -> Result<ListReply, NoMemory>
-    ensures { IfOk result (λ r. r ≡ reply ++ flat_map dump_line (list_map active_line names.now.active)) }
+fn dump_active<N: Known>(mut reply: ListReply, names: &N) -> Result<ListReply, NoMemory>
+    ensures { IfOk result (λ r. r ≡ reply ++ flat_map dump_line (list_map active_line (N.names names.now).active)) }
 {
     for i in 0..names.active_len() {
         let Some(row) = names.active_at(i) else {
@@ -89,8 +89,8 @@ fn dump_active(mut reply: ListReply, names: &Names) -> Result<ListReply, NoMemor
 }
 
 /// Lines of DUMP_REQ, one for each retired name.
-fn dump_retired(mut reply: ListReply, names: &Names) -> Result<ListReply, NoMemory>
-    ensures { IfOk result (λ r. r ≡ reply ++ flat_map dump_line (list_map retired_line names.now.retired)) }
+fn dump_retired<N: Known>(mut reply: ListReply, names: &N) -> Result<ListReply, NoMemory>
+    ensures { IfOk result (λ r. r ≡ reply ++ flat_map dump_line (list_map retired_line (N.names names.now).retired)) }
 {
     for i in 0..names.retired_len() {
         let Some(old) = names.retired_at(i) else {
@@ -102,22 +102,22 @@ fn dump_retired(mut reply: ListReply, names: &Names) -> Result<ListReply, NoMemo
 }
 
 /// DUMP_REQ: the active names, and then the retired ones in order of retirement.
-fn dump_text(alloc: Global, port: u16, names: &Names) -> Result<Vec<u8>, NoMemory>
-    ensures { IfOk result (λ v. v.items ≡ dump_reply port (dump_lines names.now)) }
+fn dump_text<N: Known>(alloc: Global, port: u16, names: &N) -> Result<Vec<u8>, NoMemory>
+    ensures { IfOk result (λ v. v.items ≡ dump_reply port (dump_lines (N.names names.now))) }
 {
     let active = dump_active(ListReply::new(alloc, port)?, names)?;
     Ok(dump_retired(active, names)?.into_bytes())
 }
 
-fn dump(alloc: Global, config: &Config, names: &Names) -> Result<Next, NoMemory>
-    ensures { IfOk result (λ next. Tells next (dump_served config.now names.now)) }
+fn dump<N: Known>(alloc: Global, config: &Config, names: &N) -> Result<Next, NoMemory>
+    ensures { IfOk result (λ next. Tells next (dump_served config.now (N.names names.now))) }
 {
     Ok(replied(dump_text(alloc, config.port, names)?))
 }
 
 /// KILL_REQ.
-fn kill(alloc: Global, config: &Config, names: &Names) -> Result<Next, NoMemory>
-    ensures { IfOk result (λ next. Tells next (kill_served config.now names.now)) }
+fn kill<N: Known>(alloc: Global, config: &Config, names: &N) -> Result<Next, NoMemory>
+    ensures { IfOk result (λ next. Tells next (kill_served config.now (N.names names.now))) }
 {
     if names.active_len() > 0 && !config.relaxed {
         return Ok(replied(Vec::from_slice(alloc, b"NO")?));
@@ -131,8 +131,8 @@ fn kill(alloc: Global, config: &Config, names: &Names) -> Result<Next, NoMemory>
 }
 
 /// STOP_REQ.
-fn stop(alloc: Global, config: &Config, names: &Names, name: &Name) -> Result<Next, NoMemory>
-    ensures { IfOk result (λ next. Tells next (stop_served config.now names.now name.now)) }
+fn stop<N: Known>(alloc: Global, config: &Config, names: &N, name: &Name) -> Result<Next, NoMemory>
+    ensures { IfOk result (λ next. Tells next (stop_served config.now (N.names names.now) name.now)) }
 {
     if !config.relaxed {
         return Ok(replied(Vec::new(alloc)));
@@ -149,15 +149,15 @@ fn stop(alloc: Global, config: &Config, names: &Names, name: &Name) -> Result<Ne
 }
 
 /// ALIVE2_REQ of a local peer, with this creation where the name registers.
-fn alive(
+fn alive<N: Known>(
     alloc: Global,
     config: &Config,
-    names: &Names,
+    names: &N,
     reg: &Reg,
     creation: u32,
 ) -> Result<Next, NoMemory>
     requires { reg.now.high < WIDE_VERSION → creation < 2 ^ 16 }
-    ensures { IfOk result (λ next. (slot : ℕ) → Tells next (alive_served config.now names.now slot reg.now creation)) }
+    ensures { IfOk result (λ next. (slot : ℕ) → Tells next (alive_served config.now (N.names names.now) slot reg.now creation)) }
 {
     if names.is_active(&reg.name) {
         return Ok(replied(write_alive(alloc, reg.high, 1, 0)?));
@@ -175,16 +175,16 @@ fn alive(
 
 /// What a request is told, with this creation where a name registers. Nothing is changed yet, so that for want of memory
 /// nothing is.
-pub(crate) fn told(
+pub(crate) fn told<N: Known>(
     alloc: Global,
     config: &Config,
-    names: &Names,
+    names: &N,
     local: bool,
     request: &Request,
     creation: u32,
 ) -> Result<Next, NoMemory>
     requires { CreationFits request.now creation }
-    ensures { IfOk result (λ next. (slot : ℕ) → Tells next (served config.now names.now local slot request.now creation)) }
+    ensures { IfOk result (λ next. (slot : ℕ) → Tells next (served config.now (N.names names.now) local slot request.now creation)) }
 {
     match request {
         Request::Names => list(alloc, config, names),

@@ -3,3 +3,6 @@ pub mod Finding
 pub mod Kept
 pub mod NameLaws
 pub mod Owners
+pub mod First
+pub mod Ordered
+pub mod InRows

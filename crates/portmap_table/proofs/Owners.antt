@@ -11,13 +11,10 @@ use Rattle.std.proofs.lemmas.Map.Keys.{IsDistinct-IsPermutation}
 use Rattle.std.proofs.lemmas.Option.{slice_get_within, get_or_from_slice_get}
 use Rattle.portmap_wire.specs.Node.{Node}
 use Rattle.portmap_table.specs.declared.row.Row.{Row}
-use Rattle.portmap_table.specs.Rows.{Names, active_row, owns_name, registered, retired_last, retired_at, retired_of, same_name}
+use Rattle.portmap_table.specs.Rows.{Names, active_row, owns_name, registered, retired_last, retired_at, retired_of, same_name, slot_of}
 use Rattle.portmap_table.proofs.Distinct.{keys_moved}
 
-abbrev slot_of : Row → ℕ
-slot_of row = row.slot
-
-abbrev has_slot : ℕ → Row → Bool
+abbrev pub has_slot : ℕ → Row → Bool
 has_slot slot row = row.slot == slot
 
 -- ---- a place is found where an element passes
@@ -42,7 +39,7 @@ found_place : {X : Type 0} (p : X → Bool) (xs : List X) → is_some (position 
 found_place p xs = some_if (nat_lt (position_or_len p xs) (length xs)) (position_or_len p xs) ∙ passes_within p xs
 
 -- a slot owns a name where it is the slot of an active one
-owns : (slot : ℕ) (names : Names) → owns_name slot names ≡ list_any (has_slot slot) names.active
+pub owns : (slot : ℕ) (names : Names) → owns_name slot names ≡ list_any (has_slot slot) names.active
 owns slot names = found_place (has_slot slot) names.active
 
 -- ---- an active name has an owner
@@ -89,7 +86,7 @@ none_same : (slot : ℕ) (slots : List ℕ) → AllByRecursion (λ y. (slot == y
 none_same slot [] all = refl
 none_same slot (y ∷ slots) all = rw (nat_eq_equiv.symm y slot ∙ all.0) (none_same slot slots all.1)
 
-any_slot : (q : ℕ) (rows : List Row) → list_any (has_slot q) rows ≡ list_any (λ y. y == q) (map slot_of rows)
+pub any_slot : (q : ℕ) (rows : List Row) → list_any (has_slot q) rows ≡ list_any (λ y. y == q) (map slot_of rows)
 any_slot q [] = refl
 any_slot q (row ∷ rows) = ap (λ (b : Bool). row.slot == q || b) (any_slot q rows)
 

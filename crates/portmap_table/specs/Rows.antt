@@ -1,6 +1,6 @@
 -- The names that a port mapper knows: the active ones, each with its registration, and the retired ones. ERTS User's
 -- Guide, EPMD Protocol: a registration lasts as long as its connection. What is remembered of old names: profile.
-use Rattle.std.specs.Prelude.{ℕ, ◌+◌, ◌≤◌, ◌<◌, ◌^◌, Bool, not, nat_le, ◌&&◌, ◌||◌, List, [], ◌∷◌, ◌++◌, length, map, remove, position, find, Option, Some, None, is_some, option_map, slice_get, ◌==◌, All}
+use Rattle.std.specs.Prelude.{ℕ, ◌+◌, ◌≤◌, ◌<◌, ◌^◌, Bool, not, nat_le, ◌&&◌, ◌||◌, List, [], ◌∷◌, ◌++◌, length, map, drop, take, remove, position, find, Option, Some, None, is_some, option_map, slice_get, ◌==◌, All}
 use Rattle.std.specs.List.{IsDistinct}
 use Rattle.std.specs.Cmp.Lexicographic.{pointwise}
 use Rattle.portmap_wire.specs.Node.{Node}
@@ -28,9 +28,19 @@ no_names = record { active = []; retired = [] }
 
 -- ---- looking
 
+abbrev pub name_of : Row → List ℕ
+name_of row = row.reg.name
+
+abbrev pub slot_of : Row → ℕ
+slot_of row = row.slot
+
 -- two names are one, byte for byte
 abbrev pub same_name : List ℕ → List ℕ → Bool
 same_name = pointwise ◌==◌
+
+-- where the row of a name stands in a list
+abbrev pub place_of : List ℕ → List Row → Option ℕ
+place_of name rows = position (λ row. same_name row.reg.name name) rows
 
 abbrev pub active_row : List ℕ → Names → Option Row
 active_row name names = find (λ row. same_name row.reg.name name) names.active
@@ -90,6 +100,10 @@ retired_at (Some at) names = retired_last at (slice_get names.active at) names
 -- the name that a slot owns is active no more and goes last into the retired list
 abbrev pub retired_of : ℕ → Names → Names
 retired_of slot names = retired_at (position (λ row. row.slot == slot) names.active) names
+
+-- the names in rows of which the first so many are retired ones
+abbrev pub names_in : ℕ → List Row → Names
+names_in retired rows = record { active = drop retired rows; retired = map old_name (take retired rows) }
 
 -- ---- what always holds
 

@@ -2,15 +2,20 @@
 #![tactic(auto)]
 
 mod creation;
+mod known;
 mod laws;
+mod name_map;
 mod names;
 mod parts;
 mod place;
 mod row;
+mod row_map;
 mod table;
 
 pub use creation::{choice_is_legal, is_legal};
+pub use known::Known;
 pub use laws::{names_outlive_connections, newest_names_stand_last, other_names_stay};
+pub use name_map::NameMap;
 pub use names::Names;
 pub use row::{Old, Retired, Row};
 pub use table::{RegFault, Table};

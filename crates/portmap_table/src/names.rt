@@ -1,8 +1,9 @@
 //! The names that are known, active and retired.
-ghost use Rattle.std.specs.Prelude.{◌≡◌, ◌↔◌, false, IsTrue, length, option_copied, option_map, slice_get, Some, IfOk, OnOk, OnErr, position, [], ◌∷◌, ◌++◌, ◌+◌, ◌<◌, ◌≤◌, vec_len, vec_capacity};
-ghost use Rattle.portmap_table.specs.Rows.{active_row, is_active, is_full_for, no_names, owner_of, owns_name, registered, remembered, retired_at, retired_name, retired_of, same_name, without_at};
+ghost use Rattle.std.specs.Prelude.{◌≡◌, ◌↔◌, false, IsTrue, length, map, option_copied, option_map, slice_get, Some, IfOk, OnOk, OnErr, position, [], ◌∷◌, ◌++◌, ◌+◌, ◌<◌, ◌≤◌, vec_len, vec_capacity};
+ghost use Rattle.portmap_table.specs.Rows.{active_row, is_active, is_full_for, no_names, owner_of, owns_name, old_name, registered, remembered, retired_at, retired_name, retired_of, same_name, without_at};
 
-use crate::parts::{copy_all, same_all};
+use crate::known::Known;
+use crate::parts::{copy_all, old_names, same_all};
 use crate::place::{active_row, forget, last_creation, slot_place};
 use crate::row::{Old, Retired, Row};
 use portmap_wire::{Name, NoMemory, Reg};
@@ -104,34 +105,6 @@ impl Names {
         }
     }
 
-    /// The row of an active name.
-    pub fn find(&self, name: &Name) -> Option<&Row>
-        ensures { option_copied result ≡ active_row name.now self.now }
-    {
-        active_row(self.active.as_slice(), name)
-    }
-
-    /// The slot that owns an active name.
-    pub fn owner(&self, name: &Name) -> Option<u64>
-        ensures { result ≡ owner_of name.now self.now }
-    {
-        self.find(name).map(|row| row.slot)
-    }
-
-    /// Whether a slot owns an active name.
-    pub(crate) fn holds(&self, slot: u64) -> bool
-        ensures { result ≡ owns_name slot self.now }
-    {
-        slot_place(self.active.as_slice(), slot).is_some()
-    }
-
-    /// Whether a name is active.
-    pub fn is_active(&self, name: &Name) -> bool
-        ensures { result ≡ is_active name.now self.now }
-    {
-        self.find(name).is_some()
-    }
-
     /// The creation that is remembered for a retired name.
     pub fn remembered(&self, name: &Name) -> Option<u32>
         ensures { result ≡ remembered name.now self.now }
@@ -139,42 +112,18 @@ impl Names {
         last_creation(self.retired.as_slice(), name)
     }
 
-    /// Whether as many names are known as may be, and this is none of them.
-    pub fn is_full_for(&self, known_max: u32, name: &Name) -> bool
-        ensures { result ≡ is_full_for known_max name.now self.now }
+    /// Names that are copies of these, where the second rows are those that the retired names had.
+    pub(crate) fn copy_of(alloc: Global, active: &[Row], retired: &[Row]) -> Result<Names, NoMemory>
+        ensures { IfOk result (λ names. names ≡ record { active = active.now; retired = map old_name retired.now }) }
     {
-        let Names { active, retired } = self;
-        active.len() + retired.len() >= known_max as usize
-            && !self.is_active(name)
-            && self.remembered(name).is_none()
+        Names::of(copy_all(alloc, active)?, old_names(alloc, retired)?)
     }
 
-    /// How many names are active.
-    pub fn active_len(&self) -> usize
-        ensures { result ≡ length self.now.active }
+    fn of(active: Vec<Row>, mut retired: Vec<Old>) -> Result<Names, NoMemory>
+        ensures { IfOk result (λ names. names ≡ record { active = active.items; retired = retired.items }) }
     {
-        self.active.len()
-    }
-
-    /// The active name at this place, in order of registration.
-    pub fn active_at(&self, i: usize) -> Option<&Row>
-        ensures { option_copied result ≡ slice_get self.now.active i }
-    {
-        self.active.get(i)
-    }
-
-    /// How many names are retired.
-    pub fn retired_len(&self) -> usize
-        ensures { result ≡ length self.now.retired }
-    {
-        self.retired.len()
-    }
-
-    /// The retired name at this place, in order of retirement.
-    pub fn retired_at(&self, i: usize) -> Option<Retired<'_>>
-        ensures { option_map retired_name result ≡ slice_get self.now.retired i }
-    {
-        self.retired.get(i).map(|old| old.lend())
+        retired.reserve(active.len())?;
+        Ok(Names { active, retired })
     }
 
     /// A second one.
@@ -182,9 +131,8 @@ impl Names {
         ensures same { IfOk result (λ copy. copy ≡ self.now) }
     {
         let active = copy_all(alloc, self.active.as_slice())?;
-        let mut retired = copy_all(alloc, self.retired.as_slice())?;
-        retired.reserve(active.len())?;
-        Ok(Names { active, retired })
+        let retired = copy_all(alloc, self.retired.as_slice())?;
+        Names::of(active, retired)
     }
 
     /// Whether they are the same in every respect. It takes no memory.
@@ -195,5 +143,36 @@ impl Names {
             return false;
         }
         same_all(self.retired.as_slice(), other.retired.as_slice())
+    }
+}
+
+impl Known for Names {
+    ghost names = { λ n. n };
+
+    fn find(&self, name: &Name) -> Option<&Row> {
+        active_row(self.active.as_slice(), name)
+    }
+
+    fn is_full_for(&self, known_max: u32, name: &Name) -> bool {
+        let Names { active, retired } = self;
+        active.len() + retired.len() >= known_max as usize
+            && !self.is_active(name)
+            && self.remembered(name).is_none()
+    }
+
+    fn active_len(&self) -> usize {
+        self.active.len()
+    }
+
+    fn active_at(&self, i: usize) -> Option<&Row> {
+        self.active.get(i)
+    }
+
+    fn retired_len(&self) -> usize {
+        self.retired.len()
+    }
+
+    fn retired_at(&self, i: usize) -> Option<Retired<'_>> {
+        self.retired.get(i).map(|old| old.lend())
     }
 }

@@ -1,5 +1,6 @@
 //! Lists of rows and of old names, copied and compared.
-ghost use Rattle.std.specs.Prelude.{◌≡◌, ◌↔◌, IfOk, IsTrue};
+ghost use Rattle.std.specs.Prelude.{◌≡◌, ◌↔◌, IfOk, IsTrue, map};
+ghost use Rattle.portmap_table.specs.Rows.{old_name};
 
 use crate::row::{Old, Row};
 use portmap_wire::NoMemory;
@@ -60,4 +61,15 @@ pub(crate) fn copy_all<T: Part + Drop>(alloc: Global, parts: &[T]) -> Result<Vec
         copies.push(part.copy(alloc)?)?;
     }
     Ok(copies)
+}
+
+/// What is remembered of the names in rows.
+pub(crate) fn old_names(alloc: Global, rows: &[Row]) -> Result<Vec<Old>, NoMemory>
+    ensures { IfOk result (λ names. names.items ≡ map old_name rows.now) }
+{
+    let mut names = Vec::new(alloc);
+    for row in rows {
+        names.push(row.as_retired().try_copy(alloc)?)?;
+    }
+    Ok(names)
 }

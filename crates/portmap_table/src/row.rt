@@ -18,6 +18,17 @@ pub struct Row {
 }
 
 impl Row {
+    /// What is remembered of it, for a caller to read.
+    pub(crate) fn as_retired(&self) -> Retired<'_>
+        ensures { retired_name result ≡ old_name self.now }
+    {
+        Retired {
+            name: &self.reg.name,
+            port: self.reg.port,
+            creation: self.creation,
+        }
+    }
+
     /// A second one.
     pub fn try_copy(&self, alloc: Global) -> Result<Row, NoMemory>
         ensures same { IfOk result (λ copy. copy ≡ self.now) }

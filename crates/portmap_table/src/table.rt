@@ -5,7 +5,8 @@ ghost use Rattle.portmap_table.specs.Rows.{AreKept, active_row, owner_of, owns_n
 ghost use Rattle.portmap_table.specs.Table.{GivesOffer, new_table, offered, with_names, with_registration};
 
 use crate::creation::{COUNTER_LEAST, choice, counter_after};
-use crate::names::Names;
+use crate::known::Known;
+use crate::name_map::NameMap;
 use crate::row::{Retired, Row};
 use portmap_wire::{Name, NoMemory, Reg};
 use std::alloc::Global;
@@ -34,7 +35,7 @@ impl From<NoMemory> for RegFault {
 /// The names that a port mapper knows, with what it gives creations from.
 #[derive(Debug, Drop)]
 pub struct Table {
-    names: Names,
+    names: NameMap,
     known_max: u32,
     // What the next wide creation is taken from.
     counter: u32,
@@ -60,14 +61,14 @@ impl Table {
         ensures kept { IfOk result (λ t. AreKept t.known_max t.names) }
     {
         Ok(Table {
-            names: Names::new(alloc),
+            names: NameMap::new(alloc),
             known_max,
             counter: first.max(COUNTER_LEAST),
         })
     }
 
     /// The names.
-    pub fn names(&self) -> &Names
+    pub fn names(&self) -> &NameMap
         ensures { result.now ≡ self.now.names }
     {
         &self.names

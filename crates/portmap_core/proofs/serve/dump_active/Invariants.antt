@@ -6,4 +6,4 @@ use Rattle.portmap_core.specs.Serving.{active_line}
 use Rattle.portmap_core.proofs.serve.dump_active.Given as goal
 
 abbrev pub invariant-loop-i : goal.invariant-loop-i
-invariant-loop-i l = l.reply ≡ l.initial.reply ++ flat_map dump_line (list_map active_line (take l.i l.names.active))
+invariant-loop-i g l = l.reply ≡ l.initial.reply ++ flat_map dump_line (list_map active_line (take l.i (g.N.Known.names l.names).active))

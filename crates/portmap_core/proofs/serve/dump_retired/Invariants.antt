@@ -6,4 +6,4 @@ use Rattle.portmap_core.specs.Serving.{retired_line}
 use Rattle.portmap_core.proofs.serve.dump_retired.Given as goal
 
 abbrev pub invariant-loop-i : goal.invariant-loop-i
-invariant-loop-i l = l.reply ≡ l.initial.reply ++ flat_map dump_line (list_map retired_line (take l.i l.names.retired))
+invariant-loop-i g l = l.reply ≡ l.initial.reply ++ flat_map dump_line (list_map retired_line (take l.i (g.N.Known.names l.names).retired))

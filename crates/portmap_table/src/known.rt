@@ -1,0 +1,50 @@
+//! What is asked of names.
+ghost use Rattle.std.specs.Prelude.{◌≡◌, length, option_copied, option_map, slice_get};
+ghost use Rattle.portmap_table.specs.Rows.{Names, active_row, is_active, is_full_for, owner_of, retired_name};
+
+use crate::row::{Retired, Row};
+use portmap_wire::Name;
+
+/// Names that are known, as a request asks for them.
+pub trait Known {
+    /// The active names and the retired ones.
+    ghost names: { Self → Names };
+
+    /// The row of an active name.
+    fn find(&self, name: &Name) -> Option<&Row>
+        ensures { option_copied result ≡ active_row name.now (Self.names self.now) };
+
+    /// Whether as many names are known as may be, and this is none of them.
+    fn is_full_for(&self, known_max: u32, name: &Name) -> bool
+        ensures { result ≡ is_full_for known_max name.now (Self.names self.now) };
+
+    /// How many names are active.
+    fn active_len(&self) -> usize
+        ensures { result ≡ length (Self.names self.now).active };
+
+    /// The active name at this place, in order of registration.
+    fn active_at(&self, i: usize) -> Option<&Row>
+        ensures { option_copied result ≡ slice_get (Self.names self.now).active i };
+
+    /// How many names are retired.
+    fn retired_len(&self) -> usize
+        ensures { result ≡ length (Self.names self.now).retired };
+
+    /// The retired name at this place, in order of retirement.
+    fn retired_at(&self, i: usize) -> Option<Retired<'_>>
+        ensures { option_map retired_name result ≡ slice_get (Self.names self.now).retired i };
+
+    /// The slot that owns an active name.
+    fn owner(&self, name: &Name) -> Option<u64>
+        ensures { result ≡ owner_of name.now (Self.names self.now) }
+    {
+        self.find(name).map(|row| row.slot)
+    }
+
+    /// Whether a name is active.
+    fn is_active(&self, name: &Name) -> bool
+        ensures { result ≡ is_active name.now (Self.names self.now) }
+    {
+        self.find(name).is_some()
+    }
+}
