@@ -14,7 +14,7 @@ use Rattle.indexmap.specs.IndexSet.{insert_key}
 use Rattle.indexmap.proofs.SetLemmas.{map-remove}
 use Rattle.portmap_wire.specs.Node.{Node}
 use Rattle.portmap_table.specs.declared.row.Row.{Row}
-use Rattle.portmap_table.specs.Rows.{Names, RetiredName, active_row, is_active, name_of, names_in, old_name, owns_name, place_of, registered, remembered, retired_at, retired_last, same_name, slot_of, without_at}
+use Rattle.portmap_table.specs.Rows.{Names, RetiredName, active_row, bare_at, is_active, name_of, names_in, old_name, owns_name, place_of, registered, remembered, retired_at, retired_last, same_name, slot_of, without_at}
 use Rattle.portmap_table.proofs.Owners.{any_slot, has_slot, owns}
 use Rattle.portmap_table.proofs.First.{IsFirst, NonePass, finds_first, finds_none, finds_some, first_behind, first_in_front, first_of_map, first_place, is_first, no_place, none_behind, none_in_front, none_of_map, none_passes, position_of_map, within}
 
@@ -183,6 +183,22 @@ pub retires : (rows : List Row) (r at : ℕ) → r + at < length rows → names_
 retires rows r at lt =
     let there = at_place (drop r rows) at (omega (arith, length-drop r rows)) in
     retires_row rows r at there.0 lt there.1 ∙ ap (λ (o : Option Row). retired_last at o (names_in r rows)) (sym there.1)
+
+-- what a retired row has besides does not count
+behind_bare : (r : ℕ) (rows : List Row) → drop (r + 1) (bare_at r rows) ≡ drop (r + 1) rows
+behind_bare r [] = refl
+behind_bare zero (x ∷ rows) = refl
+behind_bare (suc r) (x ∷ rows) = let n : suc r + 1 ≡ suc (r + 1) = omega arith in rw n (behind_bare r rows)
+
+old_bare : (n r : ℕ) (rows : List Row) → map old_name (take n (bare_at r rows)) ≡ map old_name (take n rows)
+old_bare n r [] = refl
+old_bare zero zero (x ∷ rows) = refl
+old_bare zero (suc r) (x ∷ rows) = refl
+old_bare (suc n) zero (x ∷ rows) = refl
+old_bare (suc n) (suc r) (x ∷ rows) = ap (λ (olds : List RetiredName). old_name x ∷ olds) (old_bare n r rows)
+
+pub names_bare : (r : ℕ) (rows : List Row) → names_in (r + 1) (bare_at r rows) ≡ names_in (r + 1) rows
+names_bare r rows = λ i. record { active = behind_bare r rows i; retired = old_bare (r + 1) r rows i }
 
 -- ---- the slots of the active names
 

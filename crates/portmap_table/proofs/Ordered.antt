@@ -11,7 +11,7 @@ use Rattle.indexmap.proofs.CallerLemmas.{insert_entry-new}
 use Rattle.indexmap.proofs.MapLemmas.{Missing-position}
 use Rattle.indexmap.proofs.SetLemmas.{map-move}
 use Rattle.portmap_table.specs.declared.row.Row.{Row}
-use Rattle.portmap_table.specs.Rows.{name_of, place_of, same_name}
+use Rattle.portmap_table.specs.Rows.{bare, bare_at, name_of, place_of, same_name}
 use Rattle.portmap_table.proofs.First.{IsFirst, is_first, position_of_map, within}
 
 abbrev Pair : Type 0
@@ -98,3 +98,22 @@ pub named_renewed : (es : List Pair) (rows : List Row) (at last : ℕ) (row : Ro
 named_renewed es rows at last row is there named =
     let p = λ (r : Row). same_name r.reg.name row.reg.name in
     named_moved (set_value_at es at row) at last (named_written es at row (is_first p (rows_of es) at (ap (place_of row.reg.name) is ∙ there)) named)
+
+-- a row that forgets its extra bytes
+pub bare_there : (es : List Pair) (at : ℕ) (x : Row) → slice_get (rows_of es) at ≡ Some x → rows_of (set_value_at es at (bare x)) ≡ bare_at at (rows_of es)
+bare_there [] at x there = refl
+bare_there (e ∷ es) zero x there = let same : e.1 ≡ x = cc in ap (λ (row : Row). bare row ∷ rows_of es) (sym same)
+bare_there (e ∷ es) (suc at) x there = ap (λ (rows : List Row). e.1 ∷ rows) (bare_there es at x there)
+
+names_of_bare : (at : ℕ) (rows : List Row) → map name_of (bare_at at rows) ≡ map name_of rows
+names_of_bare at [] = refl
+names_of_bare zero (x ∷ rows) = refl
+names_of_bare (suc at) (x ∷ rows) = ap (λ (names : List (List ℕ)). x.reg.name ∷ names) (names_of_bare at rows)
+
+pub named_bare : (keys : List (List ℕ)) (es : List Pair) (at : ℕ) (rows : List Row) → rows ≡ bare_at at (rows_of es) → keys ≡ map (λ (e : Pair). e.0) es → IsNamed es → keys ≡ map name_of rows
+named_bare keys es at rows is same named = same ∙ named ∙ sym (ap (map name_of) is ∙ names_of_bare at (rows_of es))
+
+pub length_bare : (at : ℕ) (rows : List Row) → length (bare_at at rows) ≡ length rows
+length_bare at [] = refl
+length_bare zero (x ∷ rows) = refl
+length_bare (suc at) (x ∷ rows) = ap suc (length_bare at rows)

@@ -1,9 +1,9 @@
 -- The names that a port mapper knows: the active ones, each with its registration, and the retired ones. ERTS User's
 -- Guide, EPMD Protocol: a registration lasts as long as its connection. What is remembered of old names: profile.
-use Rattle.std.specs.Prelude.{ℕ, ◌+◌, ◌≤◌, ◌<◌, ◌^◌, Bool, not, nat_le, ◌&&◌, ◌||◌, List, [], ◌∷◌, ◌++◌, length, map, drop, take, remove, position, find, Option, Some, None, is_some, option_map, slice_get, ◌==◌, All}
+use Rattle.std.specs.Prelude.{ℕ, zero, suc, ◌+◌, ◌≤◌, ◌<◌, ◌^◌, Bool, not, nat_le, ◌&&◌, ◌||◌, List, [], ◌∷◌, ◌++◌, length, map, drop, take, remove, position, find, Option, Some, None, is_some, option_map, slice_get, ◌==◌, All}
 use Rattle.std.specs.List.{IsDistinct}
 use Rattle.std.specs.Cmp.Lexicographic.{pointwise}
-use Rattle.portmap_wire.specs.Node.{Node}
+use Rattle.portmap_wire.specs.Node.{Node, without_extra}
 use Rattle.portmap_table.specs.declared.row.Row.{Row}
 use Rattle.portmap_table.specs.declared.row.Retired.{Retired}
 use Rattle.portmap_table.specs.Creation.{IsCreationFor}
@@ -100,6 +100,16 @@ retired_at (Some at) names = retired_last at (slice_get names.active at) names
 -- the name that a slot owns is active no more and goes last into the retired list
 abbrev pub retired_of : ℕ → Names → Names
 retired_of slot names = retired_at (position (λ row. row.slot == slot) names.active) names
+
+-- the row with no extra bytes
+abbrev pub bare : Row → Row
+bare row = record { reg = without_extra row.reg; creation = row.creation; slot = row.slot }
+
+-- the rows, of which the one at a place has none
+abbrev pub bare_at : ℕ → List Row → List Row
+bare_at at [] = []
+bare_at zero (row ∷ rows) = bare row ∷ rows
+bare_at (suc at) (row ∷ rows) = row ∷ bare_at at rows
 
 -- the names in rows of which the first so many are retired ones
 abbrev pub names_in : ℕ → List Row → Names

@@ -14,8 +14,8 @@ use std::marker::Model;
 /// The names that are known, in one ordered map.
 #[derive(Debug, Drop)]
 pub struct NameMap {
-    // The retired names in order of retirement, and then the active ones in order of registration. What a retired row had
-    // besides its name, port and creation is never read.
+    // The retired names in order of retirement, and then the active ones in order of registration. Of a retired row only the
+    // name, the port and the creation count.
     rows: RowMap,
     // How many of them are retired.
     retired: usize,
@@ -69,6 +69,7 @@ fn leave(rows: &mut RowMap, retired: &mut usize, at: usize)
     // A proof learns from the length that the sums fit.
     let _len = rows.len();
     rows.shift(*retired + at, *retired);
+    rows.forget_extra(*retired);
     *retired += 1;
 }
 
@@ -190,7 +191,7 @@ impl Known for NameMap {
     }
 
     fn retired_len(&self) -> usize {
-        self.retired
+        self.retired().len()
     }
 
     fn retired_at(&self, i: usize) -> Option<Retired<'_>> {

@@ -2,7 +2,7 @@
 ghost use Rattle.std.specs.Prelude.{◌≡◌, ◌<◌, ◌^◌, length, map, remove, slice_get, position, option_copied, Some, None, OnOk, OnErr, [], ◌∷◌, ◌++◌};
 ghost use Rattle.std.specs.List.{IsDistinct};
 ghost use Rattle.indexmap.specs.IndexMap.{move_index};
-ghost use Rattle.portmap_table.specs.Rows.{name_of, place_of, same_name};
+ghost use Rattle.portmap_table.specs.Rows.{bare_at, name_of, place_of, same_name};
 
 use crate::row::Row;
 use indexmap::IndexMap;
@@ -101,8 +101,18 @@ impl RowMap {
     pub(crate) fn shift(&mut self, from: usize, to: usize)
         requires from { from < length self.old }
         requires to { to < length self.old }
-        ensures { self.new ≡ move_index self.old from to }
+        ensures rows { self.new ≡ move_index self.old from to }
+        ensures len { length self.new ≡ length self.old }
     {
         self.rows.move_index(from, to);
+    }
+
+    /// The row at this place forgets its extra bytes. It takes no memory.
+    pub(crate) fn forget_extra(&mut self, at: usize)
+        requires { at < length self.old }
+        ensures rows { self.new ≡ bare_at at self.old }
+        ensures len { length self.new ≡ length self.old }
+    {
+        self.rows[at].reg.forget_extra();
     }
 }
