@@ -6,25 +6,50 @@ use Rattle.std.proofs.lemmas.List.{append-nil, length-take, take_all, take-take,
 use Rattle.portmap_wire.specs.declared.request.TheConstants.{BODY_MOST}
 use Rattle.portmap_feed.specs.declared.feed.Seen.TheVariants as seen
 use Rattle.portmap_feed.specs.Seen.{seen_of}
-use Rattle.portmap_feed.specs.Stream.{Sight, More, Zero, TooLarge, Whole, sight_behind, first_request, awaited, reach, kept}
+use Rattle.portmap_feed.specs.Stream.{Sight, More, Zero, TooLarge, Whole, sight_behind, first_request, awaited, room, kept}
 
--- ---- how far what is kept reaches
+-- ---- the room that is taken
 
--- what is kept is what lies within reach
-take-reach : (received : List ℕ) → take (reach received) received ≡ kept received
-unfolding kept reach
-take-reach [] = refl
-take-reach (high ∷ []) = refl
-take-reach (high ∷ low ∷ behind) = take-append-add (high ∷ low ∷ []) behind (awaited (high * 256 + low))
+-- what is kept is what fits
+take-room : (received : List ℕ) → take (room received) received ≡ kept received
+unfolding kept room
+take-room [] = refl
+take-room (high ∷ []) = refl
+take-room (high ∷ low ∷ behind) = take-append-add (high ∷ low ∷ []) behind (awaited (high * 256 + low))
 
--- bytes that keep all of themselves lie within the reach of any stream that they begin
-length-kept : (held piece : List ℕ) → kept held ≡ held → length held ≤ reach (held ++ piece)
-unfolding kept reach
+-- bytes that keep all of themselves fit into the room of any stream that they begin
+pub length-kept : (held piece : List ℕ) → kept held ≡ held → length held ≤ room (held ++ piece)
+unfolding kept room
 length-kept [] piece own = omega arith
 length-kept (high ∷ []) [] own = omega arith
 length-kept (high ∷ []) (low ∷ piece) own = omega arith
 length-kept (high ∷ low ∷ behind) piece own =
     omega (arith, length-take (awaited (high * 256 + low)) behind, ap length own)
+
+-- once the length is known, what follows takes no more
+pub room_known : (held piece : List ℕ) → 2 ≤ length held → room (held ++ piece) ≡ room held
+unfolding room
+room_known [] piece known = absurd (omega arith)
+room_known (high ∷ []) piece known = absurd (omega arith)
+room_known (high ∷ low ∷ behind) piece known = refl
+
+-- what is kept takes the room of all
+pub room-kept : (received : List ℕ) → room (kept received) ≡ room received
+unfolding kept room
+room-kept [] = refl
+room-kept (high ∷ []) = refl
+room-kept (high ∷ low ∷ behind) = refl
+
+-- a front takes no more
+pub room-take : (n : ℕ) (held : List ℕ) → room (take n held) ≤ room held
+unfolding room
+room-take zero held = omega arith
+room-take (suc zero) [] = omega arith
+room-take (suc zero) (high ∷ []) = omega arith
+room-take (suc zero) (high ∷ low ∷ behind) = omega arith
+room-take (suc (suc n)) [] = omega arith
+room-take (suc (suc n)) (high ∷ []) = omega arith
+room-take (suc (suc n)) (high ∷ low ∷ behind) = omega arith
 
 -- behind a length of n that shows more than `More`, no further byte is awaited
 awaited_decided : (n : ℕ) (behind : List ℕ) → sight_behind n behind ≢ More → awaited n ≤ length behind
@@ -42,21 +67,28 @@ awaited_decided n behind decided =
           ]
     ]
 
--- once the request is decided, nothing that follows is within reach
-pub reach_decided : (held piece : List ℕ) → first_request held ≢ More → reach (held ++ piece) ≤ length held
-unfolding first_request reach
-reach_decided [] piece decided = absurd (decided refl)
-reach_decided (high ∷ []) piece decided = absurd (decided refl)
-reach_decided (high ∷ low ∷ behind) piece decided =
+-- only a known length decides
+pub known_decided : (held : List ℕ) → first_request held ≢ More → 2 ≤ length held
+unfolding first_request
+known_decided [] decided = absurd (decided refl)
+known_decided (high ∷ []) decided = absurd (decided refl)
+known_decided (high ∷ low ∷ behind) decided = omega arith
+
+-- once the request is decided, its room is full
+pub room_decided : (held piece : List ℕ) → first_request held ≢ More → room (held ++ piece) ≤ length held
+unfolding first_request room
+room_decided [] piece decided = absurd (decided refl)
+room_decided (high ∷ []) piece decided = absurd (decided refl)
+room_decided (high ∷ low ∷ behind) piece decided =
     omega (arith, awaited_decided (high * 256 + low) behind decided)
 
--- held bytes and what is within reach of a piece behind them are what is kept of both
-pub kept-append : (held piece : List ℕ) (wanted : ℕ) → kept held ≡ held → wanted ≡ min (reach (held ++ piece) - length held) (length piece) → held ++ take wanted piece ≡ kept (held ++ piece)
+-- held bytes and what fits behind them of a piece are what is kept of both
+pub kept-append : (held piece : List ℕ) (wanted : ℕ) → kept held ≡ held → wanted ≡ min (room (held ++ piece) - length held) (length piece) → held ++ take wanted piece ≡ kept (held ++ piece)
 kept-append held piece wanted own is =
-    let left : ℕ = reach (held ++ piece) - length held in
-    let split : length held + left ≡ reach (held ++ piece) = omega (arith, length-kept held piece own) in
+    let left : ℕ = room (held ++ piece) - length held in
+    let split : length held + left ≡ room (held ++ piece) = omega (arith, length-kept held piece own) in
     let of_piece : take wanted piece ≡ take left piece = ap (λ (n : ℕ). take n piece) is ∙ take_min left piece in
-    ap (λ (bytes : List ℕ). held ++ bytes) of_piece ∙ sym (take-append-add held piece left) ∙ ap (λ (n : ℕ). take n (held ++ piece)) split ∙ take-reach (held ++ piece)
+    ap (λ (bytes : List ℕ). held ++ bytes) of_piece ∙ sym (take-append-add held piece left) ∙ ap (λ (n : ℕ). take n (held ++ piece)) split ∙ take-room (held ++ piece)
 
 -- ---- what is kept shows the same
 
@@ -110,8 +142,8 @@ unfolding kept
 kept_most [] = omega arith
 kept_most (high ∷ []) = omega arith
 kept_most (high ∷ low ∷ behind) =
-    let room : ℕ = awaited (high * 256 + low) in
-    omega (arith, length-take room behind, awaited_most (high * 256 + low))
+    let most : ℕ = awaited (high * 256 + low) in
+    omega (arith, length-take most behind, awaited_most (high * 256 + low))
 
 -- ---- while the request is not whole
 
@@ -161,5 +193,5 @@ kept-take (suc zero) (high ∷ held) own = refl
 kept-take (suc (suc n)) [] own = refl
 kept-take (suc (suc n)) (high ∷ []) own = refl
 kept-take (suc (suc n)) (high ∷ low ∷ behind) own =
-    let room : ℕ = awaited (high * 256 + low) in
-    ap (λ (bytes : List ℕ). high ∷ low ∷ bytes) (take_all room (take n behind) (omega (arith, length-take n behind, length-take room behind, ap length own)))
+    let most : ℕ = awaited (high * 256 + low) in
+    ap (λ (bytes : List ℕ). high ∷ low ∷ bytes) (take_all most (take n behind) (omega (arith, length-take n behind, length-take most behind, ap length own)))

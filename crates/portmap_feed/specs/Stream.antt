@@ -34,11 +34,11 @@ kept [] = []
 kept (high ∷ []) = high ∷ []
 kept (high ∷ low ∷ behind) = high ∷ low ∷ take (awaited (high * 256 + low)) behind
 
--- how many bytes are kept, if so many have come
-unfoldable pub reach : List ℕ → ℕ
-reach [] = 2
-reach (high ∷ []) = 2
-reach (high ∷ low ∷ behind) = 2 + awaited (high * 256 + low)
+-- how much room is taken: for what came while the length is not known, then for the whole request, or for a bad length alone
+unfoldable pub room : List ℕ → ℕ
+room [] = 0
+room (high ∷ []) = 1
+room (high ∷ low ∷ behind) = 2 + awaited (high * 256 + low)
 
 -- the body, where the request is whole
 abbrev pub body_in : Sight → Option (List ℕ)

@@ -1,9 +1,9 @@
 //! A request in the making: the bytes received of it so far, as far as they matter.
 
-ghost use Rattle.std.specs.Prelude.{◌≡◌, ◌≢◌, ◌≤◌, ◌+◌, ◌*◌, ℕ, List, [], ◌++◌, length, take, IsOk, IfOk, OnOk, OnErr, option_map};
+ghost use Rattle.std.specs.Prelude.{◌≡◌, ◌≢◌, ◌≤◌, ◌+◌, ◌*◌, ℕ, List, [], ◌++◌, length, take, max, vec_capacity, IsOk, IfOk, OnOk, OnErr, option_map};
 ghost use Rattle.portmap_wire.specs.declared.request.TheConstants.{BODY_MOST};
 ghost use Rattle.portmap_feed.specs.Seen.{seen_of};
-ghost use Rattle.portmap_feed.specs.Stream.{More, first_request, reach, kept, body_in};
+ghost use Rattle.portmap_feed.specs.Stream.{More, first_request, room, kept, body_in};
 
 use portmap_wire::{BODY_MOST, NoMemory};
 use std::alloc::Global;
@@ -54,10 +54,10 @@ fn seen_in(bytes: &[u8]) -> Seen
     }
 }
 
-/// How many bytes decide what is shown, at most, where `piece` follows `held`.
-#[tactic(auto, unfolding(crate::specs::Stream::reach))]
-fn reach_of(held: &[u8], piece: &[u8]) -> usize
-    ensures { result ≡ reach (held.now ++ piece.now) }
+/// How much room is taken where `piece` follows `held`. No more is kept of them.
+#[tactic(auto, unfolding(crate::specs::Stream::room))]
+fn room_of(held: &[u8], piece: &[u8]) -> usize
+    ensures { result ≡ room (held.now ++ piece.now) }
 {
     match (held, piece) {
         ([high, low, ..], _) | ([high], [low, ..]) | ([], [high, low, ..]) => {
@@ -68,7 +68,7 @@ fn reach_of(held: &[u8], piece: &[u8]) -> usize
                 2 + length as usize
             }
         }
-        _ => 2,
+        _ => held.len() + piece.len(),
     }
 }
 
@@ -76,31 +76,49 @@ fn reach_of(held: &[u8], piece: &[u8]) -> usize
 fn wanted_of(held: &[u8], piece: &[u8]) -> usize
     requires { kept held.now ≡ held.now }
     ensures within { result ≤ length piece.now }
+    ensures fits { length held.now + result ≤ room (held.now ++ piece.now) }
     ensures kept { held.now ++ take result piece.now ≡ kept (held.now ++ piece.now) }
     ensures decided { first_request held.now ≢ More → result ≡ 0 }
 {
-    reach_of(held, piece)
+    room_of(held, piece)
         .saturating_sub(held.len())
         .min(piece.len())
 }
 
+/// Takes room where `piece` follows `held`: for the whole request, if that completes its length, so
+/// that no piece behind it asks for memory.
+#[tactic(auto, using(crate::proofs::StreamLaws::room_known))]
+fn take_room(held: &mut Vec<u8>, piece: &[u8]) -> Result<(), NoMemory>
+    requires { room held.old.items ≤ vec_capacity held.old }
+    ensures items { held.new.items ≡ held.old.items }
+    ensures exact { OnOk result (vec_capacity held.new ≡ max (vec_capacity held.old) (room (held.old.items ++ piece.now))) }
+    ensures err { OnErr result (vec_capacity held.new ≡ vec_capacity held.old) }
+    ensures known { 2 ≤ length held.old.items → IsOk result }
+    ensures empty { piece.now ≡ [] → IsOk result }
+{
+    let room = room_of(held.as_slice(), piece);
+    held.reserve_exact(room.saturating_sub(held.len()))
+}
+
 /// The front of a stream that decides what its first request is: every byte while the request is
 /// not whole, its length and body once it is, and the length alone where no request may have it.
-/// So it holds two bytes more than the longest body at most.
+/// So it holds two bytes more than the longest body at most. Once the length is known there is room
+/// for all that will be held.
 #[derive(Debug, Drop)]
 pub struct Feed {
     bytes: Vec<u8>,
 }
 
 impl Model for Feed {
-    ghost use Rattle.std.specs.Prelude.{◌≡◌, ℕ, List};
-    ghost use Rattle.portmap_feed.specs.Stream.{kept};
+    ghost use Rattle.std.specs.Prelude.{◌≡◌, ◌≤◌, ℕ, List, vec_capacity};
+    ghost use Rattle.portmap_feed.specs.Stream.{kept, room};
 
     ghost Value = { List ℕ };
 
     ghost view = { λ feed. feed.bytes.items };
 
-    ghost invariant = { λ feed. kept feed.bytes.items ≡ feed.bytes.items };
+    ghost invariant = { λ feed. (kept feed.bytes.items ≡ feed.bytes.items)
+        × (room feed.bytes.items ≤ vec_capacity feed.bytes) };
 }
 
 impl Clone for Feed {
@@ -108,10 +126,11 @@ impl Clone for Feed {
 
     ghost is_clone = { λ feed copy. copy ≡ feed };
 
+    // By a push, so that the copy has room for its whole request too.
     fn clone(&self) -> Result<Feed, NoMemory> {
-        Ok(Feed {
-            bytes: self.bytes.clone()?,
-        })
+        let mut copy = Feed::new(*self.bytes.allocator());
+        copy.push(self.kept())?;
+        Ok(copy)
     }
 }
 
@@ -139,7 +158,7 @@ impl Eq for Feed {
 
 impl Feed {
     /// A feed that has received nothing. It takes no memory.
-    #[tactic(auto, unfolding(crate::specs::Stream::kept))]
+    #[tactic(auto, unfolding(crate::specs::Stream::kept, crate::specs::Stream::room))]
     pub fn new(alloc: Global) -> Feed
         ensures { result ≡ [] }
     {
@@ -149,7 +168,8 @@ impl Feed {
     }
 
     /// Takes the next piece of the stream, of any length, and says what is seen of the first
-    /// request. Bytes behind that request are not kept, and take no time and no memory.
+    /// request. Bytes behind that request are not kept, and take no time and no memory. The push
+    /// that completes the length takes room for the whole request, and those behind it take none.
     pub fn push(&mut self, piece: &[u8]) -> Result<Seen, NoMemory>
         // Whatever was received before, in whatever pieces, the answer is that to all of it.
         ensures seen { IfOk result (λ seen. (received : List ℕ) → self.old ≡ kept received
@@ -177,8 +197,11 @@ impl Feed {
         ensures decided { first_request self.old ≢ More → IsOk result }
         ensures empty { piece.now ≡ [] → IsOk result }
     {
+        take_room(&mut self.bytes, piece)?;
         let wanted = wanted_of(self.bytes.as_slice(), piece);
-        self.bytes.extend_from_slice(&piece[..wanted])?;
+        let Ok(()) = self.bytes.extend_from_slice(&piece[..wanted]) else {
+            unreachable!()
+        };
         Ok(seen_in(self.bytes.as_slice()))
     }
 

@@ -1,8 +1,8 @@
-use Rattle.std.proofs.Common.{◌≡◌, List, ℕ, ◌++◌, ap, sym, ◌∙◌, rules}
+use Rattle.std.proofs.Common.{◌≡◌, ◌≤◌, List, ℕ, ◌++◌, vec_capacity, ap, sym, ◌∙◌, arith, rules}
 use Rattle.portmap_feed.specs.Seen.{seen_of}
 use Rattle.portmap_feed.specs.declared.feed.Seen.TheVariants as seen
-use Rattle.portmap_feed.specs.Stream.{More, first_request, kept}
-use Rattle.portmap_feed.proofs.StreamLaws.{kept-append_kept, kept-kept, first_request-kept, kept_more, more_seen}
+use Rattle.portmap_feed.specs.Stream.{More, first_request, kept, room}
+use Rattle.portmap_feed.proofs.StreamLaws.{kept-append_kept, kept-kept, first_request-kept, kept_more, more_seen, room-kept, known_decided}
 use Rattle.portmap_feed.proofs.feed.Feed.push.Goals as goal
 
 -- the bytes that are held after the push
@@ -13,7 +13,10 @@ answer_now : (c : goal.After-seen_in) → c.seen_in.result ≡ seen_of (first_re
 answer_now c = search rules
 
 pub invariant_of-self-2 : goal.invariant_of-self-2
-invariant_of-self-2 c = rw (held_now c) (kept-kept _)
+invariant_of-self-2 c =
+    let all = c.args.self.now ++ c.args.piece.now in
+    let there : room all ≤ vec_capacity c.take_room.new.held = rw (sym c.self.view_is) (omega (arith, c.in_ok-take_room.ensures.exact)) in
+    rw (held_now c) (kept-kept all, omega (arith, room-kept all, there, c.extend_from_slice.ensures.capacity))
 
 -- the same, from all the bytes received
 held_of_all : (c : goal.After-seen_in) (received : List ℕ) → c.args.self.now ≡ kept received → c.extend_from_slice.new.self.items ≡ kept (received ++ c.args.piece.now)
@@ -33,3 +36,6 @@ returns-clause-more c = λ is_more.
     let answered : c.seen_in.result ≡ seen.More = cc in
     let seen_more : first_request c.extend_from_slice.new.self.items ≡ More = more_seen _ (sym (answer_now c) ∙ answered) in
     held_now c ∙ kept_more _ (sym (first_request-kept _) ∙ ap first_request (sym (held_now c)) ∙ seen_more)
+
+pub returns-in_err-take_room-clause-decided : goal.returns-in_err-take_room-clause-decided
+returns-in_err-take_room-clause-decided c = search (rules, known_decided)
