@@ -1,49 +1,17 @@
 -- Keys that differ, when one is added and when one changes its place.
-use Rattle.std.proofs.Common.{◌≡◌, ℕ, suc, ◌+◌, ◌<◌, ◌≤◌, Bool, true, false, not, cond, List, [], ◌∷◌, ◌++◌, length, map, get_or, Some, None, refl, ap, ◌∙◌, arith, append_assoc, ltb, inl, inr}
-use Rattle.std.specs.Prelude.{find, position, remove, is_some, nat_lt}
-use Rattle.std.specs.List.{IsDistinct, AllByRecursion, position_or_len}
+use Rattle.std.proofs.Common.{◌≡◌, ℕ, ◌<◌, Bool, false, List, [], ◌∷◌, ◌++◌, length, map, get_or, ◌∙◌, append_assoc}
+use Rattle.std.specs.Prelude.{remove}
+use Rattle.std.specs.List.{IsDistinct, AllByRecursion}
 use Rattle.std.specs.List.Sorted.{IsPermutation}
 use Rattle.std.specs.Cmp.{IsEquivalence}
-use Rattle.std.proofs.lemmas.Bool.{cases_lt, lt-ltb}
-use Rattle.std.proofs.lemmas.List.Folds.{find_at}
 use Rattle.std.proofs.lemmas.List.Sorted.{IsPermutation-refl, IsPermutation-sym, IsPermutation-trans, IsPermutation-map, IsPermutation-middle, IsPermutation-remove, IsPermutation-pop_more, IsPermutation-append_comm}
 use Rattle.std.proofs.lemmas.Map.Keys.{IsDistinct-IsPermutation, IsDistinct-tail}
-use Rattle.std.proofs.lemmas.Option.{slice_get_cases, slice_get_past}
-
--- ---- where no element passes a test
-
--- the scan goes past the end
-abbrev pub NonePasses : {X : Type 0} → (X → Bool) → List X → Type 0
-NonePasses p xs = length xs ≤ position_or_len p xs
-
-past_end : (n m : ℕ) → is_some (cond (nat_lt n m) (Some n) None) ≡ false → m ≤ n
-past_end n m e = elim (cases_lt n m) [
-  | inl below ↦ absurd (let t : ltb n m ≡ true = lt-ltb _ _ below in let f = rw t at e in cc)
-  | inr above ↦ omega arith
-]
-
-pub none_at : {X : Type 0} (p : X → Bool) (xs : List X) → is_some (position p xs) ≡ false → NonePasses p xs
-none_at p xs e = past_end (position_or_len p xs) (length xs) e
-
-pub none_found : {X : Type 0} (p : X → Bool) (xs : List X) → is_some (find p xs) ≡ false → NonePasses p xs
-none_found p xs e = elim (slice_get_cases xs (position_or_len p xs)).1 [
-  | inl w ↦ absurd (let f = ap is_some (find_at p xs ∙ w.2) in cc)
-  | inr w ↦ w.0
-]
-
-pub finds_none : {X : Type 0} (p : X → Bool) (xs : List X) → NonePasses p xs → is_some (find p xs) ≡ false
-finds_none p xs past = ap is_some (find_at p xs ∙ slice_get_past xs (position_or_len p xs) past)
-
-first_fails : (b : Bool) (n m : ℕ) → suc m ≤ cond (not b) (1 + n) 0 → (b ≡ false) × (m ≤ n)
-first_fails true n m le = absurd (omega arith)
-first_fails false n m le = (refl, omega arith)
+use Rattle.portmap_table.proofs.First.{NonePass}
 
 -- a key that none of the elements has
-pub key_is_new : {X K : Type 0} {same : K → K → Bool} → IsEquivalence same → (key : X → K) (k : K) (xs : List X) → NonePasses (λ x. same (key x) k) xs → AllByRecursion (λ y. same k y ≡ false) (map key xs)
-key_is_new laws key k [] past = tt
-key_is_new {X} {K} {same} laws key k (x ∷ xs) past =
-    let first = first_fails (same (key x) k) (position_or_len (λ x. same (key x) k) xs) (length xs) past in
-    (laws.symm k (key x) ∙ first.0, key_is_new laws key k xs first.1)
+pub key_is_new : {X K : Type 0} {same : K → K → Bool} → IsEquivalence same → (key : X → K) (k : K) (xs : List X) → NonePass (λ x. same (key x) k) xs → AllByRecursion (λ y. same k y ≡ false) (map key xs)
+key_is_new laws key k [] none = tt
+key_is_new laws key k (x ∷ xs) none = (laws.symm k (key x) ∙ none.0, key_is_new laws key k xs none.1)
 
 both : {K : Type 0} (P : K → Type 0) (xs ys : List K) → AllByRecursion P xs → AllByRecursion P ys → AllByRecursion P (xs ++ ys)
 both P [] ys px py = py

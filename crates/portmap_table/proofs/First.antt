@@ -63,6 +63,12 @@ module _ {X : Type 0} (p : X → Bool) where
     | inr f ↦ absurd (let no : Some f.0 ≡ None = sym (first_place xs f.0 f.1) ∙ e in cc)
   ]
 
+  pub none_at : (xs : List X) → is_some (position p xs) ≡ false → NonePass xs
+  none_at xs e = elim (either xs) [
+    | inl none ↦ none
+    | inr f ↦ absurd (let no = sym (ap is_some (first_place xs f.0 f.1)) ∙ e in cc)
+  ]
+
   -- ---- what `find` says
 
   pub finds_first : (xs : List X) (at : ℕ) → IsFirst xs at → find p xs ≡ slice_get xs at
@@ -74,6 +80,12 @@ module _ {X : Type 0} (p : X → Bool) where
   finds_some [] at f = absurd f
   finds_some (x ∷ xs) zero f = ap (λ (b : Bool). is_some (cond b (Some x) (find p xs))) f
   finds_some (x ∷ xs) (suc at) f = ap (λ (b : Bool). is_some (cond b (Some x) (find p xs))) f.0 ∙ finds_some xs at f.1
+
+  pub none_found : (xs : List X) → is_some (find p xs) ≡ false → NonePass xs
+  none_found xs e = elim (either xs) [
+    | inl none ↦ none
+    | inr f ↦ absurd (let no = sym (finds_some xs f.0 f.1) ∙ e in cc)
+  ]
 
   pub finds_none : (xs : List X) → NonePass xs → find p xs ≡ None
   finds_none [] none = refl

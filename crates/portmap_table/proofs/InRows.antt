@@ -15,14 +15,9 @@ use Rattle.indexmap.proofs.SetLemmas.{map-remove}
 use Rattle.portmap_wire.specs.Node.{Node}
 use Rattle.portmap_table.specs.declared.row.Row.{Row}
 use Rattle.portmap_table.specs.Rows.{Names, RetiredName, active_row, bare_at, is_active, name_of, names_in, old_name, owns_name, place_of, registered, remembered, retired_at, retired_last, same_name, slot_of, without_at}
+use Rattle.portmap_table.proofs.Kept.{had_name, has_name}
 use Rattle.portmap_table.proofs.Owners.{any_slot, has_slot, owns}
 use Rattle.portmap_table.proofs.First.{IsFirst, NonePass, finds_first, finds_none, finds_some, first_behind, first_in_front, first_of_map, first_place, is_first, no_place, none_behind, none_in_front, none_of_map, none_passes, position_of_map, within}
-
-abbrev has_name : List ℕ → Row → Bool
-has_name name row = same_name row.reg.name name
-
-abbrev old_has_name : List ℕ → RetiredName → Bool
-old_has_name name old = same_name old.name name
 
 -- ---- looking for a name
 
@@ -60,11 +55,11 @@ retired_there name rows r at there lt d = finds_none (has_name name) (drop r row
 pub nowhere_active : (name : List ℕ) (rows : List Row) (r : ℕ) → place_of name rows ≡ None → active_row name (names_in r rows) ≡ None
 nowhere_active name rows r none = finds_none (has_name name) (drop r rows) (none_behind (has_name name) r rows (none_passes (has_name name) rows none))
 
-first_retired : (name : List ℕ) (rows : List Row) (r at : ℕ) → place_of name rows ≡ Some at → at < r → IsFirst (old_has_name name) (map old_name (take r rows)) at
-first_retired name rows r at there lt = first_of_map old_name (old_has_name name) (take r rows) at (first_in_front (has_name name) r rows at (is_first (has_name name) rows at there) lt)
+first_retired : (name : List ℕ) (rows : List Row) (r at : ℕ) → place_of name rows ≡ Some at → at < r → IsFirst (had_name name) (map old_name (take r rows)) at
+first_retired name rows r at there lt = first_of_map old_name (had_name name) (take r rows) at (first_in_front (has_name name) r rows at (is_first (has_name name) rows at there) lt)
 
-none_old : (name : List ℕ) (rows : List Row) (r : ℕ) → NonePass (has_name name) (take r rows) → NonePass (old_has_name name) (map old_name (take r rows))
-none_old name rows r none = none_of_map old_name (old_has_name name) (take r rows) none
+none_old : (name : List ℕ) (rows : List Row) (r : ℕ) → NonePass (has_name name) (take r rows) → NonePass (had_name name) (map old_name (take r rows))
+none_old name rows r none = none_of_map old_name (had_name name) (take r rows) none
 
 past_retired : (rows : List Row) (r at : ℕ) → r ≤ at → slice_get (map old_name (take r rows)) at ≡ None
 past_retired rows r at le = slice_get_past (map old_name (take r rows)) at (omega (arith, le, length-map (take r rows) old_name, length-take r rows))
@@ -74,10 +69,10 @@ remembered_here : (name : List ℕ) (rows : List Row) (r at : ℕ) → place_of 
 remembered_here name rows r at there =
     let first = is_first (has_name name) rows at there in
     ap (option_map (λ (old : RetiredName). old.creation)) (elim (cases_lt at r) [
-      | inl lt ↦ finds_first (old_has_name name) (map old_name (take r rows)) at (first_retired name rows r at there lt)
+      | inl lt ↦ finds_first (had_name name) (map old_name (take r rows)) at (first_retired name rows r at there lt)
       | inr le ↦
           let sum : at ≡ r + (at - r) = omega (arith, le) in
-          finds_none (old_has_name name) (map old_name (take r rows)) (none_old name rows r (first_behind (has_name name) r rows at (at - r) sum first).0) ∙ sym (past_retired rows r at le)
+          finds_none (had_name name) (map old_name (take r rows)) (none_old name rows r (first_behind (has_name name) r rows at (at - r) sum first).0) ∙ sym (past_retired rows r at le)
     ])
 
 pub remembered_there : (name : List ℕ) (rows kept : List Row) (r at : ℕ) → place_of name rows ≡ Some at → map old_name kept ≡ map old_name (take r rows) → option_map (λ row. row.creation) (slice_get kept at) ≡ remembered name (names_in r rows)
@@ -91,7 +86,7 @@ remembered_there name rows kept r at there same =
 pub nowhere_remembered : (name : List ℕ) (rows : List Row) (r : ℕ) → place_of name rows ≡ None → remembered name (names_in r rows) ≡ None
 nowhere_remembered name rows r none =
     ap (option_map (λ (old : RetiredName). old.creation))
-    (finds_none (old_has_name name) (map old_name (take r rows)) (none_old name rows r (none_in_front (has_name name) r rows (none_passes (has_name name) rows none))))
+    (finds_none (had_name name) (map old_name (take r rows)) (none_old name rows r (none_in_front (has_name name) r rows (none_passes (has_name name) rows none))))
 
 -- ---- looking for a slot
 
@@ -116,7 +111,7 @@ new_name rows r row le none =
     let name = row.reg.name in
     let back = drop-append-le r rows (row ∷ []) le in
     let front = take-append-le r rows (row ∷ []) le in
-    let nowhere = no_place (old_has_name name) (map old_name (take r rows)) (none_old name rows r (none_in_front (has_name name) r rows (none_passes (has_name name) rows none))) in
+    let nowhere = no_place (had_name name) (map old_name (take r rows)) (none_old name rows r (none_in_front (has_name name) r rows (none_passes (has_name name) rows none))) in
     λ i. record { active = back i; retired = (ap (map old_name) front ∙ sym (ap (λ (o : Option ℕ). without_at o (map old_name (take r rows))) nowhere)) i }
 
 drop_without : (rows : List Row) (at r : ℕ) → at ≤ r → drop r (remove rows at) ≡ drop (suc r) rows
@@ -146,7 +141,7 @@ comes_back rows (suc r) at row le lt there =
     let less : suc r - 1 ≡ r = omega arith in
     let back = drop-append-le r (remove rows at) (row ∷ []) long ∙ ap (λ (xs : List Row). xs ++ row ∷ []) (drop_without rows at r (omega arith)) in
     let front = take-append-le r (remove rows at) (row ∷ []) long ∙ take_without rows at r (omega arith) in
-    let place = first_place (old_has_name name) (map old_name (take (suc r) rows)) at (first_retired name rows (suc r) at there lt) in
+    let place = first_place (had_name name) (map old_name (take (suc r) rows)) at (first_retired name rows (suc r) at there lt) in
     ap (λ (n : ℕ). names_in n (remove rows at ++ row ∷ [])) less
     ∙ (λ i. record { active = back i; retired = (ap (map old_name) front ∙ map-remove old_name (take (suc r) rows) at ∙ sym (ap (λ (o : Option ℕ). without_at o (map old_name (take (suc r) rows))) place)) i })
 

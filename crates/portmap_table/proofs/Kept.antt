@@ -17,9 +17,10 @@ use Rattle.portmap_table.specs.declared.row.Row.{Row}
 use Rattle.portmap_table.specs.declared.table.RegFault.{RegFault}
 use Rattle.portmap_table.specs.declared.table.RegFault.TheVariants as fault
 use Rattle.portmap_table.specs.Creation.{IsCreationFor, IsLegalCreation}
-use Rattle.portmap_table.specs.Rows.{is_full_for, RetiredName, Names, AreKept, same_name, is_active, known_len, owns_name, remembered, retired_row, without_at, registered, old_name, retired_last, retired_at}
+use Rattle.portmap_table.specs.Rows.{name_of, slot_of, is_full_for, RetiredName, Names, AreKept, same_name, is_active, known_len, owns_name, remembered, retired_row, without_at, registered, old_name, retired_last, retired_at}
 use Rattle.portmap_table.specs.Table.{TableState, offered}
-use Rattle.portmap_table.proofs.Distinct.{NonePasses, none_at, none_found, finds_none, key_is_new, distinct_with, distinct_forward, distinct_back, distinct_without, keys_moved}
+use Rattle.portmap_table.proofs.First.{NonePass, none_at, none_found, finds_none}
+use Rattle.portmap_table.proofs.Distinct.{key_is_new, distinct_with, distinct_forward, distinct_back, distinct_without, keys_moved}
 
 -- ---- short names for what is scanned
 
@@ -29,14 +30,8 @@ has_name name row = same_name row.reg.name name
 abbrev pub had_name : List ℕ → RetiredName → Bool
 had_name name old = same_name old.name name
 
-abbrev pub name_of : Row → List ℕ
-name_of row = row.reg.name
-
 abbrev pub old_name_of : RetiredName → List ℕ
 old_name_of old = old.name
-
-abbrev slot_of : Row → ℕ
-slot_of row = row.slot
 
 abbrev IsRowKept : Row → Type 0
 IsRowKept row = IsCreationFor row.reg.high row.creation
@@ -79,8 +74,8 @@ new_owner rows row slot d free e =
 kept_with : (known_max c slot : ℕ) (names : Names) (g : Node) (o : Option ℕ) → AreKept known_max names → is_active g.name names ≡ false → (is_some (retired_row g.name names) ≡ false → known_len names < known_max) → owns_name slot names ≡ false → IsCreationFor g.high c → position (had_name g.name) names.retired ≡ o → AreKept known_max (record { active = names.active ++ record { reg = g; creation = c; slot = slot } ∷ []; retired = without_at o names.retired })
 kept_with known_max c slot names g None k inactive room free legal none =
     let row : Row = record { reg = g; creation = c; slot = slot } in
-    let past : NonePasses (had_name g.name) names.retired = none_at (had_name g.name) names.retired (ap is_some none) in
-    let few : known_len names < known_max = room (finds_none (had_name g.name) names.retired past) in
+    let past : NonePass (had_name g.name) names.retired = none_at (had_name g.name) names.retired (ap is_some none) in
+    let few : known_len names < known_max = room (ap is_some (finds_none (had_name g.name) names.retired past)) in
     record {
       distinct = rw (map-append name_of names.active (row ∷ [])) (distinct_with nat_list_eq_equiv g.name (map name_of names.active) (map old_name_of names.retired) (key_is_new nat_list_eq_equiv name_of g.name names.active (none_found (has_name g.name) names.active inactive)) (key_is_new nat_list_eq_equiv old_name_of g.name names.retired past) k.distinct);
       few = omega (arith, length-append names.active (row ∷ []));

@@ -11,11 +11,11 @@ use Rattle.std.proofs.lemmas.List.Sorted.{IsPermutation-append_left}
 use Rattle.std.proofs.lemmas.Map.Keys.{IsDistinct-IsPermutation, IsDistinct-head}
 use Rattle.std.proofs.lemmas.Option.{slice_get_within, slice_get-get_or, get_or_from_slice_get}
 use Rattle.portmap_table.specs.declared.row.Row.{Row}
-use Rattle.portmap_table.specs.Rows.{RetiredName, Names, same_name, is_active, active_row, retired_row, without_at, old_name, retired_of, retired_at, retired_last}
+use Rattle.portmap_table.specs.Rows.{name_of, RetiredName, Names, same_name, is_active, active_row, retired_row, without_at, old_name, retired_of, retired_at, retired_last}
 use Rattle.portmap_table.specs.Laws.{row_of, RegisteredNamesAreActive, NamesOutliveConnections, OthersStayAtRegistration, OthersStayAtRetirement, RegisteredNamesStandLast, RetiredNamesStandLast}
 use Rattle.portmap_table.proofs.Distinct.{keys_moved}
 use Rattle.portmap_table.proofs.Finding.{is_none, find-push, find-push_other, find-remove, find-differs, position-find, first_part, second_part}
-use Rattle.portmap_table.proofs.Kept.{has_name, had_name, name_of, old_name_of}
+use Rattle.portmap_table.proofs.Kept.{has_name, had_name, old_name_of}
 
 pub registered_names_are_active : RegisteredNamesAreActive
 registered_names_are_active names reg creation slot inactive =

@@ -12,6 +12,7 @@ use Rattle.std.proofs.lemmas.Option.{slice_get_within, get_or_from_slice_get}
 use Rattle.portmap_wire.specs.Node.{Node}
 use Rattle.portmap_table.specs.declared.row.Row.{Row}
 use Rattle.portmap_table.specs.Rows.{Names, active_row, owns_name, registered, retired_last, retired_at, retired_of, same_name, slot_of}
+use Rattle.portmap_table.proofs.First.{is_first, within}
 use Rattle.portmap_table.proofs.Distinct.{keys_moved}
 
 abbrev pub has_slot : ℕ → Row → Bool
@@ -101,10 +102,6 @@ gone rows at row lt here d =
     let first = IsDistinct-IsPermutation ◌==◌ nat_eq_equiv.symm (map slot_of rows) (row.slot ∷ map slot_of (remove rows at)) (keys_moved slot_of rows at row lt here) d in
     any_slot row.slot (remove rows at) ∙ none_same row.slot (map slot_of (remove rows at)) first.0
 
-place_within : {X : Type 0} (p : X → Bool) (xs : List X) (at : ℕ) → position p xs ≡ Some at → at < length xs
-place_within p [] at e = absurd cc
-place_within p (x ∷ xs) at e = (position-Some p (x ∷ xs) at x e).0
-
 not_past : {X : Type 0} (xs : List X) (at : ℕ) → at < length xs → slice_get xs at ≡ None → ⊥
 not_past [] at lt e = omega arith
 not_past (x ∷ xs) zero lt e = absurd cc
@@ -113,7 +110,7 @@ not_past (x ∷ xs) (suc at) lt e = not_past xs at (omega arith) e
 -- by the place of the slot's row, and the row there
 last_owns : (slot : ℕ) (names : Names) (at : ℕ) (o : Option Row) → slice_get names.active at ≡ o → position (has_slot slot) names.active ≡ Some at → IsDistinct ◌==◌ (map slot_of names.active)
     → (owns_name slot (retired_last at o names) ≡ false) × ((q : ℕ) → q ≢ slot → owns_name q (retired_last at o names) ≡ owns_name q names)
-last_owns slot names at None e found d = absurd (not_past names.active at (place_within (has_slot slot) names.active at found) e)
+last_owns slot names at None e found d = absurd (not_past names.active at (within (has_slot slot) names.active at (is_first (has_slot slot) names.active at found)) e)
 last_owns slot names at (Some row) e found d =
     let lt : at < length names.active = slice_get_within names.active at row e in
     let here : row ≡ get_or names.active at row = sym (get_or_from_slice_get names.active at row row e) in
