@@ -27,6 +27,7 @@ is_command items plan env command h c = record {
   timeout = c.timeout ∙ ap (λ (o : Option ℕ). unwrap_or o 60) h.timeout;
   workers = c.workers ∙ ap (λ (o : Option ℕ). unwrap_or o 4) h.workers;
   debug = c.debug ∙ h.debug;
+  recording = ap (option_map string_bytes) c.recording ∙ h.recording;
 }
 
 -- items that words spell and that a plan holds say the command of the plan

@@ -6,7 +6,7 @@ use Rattle.std.specs.List.{list_any}
 use Rattle.std.proofs.lemmas.List.{append-nil, take_all}
 use Rattle.std.proofs.lemmas.List.Folds.{list_any-append}
 use Rattle.std.proofs.lemmas.List.Sums.{sum_by_push}
-use Rattle.epmd.specs.Words.{Asked, asked_in, Item, Act, Begins, Spells, last_by, is_action, action_of, port_of, addresses_of, timeout_of, workers_of, is_relaxed, is_debug}
+use Rattle.epmd.specs.Words.{Asked, asked_in, Item, Act, Begins, Spells, last_by, is_action, action_of, port_of, addresses_of, timeout_of, workers_of, recording_of, is_relaxed, is_debug}
 use Rattle.epmd.specs.Meaning.{Holds, Adds}
 use Rattle.epmd.specs.declared.plan.Plan.{Plan}
 
@@ -59,6 +59,7 @@ holds_more items item old new h a first =
       workers = a.workers ∙ ap (λ (o : Option ℕ). option_or (workers_of item) o) h.workers ∙ sym (last_by_push workers_of items item);
       relaxed = a.relaxed ∙ ap (λ (b : Bool). b || is_relaxed item) h.relaxed ∙ sym (any_push is_relaxed items item);
       debug = a.debug ∙ ap (λ (b : Bool). b || is_debug item) h.debug ∙ sym (any_push is_debug items item);
+      recording = a.recording ∙ ap (λ (o : Option (List ℕ)). option_or (recording_of item) o) h.recording ∙ sym (last_by_push recording_of items item);
     }
 
 -- these words are said, and this rest is left

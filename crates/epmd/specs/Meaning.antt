@@ -4,7 +4,7 @@ use Rattle.std.specs.Prelude.{◌≡◌, ℕ, ◌+◌, Bool, true, ◌<◌, ◌�
 use Rattle.std.specs.List.{list_any}
 use Rattle.epmd.specs.Numbers.{IsWithin, WritesWithin}
 use Rattle.epmd.specs.Addresses.{anywhere, AreListening}
-use Rattle.epmd.specs.Words.{Serve, Item, asked_in, action_of, port_of, addresses_of, timeout_of, workers_of, is_relaxed, is_debug, is_action, last_by, Spells}
+use Rattle.epmd.specs.Words.{Serve, Item, asked_in, action_of, port_of, addresses_of, timeout_of, workers_of, recording_of, is_relaxed, is_debug, is_action, last_by, Spells}
 use Rattle.epmd.specs.declared.actions.TheConstants as actions
 use Rattle.epmd.specs.declared.words.WordFault.{WordFault}
 use Rattle.epmd.specs.declared.words.WordFault.TheVariants.{Unknown, MissingValue, BadValue, TwoCommands, BadEnvPort, NoMemory}
@@ -24,6 +24,7 @@ pub record Holds (items : List Item) (plan : Plan) : Type 0 where
   pub workers : plan.workers ≡ last_by workers_of items
   pub relaxed : plan.relaxed ≡ list_any is_relaxed items
   pub debug : plan.debug ≡ list_any is_debug items
+  pub recording : option_map string_bytes plan.recording ≡ last_by recording_of items
 
 -- one item more says this
 pub record Adds (item : Item) (old new : Plan) : Type 0 where
@@ -34,6 +35,7 @@ pub record Adds (item : Item) (old new : Plan) : Type 0 where
   pub workers : new.workers ≡ option_or (workers_of item) old.workers
   pub relaxed : new.relaxed ≡ (old.relaxed || is_relaxed item)
   pub debug : new.debug ≡ (old.debug || is_debug item)
+  pub recording : option_map string_bytes new.recording ≡ option_or (recording_of item) (option_map string_bytes old.recording)
 
 -- ---- the command
 
@@ -53,6 +55,7 @@ pub record IsCommand (items : List Item) (env : Env) (command : Command) : Type 
   pub timeout : command.timeout ≡ unwrap_or (last_by timeout_of items) 60
   pub workers : command.workers ≡ unwrap_or (last_by workers_of items) 4
   pub debug : command.debug ≡ list_any is_debug items
+  pub recording : option_map string_bytes command.recording ≡ last_by recording_of items
 
 -- the command of what words have said, in this environment
 pub record Completes (plan : Plan) (env : Env) (command : Command) : Type 0 where
@@ -63,6 +66,7 @@ pub record Completes (plan : Plan) (env : Env) (command : Command) : Type 0 wher
   pub timeout : command.timeout ≡ unwrap_or plan.timeout 60
   pub workers : command.workers ≡ unwrap_or plan.workers 4
   pub debug : command.debug ≡ plan.debug
+  pub recording : command.recording ≡ plan.recording
 
 -- words say this command in this environment
 abbrev pub SaysCommand : List (List ℕ) → Env → Command → Type 0

@@ -1,13 +1,14 @@
 -- The words that a value follows.
 use Rattle.std.specs.Prelude.{ℕ, List, Bool, true, false, codes}
 use Rattle.epmd.specs.declared.items.Valued.{Valued}
-use Rattle.epmd.specs.declared.items.Valued.TheVariants.{Port, Address, Timeout, Workers, Stop, Check, Play}
+use Rattle.epmd.specs.declared.items.Valued.TheVariants.{Port, Address, Timeout, Workers, Record, Stop, Check, Play}
 
 abbrev pub name_of : Valued → List ℕ
 name_of Port = codes "-port"
 name_of Address = codes "-address"
 name_of Timeout = codes "-packet_timeout"
 name_of Workers = codes "-workers"
+name_of Record = codes "-record"
 name_of Stop = codes "-stop"
 name_of Check = codes "-check"
 name_of Play = codes "-play"
@@ -18,6 +19,7 @@ asks_action Port = false
 asks_action Address = false
 asks_action Timeout = false
 asks_action Workers = false
+asks_action Record = false
 asks_action Stop = true
 asks_action Check = true
 asks_action Play = true

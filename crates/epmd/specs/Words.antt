@@ -1,4 +1,4 @@
--- The words of the command: the options of epmd(1) and, as profile, -workers, -dump, -once, -check and -play.
+-- The words of the command: the options of epmd(1) and, as profile, -workers, -record, -dump, -once, -check and -play.
 use Rattle.std.specs.Option.{option_or}
 use Rattle.std.specs.Prelude.{◌≡◌, ℕ, List, [], ◌∷◌, Bool, true, false, codes, string_bytes, Option, Some, None, ◌⊎◌}
 use Rattle.portmap_wire.specs.Name.{IsName}
@@ -33,7 +33,7 @@ asked_in action.Once = Once
 asked_in (action.Check path) = Check (string_bytes path)
 asked_in (action.Play path) = Play (string_bytes path)
 
--- what one word says, with the value behind it if it has one
+-- what one word says, with the value behind it if it has one; what is recorded to is a path
 pub data Item : Type 0 where
   Port : ℕ → Item
   Addresses : List (List ℕ) → Item
@@ -42,6 +42,7 @@ pub data Item : Type 0 where
   Relaxed : Item
   Debug : Item
   Daemon : Item
+  Recording : List ℕ → Item
   Act : Asked → Item
 
 -- the same without its memory
@@ -53,6 +54,7 @@ item_in (word.Workers number) = Workers number
 item_in word.Relaxed = Relaxed
 item_in word.Debug = Debug
 item_in word.Daemon = Daemon
+item_in (word.Recording path) = Recording (string_bytes path)
 item_in (word.Act action) = Act (asked_in action)
 
 -- ---- how it is spelled
@@ -77,6 +79,7 @@ Begins (Workers number) words rest = (value : List ℕ) × (words ≡ codes "-wo
 Begins Relaxed words rest = words ≡ codes "-relaxed_command_check" ∷ rest
 Begins Debug words rest = (words ≡ codes "-d" ∷ rest) ⊎ (words ≡ codes "-debug" ∷ rest)
 Begins Daemon words rest = words ≡ codes "-daemon" ∷ rest
+Begins (Recording path) words rest = words ≡ codes "-record" ∷ path ∷ rest
 Begins (Act asked) words rest = BeginsAction asked words rest
 
 -- words are these items, one behind the other
@@ -105,6 +108,10 @@ timeout_of item = None
 abbrev pub workers_of : Item → Option ℕ
 workers_of (Workers number) = Some number
 workers_of item = None
+
+abbrev pub recording_of : Item → Option (List ℕ)
+recording_of (Recording path) = Some path
+recording_of item = None
 
 abbrev pub is_relaxed : Item → Bool
 is_relaxed Relaxed = true

@@ -1,5 +1,5 @@
 //! The daemon: what it is set to, and how its end is told.
-ghost use Rattle.std.specs.Prelude.{◌≡◌, false, IfOk, IsOk};
+ghost use Rattle.std.specs.Prelude.{◌≡◌, false, IfOk};
 ghost use Rattle.epmd.specs.Daemon.{SetsAs, first_by, status_of_end};
 
 use crate::actions::{CONNECTIONS_MOST, DONE, Failure, NAMES_MOST, fail};
@@ -43,6 +43,7 @@ pub fn settings(
         addresses: Vec::from_slice(alloc, command.addresses.as_slice())?,
         timeout: command.timeout,
         workers: command.workers,
+        recording: command.recording.clone()?,
     })
 }
 
@@ -64,20 +65,24 @@ fn tell_unheard<E: Write>(errors: &mut E, command: &Command, place: usize) {
 }
 
 /// Tells how the daemon of this command has ended, and gives the status that does: `DONE` where the port mapper was told to end,
-/// `NOT_SERVED` where it can't listen, `FAILED` where readiness of sockets can't be had or memory ran out. With debug output a
-/// daemon that was told to end tells how many acts each worker made, by rising number from 1.
+/// `NOT_SERVED` where it can't listen, `FAILED` where readiness of sockets can't be had or memory ran out, or where it was told to
+/// end and its recording failed. With debug output a daemon that was told to end first tells how many acts each worker made, by
+/// rising number from 1.
 pub fn end_daemon<E: Write>(
     errors: &mut E,
     command: &Command,
     ended: &Result<RunEnd, RunFault>,
 ) -> u8
     ensures status { result ≡ status_of_end ended.now }
-    ensures silent { IsOk ended.now → command.now.debug ≡ false → errors.new ≡ errors.old }
+    ensures silent { result ≡ DONE → command.now.debug ≡ false → errors.new ≡ errors.old }
 {
     match ended {
         Ok(end) => {
             if command.debug {
                 tell_served(errors, end.served.as_slice());
+            }
+            if end.recorded == Some(false) {
+                return fail(errors, Failure::Recording);
             }
             DONE
         }

@@ -24,6 +24,8 @@ pub enum Word {
     Relaxed,
     Debug,
     Daemon,
+    /// The path of a file to record to.
+    Recording(String),
     Act(Action),
 }
 
@@ -34,6 +36,7 @@ enum Valued {
     Address,
     Timeout,
     Workers,
+    Record,
     Stop,
     Check,
     Play,
@@ -65,6 +68,7 @@ fn asks_value(word: &str) -> Option<Valued>
         "-address" => Valued::Address,
         "-packet_timeout" => Valued::Timeout,
         "-workers" => Valued::Workers,
+        "-record" => Valued::Record,
         "-stop" => Valued::Stop,
         "-check" => Valued::Check,
         "-play" => Valued::Play,
@@ -95,6 +99,7 @@ fn with_value(alloc: Global, asks: Valued, value: &str) -> Result<Option<Word>, 
         Valued::Address => read_listening(alloc, text)?.map(|addresses| Word::Addresses(addresses)),
         Valued::Timeout => read_within(text, 1, 86_400).map(|seconds| Word::Timeout(seconds)),
         Valued::Workers => read_within(text, 1, 64).map(|number| Word::Workers(number)),
+        Valued::Record => Some(Word::Recording(String::from_str(alloc, value)?)),
         Valued::Stop => read_name(alloc, value)?.map(|name| Word::Act(Action::Stop(name))),
         Valued::Check => Some(Word::Act(Action::Check(String::from_str(alloc, value)?))),
         Valued::Play => Some(Word::Act(Action::Play(String::from_str(alloc, value)?))),

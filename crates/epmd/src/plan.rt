@@ -28,6 +28,7 @@ pub struct Plan {
     pub workers: Option<u32>,
     pub relaxed: bool,
     pub debug: bool,
+    pub recording: Option<String>,
 }
 
 /// The port that this text of the environment says, else the usual one.
@@ -67,6 +68,7 @@ impl Plan {
             workers: None,
             relaxed: false,
             debug: false,
+            recording: None,
         }
     }
 
@@ -89,6 +91,7 @@ impl Plan {
             Word::Relaxed => self.relaxed = true,
             Word::Debug => self.debug = true,
             Word::Daemon => {}
+            Word::Recording(path) => self.recording = Some(path),
             Word::Act(action) => self.action = Some(action),
         }
     }
@@ -106,6 +109,7 @@ impl Plan {
             workers,
             relaxed,
             debug,
+            recording,
         } = self;
         let port = match port {
             Some(port) => port,
@@ -119,6 +123,7 @@ impl Plan {
             timeout: timeout.unwrap_or(TIMEOUT),
             workers: workers.unwrap_or(WORKERS),
             debug,
+            recording,
         })
     }
 }

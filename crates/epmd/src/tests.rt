@@ -14,6 +14,7 @@ mod machine;
 mod nodes;
 mod playing;
 mod record;
+mod recorder;
 mod serving;
 mod settings;
 mod streams;

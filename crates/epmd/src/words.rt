@@ -58,6 +58,8 @@ pub struct Command {
     /// 1 to 64.
     pub workers: u32,
     pub debug: bool,
+    /// The path of the file that the daemon records to, if any.
+    pub recording: Option<String>,
 }
 
 /// Why words are no command. A word is named by its number, from 0.

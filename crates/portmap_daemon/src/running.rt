@@ -1,9 +1,11 @@
 //! The daemon over sockets.
-ghost use Rattle.std.specs.Prelude.{◌≡◌, ◌<◌, ◌≤◌, vec_len, length, IfOk};
+ghost use Rattle.std.specs.Prelude.{◌≡◌, ◌<◌, ◌≤◌, vec_len, length, false, IfOk, IfSome};
 ghost use Rattle.portmap_book.specs.declared.desk.TheConstants.{PARTS, SEATS_MOST};
 ghost use Rattle.portmap_daemon.specs.declared.running.TheConstants.{TIMEOUT_MOST};
 
 use crate::listener::Listener;
+use crate::recorder::Recorder;
+use crate::sealing::{Pause, Sealing, seal_all};
 use crate::socket_source::SocketSource;
 use crate::sockets::{EVENTS_MOST, FIRST_LISTENER, Sockets, WAKE};
 use crate::{Gate, Open, Outcome, serve};
@@ -11,8 +13,9 @@ use mio::net::TcpListener;
 use mio::{Events, Poll, Token, Waker};
 use portmap_book::{Book, Desk, PARTS, SEATS_MOST, Seat};
 use portmap_core::Config;
-use portmap_link::NoMemory;
+use portmap_link::{NoMemory, Output, Writing};
 use std::alloc::{AllocFailed, Global};
+use std::fs::{File, Files};
 use std::marker::Brand;
 use std::net::{Ipv4Addr, Net, SocketAddr};
 use std::rt::Clock;
@@ -39,6 +42,8 @@ pub struct Settings {
     pub timeout: u32,
     /// How many workers serve: 1 to `SEATS_MOST`.
     pub workers: u32,
+    /// The file to record to, if any. It is made anew: what it held is lost.
+    pub recording: Option<String>,
 }
 
 /// How a daemon ended.
@@ -46,6 +51,8 @@ pub struct Settings {
 pub struct RunEnd {
     /// How many acts of the port mapper each worker made.
     pub served: Vec<u64>,
+    /// Whether all that was answered is in the recording. None where nothing was to be recorded.
+    pub recorded: Option<bool>,
 }
 
 /// Why a daemon did not serve, or ended before it was told to.
@@ -89,7 +96,7 @@ struct Job<L: Ledger> {
 }
 
 /// Serves until the port mapper is told to end. It waits.
-pub fn run<R: Net + Threads + Wait + Clock + Sync>(
+pub fn run<R: Net + Files<File = File> + Threads + Wait + Clock + Sync>(
     rt: &R,
     alloc: Global,
     settings: Settings,
@@ -103,7 +110,7 @@ pub fn run<R: Net + Threads + Wait + Clock + Sync>(
 }
 
 /// The same, with a gate that every worker passes.
-pub fn run_gated<G: Gate + Sync, R: Net + Threads + Wait + Clock + Sync>(
+pub fn run_gated<G: Gate + Sync, R: Net + Files<File = File> + Threads + Wait + Clock + Sync>(
     rt: &R,
     alloc: Global,
     settings: Settings,
@@ -120,12 +127,51 @@ pub fn run_gated<G: Gate + Sync, R: Net + Threads + Wait + Clock + Sync>(
         addresses,
         timeout,
         workers,
+        recording,
     } = settings;
     let book = Book::new(alloc, config, first)?;
-    let listening = listen(rt, alloc, config.port, &addresses)?;
-    let (sockets, wakers) = open_all(rt, alloc, &listening, timeout, workers)?;
-    let served = work::<Brand, G, R>(rt, alloc, Blank::new(PARTS), book, sockets, &wakers, gate)?;
-    Ok(RunEnd { served })
+    let (sockets, mut wakers) = open_sockets(rt, alloc, config.port, &addresses, timeout, workers)?;
+    let (pause, waker) = Pause::open(rt, alloc)?;
+    wakers.push(waker)?;
+    // The file is made once the daemon listens: so one that can't leaves the file of another alone.
+    let recorder = match &recording {
+        Some(path) => recorder_to(rt, path),
+        None => None,
+    };
+    let sealing = Sealing {
+        config,
+        pause,
+        recorder,
+    };
+    let blank = Blank::new(PARTS);
+    let (served, is_whole) = work::<Brand, G, Writing<File>, R>(
+        rt, alloc, blank, book, sockets, &wakers, sealing, gate,
+    )?;
+    let recorded = recording.map(|_| is_whole);
+    Ok(RunEnd { served, recorded })
+}
+
+/// What records to a file that is made anew; none where it can't be made.
+fn recorder_to<R: Files<File = File>>(rt: &R, path: &str) -> Option<Recorder<Writing<File>>>
+    ensures { IfSome result (λ recorder. recorder.begun ≡ false) }
+{
+    let file = File::create(rt, path).ok()?;
+    Some(Recorder::new(Writing::new(file)))
+}
+
+/// The sockets of so many workers, which share what listens on each of the addresses, with what ends the wait of each.
+fn open_sockets<R: Net>(
+    rt: &R,
+    alloc: Global,
+    port: u16,
+    addresses: &[[u8; 4]],
+    timeout: u32,
+    workers: u32,
+) -> Result<(Vec<Sockets>, Vec<Waker>), RunFault>
+    ensures { IfOk result (λ opened. vec_len opened.0 ≡ workers) }
+{
+    let listening = listen(rt, alloc, port, addresses)?;
+    open_all(rt, alloc, &listening, timeout, workers)
 }
 
 /// Listens on each of the addresses.
@@ -206,25 +252,70 @@ fn share(
     Ok(listeners)
 }
 
-/// Has each worker serve at one desk over the book, in a thread of its own. How many acts each made.
-fn work<L: Ledger + Send + Sync, G: Gate + Sync, R: Threads + Wait + Clock + Sync>(
+/// Has each worker serve at one desk over the book, in a thread of its own, while this thread takes out the log. How many acts each made,
+/// and whether all of the log was recorded.
+fn work<
+    L: Ledger + Send + Sync,
+    G: Gate + Sync,
+    W: Output + Drop + Send,
+    R: Threads + Wait + Clock + Sync,
+>(
     rt: &R,
     alloc: Global,
     blank: Blank,
     book: Book,
     sockets: Vec<Sockets>,
     wakers: &[Waker],
+    sealing: Sealing<W>,
     gate: &G,
-) -> Result<Vec<u64>, RunFault>
+) -> Result<(Vec<u64>, bool), RunFault>
     requires name { blank.name ≡ L.name }
     requires parts { blank.parts ≡ L.parts }
     requires enough { blank.parts ≡ PARTS }
-    ensures { IfOk result (λ served. vec_len served ≡ vec_len sockets) }
+    ensures { IfOk result (λ ended. vec_len ended.0 ≡ vec_len sockets) }
 {
     let desk: Desk<L> = Desk::new(blank, book);
     let jobs = jobs_of(rt, alloc, &desk, sockets)?;
-    let failed = AtomicBool::new(false);
-    let (desk, over) = (&desk, &failed);
+    let flags = Flags {
+        failed: AtomicBool::new(false),
+        done: AtomicBool::new(false),
+    };
+    let (desk, flags) = (&desk, &flags);
+    let (served, is_whole) = thread::join(
+        rt,
+        move || {
+            let served = serve_all(rt, alloc, desk, jobs, wakers, flags, gate);
+            flags.done.store(true, Ordering::SeqCst);
+            wake_all(wakers);
+            served
+        },
+        move || seal_all(rt, alloc, desk, sealing, &flags.done),
+    );
+    Ok((served?, is_whole))
+}
+
+/// What threads tell each other.
+#[derive(Drop)]
+struct Flags {
+    /// Readiness of sockets can no longer be had.
+    failed: AtomicBool,
+    /// Every worker has ended.
+    done: AtomicBool,
+}
+
+/// Has each worker serve in a thread of its own. How many acts each made.
+fn serve_all<L: Ledger + Send + Sync, G: Gate + Sync, R: Threads + Wait + Clock + Sync>(
+    rt: &R,
+    alloc: Global,
+    desk: &Desk<L>,
+    jobs: Vec<Job<L>>,
+    wakers: &[Waker],
+    flags: &Flags,
+    gate: &G,
+) -> Result<Vec<u64>, RunFault>
+    ensures { IfOk result (λ served. vec_len served ≡ vec_len jobs) }
+{
+    let over = &flags.failed;
     let outcomes = thread::map_vec(
         rt,
         jobs,
@@ -240,7 +331,7 @@ fn work<L: Ledger + Send + Sync, G: Gate + Sync, R: Threads + Wait + Clock + Syn
             outcome
         },
     )?;
-    if failed.load(Ordering::SeqCst) {
+    if over.load(Ordering::SeqCst) {
         return Err(RunFault::Poll);
     }
     Ok(counts_of(alloc, &outcomes)?)

@@ -1,17 +1,24 @@
 //! The daemon over sockets of this host: each story at a port of its own, with a client that ends it.
+ghost use Rattle.std.specs.Prelude.{◌<◌, ◌≤◌, vec_len, IfOk};
+ghost use Rattle.portmap_book.specs.declared.desk.TheConstants.{SEATS_MOST};
+ghost use Rattle.portmap_daemon.specs.declared.running.TheConstants.{TIMEOUT_MOST};
+
+use crate::actions::do_file;
 use crate::tests::bytes::{ALIVE_A, FOUND_A, KILL, NAMES, NOT_FOUND, PORT_A};
+use crate::tests::cases::is_so;
 use crate::tests::gates::Meet;
+use crate::words::Action;
 use portmap_core::Config;
-use portmap_daemon::{Gate, Open, RunEnd, RunFault, Settings, run_gated};
+use portmap_daemon::{RunEnd, RunFault, Settings, run, run_gated};
+use portmap_link::{Reading, Writing};
 use std::alloc::Global;
+use std::fs::File;
 use std::io::{Read, Write};
-use std::net::{Ipv4Addr, Net, TcpListener, TcpStream};
+use std::net::{Ipv4Addr, Net, TcpStream};
 use std::rt::Clock;
-use std::sync::Wait;
 use std::test::Fail;
-use std::thread;
-use std::thread::Threads;
 use std::time::Duration;
+use std::{fs, thread};
 
 /// What a client does with the daemon.
 #[derive(Clone, Copy, PartialEq, Eq)]
@@ -26,6 +33,10 @@ enum Story {
     Stalls,
     /// Eight peers ask for the list of names, one after the other, and read nothing.
     Crowds,
+    /// What a node does is recorded.
+    Records,
+    /// It was to be recorded, and can't be.
+    Nowhere,
 }
 
 impl Story {
@@ -37,6 +48,8 @@ impl Story {
             Story::Silent => 14_371,
             Story::Stalls => 14_372,
             Story::Crowds => 14_373,
+            Story::Records => 14_374,
+            Story::Nowhere => 14_375,
         }
     }
 }
@@ -182,6 +195,7 @@ fn goes_well<R: Net<Stream = TcpStream> + Clock>(rt: &R, alloc: Global, story: S
     let port = story.port();
     let told = match story {
         Story::Leaves => leaves(rt, port),
+        Story::Records | Story::Nowhere => resets(rt, port),
         Story::Resets => resets(rt, port),
         Story::Silent => is_silent(rt, port),
         Story::Stalls => stalls(rt, alloc, port),
@@ -191,77 +205,164 @@ fn goes_well<R: Net<Stream = TcpStream> + Clock>(rt: &R, alloc: Global, story: S
     told == Some(true) && has_ended == Some(true)
 }
 
-/// The daemon of a story, with two workers: it may be told to end with names active.
-fn serve<G: Gate + Sync, R: Net + Threads + Wait + Clock + Sync>(
-    rt: &R,
-    alloc: Global,
-    story: Story,
-    gate: &G,
-) -> Result<RunEnd, RunFault> {
-    let Ok(config) = Config::new(story.port(), true, 1024, 4096) else {
-        return Err(RunFault::NoMemory);
-    };
+/// What the daemon of a story is set to: two workers, and it may be told to end with names active.
+fn settings(alloc: Global, story: Story, recording: Option<String>) -> Result<Settings, Fail>
+    ensures addresses { IfOk result (λ settings. 0 < vec_len settings.addresses) }
+    ensures timeout { IfOk result (λ settings. (1 ≤ settings.timeout) × (settings.timeout ≤ TIMEOUT_MOST)) }
+    ensures workers { IfOk result (λ settings. (1 ≤ settings.workers) × (settings.workers ≤ SEATS_MOST)) }
+{
     let mut addresses = Vec::new(alloc);
     addresses.push([127, 0, 0, 1])?;
-    let settings = Settings {
-        config,
+    Ok(Settings {
+        config: Config::new(story.port(), true, 1024, 4096)?,
         first: 4,
         addresses,
         timeout: if story == Story::Silent { 1 } else { 60 },
         workers: 2,
-    };
-    run_gated(rt, alloc, settings, gate)
+        recording,
+    })
 }
 
-/// Whether each of two workers has told what it served, together one act at least.
-fn have_served(ended: &Result<RunEnd, RunFault>) -> bool {
+/// Whether each of two workers has told what it served, together one act at least, and whether all was recorded is told so.
+fn have_served(ended: &Result<RunEnd, RunFault>, recorded: Option<bool>) -> bool {
     match ended {
-        Ok(end) => end.served.len() == 2 && end.served.iter().any(|served| *served > 0),
+        Ok(end) => {
+            end.served.len() == 2
+                && end.served.iter().any(|served| *served > 0)
+                && end.recorded == recorded
+        }
         Err(_) => false,
     }
 }
 
-/// Whether the daemon serves the client of the story and ends with it.
-fn holds<G, R>(rt: &R, alloc: Global, story: Story, gate: &G) -> bool
-where
-    G: Gate + Sync,
-    R: Net<Listener = TcpListener, Stream = TcpStream> + Threads + Wait + Clock + Sync,
-{
-    let (ended, told) = thread::join(
-        rt,
-        move || serve(rt, alloc, story, gate),
-        move || goes_well(rt, alloc, story),
-    );
-    told && have_served(&ended)
-}
-
 #[test]
 fn a_node_registers_and_leaves(rt: HostRuntime) -> Result<(), Fail> {
-    assert!(rt; holds(&rt, rt.alloc(), Story::Leaves, &Open));
+    let alloc = rt.alloc();
+    let settings = settings(alloc, Story::Leaves, None)?;
+    let (ended, told) = thread::join(
+        &rt,
+        || run(&rt, alloc, settings),
+        || goes_well(&rt, alloc, Story::Leaves),
+    );
+    assert!(rt; told && have_served(&ended, None));
     Ok(())
 }
 
 #[test]
 fn a_name_is_free_once_its_connection_is_reset(rt: HostRuntime) -> Result<(), Fail> {
-    assert!(rt; holds(&rt, rt.alloc(), Story::Resets, &Open));
+    let alloc = rt.alloc();
+    let settings = settings(alloc, Story::Resets, None)?;
+    let (ended, told) = thread::join(
+        &rt,
+        || run(&rt, alloc, settings),
+        || goes_well(&rt, alloc, Story::Resets),
+    );
+    assert!(rt; told && have_served(&ended, None));
     Ok(())
 }
 
 #[test]
 fn a_silent_connection_is_closed_and_a_registered_one_is_not(rt: HostRuntime) -> Result<(), Fail> {
-    assert!(rt; holds(&rt, rt.alloc(), Story::Silent, &Open));
+    let alloc = rt.alloc();
+    let settings = settings(alloc, Story::Silent, None)?;
+    let (ended, told) = thread::join(
+        &rt,
+        || run(&rt, alloc, settings),
+        || goes_well(&rt, alloc, Story::Silent),
+    );
+    assert!(rt; told && have_served(&ended, None));
     Ok(())
 }
 
 #[test]
 fn a_peer_that_reads_nothing_stops_no_other(rt: HostRuntime) -> Result<(), Fail> {
-    assert!(rt; holds(&rt, rt.alloc(), Story::Stalls, &Open));
+    let alloc = rt.alloc();
+    let settings = settings(alloc, Story::Stalls, None)?;
+    let (ended, told) = thread::join(
+        &rt,
+        || run(&rt, alloc, settings),
+        || goes_well(&rt, alloc, Story::Stalls),
+    );
+    assert!(rt; told && have_served(&ended, None));
     Ok(())
 }
 
 #[test]
 fn a_worker_that_is_held_stops_no_other(rt: HostRuntime) -> Result<(), Fail> {
+    let alloc = rt.alloc();
     let gate = Meet::new(&rt);
-    assert!(rt; holds(&rt, rt.alloc(), Story::Crowds, &gate) && gate.have_met());
+    let settings = settings(alloc, Story::Crowds, None)?;
+    let (ended, told) = thread::join(
+        &rt,
+        || run_gated(&rt, alloc, settings, &gate),
+        || goes_well(&rt, alloc, Story::Crowds),
+    );
+    assert!(rt; told && have_served(&ended, None) && gate.have_met());
+    Ok(())
+}
+
+/// How many acts the workers made together.
+fn acts_of(ended: &Result<RunEnd, RunFault>) -> u64 {
+    let mut acts = 0u64;
+    if let Ok(end) = ended {
+        for served in &end.served {
+            acts = acts.saturating_add(*served);
+        }
+    }
+    acts
+}
+
+/// The verdict on so many entries that are a run.
+fn verdict(alloc: Global, entries: u64) -> Result<String, Fail> {
+    Ok(format!(in alloc; "run of {} entries\n", entries)?)
+}
+
+/// Whether a recorded session is found to be a run of so many entries.
+fn is_run_of<F: Read + Drop>(alloc: Global, file: F, entries: u64) -> Result<bool, Fail> {
+    let mut input = Reading::new(file);
+    let mut output = Writing::new(Vec::new(alloc));
+    let mut errors = Vec::new(alloc);
+    let check = Action::Check(String::new(alloc));
+    let status = do_file(alloc, &check, &mut input, &mut output, &mut errors);
+    let verdict = verdict(alloc, entries)?;
+    Ok(status == 0 && output.into_inner().as_slice() == verdict.as_bytes())
+}
+
+/// A file of this test alone, in the folder that tests run in.
+const RECORDING: &str = "recording-14374";
+
+#[test]
+fn what_is_answered_is_recorded(rt: HostRuntime) -> Result<(), Fail> {
+    let alloc = rt.alloc();
+    let settings = settings(
+        alloc,
+        Story::Records,
+        Some(String::from_str(alloc, RECORDING)?),
+    )?;
+    let (ended, told) = thread::join(
+        &rt,
+        || run(&rt, alloc, settings),
+        || goes_well(&rt, alloc, Story::Records),
+    );
+    assert!(rt; told && have_served(&ended, Some(true)));
+    let file = File::open(&rt, RECORDING)?;
+    fs::remove_file(&rt, RECORDING)?;
+    is_so(&rt, is_run_of(alloc, file, acts_of(&ended)))
+}
+
+#[test]
+fn a_recording_that_cannot_be_made_is_told(rt: HostRuntime) -> Result<(), Fail> {
+    let alloc = rt.alloc();
+    let settings = settings(
+        alloc,
+        Story::Nowhere,
+        Some(String::from_str(alloc, "/none/there")?),
+    )?;
+    let (ended, told) = thread::join(
+        &rt,
+        || run(&rt, alloc, settings),
+        || goes_well(&rt, alloc, Story::Nowhere),
+    );
+    assert!(rt; told && have_served(&ended, Some(false)));
     Ok(())
 }

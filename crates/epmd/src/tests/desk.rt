@@ -6,8 +6,8 @@ use crate::tests::cases::{Case, all_hold};
 use crate::tests::record::Kept;
 use crate::tests::transcript::entry;
 use portmap_book::{
-    Book, Conn, Desk, FinishFault, GatherFault, PARTS, SEATS_MOST, Seat, Ticket, gather,
-    tickets_agree,
+    Book, Conn, Desk, FinishFault, GatherFault, PARTS, SEATS_MOST, Seat, Segment, Ticket, gather,
+    segments_are_one_run, tickets_agree,
 };
 use portmap_core::{Answer, Config, Entry, Event, Fate, Phase};
 use std::alloc::Global;
@@ -146,7 +146,7 @@ fn ending_of<L: Ledger>(
 ) -> Option<Ended> {
     match desk.finish(seats) {
         Ok(book) => {
-            gather(alloc, &book, tickets).ok()?;
+            gather(alloc, &[], &book, tickets).ok()?;
             Some(Ended::Whole([counts[0], counts[1], book.count()]))
         }
         Err(FinishFault::SeatsMissing { have, logged, .. }) => Some(Ended::Missing(have, logged)),
@@ -265,6 +265,36 @@ fn fails_late<L: Ledger, R: Wait>(
     Some(stood && is_said(&late, &[], Fate::Close) && is_gone(&gone))
 }
 
+/// Whether a desk's log, which weighs something, is sealed to so many entries, the first at this place, and weighs nothing then.
+fn is_sealed_to<L: Ledger, R: Wait>(
+    rt: &R,
+    alloc: Global,
+    desk: &Desk<L>,
+    first: u64,
+    entries: usize,
+) -> bool {
+    let is_heavy = desk.weight(rt) > 0;
+    match desk.seal(rt, alloc) {
+        Ok(segment) => { is_heavy && desk.weight(rt) == 0 && is_part(&segment, first, entries) }
+        Err(_) => false,
+    }
+}
+
+/// Whether a desk's log is sealed after four entries while a connection is open, and again after its close, which has its
+/// place.
+fn is_sealed_at_desk<L: Ledger, R: Wait>(
+    rt: &R,
+    alloc: Global,
+    desk: &Desk<L>,
+    seat: &mut Seat<L>,
+) -> Option<bool> {
+    let (_, conn) = desk.connect(rt, alloc, seat, true).ok()?;
+    let has_four = is_sealed_to(rt, alloc, desk, 0, 4);
+    let (place, gone) = desk.close(rt, alloc, seat, conn).ok()?;
+    let is_closed = place == 4 && is_gone(&gone);
+    Some(has_four && is_closed && is_sealed_to(rt, alloc, desk, 4, 1))
+}
+
 /// Whether a port mapper has ended once it is killed, and not before.
 pub fn is_killed<L: Ledger, R: Wait>(
     rt: &R,
@@ -288,7 +318,8 @@ fn one_worker<L: Ledger, R: Wait>(rt: &R, alloc: Global, blank: Blank) -> Option
     let (_, conn) = desk.connect(rt, alloc, &mut seat, false).ok()?;
     let is_first = conn.slot() == 0;
     let has_failed = fails_late(rt, alloc, &desk, &mut seat, conn)?;
-    Some(is_first && has_failed && is_killed(rt, alloc, &desk, &mut seat)?)
+    let is_sealed = is_sealed_at_desk(rt, alloc, &desk, &mut seat)?;
+    Some(is_first && has_failed && is_sealed && is_killed(rt, alloc, &desk, &mut seat)?)
 }
 
 #[test]
@@ -406,13 +437,19 @@ const GATHERED: &[Gathered] = &[
     Gathered(&[], Err(GatherFault::Missing(0))),
 ];
 
-/// The book of a node that connects, registers and leaves.
+/// A node connects, registers and leaves: the places of the three entries.
+fn node_places(alloc: Global, book: &mut Book) -> Option<[u64; 3]> {
+    let (opened, _) = book.act(alloc, Event::Connect { local: true }).ok()?;
+    let bytes = ALIVE_A.to_vec(alloc).ok()?;
+    let (said, _) = book.act(alloc, Event::Piece { slot: 0, bytes }).ok()?;
+    let (closed, _) = book.act(alloc, Event::Close { slot: 0 }).ok()?;
+    Some([opened, said, closed])
+}
+
+/// The book of that node.
 fn one_node(alloc: Global) -> Option<Book> {
     let mut book = book(alloc, false)?;
-    book.act(alloc, Event::Connect { local: true }).ok()?;
-    let bytes = ALIVE_A.to_vec(alloc).ok()?;
-    book.act(alloc, Event::Piece { slot: 0, bytes }).ok()?;
-    book.act(alloc, Event::Close { slot: 0 }).ok()?;
+    node_places(alloc, &mut book)?;
     Some(book)
 }
 
@@ -428,7 +465,7 @@ impl Case for Gathered {
     fn holds(&self, alloc: Global) -> Result<bool, Fail> {
         let tickets = tickets_of(alloc, self.0)?;
         match one_node(alloc) {
-            Some(book) => Ok(gather(alloc, &book, tickets) == self.1),
+            Some(book) => Ok(gather(alloc, &[], &book, tickets) == self.1),
             None => Ok(false),
         }
     }
@@ -438,4 +475,123 @@ impl Case for Gathered {
 fn tickets_are_the_log_or_the_first_fault_is_told(rt: HostRuntime) -> Result<(), Fail> {
     tickets_agree();
     all_hold(&rt, GATHERED)
+}
+
+/// Whether a segment has so many entries, the first at this place.
+fn is_part(segment: &Segment, first: u64, entries: usize) -> bool {
+    segment.first == first && segment.entries.len() == entries
+}
+
+/// Whether the log is sealed to such a segment, and goes on empty at the place that follows.
+fn seals(alloc: Global, book: &mut Book, first: u64, entries: usize, next: u64) -> Option<bool> {
+    let segment = book.seal(alloc).ok()?;
+    let is_empty = book.log().is_empty() && book.first() == next && book.count() == next;
+    Some(is_part(&segment, first, entries) && is_empty)
+}
+
+/// Whether the log of a node that came and left is sealed, and that of another one that comes behind it.
+fn seals_twice(alloc: Global, book: &mut Book) -> Option<bool> {
+    let places = node_places(alloc, book)?;
+    let has_three = seals(alloc, book, 0, 3, 3)?;
+    let (next, _) = book.act(alloc, Event::Connect { local: true }).ok()?;
+    let has_one = seals(alloc, book, 3, 1, 4)?;
+    Some(places == [0, 1, 2] && has_three && next == 3 && has_one)
+}
+
+/// Whether the empty log behind both is sealed to an empty segment, and a close has its place behind that.
+fn seals_nothing(alloc: Global, book: &mut Book) -> Option<bool> {
+    let has_none = seals(alloc, book, 4, 0, 4)?;
+    let (place, gone) = book.act(alloc, Event::Close { slot: 0 }).ok()?;
+    Some(has_none && place == 4 && is_gone(&gone))
+}
+
+fn seals_thrice(alloc: Global, book: &mut Book) -> Option<bool> {
+    Some(seals_twice(alloc, book)? && seals_nothing(alloc, book)?)
+}
+
+fn is_sealed_in_segments(alloc: Global) -> Option<bool> {
+    let mut book = book(alloc, false)?;
+    seals_thrice(alloc, &mut book)
+}
+
+#[test]
+fn a_log_is_sealed_in_segments(rt: HostRuntime) -> Result<(), Fail> {
+    assert_eq!(rt; is_sealed_in_segments(rt.alloc()), Some(true));
+    Ok(())
+}
+
+/// Which segments of a log are handed over with the book behind the second, whether they are of a relaxed port mapper, as
+/// the book is not, and what is found of the tickets of all.
+struct Chained(&'static [usize], bool, Result<(), GatherFault>);
+
+/// A node connects, registers and leaves, and another one connects.
+const ALL: &[(u64, Kept)] = &[(0, OPENED), (1, REGISTERED), (2, LEFT), (3, OPENED)];
+
+const CHAINED: &[Chained] = &[
+    Chained(&[0, 1], false, Ok(())),
+    Chained(&[1, 0], false, Err(GatherFault::BrokenChain(1))),
+    Chained(&[0], false, Err(GatherFault::BrokenChain(1))),
+    Chained(&[0, 0, 1], false, Err(GatherFault::BrokenChain(1))),
+    Chained(&[0, 1, 1], false, Err(GatherFault::BrokenChain(2))),
+    Chained(&[0, 1], true, Err(GatherFault::BrokenChain(0))),
+    Chained(&[1], false, Err(GatherFault::Stranger(0))),
+    Chained(&[], false, Err(GatherFault::Stranger(0))),
+];
+
+/// The segment of the node that comes and leaves, or the one behind it, of the other node.
+fn segment_in(alloc: Global, book: &mut Book, place: usize) -> Option<Segment> {
+    node_places(alloc, book)?;
+    if place == 1 {
+        seals(alloc, book, 0, 3, 3)?;
+        book.act(alloc, Event::Connect { local: true }).ok()?;
+    }
+    book.seal(alloc).ok()
+}
+
+fn segment_of(alloc: Global, relaxed: bool, place: usize) -> Option<Segment> {
+    let mut book = book(alloc, relaxed)?;
+    segment_in(alloc, &mut book, place)
+}
+
+fn segments_of(alloc: Global, relaxed: bool, places: &[usize]) -> Option<Vec<Segment>> {
+    let mut segments = Vec::new(alloc);
+    for place in places {
+        segments.push(segment_of(alloc, relaxed, *place)?).ok()?;
+    }
+    Some(segments)
+}
+
+/// The book behind both segments.
+fn two_nodes(alloc: Global) -> Option<Book> {
+    let mut book = book(alloc, false)?;
+    seals_twice(alloc, &mut book)?;
+    Some(book)
+}
+
+/// Whether this is found of the tickets of all.
+fn is_found(
+    alloc: Global,
+    segments: &[Segment],
+    wanted: Result<(), GatherFault>,
+) -> Result<bool, Fail> {
+    let tickets = tickets_of(alloc, ALL)?;
+    match two_nodes(alloc) {
+        Some(book) => Ok(gather(alloc, segments, &book, tickets) == wanted),
+        None => Ok(false),
+    }
+}
+
+impl Case for Chained {
+    fn holds(&self, alloc: Global) -> Result<bool, Fail> {
+        match segments_of(alloc, self.1, self.0) {
+            Some(segments) => is_found(alloc, &segments, self.2),
+            None => Ok(false),
+        }
+    }
+}
+
+#[test]
+fn segments_follow_one_another_or_the_first_gap_is_told(rt: HostRuntime) -> Result<(), Fail> {
+    segments_are_one_run();
+    all_hold(&rt, CHAINED)
 }

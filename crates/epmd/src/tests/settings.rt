@@ -2,6 +2,7 @@
 use crate::daemon::{end_daemon, settings};
 use crate::tests::bytes::Bytes;
 use crate::tests::cases::{Case, all_hold};
+use crate::tests::words::is_path;
 use crate::words::{Action, Command};
 use portmap_daemon::{RunEnd, RunFault, Settings};
 use std::alloc::Global;
@@ -9,7 +10,11 @@ use std::test::Fail;
 use std::time::Duration;
 
 /// A command to serve on two addresses.
-fn command_of(alloc: Global, debug: bool) -> Result<Command, Fail> {
+fn command_of(alloc: Global, debug: bool, path: Option<&str>) -> Result<Command, Fail> {
+    let recording = match path {
+        Some(path) => Some(String::from_str(alloc, path)?),
+        None => None,
+    };
     Ok(Command {
         action: Action::Serve,
         port: 4370,
@@ -18,6 +23,7 @@ fn command_of(alloc: Global, debug: bool) -> Result<Command, Fail> {
         timeout: 7,
         workers: 2,
         debug,
+        recording,
     })
 }
 
@@ -49,7 +55,7 @@ fn is_configured(set: &Settings) -> bool {
 
 impl Case for Starts {
     fn holds(&self, alloc: Global) -> Result<bool, Fail> {
-        let command = command_of(alloc, false)?;
+        let command = command_of(alloc, false, None)?;
         let now = self.0.map(|time| Duration::from_millis(time));
         let set = settings(alloc, &command, now)?;
         Ok(is_set(&set, self.1) && is_configured(&set))
@@ -61,31 +67,90 @@ fn a_daemon_is_set_by_its_command(rt: HostRuntime) -> Result<(), Fail> {
     all_hold(&rt, STARTS)
 }
 
-/// Whether there is debug output, how many acts each of three workers made, and what is told.
-struct Serves(bool, [u64; 3], Bytes);
+/// The path of a file to record to, if any.
+struct Hands(Option<&'static str>);
+
+const HANDS: &[Hands] = &[
+    Hands(None),
+    Hands(Some("")),
+    Hands(Some("x")),
+    Hands(Some("-names")),
+    Hands(Some("/tmp/a session \u{e9}")),
+];
+
+impl Case for Hands {
+    fn holds(&self, alloc: Global) -> Result<bool, Fail> {
+        let command = command_of(alloc, false, self.0)?;
+        let set = settings(alloc, &command, None)?;
+        Ok(is_path(&set.recording, self.0) && is_path(&command.recording, self.0))
+    }
+}
+
+#[test]
+fn a_daemon_records_where_its_command_says(rt: HostRuntime) -> Result<(), Fail> {
+    all_hold(&rt, HANDS)
+}
+
+/// Whether with debug output, how many acts each of three workers made, whether all was recorded, the status, and what is told.
+struct Serves(bool, [u64; 3], Option<bool>, u8, Bytes);
 
 const SERVES: &[Serves] = &[
-    Serves(false, [5, 0, 7], b""),
+    Serves(false, [5, 0, 7], None, 0, b""),
     Serves(
         true,
         [5, 0, 18_446_744_073_709_551_615],
+        None,
+        0,
         b"epmd: worker 1 served 5\nepmd: worker 2 served 0\nepmd: worker 3 served 18446744073709551615\n",
+    ),
+];
+
+const RECORDS: &[Serves] = &[
+    Serves(false, [5, 0, 7], Some(true), 0, b""),
+    Serves(
+        false,
+        [5, 0, 7],
+        Some(false),
+        3,
+        b"epmd: recording failed\n",
+    ),
+    Serves(
+        true,
+        [5, 0, 7],
+        Some(true),
+        0,
+        b"epmd: worker 1 served 5\nepmd: worker 2 served 0\nepmd: worker 3 served 7\n",
+    ),
+    Serves(
+        true,
+        [5, 0, 7],
+        Some(false),
+        3,
+        b"epmd: worker 1 served 5\nepmd: worker 2 served 0\nepmd: worker 3 served 7\nepmd: recording failed\n",
     ),
 ];
 
 impl Case for Serves {
     fn holds(&self, alloc: Global) -> Result<bool, Fail> {
-        let command = command_of(alloc, self.0)?;
-        let served = self.1.to_vec(alloc)?;
+        let command = command_of(alloc, self.0, None)?;
+        let ended = RunEnd {
+            served: self.1.to_vec(alloc)?,
+            recorded: self.2,
+        };
         let mut errors = Vec::new(alloc);
-        let status = end_daemon(&mut errors, &command, &Ok(RunEnd { served }));
-        Ok(status == 0 && errors.as_slice() == self.2)
+        let status = end_daemon(&mut errors, &command, &Ok(ended));
+        Ok(status == self.3 && errors.as_slice() == self.4)
     }
 }
 
 #[test]
 fn a_daemon_with_debug_output_tells_what_was_served(rt: HostRuntime) -> Result<(), Fail> {
     all_hold(&rt, SERVES)
+}
+
+#[test]
+fn a_daemon_whose_recording_failed_tells_so(rt: HostRuntime) -> Result<(), Fail> {
+    all_hold(&rt, RECORDS)
 }
 
 /// Why a daemon ended, the status, and what is told.
@@ -108,7 +173,7 @@ const FAILS: &[Fails] = &[
 
 impl Case for Fails {
     fn holds(&self, alloc: Global) -> Result<bool, Fail> {
-        let command = command_of(alloc, true)?;
+        let command = command_of(alloc, true, Some("x"))?;
         let mut errors = Vec::new(alloc);
         let status = end_daemon(&mut errors, &command, &Err(self.0));
         Ok(status == self.1 && errors.as_slice() == self.2)

@@ -238,6 +238,88 @@ fn a_daemon_listens_on_the_host_too(rt: HostRuntime) -> Result<(), Fail> {
     all_hold(&rt, LISTENS)
 }
 
+// ---- recordings
+
+/// Words, what they ask for, whether with debug output, and the path of the file that they record to.
+struct Records(Texts, Asked, bool, Option<&'static str>);
+
+const RECORDS: &[Records] = &[
+    Records(&[], Asked::Serve, false, None),
+    Records(&["-record", "x"], Asked::Serve, false, Some("x")),
+    Records(&["-d", "-record", "x"], Asked::Serve, true, Some("x")),
+    Records(&["-record", "x", "-debug"], Asked::Serve, true, Some("x")),
+    Records(&["-record", ""], Asked::Serve, false, Some("")),
+    Records(
+        &["-record", "/tmp/a session \u{e9}"],
+        Asked::Serve,
+        false,
+        Some("/tmp/a session \u{e9}"),
+    ),
+    // The last one counts.
+    Records(
+        &["-record", "x", "-record", "y"],
+        Asked::Serve,
+        false,
+        Some("y"),
+    ),
+    Records(
+        &["-record", "x", "-d", "-record", ""],
+        Asked::Serve,
+        true,
+        Some(""),
+    ),
+    // The next word is the path, whatever it begins with.
+    Records(&["-record", "-d"], Asked::Serve, false, Some("-d")),
+    Records(&["-record", "-names"], Asked::Serve, false, Some("-names")),
+    Records(
+        &["-record", "-record"],
+        Asked::Serve,
+        false,
+        Some("-record"),
+    ),
+    Records(&["-check", "-record"], Asked::Check("-record"), false, None),
+    Records(&["-stop", "-record"], Asked::Stop(b"-record"), false, None),
+    // It is taken with every action.
+    Records(&["-names", "-record", "x"], Asked::Names, false, Some("x")),
+    Records(
+        &["-record", "x", "-stop", "a"],
+        Asked::Stop(b"a"),
+        false,
+        Some("x"),
+    ),
+    Records(
+        &["-record", "x", "-check", "x"],
+        Asked::Check("x"),
+        false,
+        Some("x"),
+    ),
+];
+
+/// Whether this is what is recorded to.
+pub fn is_path(recording: &Option<String>, path: Option<&str>) -> bool {
+    match (recording, path) {
+        (Some(recording), Some(path)) => recording.as_str() == path,
+        (None, None) => true,
+        _ => false,
+    }
+}
+
+impl Case for Records {
+    fn holds(&self, alloc: Global) -> Result<bool, Fail> {
+        let said = command(alloc, self.0)?;
+        Ok(
+            is_asked(&said.action, self.1)
+                && said.debug == self.2
+                && is_path(&said.recording, self.3),
+        )
+    }
+}
+
+#[test]
+fn a_daemon_records_to_the_last_path(rt: HostRuntime) -> Result<(), Fail> {
+    all_hold(&rt, RECORDS)
+}
+
 // ---- faults
 
 /// Words that are no command, and why.
@@ -254,12 +336,14 @@ const UNKNOWN: &[Wrong] = &[
     Wrong(&["--names"], WordFault::Unknown(0)),
     Wrong(&[" -names"], WordFault::Unknown(0)),
     Wrong(&["-port=4370"], WordFault::Unknown(0)),
-    Wrong(&["-record", "x"], WordFault::Unknown(0)),
-    Wrong(&["-d", "-record", "x"], WordFault::Unknown(1)),
+    Wrong(&["-Record", "x"], WordFault::Unknown(0)),
+    Wrong(&["-records", "x"], WordFault::Unknown(0)),
+    Wrong(&["-record=x"], WordFault::Unknown(0)),
     Wrong(&["-local", "x"], WordFault::Unknown(0)),
     Wrong(&["-names", "x"], WordFault::Unknown(1)),
     Wrong(&["-port", "4370", "4371"], WordFault::Unknown(2)),
     Wrong(&["-play", "a", "b"], WordFault::Unknown(2)),
+    Wrong(&["-record", "a", "b"], WordFault::Unknown(2)),
     Wrong(&["a", "-check"], WordFault::Unknown(0)),
     Wrong(&["-foo", "-bar"], WordFault::Unknown(0)),
 ];
@@ -269,11 +353,14 @@ const MISSING: &[Wrong] = &[
     Wrong(&["-address"], WordFault::MissingValue(0)),
     Wrong(&["-packet_timeout"], WordFault::MissingValue(0)),
     Wrong(&["-workers"], WordFault::MissingValue(0)),
+    Wrong(&["-record"], WordFault::MissingValue(0)),
     Wrong(&["-stop"], WordFault::MissingValue(0)),
     Wrong(&["-check"], WordFault::MissingValue(0)),
     Wrong(&["-play"], WordFault::MissingValue(0)),
     Wrong(&["-d", "-names", "-port"], WordFault::MissingValue(2)),
     Wrong(&["-port", "1", "-port"], WordFault::MissingValue(2)),
+    Wrong(&["-record", "x", "-record"], WordFault::MissingValue(2)),
+    Wrong(&["-names", "-record"], WordFault::MissingValue(1)),
 ];
 
 const BAD_NUMBERS: &[Wrong] = &[
@@ -358,6 +445,10 @@ const ORDER: &[Wrong] = &[
         WordFault::TwoCommands(2),
     ),
     Wrong(&["-stop", "-names", "-names"], WordFault::TwoCommands(2)),
+    Wrong(
+        &["-record", "-names", "-kill", "-names"],
+        WordFault::TwoCommands(3),
+    ),
 ];
 
 fn is_fault(said: &Result<Command, WordFault>, fault: WordFault) -> bool {
