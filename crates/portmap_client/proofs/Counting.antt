@@ -7,7 +7,8 @@ use Rattle.portmap_link.specs.declared.device.Put.{Put}
 use Rattle.portmap_link.specs.declared.device.Put.TheVariants.{Wrote}
 use Rattle.portmap_link.specs.declared.outbox.Flush.{Flush}
 use Rattle.portmap_link.specs.Flush.{Sends, ending_of}
-use Rattle.portmap_client.specs.Laters.{is_pull_later, is_put_later, laters}
+use Rattle.portmap_link.specs.Asking.{is_pull_later, is_put_later}
+use Rattle.portmap_client.specs.Laters.{laters}
 
 wrote_none : (counts : List ℕ) → count_by is_put_later (map Wrote counts) ≡ 0
 wrote_none [] = refl

@@ -1,23 +1,11 @@
 -- How often a device asked to be called again.
-use Rattle.std.specs.Prelude.{◌≡◌, ℕ, ◌+◌, ◌<◌, Bool, true, false, List, count_by, Result, Ok, Err}
+use Rattle.std.specs.Prelude.{◌≡◌, ℕ, ◌+◌, ◌<◌, List, count_by, Result, Ok, Err}
+use Rattle.portmap_link.specs.Asking.{is_pull_later, is_put_later}
 use Rattle.portmap_link.specs.declared.device.Pull.{Pull}
-use Rattle.portmap_link.specs.declared.device.Pull.TheVariants.{Piece, End, Later, Fault}
 use Rattle.portmap_link.specs.declared.device.Put.{Put}
-use Rattle.portmap_link.specs.declared.device.Put.TheVariants.{Wrote, Later as PutLater, Fault as PutFault}
 use Rattle.portmap_client.specs.declared.exchange.TheConstants.{LATERS_MOST}
 use Rattle.portmap_client.specs.declared.fault.GivenUp.{GivenUp}
 use Rattle.portmap_client.specs.declared.fault.GivenUp.TheVariants.{TooManyTurns}
-
-abbrev pub is_pull_later : Pull → Bool
-is_pull_later (Piece n) = false
-is_pull_later End = false
-is_pull_later Later = true
-is_pull_later Fault = false
-
-abbrev pub is_put_later : Put → Bool
-is_put_later (Wrote n) = false
-is_put_later PutLater = true
-is_put_later PutFault = false
 
 -- how many of these answers were Later
 abbrev pub laters : List Pull → List Put → ℕ

@@ -1,5 +1,5 @@
 -- Whether a device is asked again, and how often.
-use Rattle.std.specs.Prelude.{◌≡◌, ℕ, ◌+◌, ◌≤◌, List, [], ◌∷◌, ◌++◌, length, Option}
+use Rattle.std.specs.Prelude.{◌≡◌, ℕ, ◌+◌, ◌≤◌, Bool, true, false, List, [], ◌∷◌, ◌++◌, length, Option}
 use Rattle.std.specs.List.{AllByRecursion}
 use Rattle.std.specs.Io.KnownBytes.{Keeps, IsAtEnd}
 use Rattle.portmap_link.specs.declared.device.Pull.{Pull}
@@ -19,6 +19,18 @@ abbrev pub IsPutAgain : Put → Type 0
 IsPutAgain (Wrote n) = Unit {0}
 IsPutAgain PutLater = Unit {0}
 IsPutAgain PutFault = ⊥
+
+-- this answer was Later
+abbrev pub is_pull_later : Pull → Bool
+is_pull_later (Piece n) = false
+is_pull_later End = false
+is_pull_later PullLater = true
+is_pull_later PullFault = false
+
+abbrev pub is_put_later : Put → Bool
+is_put_later (Wrote n) = false
+is_put_later PutLater = true
+is_put_later PutFault = false
 
 -- more answers were given, and after each the device is asked again
 pub record GoesOn {A : Type 0} (IsAgain : A → Type 0) (old new : List A) : Type 0 where

@@ -2,12 +2,11 @@ use Rattle.std.proofs.Common.{◌≡◌, ◌≤◌, List, ◌++◌, length, take
 use Rattle.std.specs.Prelude.{count_by}
 use Rattle.std.proofs.KnownBytes.{Keeps-trans}
 use Rattle.std.proofs.lemmas.List.{length-take, take-append-le}
-use Rattle.portmap_link.specs.Asking.{IsAskedAgain}
+use Rattle.portmap_link.specs.Asking.{IsAskedAgain, is_put_later}
 use Rattle.portmap_link.proofs.Asking.{on_more}
 use Rattle.portmap_link.specs.declared.device.Pull.TheVariants.{Piece}
 use Rattle.portmap_link.specs.declared.device.Put.{Put}
 use Rattle.portmap_client.specs.Exchange.{HasRead, IsRead}
-use Rattle.portmap_client.specs.Laters.{is_put_later}
 use Rattle.portmap_client.proofs.Counting.{pulled}
 use Rattle.portmap_client.proofs.Reading.{reads_front, stops}
 use Rattle.portmap_client.proofs.exchange.hear.Given.{Over}
