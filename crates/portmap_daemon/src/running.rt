@@ -87,6 +87,23 @@ impl<T: Drop> From<AllocFailed<T>> for RunFault {
     }
 }
 
+/// What ends the waits of the threads.
+#[derive(Drop)]
+struct Wakers {
+    workers: Vec<Waker>,
+    /// That of the thread that takes out the log.
+    sealer: Waker,
+}
+
+impl Wakers {
+    /// Has every worker look whether the port mapper has ended.
+    fn wake_workers(&self) {
+        for waker in &self.workers {
+            let _ = waker.wake();
+        }
+    }
+}
+
 /// What one worker begins with.
 #[derive(Drop)]
 struct Job<L: Ledger> {
@@ -130,9 +147,10 @@ pub fn run_gated<G: Gate + Sync, R: Net + Files<File = File> + Threads + Wait + 
         recording,
     } = settings;
     let book = Book::new(alloc, config, first)?;
-    let (sockets, mut wakers) = open_sockets(rt, alloc, config.port, &addresses, timeout, workers)?;
-    let (pause, waker) = Pause::open(rt, alloc)?;
-    wakers.push(waker)?;
+    let (sockets, workers) = open_sockets(rt, alloc, config.port, &addresses, timeout, workers)?;
+    let (poll, events, sealer) = open_poll(rt, alloc)?;
+    let wakers = Wakers { workers, sealer };
+    let pause = Pause::new(poll, events);
     // The file is made once the daemon listens: so one that can't leaves the file of another alone.
     let recorder = match &recording {
         Some(path) => recorder_to(rt, path),
@@ -212,6 +230,18 @@ fn open_all<R: Net>(
     Ok((sockets, wakers))
 }
 
+/// A poll, with room for its events and with what ends its wait.
+fn open_poll<R: Net>(rt: &R, alloc: Global) -> Result<(Poll, Events, Waker), RunFault> {
+    let Ok(poll) = Poll::new(rt) else {
+        return Err(RunFault::Poll);
+    };
+    let Ok(waker) = Waker::new(poll.registry(), WAKE) else {
+        return Err(RunFault::Poll);
+    };
+    let events = Events::with_capacity(alloc, EVENTS_MOST)?;
+    Ok((poll, events, waker))
+}
+
 /// The sockets of one worker.
 fn open_one<R: Net>(
     rt: &R,
@@ -219,14 +249,8 @@ fn open_one<R: Net>(
     listening: &[net::TcpListener],
     timeout: u32,
 ) -> Result<(Sockets, Waker), RunFault> {
-    let Ok(poll) = Poll::new(rt) else {
-        return Err(RunFault::Poll);
-    };
-    let Ok(waker) = Waker::new(poll.registry(), WAKE) else {
-        return Err(RunFault::Poll);
-    };
+    let (poll, events, waker) = open_poll(rt, alloc)?;
     let listeners = share(alloc, &poll, listening)?;
-    let events = Events::with_capacity(alloc, EVENTS_MOST)?;
     let timeout = u64::from(timeout) * 1000;
     Ok((Sockets::new(alloc, poll, events, listeners, timeout), waker))
 }
@@ -265,7 +289,7 @@ fn work<
     blank: Blank,
     book: Book,
     sockets: Vec<Sockets>,
-    wakers: &[Waker],
+    wakers: &Wakers,
     sealing: Sealing<W>,
     gate: &G,
 ) -> Result<(Vec<u64>, bool), RunFault>
@@ -286,7 +310,7 @@ fn work<
         move || {
             let served = serve_all(rt, alloc, desk, jobs, wakers, flags, gate);
             flags.done.store(true, Ordering::SeqCst);
-            wake_all(wakers);
+            let _ = wakers.sealer.wake();
             served
         },
         move || seal_all(rt, alloc, desk, sealing, &flags.done),
@@ -309,7 +333,7 @@ fn serve_all<L: Ledger + Send + Sync, G: Gate + Sync, R: Threads + Wait + Clock 
     alloc: Global,
     desk: &Desk<L>,
     jobs: Vec<Job<L>>,
-    wakers: &[Waker],
+    wakers: &Wakers,
     flags: &Flags,
     gate: &G,
 ) -> Result<Vec<u64>, RunFault>
@@ -325,9 +349,9 @@ fn serve_all<L: Ledger + Send + Sync, G: Gate + Sync, R: Threads + Wait + Clock 
                 seat,
                 sockets,
             } = job;
-            let source = SocketSource::new(sockets, rt, over);
+            let source = SocketSource::new(sockets, rt, over, &wakers.sealer);
             let outcome = serve(rt, alloc, desk, seat, number, source, gate);
-            wake_all(wakers);
+            wakers.wake_workers();
             outcome
         },
     )?;
@@ -361,13 +385,6 @@ fn jobs_of<L: Ledger, R: Wait>(
         })?;
     }
     Ok(jobs)
-}
-
-/// Has every worker look whether the port mapper has ended.
-fn wake_all(wakers: &[Waker]) {
-    for waker in wakers {
-        let _ = waker.wake();
-    }
 }
 
 /// How many acts each worker made.

@@ -2,12 +2,16 @@
 use crate::sockets::Sockets;
 use crate::stream_link::StreamLink;
 use crate::{Source, Turn};
+use mio::Waker;
 use std::rt::Clock;
 use std::sync::atomic::{AtomicBool, Ordering};
 use std::time::Instant;
 
 /// How often the poll is asked within one turn, where what it reports comes to nothing: other workers took it.
 const ROUNDS: u32 = 64;
+
+/// After how many turns the log is looked at.
+const TURNS: u32 = 256;
 
 /// A worker's sockets with a clock.
 #[derive(Drop)]
@@ -18,6 +22,10 @@ pub(crate) struct SocketSource<'a, R: Clock> {
     begun: Option<Instant>,
     /// Whether a poll has failed, of this worker or of another one.
     failed: &'a AtomicBool,
+    /// What has the log looked at.
+    sealer: &'a Waker,
+    /// How many turns there were since it was.
+    turns: u32,
 }
 
 impl<'a, R: Clock> SocketSource<'a, R> {
@@ -25,13 +33,26 @@ impl<'a, R: Clock> SocketSource<'a, R> {
         sockets: Sockets,
         clock: &'a R,
         failed: &'a AtomicBool,
+        sealer: &'a Waker,
     ) -> SocketSource<'a, R> {
         SocketSource {
             sockets,
             clock,
             begun: Instant::now(clock).ok(),
             failed,
+            sealer,
+            turns: 0,
         }
+    }
+
+    /// Counts a turn.
+    fn count(&mut self) {
+        if self.turns < TURNS {
+            self.turns += 1;
+            return;
+        }
+        self.turns = 0;
+        let _ = self.sealer.wake();
     }
 
     /// The milliseconds since the worker began. Where the clock can't be read, a millisecond passes with each answer of the poll.
@@ -65,6 +86,7 @@ impl<R: Clock> Source for SocketSource<'_, R> {
     type Link = StreamLink;
 
     fn turn(&mut self) -> Turn {
+        self.count();
         self.sockets.put_back();
         for _ in 0..ROUNDS {
             if let Some(turn) = self.sockets.next() {
