@@ -11,7 +11,7 @@ use std::time::Instant;
 const ROUNDS: u32 = 64;
 
 /// After how many turns the log is looked at.
-const TURNS: u32 = 256;
+const TURNS: u32 = 128;
 
 /// A worker's sockets with a clock.
 #[derive(Drop)]
