@@ -1,5 +1,6 @@
 pub mod BySlotLaws
 pub mod Determined
+pub mod Fronts
 pub mod Judged
 pub mod Runs
 pub mod Lines

@@ -29,10 +29,14 @@ use Rattle.portmap_core.proofs.Owned.{owned_empty, steps_keep}
 
 -- ---- names after a run
 
--- a run and one step more are a run
+-- a run behind a run
+pub runs_join : (cfg : Configuration) (es fs : List Entry) (s mid s' : State) → Run cfg s es mid → Run cfg mid fs s' → Run cfg s (es ++ fs) s'
+runs_join cfg [] fs s mid s' run more = subst (λ (x : State). Run cfg x fs s') run more
+runs_join cfg (e ∷ es) fs s mid s' run more = (run.0, run.1, runs_join cfg es fs run.0 mid s' run.2 more)
+
+-- one step behind it
 pub run_more : (cfg : Configuration) (es : List Entry) (e : Entry) (s mid s' : State) → Run cfg s es mid → Step cfg mid e s' → Run cfg s (es ++ e ∷ []) s'
-run_more cfg [] e s mid s' run step = (s', subst (λ (x : State). Step cfg x e s') run step, refl)
-run_more cfg (x ∷ es) e s mid s' run step = (run.0, run.1, run_more cfg es e run.0 mid s' run.2 step)
+run_more cfg es e s mid s' run step = runs_join cfg es (e ∷ []) s mid s' run (s', step, refl)
 
 run_owned : (cfg : Configuration) (es : List Entry) (s s' : State) → IsOwned cfg s → Run cfg s es s' → IsOwned cfg s'
 run_owned cfg [] s s' owned run = subst (λ (x : State). IsOwned cfg x) (sym run) owned
