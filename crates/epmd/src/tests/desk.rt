@@ -275,9 +275,7 @@ fn is_sealed_to<L: Ledger, R: Wait>(
 ) -> bool {
     let is_heavy = desk.weight(rt).log > 0;
     match desk.seal(rt, alloc) {
-        Ok(segment) => {
-            is_heavy && desk.weight(rt).log == 0 && is_part(&segment, first, entries)
-        }
+        Ok(segment) => { is_heavy && desk.weight(rt).log == 0 && is_part(&segment, first, entries) }
         Err(_) => false,
     }
 }
