@@ -1,12 +1,12 @@
 -- The open connections, as a finite map from their slots.
-use Rattle.std.specs.Prelude.{ℕ, List, Option, Some, None, T}
+use Rattle.std.specs.Prelude.{◌≡◌, ℕ, List, Option, Some, None, T}
 use Rattle.std.specs.Ordering.{nat_cmp}
 use Rattle.std.specs.FinMap as map
 use Rattle.std.specs.FinMap.Entries.{is_sorted}
 use Rattle.slab.specs.Slab.{entries_from}
 use Rattle.portmap_core.specs.declared.connections.Connection.{Connection}
 use Rattle.portmap_core.specs.declared.connections.Stage.{Stage}
-use Rattle.portmap_core.specs.declared.connections.Stage.TheVariants.{Done}
+use Rattle.portmap_core.specs.declared.connections.Stage.TheVariants.{Holding, Done}
 
 abbrev pub ConnectionMap : Type 0
 ConnectionMap = map.FinMap nat_cmp Connection
@@ -18,6 +18,11 @@ connections_of slots = map.from_entries (entries_from 0 slots)
 -- each slot of a list is above the one before
 abbrev pub SlotsRise : List (ℕ × Connection) → Type 0
 SlotsRise entries = T (is_sorted nat_cmp entries)
+
+-- a slot is open, and its connection holds a name
+abbrev pub IsHolding : Option Connection → Type 0
+IsHolding None = ⊥
+IsHolding (Some connection) = connection.stage ≡ Holding
 
 -- ---- changes
 

@@ -11,3 +11,4 @@ pub mod Waiting
 pub mod Owned
 pub mod Locality
 pub mod Laws
+pub mod Following

@@ -3,7 +3,7 @@ ghost use Rattle.std.specs.Prelude.{◌≡◌, ◌↔◌, Some, IfOk, IsSome, Is
 ghost use Rattle.std.specs.Option.{option_copied};
 ghost use Rattle.std.specs.FinMap as map;
 ghost use Rattle.portmap_core.specs.declared.connections.Connection.{Connection};
-ghost use Rattle.portmap_core.specs.Connections.{at_stage, ended, stopped_in};
+ghost use Rattle.portmap_core.specs.Connections.{IsHolding, at_stage, ended, stopped_in};
 
 use crate::connections::{Connection, Stage};
 use portmap_wire::NoMemory;
@@ -73,6 +73,16 @@ impl BySlot {
         ensures { self.new ≡ map.remove self.old slot }
     {
         self.open.remove(&slot);
+    }
+
+    /// Whether the connection in a slot holds a name. It takes no memory.
+    pub(crate) fn holds(&self, slot: u64) -> bool
+        ensures { IsTrue result ↔ IsHolding (map.get self.now slot) }
+    {
+        match self.get(slot) {
+            Some(connection) => matches!(connection.stage, Stage::Holding),
+            None => false,
+        }
     }
 
     /// Whether the connection in an open slot comes from this host.
