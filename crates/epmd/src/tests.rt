@@ -1,9 +1,11 @@
 //! What no clause says: that calls succeed where memory is ample, the bytes of worked examples of the protocol, printed
 //! texts, large values, devices and sockets that fail. The tests of every crate stand here, on top of all of them.
 mod actions;
+mod advance;
 mod bytes;
 mod cases;
 mod client;
+mod clocks;
 mod commands;
 mod daemon;
 mod desk;
@@ -12,11 +14,14 @@ mod gates;
 mod link;
 mod machine;
 mod nodes;
+mod pauses;
 mod playing;
 mod record;
 mod recorder;
+mod recordings;
 mod serving;
 mod settings;
+mod stream_links;
 mod streams;
 mod table;
 mod tape;

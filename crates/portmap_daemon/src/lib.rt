@@ -3,21 +3,30 @@
 
 mod carrier;
 mod gate;
+mod held_link;
 mod listener;
+mod opening;
 mod peer;
+mod peer_stream;
 mod recorder;
+mod recording;
 mod running;
 mod sealing;
 mod serving;
+mod shortage;
 mod socket_source;
 mod sockets;
 mod source;
+mod spool;
 mod stream_link;
+mod working;
 
 pub use crate::carrier::{Carrier, Next, PULL_MOST};
 pub use crate::gate::{Gate, Open, Point};
 pub use crate::peer::is_local_peer;
 pub use crate::recorder::{Recorder, recordings_are_fronts, recordings_are_records};
+pub use crate::recording::MakesFiles;
 pub use crate::running::{RunEnd, RunFault, Settings, TIMEOUT_MOST, run, run_gated};
 pub use crate::serving::{Outcome, serve};
 pub use crate::source::{Source, Turn};
+pub use crate::stream_link::StreamLink;

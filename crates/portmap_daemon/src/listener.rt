@@ -1,6 +1,7 @@
 //! A listening socket that several workers share.
 use mio::net::{TcpListener, TcpStream};
 use mio::{Interest, Registry, Token};
+use std::io;
 use std::io::ErrorKind;
 use std::net::SocketAddr;
 
@@ -41,20 +42,24 @@ impl Listener {
 
     /// Has the poll report it, and what waits already too. Whether it does so.
     pub(crate) fn watch(&mut self, registry: &Registry) -> bool {
+        self.register(registry).is_ok()
+    }
+
+    fn register(&mut self, registry: &Registry) -> io::Result<()> {
         let socket = &mut self.socket;
-        registry
-            .register(socket, self.token, Interest::READABLE)
-            .is_ok()
+        registry.register(socket, self.token, Interest::READABLE)
     }
 
     pub(crate) fn has_token(&self, token: Token) -> bool {
         self.token == token
     }
 
-    /// The poll has reported it.
+    /// The poll has reported it. A report that comes before the last one has come to nothing is one with it.
     pub(crate) fn is_reported(&mut self) {
+        if !self.waiting {
+            self.took = false;
+        }
         self.waiting = true;
-        self.took = false;
     }
 
     /// Whether connections may wait at it.
@@ -126,10 +131,14 @@ impl Listener {
             return;
         }
         self.empty = 0;
-        self.away = if self.watch(registry) {
-            None
-        } else {
-            Some(now.saturating_add(AWAY))
+        self.away = match self.register(registry) {
+            Ok(()) => None,
+            // It was never left, so what waits at it is not reported again.
+            Err(error) if error.kind() == ErrorKind::AlreadyExists => {
+                self.is_reported();
+                None
+            }
+            Err(_) => Some(now.saturating_add(AWAY)),
         };
     }
 }

@@ -10,8 +10,9 @@ use std::collections::btree_map::Entry;
 use std::sync::Wait;
 use std::sync::ledger::Ledger;
 
-/// How often the last reply is tried again where its link says Later, before the worker ends.
-const LAST_TRIES: u32 = 1000;
+/// How often the last reply is tried again where its link says Later, before the worker ends. With the Later that its first try
+/// ended with, a link has said so a thousand times when it is given up.
+const LAST_TRIES: u32 = 999;
 
 /// What a worker ends with.
 #[derive(Drop)]

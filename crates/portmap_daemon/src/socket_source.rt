@@ -1,10 +1,11 @@
 //! The source of a worker over sockets.
 use crate::sockets::Sockets;
 use crate::stream_link::StreamLink;
+use crate::working::Flags;
 use crate::{Source, Turn};
 use mio::Waker;
+use mio::net::TcpStream;
 use std::rt::Clock;
-use std::sync::atomic::{AtomicBool, Ordering};
 use std::time::Instant;
 
 /// How often the poll is asked within one turn, where what it reports comes to nothing: other workers took it.
@@ -20,8 +21,8 @@ pub(crate) struct SocketSource<'a, R: Clock> {
     clock: &'a R,
     /// When the worker began, where the clock can be read.
     begun: Option<Instant>,
-    /// Whether a poll has failed, of this worker or of another one.
-    failed: &'a AtomicBool,
+    /// What the worker and the others tell each other.
+    flags: &'a Flags,
     /// What has the log looked at.
     sealer: &'a Waker,
     /// How many turns there were since it was.
@@ -32,14 +33,14 @@ impl<'a, R: Clock> SocketSource<'a, R> {
     pub(crate) fn new(
         sockets: Sockets,
         clock: &'a R,
-        failed: &'a AtomicBool,
+        flags: &'a Flags,
         sealer: &'a Waker,
     ) -> SocketSource<'a, R> {
         SocketSource {
             sockets,
             clock,
             begun: Instant::now(clock).ok(),
-            failed,
+            flags,
             sealer,
             turns: 0,
         }
@@ -70,20 +71,33 @@ impl<'a, R: Clock> SocketSource<'a, R> {
     /// Asks the poll. What is to be told by the time alone, or where it has failed.
     fn ask(&mut self) -> Option<Turn> {
         if !self.sockets.wait() {
-            self.failed.store(true, Ordering::SeqCst);
+            return Some(self.fail());
+        }
+        if self.flags.are_starved() {
             return Some(Turn::Stop);
         }
         let now = self.now();
-        if self.sockets.pass(now) {
-            Some(Turn::Idle)
-        } else {
-            None
+        if !self.sockets.pass(now) {
+            return None;
         }
+        // The links are judged by a time that was read before the poll is asked once more: however long this thread was stopped
+        // in between, what came meanwhile is noted before any of them is told late.
+        if !self.sockets.look_round() {
+            return Some(self.fail());
+        }
+        self.flags.note(self.sockets.take_news());
+        Some(Turn::Idle)
+    }
+
+    /// The poll has failed: the worker ends, and the others are told.
+    fn fail(&mut self) -> Turn {
+        self.flags.fail();
+        Turn::Stop
     }
 }
 
 impl<R: Clock> Source for SocketSource<'_, R> {
-    type Link = StreamLink;
+    type Link = StreamLink<TcpStream>;
 
     fn turn(&mut self) -> Turn {
         self.count();
@@ -99,7 +113,7 @@ impl<R: Clock> Source for SocketSource<'_, R> {
         Turn::Idle
     }
 
-    fn link(&mut self, key: u64) -> Option<&mut StreamLink> {
+    fn link(&mut self, key: u64) -> Option<&mut StreamLink<TcpStream>> {
         self.sockets.link(key)
     }
 

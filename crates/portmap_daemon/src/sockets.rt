@@ -1,5 +1,6 @@
 //! What one worker knows of its sockets.
 use crate::Turn;
+use crate::held_link::HeldLink;
 use crate::listener::Listener;
 use crate::peer::is_local_stream;
 use crate::stream_link::StreamLink;
@@ -27,36 +28,20 @@ const TURNS_MOST: u32 = 64;
 /// stopped a connection, and whose time is over.
 const WHILE: u64 = 450;
 
-/// A link, with where it stands in its worker.
-#[derive(Drop)]
-struct Held {
-    link: StreamLink,
-    /// It is among those of which there is something to tell.
-    queued: bool,
-    /// Its time runs: since when, in milliseconds.
-    since: Option<u64>,
-    /// Its time is over, which is to be told.
-    late: bool,
+/// What has become of a worker's connections since it was last asked.
+#[derive(Clone, Copy, Debug, PartialEq, Eq)]
+pub(crate) struct News {
+    /// Bytes were written to one.
+    pub(crate) answered: bool,
+    /// One was given up of which none ever were.
+    pub(crate) unanswered: bool,
 }
 
-impl Held {
-    /// There is something to tell of the link with this key. Each stands in the queue once, and there is room for all.
-    fn enqueue(&mut self, queue: &mut VecDeque<usize>, key: usize) {
-        if !self.queued {
-            self.queued = queue.push_back(key).is_ok();
-        }
-    }
-
-    /// Whether there is something to tell of it, by the time.
-    fn is_due(&mut self, now: u64, timeout: u64) -> bool {
-        if let Some(since) = self.since {
-            if now.saturating_sub(since) >= timeout {
-                self.late = true;
-            }
-        }
-        self.late || !self.link.is_watched()
-    }
-}
+/// No news.
+const NO_NEWS: News = News {
+    answered: false,
+    unanswered: false,
+};
 
 /// The sockets of one worker. Times are in milliseconds since the worker began.
 #[derive(Drop)]
@@ -64,7 +49,9 @@ pub(crate) struct Sockets {
     poll: Poll,
     events: Events,
     listeners: Vec<Listener>,
-    links: Slab<Held>,
+    /// The place of the listener that is asked first: behind the one that gave last, so that none is served before the others.
+    first: usize,
+    links: Slab<HeldLink>,
     /// The links of which there is something to tell, in the order in which it came.
     queue: VecDeque<usize>,
     /// The link that was told last.
@@ -77,8 +64,11 @@ pub(crate) struct Sockets {
     now: u64,
     /// When the next look is due.
     look: u64,
+    /// The time of the last look.
+    looked: u64,
     /// How long a link may move no byte.
     timeout: u64,
+    news: News,
 }
 
 impl Sockets {
@@ -94,6 +84,7 @@ impl Sockets {
             poll,
             events,
             listeners,
+            first: 0,
             links: Slab::new(alloc),
             queue: VecDeque::new(alloc),
             last: None,
@@ -101,7 +92,9 @@ impl Sockets {
             turns: 0,
             now: 0,
             look: WHILE,
+            looked: 0,
             timeout,
+            news: NO_NEWS,
         }
     }
 
@@ -110,19 +103,34 @@ impl Sockets {
         self.now
     }
 
-    pub(crate) fn link(&mut self, key: u64) -> Option<&mut StreamLink> {
+    /// What has become of its connections since this was last asked.
+    pub(crate) fn take_news(&mut self) -> News {
+        let news = self.news;
+        self.news = NO_NEWS;
+        news
+    }
+
+    pub(crate) fn link(&mut self, key: u64) -> Option<&mut StreamLink<TcpStream>> {
         match self.links.get_mut(key as usize) {
-            Some(held) => Some(&mut held.link),
+            Some(held) => Some(held.link()),
             None => None,
         }
     }
 
     /// Gives a link up, which closes its stream.
     pub(crate) fn end(&mut self, key: u64) {
-        drop(self.links.try_remove(key as usize));
+        let Some(mut held) = self.links.try_remove(key as usize) else {
+            return;
+        };
+        if held.link().has_written() {
+            self.news.answered = true;
+        }
+        if !held.is_answered() {
+            self.news.unanswered = true;
+        }
     }
 
-    /// What was told last is told again, unless a call on it has answered Later: then the poll is to report it.
+    /// What was told last is told again, unless a call on it would have waited: then the poll is to report it.
     pub(crate) fn put_back(&mut self) {
         let Some(key) = self.last.take() else {
             return;
@@ -130,24 +138,10 @@ impl Sockets {
         let Some(held) = self.links.get_mut(key) else {
             return;
         };
-        if held.since.is_some() && held.link.has_moved() {
-            held.since = Some(self.now);
+        if held.link().has_written() {
+            self.news.answered = true;
         }
-        if held.late {
-            // It is kept, so its request was answered long ago: its time runs on only while bytes wait to be written.
-            held.late = false;
-            held.since = if held.link.is_full() {
-                Some(self.now)
-            } else {
-                None
-            };
-        }
-        if held.link.may_move() {
-            held.enqueue(&mut self.queue, key);
-        } else {
-            // Where the poll refuses, the next look tries again.
-            let _ = held.link.watch(self.poll.registry(), Token(key));
-        }
+        held.put_back(&mut self.queue, self.poll.registry(), key);
     }
 
     /// What is to be told without asking the poll.
@@ -159,7 +153,7 @@ impl Sockets {
         if !self.took {
             if let Some((stream, peer)) = self.accept() {
                 self.took = true;
-                return self.hold(stream, peer);
+                return self.take(stream, peer);
             }
         }
         self.took = false;
@@ -170,41 +164,42 @@ impl Sockets {
     fn pop(&mut self) -> Option<Turn> {
         while let Some(key) = self.queue.pop_front() {
             if let Some(held) = self.links.get_mut(key) {
-                held.queued = false;
                 self.last = Some(key);
-                return Some(if held.late {
-                    Turn::Late(key as u64)
-                } else {
-                    Turn::Ready(key as u64)
-                });
+                return Some(held.tell(key as u64));
             }
         }
         None
     }
 
-    /// The next connection that waits at a listener, with the address of its peer.
+    /// The next connection that waits at a listener, with the address of its peer. The listeners are asked in turn.
     fn accept(&mut self) -> Option<(TcpStream, SocketAddr)> {
         let registry = self.poll.registry();
-        for listener in &mut self.listeners {
-            if let Some(taken) = listener.accept(registry, self.now) {
-                return Some(taken);
+        for _ in 0..self.listeners.len() {
+            let place = self.first;
+            self.first = next_place(place, self.listeners.len());
+            if let Some(listener) = self.listeners.get_mut(place) {
+                if let Some(taken) = listener.accept(registry, self.now) {
+                    return Some(taken);
+                }
             }
         }
         None
     }
 
-    /// Holds a new connection. It is looked at without waiting for the poll, since its request is most likely there. Where there
-    /// is no memory for it, it is closed.
+    /// Takes a new connection, where there is memory for it. It is closed otherwise.
+    fn take(&mut self, stream: TcpStream, peer: SocketAddr) -> Option<Turn> {
+        let fresh = self.hold(stream, peer);
+        if fresh.is_none() {
+            self.news.unanswered = true;
+        }
+        fresh
+    }
+
+    /// Holds a new connection. It is looked at without waiting for the poll, since its request is most likely there.
     fn hold(&mut self, stream: TcpStream, peer: SocketAddr) -> Option<Turn> {
         let local = is_local_stream(&stream, peer.ip());
         self.queue.reserve(self.links.len().saturating_add(1)).ok()?;
-        let held = Held {
-            link: StreamLink::new(stream),
-            queued: true,
-            since: Some(self.now),
-            late: false,
-        };
-        let key = self.links.insert(held).ok()?;
+        let key = self.links.insert(HeldLink::new(stream)).ok()?;
         let _ = self.queue.push_back(key);
         Some(Turn::Fresh {
             key: key as u64,
@@ -229,7 +224,13 @@ impl Sockets {
     /// Asks the poll what is to be told, and waits for it where there is nothing else to do. False where the poll has failed.
     pub(crate) fn wait(&mut self) -> bool {
         self.turns = 0;
-        let patience = Duration::from_millis(self.patience());
+        let patience = self.patience();
+        self.ask(patience)
+    }
+
+    /// Asks the poll, which may wait for so many milliseconds, and notes what it reports. False where it has failed.
+    fn ask(&mut self, patience: u64) -> bool {
+        let patience = Duration::from_millis(patience);
         if self.poll.poll(&mut self.events, Some(patience)).is_err() {
             return false;
         }
@@ -244,8 +245,7 @@ impl Sockets {
             if token == WAKE {
                 self.look = 0;
             } else if let Some(held) = self.links.get_mut(token.0) {
-                held.link.is_reported();
-                held.enqueue(&mut self.queue, token.0);
+                held.report(&mut self.queue, token.0);
             } else {
                 for listener in &mut self.listeners {
                     if listener.has_token(token) {
@@ -256,29 +256,52 @@ impl Sockets {
         }
     }
 
-    /// The poll has answered at this time. Whether a look is due.
+    /// The poll has answered, and this is the time. Whether a look is due.
     pub(crate) fn pass(&mut self, now: u64) -> bool {
         self.now = now;
         let registry = self.poll.registry();
         for listener in &mut self.listeners {
             listener.come_back(registry, now);
         }
-        if now < self.look {
-            return false;
-        }
-        self.look = now.saturating_add(WHILE);
-        self.look_round();
-        true
+        now >= self.look
     }
 
-    /// Looks at every link: whether its time is over, and whether the poll has refused to report it.
-    fn look_round(&mut self) {
+    /// Looks at every link: whether its time is over, and whether the poll has refused to report it. The time was read before, and
+    /// all that has happened up to it is noted first. False where the poll has failed.
+    pub(crate) fn look_round(&mut self) -> bool {
+        self.look = self.now.saturating_add(WHILE);
+        if !self.ask_for_all() {
+            return false;
+        }
         for key in 0..self.links.capacity() {
             if let Some(held) = self.links.get_mut(key) {
-                if held.is_due(self.now, self.timeout) {
+                if held.is_due(self.now, self.looked, self.timeout) {
                     held.enqueue(&mut self.queue, key);
                 }
             }
         }
+        self.looked = self.now;
+        true
     }
+
+    /// Has the poll report all that there is, without waiting. It tells what came first before what came later, so as many answers
+    /// as hold one report of each that is watched are enough. False where it has failed.
+    fn ask_for_all(&mut self) -> bool {
+        let watched = self.links.len().saturating_add(self.listeners.len());
+        for _ in 0..watched / EVENTS_MOST + 1 {
+            if !self.ask(0) {
+                return false;
+            }
+            if self.events.iter().len() < EVENTS_MOST {
+                break;
+            }
+        }
+        true
+    }
+}
+
+/// The place behind this one of so many: the first one behind the last one.
+fn next_place(place: usize, count: usize) -> usize {
+    let next = place.saturating_add(1);
+    if next < count { next } else { 0 }
 }

@@ -8,7 +8,7 @@ pub enum Turn {
     Fresh { key: u64, local: bool },
     /// There is news of the link with this key: it may have bytes, may take some, has ended or has failed.
     Ready(u64),
-    /// The link with this key has moved no byte for as long as it may.
+    /// The link with this key has moved no byte for as long as it may, and there is no news of it.
     Late(u64),
     /// A while has passed: a few times a second at most.
     Idle,

@@ -1,19 +1,25 @@
 //! A stream of the system as a link.
-ghost use Rattle.std.specs.Prelude.{◌≡◌};
+ghost use Rattle.std.specs.Prelude.{◌≡◌, not, [], false};
 
+use crate::peer_stream::{PeerStream, reset};
 use mio::net::TcpStream;
 use mio::{Interest, Registry, Token};
 use portmap_link::{Both, Device, Input, Output, Pull, Put};
+use std::io::{Read, Write};
 
 /// A stream, with what a source has to know of the calls on it. Edges are reported once: a stream may have bytes, or take some,
-/// until a call has answered Later.
+/// until a call would have waited.
 #[derive(Drop)]
-pub struct StreamLink {
-    both: Both<TcpStream>,
-    /// The last call answered Later, and nothing was reported since.
+pub struct StreamLink<S: Read + Write> {
+    both: Both<PeerStream<S>>,
+    /// The last call would have waited, and nothing was reported since.
     blocked: bool,
     /// The last put answered Later.
     full: bool,
+    /// A put has answered Wrote.
+    answered: bool,
+    /// One has since this was last asked.
+    wrote: bool,
     /// Bytes have moved since this was last asked.
     moved: bool,
     watched: Watched,
@@ -27,26 +33,48 @@ enum Watched {
     Both,
 }
 
-impl StreamLink {
+impl<S: Read + Write> StreamLink<S> {
     /// A stream of which nothing is reported yet. It may have bytes.
-    pub(crate) fn new(stream: TcpStream) -> StreamLink {
+    pub fn new(stream: S) -> StreamLink<S>
+        ensures moves { result.blocked ≡ false }
+        ensures pulls { result.both.pulls ≡ [] }
+        ensures puts { result.both.puts ≡ [] }
+        ensures whole { result.both.failed ≡ false }
+    {
         StreamLink {
-            both: Both::new(stream),
+            both: Both::new(PeerStream::new(stream)),
             blocked: false,
             full: false,
+            answered: false,
+            wrote: false,
             moved: false,
             watched: Watched::Nothing,
         }
     }
 
-    /// Whether a call may do more than answer Later.
-    pub(crate) fn may_move(&self) -> bool {
+    /// Whether a call may do more than answer Later: the last one would not have waited, or there was a report since.
+    pub fn may_move(&self) -> bool
+        ensures { result ≡ not self.now.blocked }
+    {
         !self.blocked
     }
 
-    /// Whether bytes wait to be written.
-    pub(crate) fn is_full(&self) -> bool {
-        self.full
+    /// Whether a put has ever answered Wrote.
+    pub(crate) fn is_answered(&self) -> bool {
+        self.answered
+    }
+
+    /// Whether its peer has only so much time: for its request, or for the bytes that wait to be written. One that was answered
+    /// and has read the answer may be silent for as long as it likes.
+    pub(crate) fn is_timed(&self) -> bool {
+        !self.answered || self.full
+    }
+
+    /// Whether a put has answered Wrote since this was last asked.
+    pub(crate) fn has_written(&mut self) -> bool {
+        let wrote = self.wrote;
+        self.wrote = false;
+        wrote
     }
 
     /// Whether bytes have moved since this was last asked.
@@ -56,28 +84,43 @@ impl StreamLink {
         moved
     }
 
-    /// The poll has reported the stream.
+    /// The poll has reported the stream, or it is to be asked without that.
     pub(crate) fn is_reported(&mut self) {
         self.blocked = false;
     }
 
-    /// Whether no call can be missed: the poll reports the stream, or it needn't.
-    pub(crate) fn is_watched(&self) -> bool {
-        !self.blocked || self.watched != Watched::Nothing
+    /// What the poll is to report of it, where a call would have waited: that it may be read, and written too where a put waits.
+    fn wanted(&self) -> Watched {
+        if self.full {
+            Watched::Both
+        } else {
+            Watched::Reading
+        }
     }
 
-    /// Has the poll report the stream under this token, where a call has answered Later: for reading, and for writing too where a
-    /// put did. Whether it does so.
+    /// Whether the poll reports all that is wanted.
+    fn is_enough(&self) -> bool {
+        self.watched == Watched::Both || self.watched == self.wanted()
+    }
+
+    /// Whether no news can be missed: the poll reports the stream, or it needn't.
+    pub(crate) fn is_watched(&self) -> bool {
+        !self.blocked || self.is_enough()
+    }
+}
+
+impl StreamLink<TcpStream> {
+    /// Has the poll report the stream under this token, as far as it is wanted. Whether it does so.
     pub(crate) fn watch(&mut self, registry: &Registry, token: Token) -> bool {
-        let (wanted, interest) = if self.full {
-            (Watched::Both, Interest::READABLE | Interest::WRITABLE)
-        } else {
-            (Watched::Reading, Interest::READABLE)
-        };
-        if self.watched == wanted || self.watched == Watched::Both {
+        if self.is_enough() {
             return true;
         }
-        let stream = self.both.get_mut();
+        let wanted = self.wanted();
+        let interest = match wanted {
+            Watched::Both => Interest::READABLE | Interest::WRITABLE,
+            Watched::Nothing | Watched::Reading => Interest::READABLE,
+        };
+        let stream = self.both.get_mut().get_mut();
         let told = match self.watched {
             Watched::Nothing => registry.register(stream, token, interest),
             Watched::Reading | Watched::Both => registry.reregister(stream, token, interest),
@@ -88,9 +131,16 @@ impl StreamLink {
         self.watched = wanted;
         true
     }
+
+    /// The link is given up. Where bytes wait to be written its peer is to see that it doesn't have all.
+    pub(crate) fn give_up(&mut self) {
+        if self.full {
+            reset(self.both.get_mut().get_mut());
+        }
+    }
 }
 
-impl Device for StreamLink {
+impl<S: Read + Write> Device for StreamLink<S> {
     ghost use Rattle.std.specs.Prelude.{None};
 
     ghost left = { λ _. None };
@@ -104,10 +154,10 @@ impl Device for StreamLink {
     ghost broken = { λ l. l.both.failed };
 }
 
-impl Input for StreamLink {
+impl<S: Read + Write> Input for StreamLink<S> {
     fn pull(&mut self, buffer: &mut [u8]) -> Pull {
         let answer = self.both.pull(buffer);
-        self.blocked = answer == Pull::Later;
+        self.blocked = self.both.get_mut().waits();
         if let Pull::Piece(_) = answer {
             self.moved = true;
         }
@@ -119,12 +169,14 @@ impl Input for StreamLink {
     }
 }
 
-impl Output for StreamLink {
+impl<S: Read + Write> Output for StreamLink<S> {
     fn put(&mut self, bytes: &[u8]) -> Put {
         let answer = self.both.put(bytes);
+        self.blocked = self.both.get_mut().waits();
         self.full = answer == Put::Later;
-        self.blocked = self.full;
         if let Put::Wrote(_) = answer {
+            self.answered = true;
+            self.wrote = true;
             self.moved = true;
         }
         answer

@@ -55,7 +55,7 @@ impl Story {
 }
 
 /// Connects, as soon as the daemon listens. A read fails after ten seconds.
-fn connect<R: Net<Stream = TcpStream> + Clock>(rt: &R, port: u16) -> Option<TcpStream> {
+pub fn connect<R: Net<Stream = TcpStream> + Clock>(rt: &R, port: u16) -> Option<TcpStream> {
     for _ in 0..500u32 {
         if let Ok(stream) = TcpStream::connect(rt, (Ipv4Addr::LOCALHOST, port)) {
             let patience = Duration::from_secs(10);
@@ -79,7 +79,7 @@ fn sent<R: Net<Stream = TcpStream> + Clock>(
 }
 
 /// Whether the request is answered so, and the connection closed behind it. A reply has at most 64 bytes.
-fn is_answered<R: Net<Stream = TcpStream> + Clock>(
+pub fn is_answered<R: Net<Stream = TcpStream> + Clock>(
     rt: &R,
     port: u16,
     request: &[u8],
@@ -205,8 +205,16 @@ fn goes_well<R: Net<Stream = TcpStream> + Clock>(rt: &R, alloc: Global, story: S
     told == Some(true) && has_ended == Some(true)
 }
 
-/// What the daemon of a story is set to: two workers, and it may be told to end with names active.
-fn settings(alloc: Global, story: Story, recording: Option<String>) -> Result<Settings, Fail>
+/// What a daemon at this port is set to, which listens on the host and may be told to end with names active.
+pub fn settings_at(
+    alloc: Global,
+    port: u16,
+    timeout: u32,
+    workers: u32,
+    recording: Option<String>,
+) -> Result<Settings, Fail>
+    requires timeout { (1 ≤ timeout) × (timeout ≤ TIMEOUT_MOST) }
+    requires workers { (1 ≤ workers) × (workers ≤ SEATS_MOST) }
     ensures addresses { IfOk result (λ settings. 0 < vec_len settings.addresses) }
     ensures timeout { IfOk result (λ settings. (1 ≤ settings.timeout) × (settings.timeout ≤ TIMEOUT_MOST)) }
     ensures workers { IfOk result (λ settings. (1 ≤ settings.workers) × (settings.workers ≤ SEATS_MOST)) }
@@ -214,13 +222,23 @@ fn settings(alloc: Global, story: Story, recording: Option<String>) -> Result<Se
     let mut addresses = Vec::new(alloc);
     addresses.push([127, 0, 0, 1])?;
     Ok(Settings {
-        config: Config::new(story.port(), true, 1024, 4096)?,
+        config: Config::new(port, true, 1024, 4096)?,
         first: 4,
         addresses,
-        timeout: if story == Story::Silent { 1 } else { 60 },
-        workers: 2,
+        timeout,
+        workers,
         recording,
     })
+}
+
+/// What the daemon of a story is set to.
+fn settings(alloc: Global, story: Story, recording: Option<String>) -> Result<Settings, Fail>
+    ensures addresses { IfOk result (λ settings. 0 < vec_len settings.addresses) }
+    ensures timeout { IfOk result (λ settings. (1 ≤ settings.timeout) × (settings.timeout ≤ TIMEOUT_MOST)) }
+    ensures workers { IfOk result (λ settings. (1 ≤ settings.workers) × (settings.workers ≤ SEATS_MOST)) }
+{
+    let timeout = if story == Story::Silent { 1 } else { 60 };
+    settings_at(alloc, story.port(), timeout, 2, recording)
 }
 
 /// Whether each of two workers has told what it served, together one act at least, and whether all was recorded is told so.
@@ -302,7 +320,7 @@ fn a_worker_that_is_held_stops_no_other(rt: HostRuntime) -> Result<(), Fail> {
 }
 
 /// How many acts the workers made together.
-fn acts_of(ended: &Result<RunEnd, RunFault>) -> u64 {
+pub fn acts_of(ended: &Result<RunEnd, RunFault>) -> u64 {
     let mut acts = 0u64;
     if let Ok(end) = ended {
         for served in &end.served {

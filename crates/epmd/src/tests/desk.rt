@@ -273,9 +273,9 @@ fn is_sealed_to<L: Ledger, R: Wait>(
     first: u64,
     entries: usize,
 ) -> bool {
-    let is_heavy = desk.weight(rt).log > 0;
+    let is_heavy = desk.weight(rt) > 0;
     match desk.seal(rt, alloc) {
-        Ok(segment) => { is_heavy && desk.weight(rt).log == 0 && is_part(&segment, first, entries) }
+        Ok(segment) => { is_heavy && desk.weight(rt) == 0 && is_part(&segment, first, entries) }
         Err(_) => false,
     }
 }

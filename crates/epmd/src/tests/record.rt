@@ -3,7 +3,8 @@ use crate::tests::cases::{Case, all_hold};
 use portmap_core::{Config, Entry, Fate};
 use portmap_record::{
     CheckFault, Record, RecordFault, WriteRecordFault, check, read_record, readings_agree,
-    records_are_read, records_are_unique, verdicts_agree, what_is_read_is_a_record, write_record,
+    records_are_read, records_are_unique, verdicts_agree, what_is_read_is_a_record, whole_entries,
+    write_record,
 };
 use std::alloc::Global;
 use std::test::Fail;
@@ -110,6 +111,15 @@ pub const CUT: &[(usize, usize, Result<usize, RecordFault>)] = &[
     (109, 109, Ok(4)),
 ];
 
+/// What stands behind the header of `SESSION`, its first bytes alone, of these lengths, and how many are whole entries.
+const WHOLE: &[(usize, usize, usize)] = &[
+    (0, 9, 0),
+    (10, 47, 10),
+    (48, 57, 48),
+    (58, 92, 58),
+    (93, 93, 93),
+];
+
 /// Whole records of no entries, or bytes that are none.
 const ALONE: &[(&[u8], Result<usize, RecordFault>)] = &[
     (&[0x45, 0x51], Err(RecordFault::BadMagic)),
@@ -185,6 +195,20 @@ fn first_miscut(alloc: Global) -> Option<usize> {
         for length in *from..=*to {
             let (front, _) = SESSION.split_at(length.min(109));
             if count_of(alloc, front) != *told {
+                return Some(length);
+            }
+        }
+    }
+    None
+}
+
+/// The first length at which the entries of `SESSION`, cut there, are whole to another place than `WHOLE` says.
+fn first_miscounted() -> Option<usize> {
+    let (_, entries) = SESSION.split_at(16);
+    for (from, to, whole) in WHOLE {
+        for length in *from..=*to {
+            let (front, _) = entries.split_at(length.min(entries.len()));
+            if whole_entries(front) != *whole {
                 return Some(length);
             }
         }
@@ -328,6 +352,12 @@ fn a_session_is_read_and_written_back(rt: HostRuntime) -> Result<(), Fail> {
 fn a_session_that_is_cut_is_faulted_at_its_last_entry(rt: HostRuntime) {
     assert_eq!(rt; first_miscut(rt.alloc()), None);
     assert_eq!(rt; first_misread_alone(rt.alloc()), None);
+}
+
+#[test]
+fn a_session_that_is_cut_has_whole_entries_up_to_its_last_whole_one(rt: HostRuntime) {
+    assert_eq!(rt; first_miscounted(), None);
+    assert_eq!(rt; whole_entries(&[6]), 0);
 }
 
 #[test]

@@ -374,7 +374,14 @@ const WAITS: &[Story] = &[
     },
 ];
 
-/// The port mapper ends: its last reply is tried again for a while, and a worker goes on no further.
+/// The one pull moves, and so does the put behind 999 Laters.
+const AFTER_999: &[(usize, usize)] = &[(1, 1000)];
+
+/// The same behind a thousand Laters, which no put comes to.
+const AFTER_1000: &[(usize, usize)] = &[(1, 1001)];
+
+/// The port mapper ends: its last reply is tried again until its link has said Later a thousand times, and a worker goes on no
+/// further.
 const ENDS: &[Story] = &[
     Story {
         turns: &[FRESH, Turn::Ready(7), FRESH_8],
@@ -402,7 +409,20 @@ const ENDS: &[Story] = &[
         turns: &[FRESH, Turn::Ready(7), FRESH_8],
         given: [KILL, NOTHING],
         plan: Plan {
-            later: &[(1, usize::MAX)],
+            later: AFTER_999,
+            ..STEADY
+        },
+        written: [b"OK", NOTHING],
+        log: &[OPENED, KILLED],
+        served: 2,
+        halted: true,
+        ..PLAIN
+    },
+    Story {
+        turns: &[FRESH, Turn::Ready(7), FRESH_8],
+        given: [KILL, NOTHING],
+        plan: Plan {
+            later: AFTER_1000,
             ..STEADY
         },
         lost: b"OK",

@@ -1,5 +1,5 @@
 use Rattle.std.proofs.Common.{◌≡◌, vec_len}
-use Rattle.portmap_daemon.proofs.running.open_all.Given as goal
+use Rattle.portmap_daemon.proofs.opening.open_all.Given as goal
 
 -- one for each so far
 abbrev pub invariant-loop : goal.invariant-loop

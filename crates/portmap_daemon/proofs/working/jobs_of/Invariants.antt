@@ -1,5 +1,5 @@
 use Rattle.std.proofs.Common.{◌≡◌, vec_len, length}
-use Rattle.portmap_daemon.proofs.running.jobs_of.Given as goal
+use Rattle.portmap_daemon.proofs.working.jobs_of.Given as goal
 
 -- one for each so far
 abbrev pub invariant-loop-sockets : goal.invariant-loop-sockets

@@ -1,0 +1,110 @@
+//! The sockets that a daemon begins with.
+ghost use Rattle.std.specs.Prelude.{◌≡◌, vec_len, IfOk};
+
+use crate::listener::Listener;
+use crate::running::RunFault;
+use crate::sockets::{EVENTS_MOST, FIRST_LISTENER, Sockets, WAKE};
+use mio::net::TcpListener;
+use mio::{Events, Poll, Token, Waker};
+use std::alloc::Global;
+use std::net;
+use std::net::{Ipv4Addr, Net, SocketAddr};
+
+/// The sockets of so many workers, which share what listens on each of the addresses, with what ends the wait of each.
+pub(crate) fn open_sockets<R: Net>(
+    rt: &R,
+    alloc: Global,
+    port: u16,
+    addresses: &[[u8; 4]],
+    timeout: u32,
+    workers: u32,
+) -> Result<(Vec<Sockets>, Vec<Waker>), RunFault>
+    ensures { IfOk result (λ opened. vec_len opened.0 ≡ workers) }
+{
+    let listening = listen(rt, alloc, port, addresses)?;
+    open_all(rt, alloc, &listening, timeout, workers)
+}
+
+/// Listens on each of the addresses.
+fn listen<R: Net>(
+    rt: &R,
+    alloc: Global,
+    port: u16,
+    addresses: &[[u8; 4]],
+) -> Result<Vec<net::TcpListener>, RunFault> {
+    let mut listening = Vec::new(alloc);
+    for (place, address) in addresses.iter().enumerate() {
+        let address = SocketAddr::from((Ipv4Addr::from(*address), port));
+        let Ok(listener) = TcpListener::bind(rt, address) else {
+            return Err(RunFault::Listen(place));
+        };
+        listening.push(net::TcpListener::from(listener))?;
+    }
+    Ok(listening)
+}
+
+/// The sockets of so many workers, with what ends the wait of each.
+fn open_all<R: Net>(
+    rt: &R,
+    alloc: Global,
+    listening: &[net::TcpListener],
+    timeout: u32,
+    workers: u32,
+) -> Result<(Vec<Sockets>, Vec<Waker>), RunFault>
+    ensures { IfOk result (λ opened. vec_len opened.0 ≡ workers) }
+{
+    let mut sockets = Vec::new(alloc);
+    let mut wakers = Vec::new(alloc);
+    for _ in 0..workers {
+        let (own, waker) = open_one(rt, alloc, listening, timeout)?;
+        sockets.push(own)?;
+        wakers.push(waker)?;
+    }
+    Ok((sockets, wakers))
+}
+
+/// A poll, with room for its events and with what ends its wait.
+pub(crate) fn open_poll<R: Net>(rt: &R, alloc: Global) -> Result<(Poll, Events, Waker), RunFault> {
+    let Ok(poll) = Poll::new(rt) else {
+        return Err(RunFault::Poll);
+    };
+    let Ok(waker) = Waker::new(poll.registry(), WAKE) else {
+        return Err(RunFault::Poll);
+    };
+    let events = Events::with_capacity(alloc, EVENTS_MOST)?;
+    Ok((poll, events, waker))
+}
+
+/// The sockets of one worker.
+fn open_one<R: Net>(
+    rt: &R,
+    alloc: Global,
+    listening: &[net::TcpListener],
+    timeout: u32,
+) -> Result<(Sockets, Waker), RunFault> {
+    let (poll, events, waker) = open_poll(rt, alloc)?;
+    let listeners = share(alloc, &poll, listening)?;
+    let timeout = u64::from(timeout) * 1000;
+    Ok((Sockets::new(alloc, poll, events, listeners, timeout), waker))
+}
+
+/// One worker's shares of the listening sockets, which its poll reports.
+fn share(
+    alloc: Global,
+    poll: &Poll,
+    listening: &[net::TcpListener],
+) -> Result<Vec<Listener>, RunFault> {
+    let mut listeners = Vec::new(alloc);
+    for (place, listener) in listening.iter().enumerate() {
+        let Ok(socket) = listener.try_clone() else {
+            return Err(RunFault::Poll);
+        };
+        let token = Token(FIRST_LISTENER.saturating_add(place));
+        let mut share = Listener::new(TcpListener::from_std(socket), token);
+        if !share.watch(poll.registry()) {
+            return Err(RunFault::Poll);
+        }
+        listeners.push(share)?;
+    }
+    Ok(listeners)
+}
