@@ -12,3 +12,4 @@ pub mod Owned
 pub mod Locality
 pub mod Laws
 pub mod Following
+pub mod Registering

@@ -9,6 +9,7 @@ mod judge;
 mod laws;
 mod locality;
 mod machine;
+mod registering;
 mod serve;
 mod state;
 
@@ -21,5 +22,6 @@ pub use laws::{
 };
 pub use locality::{Ip, is_local};
 pub use machine::Core;
-pub use portmap_wire::NoMemory;
+pub use portmap_wire::{Name, NoMemory};
+pub use registering::name_to_register;
 pub use state::State;
