@@ -50,9 +50,10 @@ def preload(name):
 
 
 class Daemon:
-    """A daemon that was started, with what it wrote to standard error. Limits are by the names of `resource`."""
+    """A daemon that was started, with what it wrote to standard error. Limits are by the names of `resource`. Without an address it
+    listens on all."""
 
-    def __init__(self, path, *words, env=None, limits=None, before=None, patience=5.0):
+    def __init__(self, path, *words, env=None, limits=None, before=None, patience=5.0, address="127.0.0.1"):
         self.port, self.kept = free_port()
         self.text_file = tempfile.TemporaryFile()
         limits = limits or {}
@@ -66,7 +67,7 @@ class Daemon:
 
         self.started = time.monotonic()
         self.process = subprocess.Popen(
-            [path, "-port", str(self.port), "-address", "127.0.0.1", *words],
+            [path, "-port", str(self.port), *(("-address", address) if address else ()), *words],
             stdin=subprocess.DEVNULL, stdout=subprocess.DEVNULL, stderr=self.text_file,
             env={**os.environ, **(env or {})}, preexec_fn=prepare,
         )
@@ -130,9 +131,9 @@ class Daemon:
 
 
 def listens(port):
-    wanted = f"0100007F:{port:04X}"
+    wanted = f"0100007F:{port:04X}", f"00000000:{port:04X}"
     with open("/proc/net/tcp") as lines:
-        return any(line.split()[1] == wanted and line.split()[3] == "0A" for line in lines)
+        return any(line.split()[1] in wanted and line.split()[3] == "0A" for line in lines)
 
 
 def framed(body):

@@ -1,3 +1,4 @@
 pub mod Carrying
 pub mod Peers
+pub mod Places
 pub mod Recording

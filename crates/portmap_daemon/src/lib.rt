@@ -2,23 +2,29 @@
 #![tactic(auto)]
 
 mod carrier;
+mod crew;
 mod gate;
 mod held_link;
 mod listener;
+mod listening;
 mod opening;
+mod parking;
 mod peer;
 mod peer_stream;
+mod places;
 mod recorder;
 mod recording;
 mod running;
 mod sealing;
 mod serving;
+mod shifts;
 mod shortage;
 mod socket_source;
 mod sockets;
 mod source;
 mod spool;
 mod stream_link;
+mod sweeps;
 mod working;
 
 pub use crate::carrier::{Carrier, Next, PULL_MOST};

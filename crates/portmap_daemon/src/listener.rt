@@ -5,44 +5,64 @@ use std::io;
 use std::io::ErrorKind;
 use std::net::SocketAddr;
 
-/// So many reports in a row that came to nothing, since other workers took what waited, and a worker leaves the listener alone.
-const EMPTY_MOST: u32 = 2;
-
-/// For so many milliseconds. Also where nothing can be taken, as when the process has no descriptor left.
+/// For so many milliseconds a worker leaves a listener alone at which nothing can be taken, as when the process has no
+/// descriptor left.
 const AWAY: u64 = 20;
 
+/// How a worker stands to a listening socket.
+#[derive(Clone, Copy, Debug, PartialEq, Eq)]
+enum Watch {
+    /// Others take its connections.
+    Off,
+    /// The poll reports it.
+    On,
+    /// It is to be reported from this time on, in milliseconds.
+    From(u64),
+}
+
+/// What an asking for a connection comes to.
+#[derive(Drop)]
+pub(crate) enum Accepted {
+    /// A connection, with the address of its peer.
+    Taken(TcpStream, SocketAddr),
+    /// None: none waits, or none can be taken.
+    Nothing,
+    /// None since the listener was last reported: others took what waited.
+    InVain,
+}
+
 /// One worker's share of a listening socket. The system reports it to every worker that watches it, and one of them gets the
-/// connection. A worker that is reported in vain goes away for a while, so that one which is awake serves on alone.
+/// connection.
 #[derive(Drop)]
 pub(crate) struct Listener {
     socket: TcpListener,
     token: Token,
+    watch: Watch,
     /// Connections may wait at it.
     waiting: bool,
     /// One was taken since it was last reported.
     took: bool,
-    /// How often in a row it was reported and none was taken.
-    empty: u32,
-    /// Until when it is not watched: a time in milliseconds.
-    away: Option<u64>,
 }
 
 impl Listener {
-    /// A listener that is not watched yet.
+    /// A listener that is not watched.
     pub(crate) fn new(socket: TcpListener, token: Token) -> Listener {
         Listener {
             socket,
             token,
+            watch: Watch::Off,
             waiting: false,
             took: false,
-            empty: 0,
-            away: None,
         }
     }
 
     /// Has the poll report it, and what waits already too. Whether it does so.
     pub(crate) fn watch(&mut self, registry: &Registry) -> bool {
-        self.register(registry).is_ok()
+        let is_watched = self.register(registry).is_ok();
+        if is_watched {
+            self.watch = Watch::On;
+        }
+        is_watched
     }
 
     fn register(&mut self, registry: &Registry) -> io::Result<()> {
@@ -67,78 +87,82 @@ impl Listener {
         self.waiting
     }
 
-    /// Until when it is not watched, if it isn't.
+    /// From when on it is to be watched, if it isn't yet.
     pub(crate) fn away(&self) -> Option<u64> {
-        self.away
+        match self.watch {
+            Watch::From(time) => Some(time),
+            Watch::Off | Watch::On => None,
+        }
     }
 
-    /// Takes a connection that waits, with the address of its peer.
-    pub(crate) fn accept(
-        &mut self,
-        registry: &Registry,
-        now: u64,
-    ) -> Option<(TcpStream, SocketAddr)> {
+    /// Takes a connection that waits.
+    pub(crate) fn accept(&mut self, registry: &Registry, now: u64) -> Accepted {
         if !self.waiting {
-            return None;
+            return Accepted::Nothing;
         }
         match self.socket.accept() {
-            Ok(taken) => {
+            Ok((stream, peer)) => {
                 self.took = true;
-                self.empty = 0;
-                Some(taken)
+                Accepted::Taken(stream, peer)
             }
-            Err(error) => {
-                self.give_up(registry, now, error.kind());
-                None
-            }
+            Err(error) => self.give_up(registry, now, error.kind()),
         }
     }
 
     /// None could be taken.
-    fn give_up(&mut self, registry: &Registry, now: u64, kind: ErrorKind) {
+    fn give_up(&mut self, registry: &Registry, now: u64, kind: ErrorKind) -> Accepted {
         match kind {
             // The one that waited has gone: another one may wait.
-            ErrorKind::ConnectionAborted | ErrorKind::Interrupted => {}
+            ErrorKind::ConnectionAborted | ErrorKind::Interrupted => Accepted::Nothing,
             ErrorKind::WouldBlock => {
                 self.waiting = false;
-                if !self.took {
-                    self.empty = self.empty.saturating_add(1);
-                }
-                if self.empty >= EMPTY_MOST {
-                    self.leave(registry, now);
+                if self.took {
+                    Accepted::Nothing
+                } else {
+                    Accepted::InVain
                 }
             }
             // What waits is not reported again, so the poll is to look anew after a while.
             _ => {
-                self.waiting = false;
-                self.leave(registry, now);
+                self.leave(registry);
+                self.watch = Watch::From(now.saturating_add(AWAY));
+                Accepted::Nothing
             }
         }
     }
 
     /// Leaves it to others.
-    fn leave(&mut self, registry: &Registry, now: u64) {
-        let _ = registry.deregister(&mut self.socket);
-        self.away = Some(now.saturating_add(AWAY));
+    pub(crate) fn leave(&mut self, registry: &Registry) {
+        if self.watch == Watch::On {
+            let _ = registry.deregister(&mut self.socket);
+        }
+        self.watch = Watch::Off;
+        self.waiting = false;
     }
 
-    /// Comes back, where it is time.
+    /// It is to be watched from this time on.
+    pub(crate) fn join(&mut self, now: u64) {
+        if self.watch == Watch::Off {
+            self.watch = Watch::From(now);
+        }
+    }
+
+    /// Watches it, where it is time.
     pub(crate) fn come_back(&mut self, registry: &Registry, now: u64) {
-        let Some(until) = self.away else {
+        let Some(from) = self.away() else {
             return;
         };
-        if now < until {
+        if now < from {
             return;
         }
-        self.empty = 0;
-        self.away = match self.register(registry) {
-            Ok(()) => None,
+        self.watch = match self.register(registry) {
+            Ok(()) => Watch::On,
             // It was never left, so what waits at it is not reported again.
             Err(error) if error.kind() == ErrorKind::AlreadyExists => {
                 self.is_reported();
-                None
+                Watch::On
             }
-            Err(_) => Some(now.saturating_add(AWAY)),
+            Err(_) => Watch::From(now.saturating_add(AWAY)),
         };
     }
 }

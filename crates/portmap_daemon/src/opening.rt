@@ -1,14 +1,18 @@
 //! The sockets that a daemon begins with.
 ghost use Rattle.std.specs.Prelude.{◌≡◌, vec_len, IfOk};
 
+use crate::crew::{Crew, Wakers};
 use crate::listener::Listener;
+use crate::listening::Listening;
 use crate::running::RunFault;
+use crate::sealing::Pause;
 use crate::sockets::{EVENTS_MOST, FIRST_LISTENER, Sockets, WAKE};
 use mio::net::TcpListener;
 use mio::{Events, Poll, Token, Waker};
 use std::alloc::Global;
 use std::net;
 use std::net::{Ipv4Addr, Net, SocketAddr};
+use std::rt::Clock;
 
 /// The sockets of so many workers, which share what listens on each of the addresses, with what ends the wait of each.
 pub(crate) fn open_sockets<R: Net>(
@@ -19,7 +23,7 @@ pub(crate) fn open_sockets<R: Net>(
     timeout: u32,
     workers: u32,
 ) -> Result<(Vec<Sockets>, Vec<Waker>), RunFault>
-    ensures { IfOk result (λ opened. vec_len opened.0 ≡ workers) }
+    ensures { IfOk result (λ opened. vec_len opened.1 ≡ workers) }
 {
     let listening = listen(rt, alloc, port, addresses)?;
     open_all(rt, alloc, &listening, timeout, workers)
@@ -51,20 +55,35 @@ fn open_all<R: Net>(
     timeout: u32,
     workers: u32,
 ) -> Result<(Vec<Sockets>, Vec<Waker>), RunFault>
-    ensures { IfOk result (λ opened. vec_len opened.0 ≡ workers) }
+    ensures { IfOk result (λ opened. vec_len opened.1 ≡ workers) }
 {
     let mut sockets = Vec::new(alloc);
     let mut wakers = Vec::new(alloc);
-    for _ in 0..workers {
-        let (own, waker) = open_one(rt, alloc, listening, timeout)?;
+    for worker in 0..workers {
+        let (own, waker) = open_one(rt, alloc, worker as usize, listening, timeout)?;
         sockets.push(own)?;
         wakers.push(waker)?;
     }
     Ok((sockets, wakers))
 }
 
+/// What the threads of a daemon tell each other, whose workers have these wakers and which has so many places for connections, with
+/// the wait of the one that takes out the log.
+pub(crate) fn open_crew<R: Net + Clock>(
+    rt: &R,
+    alloc: Global,
+    workers: Vec<Waker>,
+    places: u32,
+) -> Result<(Crew, Pause), RunFault>
+    ensures { IfOk result (λ opened. vec_len opened.0.served ≡ vec_len workers) }
+{
+    let (poll, events, sealer) = open_poll(rt, alloc)?;
+    let crew = Crew::new(rt, alloc, Wakers { workers, sealer }, places)?;
+    Ok((crew, Pause::new(poll, events)))
+}
+
 /// A poll, with room for its events and with what ends its wait.
-pub(crate) fn open_poll<R: Net>(rt: &R, alloc: Global) -> Result<(Poll, Events, Waker), RunFault> {
+fn open_poll<R: Net>(rt: &R, alloc: Global) -> Result<(Poll, Events, Waker), RunFault> {
     let Ok(poll) = Poll::new(rt) else {
         return Err(RunFault::Poll);
     };
@@ -75,24 +94,29 @@ pub(crate) fn open_poll<R: Net>(rt: &R, alloc: Global) -> Result<(Poll, Events, 
     Ok((poll, events, waker))
 }
 
-/// The sockets of one worker.
+/// The sockets of one worker. The first one takes connections from the beginning.
 fn open_one<R: Net>(
     rt: &R,
     alloc: Global,
+    worker: usize,
     listening: &[net::TcpListener],
     timeout: u32,
 ) -> Result<(Sockets, Waker), RunFault> {
     let (poll, events, waker) = open_poll(rt, alloc)?;
-    let listeners = share(alloc, &poll, listening)?;
+    let is_on = worker == 0;
+    let listeners = share(alloc, &poll, listening, is_on)?;
+    let listening = Listening::new(listeners, is_on);
     let timeout = u64::from(timeout) * 1000;
-    Ok((Sockets::new(alloc, poll, events, listeners, timeout), waker))
+    let sockets = Sockets::new(alloc, worker, poll, events, listening, timeout);
+    Ok((sockets, waker))
 }
 
-/// One worker's shares of the listening sockets, which its poll reports.
+/// One worker's shares of the listening sockets, which its poll reports if it takes connections.
 fn share(
     alloc: Global,
     poll: &Poll,
     listening: &[net::TcpListener],
+    is_on: bool,
 ) -> Result<Vec<Listener>, RunFault> {
     let mut listeners = Vec::new(alloc);
     for (place, listener) in listening.iter().enumerate() {
@@ -101,7 +125,7 @@ fn share(
         };
         let token = Token(FIRST_LISTENER.saturating_add(place));
         let mut share = Listener::new(TcpListener::from_std(socket), token);
-        if !share.watch(poll.registry()) {
+        if is_on && !share.watch(poll.registry()) {
             return Err(RunFault::Poll);
         }
         listeners.push(share)?;

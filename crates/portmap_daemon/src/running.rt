@@ -3,16 +3,18 @@ ghost use Rattle.std.specs.Prelude.{◌≡◌, ◌<◌, ◌≤◌, vec_len, fals
 ghost use Rattle.portmap_book.specs.declared.desk.TheConstants.{SEATS_MOST};
 ghost use Rattle.portmap_daemon.specs.declared.running.TheConstants.{TIMEOUT_MOST};
 
-use crate::opening::{open_poll, open_sockets};
+use crate::crew::Crew;
+use crate::opening::{open_crew, open_sockets};
 use crate::recorder::Recorder;
 use crate::recording::{MakesFiles, start_recording};
-use crate::sealing::{Pause, ROOM, Sealing};
+use crate::sealing::{Pause, Sealing};
+use crate::sockets::Sockets;
 use crate::spool::{Inlet, Spool};
-use crate::working::{Wakers, work};
+use crate::working::work;
 use crate::{Gate, Open};
 use portmap_book::{Book, PARTS, SEATS_MOST};
 use portmap_core::Config;
-use portmap_link::{NoMemory, Writing};
+use portmap_link::{NoMemory, Output, Writing};
 use std::alloc::{AllocFailed, Global};
 use std::marker::Brand;
 use std::net::Net;
@@ -111,34 +113,64 @@ pub fn run_gated<
     requires workers { (1 ≤ settings.workers) × (settings.workers ≤ SEATS_MOST) }
     ensures { IfOk result (λ end. vec_len end.served ≡ settings.workers) }
 {
+    let book = Book::new(alloc, settings.config, settings.first)?;
+    let (sockets, crew, pause) = open(rt, alloc, &settings)?;
+    serve_open(rt, alloc, settings, book, sockets, &crew, pause, gate)
+}
+
+/// The sockets of the workers, what the threads tell each other, and the wait of the one that takes out the log.
+fn open<R: Net + Clock>(
+    rt: &R,
+    alloc: Global,
+    settings: &Settings,
+) -> Result<(Vec<Sockets>, Crew, Pause), RunFault>
+    ensures { IfOk result (λ opened. vec_len opened.1.served ≡ settings.now.workers) }
+{
+    let (sockets, workers) = open_sockets(
+        rt,
+        alloc,
+        settings.config.port,
+        &settings.addresses,
+        settings.timeout,
+        settings.workers,
+    )?;
+    let (crew, pause) = open_crew(rt, alloc, workers, settings.config.conn_max)?;
+    Ok((sockets, crew, pause))
+}
+
+/// Serves over sockets that are open, and has it recorded where that is asked for.
+fn serve_open<
+    G: Gate + Sync,
+    R: Net + MakesFiles + Threads + Wait + Clock + Clone + Drop + Send + Sync + 'static,
+>(
+    rt: &R,
+    alloc: Global,
+    settings: Settings,
+    book: Book,
+    sockets: Vec<Sockets>,
+    crew: &Crew,
+    pause: Pause,
+    gate: &G,
+) -> Result<RunEnd, RunFault>
+    ensures { IfOk result (λ end. vec_len end.served ≡ vec_len crew.now.served) }
+{
     let Settings {
         config,
-        first,
-        addresses,
-        timeout,
-        workers,
+        first: _,
+        addresses: _,
+        timeout: _,
+        workers: _,
         recording,
     } = settings;
-    let book = Book::new(alloc, config, first)?;
-    let (sockets, workers) = open_sockets(rt, alloc, config.port, &addresses, timeout, workers)?;
-    let (poll, events, sealer) = open_poll(rt, alloc)?;
-    let wakers = Wakers { workers, sealer };
-    let gone = Vec::with_capacity(alloc, ROOM)?;
     let spool = Arc::new(alloc, Spool::new(alloc))?;
     // The file is made once the daemon listens: so one that can't leaves the file of another alone.
     let is_recorded = recording.is_some();
     if let Some(path) = recording {
         start_recording(rt, alloc, &spool, path);
     }
-    let sealing = Sealing {
-        config,
-        pause: Pause::new(poll, events),
-        gone,
-        recorder: recorder_into(rt, &spool, is_recorded),
-    };
-    let blank = Blank::new(PARTS);
-    let ended = work::<Brand, G, Writing<Inlet<R>>, R>(
-        rt, alloc, blank, book, sockets, &wakers, sealing, gate,
+    let recorder = recorder_into(rt, &spool, is_recorded);
+    let ended = serve_recorded(
+        rt, alloc, config, book, sockets, crew, pause, recorder, gate,
     );
     spool.close(rt);
     let is_written = is_recorded && spool.is_written(rt, Duration::from_secs(PATIENCE));
@@ -149,6 +181,26 @@ pub fn run_gated<
         None
     };
     Ok(RunEnd { served, recorded })
+}
+
+/// Serves over sockets that are open. How many acts each worker made, and whether all was recorded.
+fn serve_recorded<G: Gate + Sync, W: Output + Drop, R: Net + Threads + Wait + Clock + Sync>(
+    rt: &R,
+    alloc: Global,
+    config: Config,
+    book: Book,
+    sockets: Vec<Sockets>,
+    crew: &Crew,
+    pause: Pause,
+    recorder: Option<Recorder<W>>,
+    gate: &G,
+) -> Result<(Vec<u64>, bool), RunFault>
+    requires { IfSome recorder (λ recorder. recorder.begun ≡ false) }
+    ensures { IfOk result (λ ended. vec_len ended.0 ≡ vec_len crew.now.served) }
+{
+    let sealing = Sealing::new(alloc, config, pause, recorder)?;
+    let blank = Blank::new(PARTS);
+    work::<Brand, G, W, R>(rt, alloc, blank, book, sockets, crew, sealing, gate)
 }
 
 /// What records into the spool, where that is asked for.

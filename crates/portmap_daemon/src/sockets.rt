@@ -1,11 +1,14 @@
 //! What one worker knows of its sockets.
 use crate::Turn;
+use crate::crew::Crew;
 use crate::held_link::HeldLink;
-use crate::listener::Listener;
+use crate::listening::Listening;
+use crate::parking::Parking;
 use crate::peer::is_local_stream;
 use crate::stream_link::StreamLink;
 use mio::net::TcpStream;
 use mio::{Events, Poll, Token};
+use portmap_core::Name;
 use slab::Slab;
 use std::alloc::Global;
 use std::collections::VecDeque;
@@ -15,7 +18,7 @@ use std::time::Duration;
 /// The token of the first listener. Below it are the keys of links.
 pub(crate) const FIRST_LISTENER: usize = 4_294_967_296;
 
-/// The token by which other workers end this one's wait.
+/// The token by which other threads end this one's wait.
 pub(crate) const WAKE: Token = Token(8_589_934_592);
 
 /// The most events that one wait takes.
@@ -24,9 +27,21 @@ pub(crate) const EVENTS_MOST: usize = 256;
 /// After so many turns the poll is asked, also where there is more to do.
 const TURNS_MOST: u32 = 64;
 
-/// How many milliseconds pass between two looks at what no event tells: whether another worker has ended the port mapper or
-/// stopped a connection, and whose time is over.
+/// How many milliseconds pass between two looks at what no event tells: whether another worker has stopped a connection, and
+/// whose time is over.
 const WHILE: u64 = 450;
+
+/// How many pass at most where there is nothing to look at. What ends the wait then is a connection that comes, or another thread.
+const LONG: u64 = 10_000;
+
+/// How many pass at most where others are waited for.
+const BRIEF: u64 = 1;
+
+/// For so many milliseconds a local peer waits for a place.
+const GUEST_MOST: u64 = 200;
+
+/// Where none was found that may be given up for another one, so many pass until the next look for one.
+const BARREN: u64 = 10;
 
 /// What has become of a worker's connections since it was last asked.
 #[derive(Clone, Copy, Debug, PartialEq, Eq)]
@@ -43,14 +58,24 @@ const NO_NEWS: News = News {
     unanswered: false,
 };
 
-/// The sockets of one worker. Times are in milliseconds since the worker began.
+/// A connection that has no place yet.
+#[derive(Drop)]
+struct Guest {
+    stream: TcpStream,
+    is_local: bool,
+    /// How long it waits for one.
+    until: u64,
+}
+
+/// The sockets of one worker. Times are in milliseconds since the daemon began.
 #[derive(Drop)]
 pub(crate) struct Sockets {
+    alloc: Global,
+    /// Which worker it is.
+    worker: usize,
     poll: Poll,
     events: Events,
-    listeners: Vec<Listener>,
-    /// The place of the listener that is asked first: behind the one that gave last, so that none is served before the others.
-    first: usize,
+    listening: Listening,
     links: Slab<HeldLink>,
     /// The links of which there is something to tell, in the order in which it came.
     queue: VecDeque<usize>,
@@ -58,6 +83,13 @@ pub(crate) struct Sockets {
     last: Option<usize>,
     /// The last turn took a connection, so the next one goes on with another.
     took: bool,
+    /// The connection that waits for a place. While it does none is taken.
+    guest: Option<Guest>,
+    parking: Parking,
+    /// The sweep that is met once all is told that was to be told when the poll had answered.
+    sweep: u64,
+    /// How much of that is left.
+    left: usize,
     /// How many turns since the poll was asked.
     turns: u32,
     /// The time when the poll answered last.
@@ -66,6 +98,8 @@ pub(crate) struct Sockets {
     look: u64,
     /// The time of the last look.
     looked: u64,
+    /// No link is looked for before this time that may be given up for another one.
+    barren: u64,
     /// How long a link may move no byte.
     timeout: u64,
     news: News,
@@ -75,27 +109,39 @@ impl Sockets {
     /// The sockets of a worker that has no link yet. A link may move no byte for so many milliseconds.
     pub(crate) fn new(
         alloc: Global,
+        worker: usize,
         poll: Poll,
         events: Events,
-        listeners: Vec<Listener>,
+        listening: Listening,
         timeout: u64,
     ) -> Sockets {
         Sockets {
+            alloc,
+            worker,
             poll,
             events,
-            listeners,
-            first: 0,
+            listening,
             links: Slab::new(alloc),
             queue: VecDeque::new(alloc),
             last: None,
             took: false,
+            guest: None,
+            parking: Parking::new(alloc),
+            sweep: 0,
+            left: 0,
             turns: 0,
             now: 0,
             look: WHILE,
             looked: 0,
+            barren: 0,
             timeout,
             news: NO_NEWS,
         }
+    }
+
+    /// Which worker it is.
+    pub(crate) fn worker(&self) -> usize {
+        self.worker
     }
 
     /// The time when the poll answered last.
@@ -118,7 +164,7 @@ impl Sockets {
     }
 
     /// Gives a link up, which closes its stream.
-    pub(crate) fn end(&mut self, key: u64) {
+    pub(crate) fn end(&mut self, crew: &Crew, key: u64) {
         let Some(mut held) = self.links.try_remove(key as usize) else {
             return;
         };
@@ -127,6 +173,55 @@ impl Sockets {
         }
         if !held.is_answered() {
             self.news.unanswered = true;
+        }
+        crew.places.give_back(held.is_local());
+        crew.wake_parking(self.worker);
+        if self.links.is_empty() {
+            crew.sweeps.leave(self.worker);
+        }
+    }
+
+    /// The name that the link that was told last asks to register, where it keeps that back.
+    pub(crate) fn asked(&mut self) -> Option<&Name> {
+        self.links.get_mut(self.last?)?.asked()
+    }
+
+    /// What the link that was told last keeps back is told once its name is free, or it has waited for long enough, where the name is
+    /// active by now and there is room for one more that waits; else now.
+    pub(crate) fn weigh(&mut self, crew: &Crew, is_active: bool) -> Option<Turn> {
+        let key = self.last?;
+        if !is_active || !self.parking.add(key, self.now) {
+            return Some(Turn::Ready(key as u64));
+        }
+        self.links.get_mut(key)?.park();
+        self.last = None;
+        crew.note_parked(self.worker, self.parking.len());
+        None
+    }
+
+    /// How many registrations wait for their names.
+    pub(crate) fn parked(&self) -> usize {
+        self.parking.len()
+    }
+
+    /// The name for which the first of them waits.
+    pub(crate) fn parked_name(&mut self) -> Option<&Name> {
+        let parked = self.parking.first()?;
+        self.links.get_mut(parked.key)?.asked()
+    }
+
+    /// The first of them goes on waiting, behind the others, where its name is active and it has not waited for long enough. Else it
+    /// is to be told.
+    pub(crate) fn unpark(&mut self, crew: &Crew, is_active: bool) {
+        let Some(mut parked) = self.parking.take_first() else {
+            return;
+        };
+        let waits = is_active && !parked.is_over(crew, self.worker, self.now);
+        if waits && self.parking.put_back(parked) {
+            return;
+        }
+        if let Some(held) = self.links.get_mut(parked.key) {
+            held.unpark(&mut self.queue, parked.key);
         }
     }
 
@@ -145,15 +240,15 @@ impl Sockets {
     }
 
     /// What is to be told without asking the poll.
-    pub(crate) fn next(&mut self) -> Option<Turn> {
+    pub(crate) fn next(&mut self, crew: &Crew) -> Option<Turn> {
         if self.turns >= TURNS_MOST {
             return None;
         }
         self.turns = self.turns.saturating_add(1);
         if !self.took {
-            if let Some((stream, peer)) = self.accept() {
+            if let Some(turn) = self.come(crew) {
                 self.took = true;
-                return self.take(stream, peer);
+                return Some(turn);
             }
         }
         self.took = false;
@@ -163,6 +258,7 @@ impl Sockets {
     /// The next link of which there is something to tell.
     fn pop(&mut self) -> Option<Turn> {
         while let Some(key) = self.queue.pop_front() {
+            self.left = self.left.saturating_sub(1);
             if let Some(held) = self.links.get_mut(key) {
                 self.last = Some(key);
                 return Some(held.tell(key as u64));
@@ -171,35 +267,53 @@ impl Sockets {
         None
     }
 
-    /// The next connection that waits at a listener, with the address of its peer. The listeners are asked in turn.
-    fn accept(&mut self) -> Option<(TcpStream, SocketAddr)> {
-        let registry = self.poll.registry();
-        for _ in 0..self.listeners.len() {
-            let place = self.first;
-            self.first = next_place(place, self.listeners.len());
-            if let Some(listener) = self.listeners.get_mut(place) {
-                if let Some(taken) = listener.accept(registry, self.now) {
-                    return Some(taken);
-                }
-            }
+    /// The next connection: the one that waits for a place, or one that waits at a listener.
+    fn come(&mut self, crew: &Crew) -> Option<Turn> {
+        let guest = match self.guest.take() {
+            Some(guest) => guest,
+            None => self.accept(crew)?,
+        };
+        if crew.places.take(guest.is_local) {
+            return self.take(crew, guest);
         }
-        None
+        self.make_room(crew, guest)
     }
 
-    /// Takes a new connection, where there is memory for it. It is closed otherwise.
-    fn take(&mut self, stream: TcpStream, peer: SocketAddr) -> Option<Turn> {
-        let fresh = self.hold(stream, peer);
+    /// The next connection that waits at a listener.
+    fn accept(&mut self, crew: &Crew) -> Option<Guest> {
+        let taken = self.listening.accept(self.poll.registry(), self.now);
+        if self.listening.is_vain() {
+            crew.shifts.leave(self.worker);
+        }
+        let (stream, peer) = taken?;
+        let is_local = is_local_stream(&stream, peer.ip());
+        Some(Guest {
+            stream,
+            is_local,
+            until: self.now.saturating_add(GUEST_MOST),
+        })
+    }
+
+    /// Takes a new connection, which has a place, where there is memory for it. It is closed otherwise.
+    fn take(&mut self, crew: &Crew, guest: Guest) -> Option<Turn> {
+        let is_local = guest.is_local;
+        if self.links.is_empty() {
+            crew.sweeps.join(self.worker);
+        }
+        let fresh = self.hold(guest);
         if fresh.is_none() {
+            crew.places.give_back(is_local);
             self.news.unanswered = true;
         }
         fresh
     }
 
     /// Holds a new connection. It is looked at without waiting for the poll, since its request is most likely there.
-    fn hold(&mut self, stream: TcpStream, peer: SocketAddr) -> Option<Turn> {
-        let local = is_local_stream(&stream, peer.ip());
+    fn hold(&mut self, guest: Guest) -> Option<Turn> {
+        let local = guest.is_local;
         self.queue.reserve(self.links.len().saturating_add(1)).ok()?;
-        let key = self.links.insert(HeldLink::new(stream)).ok()?;
+        let held = HeldLink::new(self.alloc, guest.stream, local, self.now);
+        let key = self.links.insert(held).ok()?;
         let _ = self.queue.push_back(key);
         Some(Turn::Fresh {
             key: key as u64,
@@ -207,25 +321,100 @@ impl Sockets {
         })
     }
 
-    /// How long the poll may wait, in milliseconds.
-    fn patience(&self) -> u64 {
-        if !self.queue.is_empty() || self.listeners.iter().any(|listener| listener.is_waiting()) {
-            return 0;
+    /// There is no place for a new connection: one is given up for it, here or, for a local peer, by another worker soon. A
+    /// connection is closed for which none can be.
+    fn make_room(&mut self, crew: &Crew, guest: Guest) -> Option<Turn> {
+        if let Some(key) = self.oldest(guest.is_local) {
+            self.guest = Some(guest);
+            return Some(self.give_way(key));
         }
-        let mut until = self.look;
-        for listener in &self.listeners {
-            if let Some(away) = listener.away() {
-                until = until.min(away);
+        if guest.is_local && self.now < guest.until {
+            crew.want_place(self.worker);
+            self.guest = Some(guest);
+        } else {
+            self.news.unanswered = true;
+        }
+        None
+    }
+
+    /// Gives up a connection, where another worker waits for a place and one may be.
+    pub(crate) fn make_way(&mut self, crew: &Crew) -> Option<Turn> {
+        if !crew.places.is_wanted() || self.guest.is_some() {
+            return None;
+        }
+        let key = self.oldest(true)?;
+        crew.places.want_none();
+        Some(self.give_way(key))
+    }
+
+    /// The connection with this key is given up.
+    fn give_way(&mut self, key: usize) -> Turn {
+        if let Some(held) = self.links.get_mut(key) {
+            held.give_way(self.now);
+        }
+        Turn::Late(key as u64)
+    }
+
+    /// The oldest connection that may be given up for another one: one of a remote peer, or, for a local one, of any if there is no
+    /// such.
+    fn oldest(&mut self, for_local: bool) -> Option<usize> {
+        if self.now < self.barren {
+            return None;
+        }
+        let mut found: Option<(bool, u64, usize)> = None;
+        for key in 0..self.links.capacity() {
+            if let Some(held) = self.links.get(key) {
+                let rank = (held.is_local(), held.came(), key);
+                let is_allowed = for_local || !held.is_local();
+                if is_allowed && held.may_go(self.now) && found.is_none_or(|best| rank < best) {
+                    found = Some(rank);
+                }
             }
         }
-        until.saturating_sub(self.now).max(1)
+        if found.is_none() {
+            self.barren = self.now.saturating_add(BARREN);
+        }
+        found.map(|(_, _, key)| key)
+    }
+
+    /// How long the poll may wait, in milliseconds.
+    fn patience(&self, crew: &Crew) -> u64 {
+        let has_met = crew.sweeps.is_met_by(self.worker, self.sweep);
+        if !has_met || !self.queue.is_empty() || self.listening.is_waiting() {
+            return 0;
+        }
+        if self.guest.is_some() {
+            return BRIEF;
+        }
+        let look = if self.links.is_empty() && self.news == NO_NEWS {
+            self.now.saturating_add(LONG)
+        } else {
+            self.look
+        };
+        let until = self.listening.until(self.parking.until(look));
+        until.saturating_sub(self.now).max(BRIEF)
     }
 
     /// Asks the poll what is to be told, and waits for it where there is nothing else to do. False where the poll has failed.
-    pub(crate) fn wait(&mut self) -> bool {
+    pub(crate) fn wait(&mut self, crew: &Crew) -> bool {
         self.turns = 0;
-        let patience = self.patience();
-        self.ask(patience)
+        let begins = self.left == 0;
+        if begins {
+            // All is told that the poll knew of when it answered: so of the sweep that had begun before.
+            if !self.links.is_empty() {
+                crew.sweeps.meet(self.worker, self.sweep);
+            }
+            self.sweep = crew.sweeps.last();
+        }
+        if !self.ask(self.patience(crew)) {
+            return false;
+        }
+        if begins {
+            let is_all = self.events.iter().len() < EVENTS_MOST || self.ask_for_all();
+            self.left = self.queue.len();
+            return is_all;
+        }
+        true
     }
 
     /// Asks the poll, which may wait for so many milliseconds, and notes what it reports. False where it has failed.
@@ -242,27 +431,19 @@ impl Sockets {
     fn take_events(&mut self) {
         for event in &self.events {
             let token = event.token();
-            if token == WAKE {
-                self.look = 0;
-            } else if let Some(held) = self.links.get_mut(token.0) {
+            if let Some(held) = self.links.get_mut(token.0) {
                 held.report(&mut self.queue, token.0);
             } else {
-                for listener in &mut self.listeners {
-                    if listener.has_token(token) {
-                        listener.is_reported();
-                    }
-                }
+                self.listening.report(token);
             }
         }
     }
 
     /// The poll has answered, and this is the time. Whether a look is due.
-    pub(crate) fn pass(&mut self, now: u64) -> bool {
+    pub(crate) fn pass(&mut self, crew: &Crew, now: u64) -> bool {
         self.now = now;
-        let registry = self.poll.registry();
-        for listener in &mut self.listeners {
-            listener.come_back(registry, now);
-        }
+        let is_on = crew.shifts.is_on(self.worker);
+        self.listening.pass(self.poll.registry(), now, is_on);
         now >= self.look
     }
 
@@ -287,7 +468,7 @@ impl Sockets {
     /// Has the poll report all that there is, without waiting. It tells what came first before what came later, so as many answers
     /// as hold one report of each that is watched are enough. False where it has failed.
     fn ask_for_all(&mut self) -> bool {
-        let watched = self.links.len().saturating_add(self.listeners.len());
+        let watched = self.links.len().saturating_add(self.listening.len());
         for _ in 0..watched / EVENTS_MOST + 1 {
             if !self.ask(0) {
                 return false;
@@ -298,10 +479,4 @@ impl Sockets {
         }
         true
     }
-}
-
-/// The place behind this one of so many: the first one behind the last one.
-fn next_place(place: usize, count: usize) -> usize {
-    let next = place.saturating_add(1);
-    if next < count { next } else { 0 }
 }

@@ -1,20 +1,18 @@
 //! The threads of a daemon: each worker in one of its own, and the calling one beside them.
-ghost use Rattle.std.specs.Prelude.{◌≡◌, vec_len, length, IfOk};
+ghost use Rattle.std.specs.Prelude.{◌≡◌, vec_len, IfOk};
 ghost use Rattle.portmap_book.specs.declared.desk.TheConstants.{PARTS};
 
+use crate::crew::Crew;
 use crate::running::RunFault;
 use crate::sealing::{Sealing, seal_all};
-use crate::shortage::Found;
 use crate::socket_source::SocketSource;
-use crate::sockets::{News, Sockets};
+use crate::sockets::Sockets;
 use crate::{Gate, serve};
-use mio::Waker;
 use portmap_book::{Book, Desk, Seat};
-use portmap_link::{NoMemory, Output};
+use portmap_link::Output;
 use std::alloc::Global;
 use std::rt::Clock;
 use std::sync::Wait;
-use std::sync::atomic::{AtomicBool, AtomicU64, Ordering};
 use std::sync::ledger::{Blank, Ledger};
 use std::thread;
 use std::thread::Threads;
@@ -22,94 +20,6 @@ use std::thread::Threads;
 /// How many bytes a thread asks for as it starts: the C library gives it a heap of its own then, which it could not have once
 /// memory is short.
 const FIRST: usize = 64;
-
-/// What ends the waits of the threads.
-#[derive(Drop)]
-pub(crate) struct Wakers {
-    pub(crate) workers: Vec<Waker>,
-    /// That of the thread that takes out the log.
-    pub(crate) sealer: Waker,
-}
-
-impl Wakers {
-    /// Has every worker look whether the port mapper has ended.
-    pub(crate) fn wake_workers(&self) {
-        for waker in &self.workers {
-            let _ = waker.wake();
-        }
-    }
-}
-
-/// What threads tell each other.
-#[derive(Drop)]
-pub(crate) struct Flags {
-    /// How many workers have not ended.
-    running: AtomicU64,
-    /// Readiness of sockets can no longer be had.
-    failed: AtomicBool,
-    /// Nothing gets through any more for want of memory.
-    starved: AtomicBool,
-    /// A peer was answered since the last look.
-    answered: AtomicBool,
-    /// A connection has ended since then on which no answer was written.
-    unanswered: AtomicBool,
-}
-
-impl Flags {
-    fn new() -> Flags {
-        Flags {
-            running: AtomicU64::new(0),
-            failed: AtomicBool::new(false),
-            starved: AtomicBool::new(false),
-            answered: AtomicBool::new(false),
-            unanswered: AtomicBool::new(false),
-        }
-    }
-
-    /// A poll has failed.
-    pub(crate) fn fail(&self) {
-        self.failed.store(true, Ordering::SeqCst);
-    }
-
-    /// Whether a poll has failed.
-    fn have_failed(&self) -> bool {
-        self.failed.load(Ordering::SeqCst)
-    }
-
-    /// Nothing gets through any more for want of memory.
-    pub(crate) fn starve(&self) {
-        self.starved.store(true, Ordering::SeqCst);
-    }
-
-    /// Whether workers are to end for want of memory.
-    pub(crate) fn are_starved(&self) -> bool {
-        self.starved.load(Ordering::SeqCst)
-    }
-
-    /// Whether every worker has ended.
-    pub(crate) fn are_done(&self) -> bool {
-        self.running.load(Ordering::SeqCst) == 0
-    }
-
-    /// Notes what a worker knows of its peers since it was last asked.
-    pub(crate) fn note(&self, news: News) {
-        if news.answered {
-            self.answered.store(true, Ordering::SeqCst);
-        }
-        if news.unanswered {
-            self.unanswered.store(true, Ordering::SeqCst);
-        }
-    }
-
-    /// What was noted since the last look, and whether the log is stuck.
-    pub(crate) fn found(&self, stuck: bool) -> Found {
-        Found {
-            stuck,
-            answered: self.answered.swap(false, Ordering::SeqCst),
-            unanswered: self.unanswered.swap(false, Ordering::SeqCst),
-        }
-    }
-}
 
 /// What one worker begins with.
 #[derive(Drop)]
@@ -125,9 +35,7 @@ fn jobs_of<L: Ledger, R: Wait>(
     alloc: Global,
     desk: &Desk<L>,
     sockets: Vec<Sockets>,
-) -> Result<Vec<Job<L>>, RunFault>
-    ensures { IfOk result (λ jobs. vec_len jobs ≡ vec_len sockets) }
-{
+) -> Result<Vec<Job<L>>, RunFault> {
     let mut jobs = Vec::new(alloc);
     let mut number = 0u32;
     for sockets in sockets {
@@ -149,11 +57,8 @@ fn jobs_of<L: Ledger, R: Wait>(
 #[derive(Drop)]
 struct Shared<'a, L: Ledger, G: Gate> {
     desk: &'a Desk<L>,
-    wakers: &'a Wakers,
-    flags: &'a Flags,
+    crew: &'a Crew,
     gate: &'a G,
-    /// How many acts each worker made, once it has ended.
-    served: &'a [AtomicU64],
 }
 
 /// Serves as one worker, until the port mapper has ended or nothing more can be served.
@@ -169,35 +74,13 @@ fn work_as<L: Ledger, G: Gate, R: Wait + Clock>(
         seat,
         sockets,
     } = job;
-    let source = SocketSource::new(sockets, rt, shared.flags, &shared.wakers.sealer);
+    let source = SocketSource::new(rt, shared.desk, shared.crew, sockets);
     let outcome = serve(rt, alloc, shared.desk, seat, number, source, shared.gate);
-    if let Some(served) = shared.served.get((number as usize).saturating_sub(1)) {
-        served.store(outcome.served, Ordering::SeqCst);
-    }
-    shared.wakers.wake_workers();
-    shared.flags.running.fetch_sub(1, Ordering::SeqCst);
-    let _ = shared.wakers.sealer.wake();
-}
-
-/// A count for each of so many workers.
-fn zeros(alloc: Global, workers: usize) -> Result<Vec<AtomicU64>, NoMemory>
-    ensures { IfOk result (λ counts. vec_len counts ≡ workers) }
-{
-    let mut counts = Vec::new(alloc);
-    for _ in 0..workers {
-        counts.push(AtomicU64::new(0))?;
-    }
-    Ok(counts)
-}
-
-/// How many acts each worker made.
-fn counts_of(alloc: Global, served: &[AtomicU64]) -> Result<Vec<u64>, NoMemory>
-    ensures { IfOk result (λ counts. vec_len counts ≡ length served.now) }
-{
-    served
-        .iter()
-        .map(|count| count.load(Ordering::SeqCst))
-        .collect(alloc)
+    shared
+        .crew
+        .count((number as usize).saturating_sub(1), outcome.served);
+    shared.crew.end_one();
+    shared.crew.end_all();
 }
 
 /// Has each worker serve in a thread of its own, as far as threads can be started, while this thread takes out the log. Whether
@@ -217,18 +100,30 @@ fn work_all<
     thread::scope(thread::scope_env(), rt, |scope| {
         let mut started = false;
         for job in jobs {
-            shared.flags.running.fetch_add(1, Ordering::SeqCst);
+            shared.crew.begin_one();
             if scope.spawn(move || work_as(rt, alloc, shared, job)).is_ok() {
                 started = true;
             } else {
-                shared.flags.running.fetch_sub(1, Ordering::SeqCst);
+                shared.crew.end_one();
             }
         }
         if !started {
             return None;
         }
-        Some(seal_all(rt, alloc, shared.desk, sealing, shared.flags, shared.wakers))
+        Some(seal_all(rt, alloc, shared.desk, sealing, shared.crew))
     })
+}
+
+/// How many acts each worker made, and whether all of the log was recorded, where the daemon has ended as it was told to.
+fn ended(alloc: Global, crew: &Crew, is_whole: Option<bool>) -> Result<(Vec<u64>, bool), RunFault>
+    ensures { IfOk result (λ ended. vec_len ended.0 ≡ vec_len crew.now.served) }
+{
+    match is_whole {
+        Some(_) if crew.are_starved() => Err(RunFault::NoMemory),
+        Some(_) if crew.have_failed() => Err(RunFault::Poll),
+        Some(is_whole) => Ok((crew.counts(alloc)?, is_whole)),
+        None => Err(RunFault::NoMemory),
+    }
 }
 
 /// Has each worker serve at one desk over the book, in a thread of its own, while this thread takes out the log. How many acts
@@ -244,34 +139,40 @@ pub(crate) fn work<
     blank: Blank,
     book: Book,
     sockets: Vec<Sockets>,
-    wakers: &Wakers,
+    crew: &Crew,
     sealing: Sealing<W>,
     gate: &G,
 ) -> Result<(Vec<u64>, bool), RunFault>
     requires name { blank.name ≡ L.name }
     requires parts { blank.parts ≡ L.parts }
     requires enough { blank.parts ≡ PARTS }
-    ensures { IfOk result (λ ended. vec_len ended.0 ≡ vec_len sockets) }
+    ensures { IfOk result (λ ended. vec_len ended.0 ≡ vec_len crew.now.served) }
 {
-    let served = zeros(alloc, sockets.len())?;
     let desk: Desk<L> = Desk::new(blank, book);
-    let jobs = jobs_of(rt, alloc, &desk, sockets)?;
-    let flags = Flags::new();
     let shared = Shared {
         desk: &desk,
-        wakers,
-        flags: &flags,
+        crew,
         gate,
-        served: served.as_slice(),
     };
-    let Some(is_whole) = work_all(rt, alloc, &shared, jobs, sealing) else {
-        return Err(RunFault::NoMemory);
-    };
-    if flags.are_starved() {
-        return Err(RunFault::NoMemory);
-    }
-    if flags.have_failed() {
-        return Err(RunFault::Poll);
-    }
-    Ok((counts_of(alloc, &served)?, is_whole))
+    work_at(rt, alloc, &shared, sockets, sealing)
+}
+
+/// The same, at a desk that is there.
+fn work_at<
+    L: Ledger + Send + Sync,
+    G: Gate + Sync,
+    W: Output + Drop,
+    R: Threads + Wait + Clock + Sync,
+>(
+    rt: &R,
+    alloc: Global,
+    shared: &Shared<'_, L, G>,
+    sockets: Vec<Sockets>,
+    sealing: Sealing<W>,
+) -> Result<(Vec<u64>, bool), RunFault>
+    ensures { IfOk result (λ ended. vec_len ended.0 ≡ vec_len shared.now.crew.now.served) }
+{
+    let jobs = jobs_of(rt, alloc, shared.desk, sockets)?;
+    let is_whole = work_all(rt, alloc, shared, jobs, sealing);
+    ended(alloc, shared.crew, is_whole)
 }

@@ -64,7 +64,7 @@ pub fn comes_to<R: Clock>(rt: &R, number: &AtomicU64, wanted: u64) -> bool {
     false
 }
 
-/// A runtime whose clock can be pushed forward, and that has a door before each reading of it. It makes no files.
+/// A runtime whose clock can be pushed forward and can stand, and that has a door before each reading of it. It makes no files.
 #[derive(Drop)]
 pub struct Pushed<R: Clock> {
     rt: R,
@@ -77,6 +77,8 @@ pub struct Pushing<R: Clock> {
     pub door: Door<R>,
     /// By how many seconds it was pushed.
     seconds: AtomicU64,
+    /// 1 while it stands: it shows only by how much it was pushed.
+    stands: AtomicU64,
 }
 
 impl<R: Clock + Copy> Pushed<R> {
@@ -84,6 +86,7 @@ impl<R: Clock + Copy> Pushed<R> {
         let pushing = Pushing {
             door: Door::new(rt),
             seconds: AtomicU64::new(0),
+            stands: AtomicU64::new(0),
         };
         let shared = Arc::new(alloc, pushing)?;
         Ok(Pushed { rt, shared })
@@ -96,6 +99,11 @@ impl<R: Clock + Copy> Pushed<R> {
 }
 
 impl<R: Clock> Pushing<R> {
+    /// Has the clock stand, at a time before all that it has shown, unless it is pushed.
+    pub fn stand(&self) {
+        self.stands.store(1, Ordering::SeqCst);
+    }
+
     /// Pushes the clock forward by so many seconds.
     pub fn push(&self, seconds: u64) {
         self.seconds.fetch_add(seconds, Ordering::SeqCst);
@@ -115,6 +123,9 @@ impl<R: Clock> Clock for Pushed<R> {
     fn monotonic(&self) -> io::Result<Duration> {
         self.shared.door.pass();
         let pushed = Duration::from_secs(self.shared.seconds.load(Ordering::SeqCst));
+        if self.shared.stands.load(Ordering::SeqCst) == 1 {
+            return Ok(pushed);
+        }
         Ok(self.rt.monotonic()?.saturating_add(pushed))
     }
 

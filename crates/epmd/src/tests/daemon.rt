@@ -68,7 +68,7 @@ pub fn connect<R: Net<Stream = TcpStream> + Clock>(rt: &R, port: u16) -> Option<
 }
 
 /// A connection over which this was sent.
-fn sent<R: Net<Stream = TcpStream> + Clock>(
+pub fn sent<R: Net<Stream = TcpStream> + Clock>(
     rt: &R,
     port: u16,
     request: &[u8],
@@ -111,7 +111,7 @@ fn comes_to<R: Net<Stream = TcpStream> + Clock>(
 }
 
 /// The connection of a node that is registered as `a`.
-fn registered<R: Net<Stream = TcpStream> + Clock>(rt: &R, port: u16) -> Option<TcpStream> {
+pub fn registered<R: Net<Stream = TcpStream> + Clock>(rt: &R, port: u16) -> Option<TcpStream> {
     let mut stream = sent(rt, port, ALIVE_A)?;
     let mut reply = [0; 6];
     stream.read_exact(&mut reply).ok()?;

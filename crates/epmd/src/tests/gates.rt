@@ -50,7 +50,7 @@ impl<'a, R: Clock> Meet<'a, R> {
             if self.others.load(Ordering::SeqCst) > 0 {
                 return true;
             }
-            if look % 1000 == 999 {
+            if look % 100 == 99 {
                 thread::sleep(self.rt, Duration::from_millis(1));
             } else {
                 thread::yield_now();

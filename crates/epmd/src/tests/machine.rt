@@ -3,6 +3,7 @@ mod chance;
 mod connections;
 mod large_values;
 mod locality;
+mod registering;
 mod requests;
 mod runs;
 mod state;

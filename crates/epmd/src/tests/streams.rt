@@ -97,3 +97,29 @@ impl Read for Interrupted {
         }
     }
 }
+
+/// A stream that gives these bytes, as many as there is room for, and takes all. Perhaps it fails in this way first.
+#[derive(Drop)]
+pub struct Giving<'a> {
+    pub first: Option<ErrorKind>,
+    pub bytes: &'a [u8],
+}
+
+impl Read for Giving<'_> {
+    fn read(&mut self, buffer: &mut [u8]) -> io::Result<usize> {
+        match self.first.take() {
+            Some(kind) => Err(io::Error::from(kind)),
+            None => self.bytes.read(buffer),
+        }
+    }
+}
+
+impl Write for Giving<'_> {
+    fn write(&mut self, bytes: &[u8]) -> io::Result<usize> {
+        Ok(bytes.len())
+    }
+
+    fn flush(&mut self) -> io::Result<()> {
+        Ok(())
+    }
+}

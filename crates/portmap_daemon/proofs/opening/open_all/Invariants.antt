@@ -2,5 +2,5 @@ use Rattle.std.proofs.Common.{◌≡◌, vec_len}
 use Rattle.portmap_daemon.proofs.opening.open_all.Given as goal
 
 -- one for each so far
-abbrev pub invariant-loop : goal.invariant-loop
-invariant-loop g l = vec_len l.sockets ≡ l.counter
+abbrev pub invariant-loop-worker : goal.invariant-loop-worker
+invariant-loop-worker g l = vec_len l.wakers ≡ l.worker
