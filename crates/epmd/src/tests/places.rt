@@ -7,13 +7,15 @@ use crate::tests::bytes::{FOUND_A, KILL, PORT_A};
 use crate::tests::clocks::{Pushed, Pushing};
 use crate::tests::daemon::{connect, is_answered, registered, settings_at};
 use portmap_core::Config;
-use portmap_daemon::{Settings, run};
+use portmap_daemon::{MakesFiles, Settings, run};
 use std::alloc::Global;
 use std::io::Read;
 use std::net::{Net, TcpStream};
 use std::rt::Clock;
+use std::sync::Wait;
 use std::test::Fail;
 use std::thread;
+use std::thread::Threads;
 
 /// By how many seconds the clock is pushed forward at once: by more than a connection is left alone for.
 const PUSH: u64 = 2;
@@ -30,6 +32,16 @@ fn settings_of_two(alloc: Global, port: u16) -> Result<Settings, Fail>
     let mut settings = settings_at(alloc, port, 60, 1, None)?;
     settings.config = Config::new(port, true, 2, 4096)?;
     Ok(settings)
+}
+
+/// Whether a daemon at this port that has places for two connections ends well.
+fn serves<R: Net + MakesFiles + Threads + Wait + Clock + Clone + Drop + Send + Sync + 'static>(
+    rt: &R,
+    alloc: Global,
+    port: u16,
+) -> Result<bool, Fail> {
+    let settings = settings_of_two(alloc, port)?;
+    Ok(run(rt, alloc, settings).is_ok())
 }
 
 /// Whether the name is found once the clock was pushed often enough.
@@ -64,16 +76,15 @@ fn makes_room<R: Net<Stream = TcpStream> + Clock>(
 #[test]
 fn a_connection_that_says_nothing_makes_room_for_others(rt: HostRuntime) -> Result<(), Fail> {
     let clock = Pushed::new(rt, rt.alloc())?;
-    let settings = settings_of_two(rt.alloc(), 14_440)?;
     let (ended, told) = thread::join(
         &rt,
-        || run(&clock, rt.alloc(), settings),
+        || serves(&clock, rt.alloc(), 14_440),
         || {
             let makes_room = makes_room(&rt, 14_440, clock.pushing());
             (makes_room, is_answered(&rt, 14_440, KILL, b"OK"))
         },
     );
     assert_eq!(rt; told, (Some(true), Some(true)));
-    assert!(rt; ended.is_ok());
+    assert!(rt; ended?);
     Ok(())
 }

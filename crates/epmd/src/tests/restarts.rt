@@ -1,14 +1,19 @@
 //! Names that are registered anew as their connections end, and those that stay, over sockets of this host.
+ghost use Rattle.std.specs.Prelude.{◌≤◌};
+ghost use Rattle.portmap_book.specs.declared.desk.TheConstants.{SEATS_MOST};
+
 use crate::tests::bytes::{ALIVE_A, FOUND_A, KILL, NAMES, PORT_A, TAKEN};
 use crate::tests::clocks::{Door, Pushed, Pushing};
 use crate::tests::daemon::{is_answered, registered, sent, settings_at};
-use portmap_daemon::{Gate, Point, RunEnd, RunFault, run, run_gated};
+use portmap_daemon::{Gate, MakesFiles, Open, Point, run_gated};
 use std::alloc::Global;
 use std::io::Read;
 use std::net::{Net, TcpStream};
 use std::rt::Clock;
+use std::sync::Wait;
 use std::test::Fail;
 use std::thread;
+use std::thread::Threads;
 
 /// A gate that has a door before each answer is written.
 #[derive(Drop)]
@@ -65,29 +70,34 @@ fn ends<R: Net<Stream = TcpStream> + Clock>(rt: &R, port: u16) -> bool {
     is_answered(rt, port, KILL, b"OK") == Some(true)
 }
 
-/// Whether a daemon has ended well.
-fn is_well(ended: &Result<RunEnd, RunFault>) -> bool {
-    ended.is_ok()
+/// Whether a daemon at this port, whose workers pass the gate, ends well.
+fn serves<
+    G: Gate + Sync,
+    R: Net + MakesFiles + Threads + Wait + Clock + Clone + Drop + Send + Sync + 'static,
+>(rt: &R, alloc: Global, port: u16, workers: u32, gate: &G) -> Result<bool, Fail>
+    requires { (1 ≤ workers) × (workers ≤ SEATS_MOST) }
+{
+    let settings = settings_at(alloc, port, 60, workers, None)?;
+    Ok(run_gated(rt, alloc, settings, gate).is_ok())
 }
 
 #[test]
 fn a_name_whose_connection_has_ended_is_free_for_a_request_behind_it(
     rt: HostRuntime,
 ) -> Result<(), Fail> {
-    let settings = settings_at(rt.alloc(), 14_430, 60, 1, None)?;
     let gate = Guarded {
         door: Door::new(rt),
     };
     let (ended, granted) = thread::join(
         &rt,
-        || run_gated(&rt, rt.alloc(), settings, &gate),
+        || serves(&rt, rt.alloc(), 14_430, 1, &gate),
         || {
             let granted = is_granted_anew(&rt, 14_430, &gate.door);
             (granted, ends(&rt, 14_430))
         },
     );
     assert_eq!(rt; granted, (Some(true), true));
-    assert!(rt; is_well(&ended));
+    assert!(rt; ended?);
     Ok(())
 }
 
@@ -128,12 +138,11 @@ fn is_refused_late<R: Net<Stream = TcpStream> + Clock>(
 fn a_name_whose_connection_ends_late_is_free_for_a_request_before_it(
     rt: HostRuntime,
 ) -> Result<(), Fail> {
-    let settings = settings_at(rt.alloc(), 14_432, 60, 1, None)?;
     let clock = Pushed::new(rt, rt.alloc())?;
     clock.pushing().stand();
     let (ended, granted) = thread::join(
         &rt,
-        || run(&clock, rt.alloc(), settings),
+        || serves(&clock, rt.alloc(), 14_432, 1, &Open),
         || {
             let granted = is_granted_late(&rt, 14_432);
             let refused = is_refused_late(&rt, 14_432, clock.pushing());
@@ -141,7 +150,7 @@ fn a_name_whose_connection_ends_late_is_free_for_a_request_before_it(
         },
     );
     assert_eq!(rt; granted, (Some(true), Some(true), true));
-    assert!(rt; is_well(&ended));
+    assert!(rt; ended?);
     Ok(())
 }
 
@@ -168,16 +177,15 @@ fn refused<R: Net<Stream = TcpStream> + Clock>(rt: &R, alloc: Global, port: u16)
 
 #[test]
 fn a_name_that_stays_is_refused_to_all_others(rt: HostRuntime) -> Result<(), Fail> {
-    let settings = settings_at(rt.alloc(), 14_431, 60, 2, None)?;
     let (ended, refused) = thread::join(
         &rt,
-        || run(&rt, rt.alloc(), settings),
+        || serves(&rt, rt.alloc(), 14_431, 2, &Open),
         || {
             let refused = refused(&rt, rt.alloc(), 14_431);
             (refused, ends(&rt, 14_431))
         },
     );
     assert_eq!(rt; refused, (Some(DUPLICATES), true));
-    assert!(rt; is_well(&ended));
+    assert!(rt; ended?);
     Ok(())
 }
