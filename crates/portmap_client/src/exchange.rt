@@ -1,8 +1,9 @@
 //! One request out, and its answer in.
-ghost use Rattle.std.specs.Prelude.{◌≡◌, ◌≢◌, ℕ, ◌+◌, ◌<◌, ◌≤◌, true, List, ◌++◌, length, Err, IfErr};
+ghost use Rattle.std.specs.Prelude.{◌≡◌, ◌≢◌, ℕ, ◌+◌, ◌^◌, ◌<◌, ◌≤◌, true, List, ◌++◌, length, Err, IfErr};
 ghost use Rattle.std.specs.Io.KnownBytes.{Keeps};
 ghost use Rattle.portmap_client.specs.Exchange.{view, Answers, Exchanges, IsRead, IsUnfinished, Writes, is_device_fault};
 ghost use Rattle.portmap_client.specs.Laters.{laters, Waits, Waited};
+ghost use Rattle.portmap_client.specs.declared.exchange.TheConstants.{LATERS_MOST, LIST_MOST};
 
 use crate::fault::GivenUp;
 use crate::outcome::{OK, STOPPED};
@@ -18,6 +19,11 @@ const PULL_MOST: usize = 4096;
 
 /// The most bytes of a list.
 pub(crate) const LIST_MOST: usize = 16_777_216;
+
+/// A law: the numbers that definitions take from the code are those of this profile.
+pub fn numbers_are_the_profiles()
+    ensures { (LATERS_MOST ≡ 1000) × (LIST_MOST ≡ 2 ^ 24) }
+{}
 
 /// Which answer is awaited.
 #[derive(Clone, Copy)]

@@ -11,6 +11,7 @@ mod query;
 mod registration;
 
 pub use crate::commands::{kill, stop};
+pub use crate::exchange::numbers_are_the_profiles;
 pub use crate::fault::ClientFault;
 pub use crate::lists::{dump, names};
 pub use crate::outcome::{Kill, Stop};

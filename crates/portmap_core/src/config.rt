@@ -1,11 +1,17 @@
 //! What a port mapper is set to.
 ghost use Rattle.std.specs.Prelude.{◌≡◌, IfOk, IfErr, Err};
 ghost use Rattle.portmap_core.specs.Config.{configured, IsConfiguration};
+ghost use Rattle.portmap_core.specs.declared.config.TheConstants.{LIMIT_MOST};
 
 use std::marker::Model;
 
 /// The most that a limit may be.
 pub const LIMIT_MOST: u32 = 65_535;
+
+/// A law: the numbers that definitions take from the code are those of this profile.
+pub fn numbers_are_the_profiles()
+    ensures { LIMIT_MOST ≡ 65535 }
+{}
 
 /// Why these limits are none.
 #[derive(Clone, Copy, Debug, PartialEq, Eq)]

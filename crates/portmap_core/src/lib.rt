@@ -9,11 +9,12 @@ mod judge;
 mod laws;
 mod locality;
 mod machine;
+mod past;
 mod registering;
 mod serve;
 mod state;
 
-pub use config::{Config, ConfigFault, LIMIT_MOST};
+pub use config::{Config, ConfigFault, LIMIT_MOST, numbers_are_the_profiles};
 pub use connections::Phase;
 pub use event::{Answer, Entry, Event, Fate, Refusal};
 pub use laws::{
@@ -22,6 +23,7 @@ pub use laws::{
 };
 pub use locality::{Ip, is_local};
 pub use machine::Core;
+pub use past::Past;
 pub use portmap_wire::{Name, NoMemory};
 pub use registering::name_to_register;
 pub use state::State;

@@ -101,6 +101,10 @@ next_of (Refused refusal.NoMemory) = NoMemory
 abbrev pub Refuses : Next → Devices → Devices → Type 0
 Refuses next old new = (n : ℕ) × (fault : ActFault) × Pulls (pull.Piece n) old new × (next ≡ next_of fault)
 
+-- what waits was offered first: nothing of it is left, or the last put said Later
+abbrev pub OffersFirst : Devices → Devices → List ℕ → Type 0
+OffersFirst old new waiting = WritingEnds flush.Empty old.puts new.puts waiting ⊎ WritingEnds flush.Later old.puts new.puts waiting
+
 -- what is next, where nothing was told, by whether a close was due
 abbrev pub FollowsNothing : Bool → Devices → Devices → List ℕ → Next → Type 0
 FollowsNothing true old new waiting Keep = PullsNothing old new × WritingEnds flush.Later old.puts new.puts waiting
@@ -108,8 +112,8 @@ FollowsNothing true old new waiting Close = PullsNothing old new × WritingEnds 
 FollowsNothing true old new waiting Fault = PullsNothing old new × WritingEnds flush.Fault old.puts new.puts waiting
 FollowsNothing true old new waiting Halt = ⊥
 FollowsNothing true old new waiting NoMemory = ⊥
-FollowsNothing false old new waiting Keep = Pulls pull.Later old new
-FollowsNothing false old new waiting Close = Pulls pull.End old new ⊎ Refuses Close old new
-FollowsNothing false old new waiting Fault = (PullsNothing old new × WritingEnds flush.Fault old.puts new.puts waiting) ⊎ Pulls pull.Fault old new
-FollowsNothing false old new waiting Halt = Refuses Halt old new
-FollowsNothing false old new waiting NoMemory = Refuses NoMemory old new
+FollowsNothing false old new waiting Keep = OffersFirst old new waiting × Pulls pull.Later old new
+FollowsNothing false old new waiting Close = OffersFirst old new waiting × (Pulls pull.End old new ⊎ Refuses Close old new)
+FollowsNothing false old new waiting Fault = (PullsNothing old new × WritingEnds flush.Fault old.puts new.puts waiting) ⊎ (OffersFirst old new waiting × Pulls pull.Fault old new)
+FollowsNothing false old new waiting Halt = OffersFirst old new waiting × Refuses Halt old new
+FollowsNothing false old new waiting NoMemory = OffersFirst old new waiting × Refuses NoMemory old new

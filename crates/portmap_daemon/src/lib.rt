@@ -7,6 +7,7 @@ mod gate;
 mod held_link;
 mod listener;
 mod listening;
+mod numbers;
 mod opening;
 mod parking;
 mod peer;
@@ -29,6 +30,7 @@ mod working;
 
 pub use crate::carrier::{Carrier, Next, PULL_MOST};
 pub use crate::gate::{Gate, Open, Point};
+pub use crate::numbers::numbers_are_the_profiles;
 pub use crate::peer::is_local_peer;
 pub use crate::recorder::{Recorder, recordings_are_fronts, recordings_are_records};
 pub use crate::recording::MakesFiles;

@@ -67,13 +67,6 @@ awaited_decided n behind decided =
           ]
     ]
 
--- only a known length decides
-pub known_decided : (held : List ℕ) → first_request held ≢ More → 2 ≤ length held
-unfolding first_request
-known_decided [] decided = absurd (decided refl)
-known_decided (high ∷ []) decided = absurd (decided refl)
-known_decided (high ∷ low ∷ behind) decided = omega arith
-
 -- once the request is decided, its room is full
 pub room_decided : (held piece : List ℕ) → first_request held ≢ More → room (held ++ piece) ≤ length held
 unfolding first_request room

@@ -193,8 +193,8 @@ impl Feed {
         // Once the request is whole or its length is bad, a push changes nothing.
         ensures settled { first_request self.old ≢ More → self.new ≡ self.old }
 
-        // Such a push takes no memory, nor does one of an empty piece.
-        ensures decided { first_request self.old ≢ More → IsOk result }
+        // Once the length is known a push takes no memory, nor does one of an empty piece.
+        ensures known { 2 ≤ length self.old → IsOk result }
         ensures empty { piece.now ≡ [] → IsOk result }
     {
         take_room(&mut self.bytes, piece)?;

@@ -4,12 +4,10 @@
 mod adapters;
 mod device;
 mod outbox;
-mod past;
 mod single;
 
 pub use crate::adapters::{Both, Reading, Writing};
 pub use crate::device::{Device, Input, Output, Pull, Put};
 pub use crate::outbox::{Flush, Outbox, send};
-pub use crate::past::Past;
-pub use crate::single::{OnceFault, once, tell};
-pub use portmap_core::NoMemory;
+pub use crate::single::{OnceFault, numbers_are_the_profiles, once, tell};
+pub use portmap_core::{NoMemory, Past};

@@ -12,7 +12,7 @@ use Rattle.std.proofs.lemmas.Map.Keys.{IsDistinct-IsPermutation, IsDistinct-head
 use Rattle.std.proofs.lemmas.Option.{slice_get_within, slice_get-get_or, get_or_from_slice_get}
 use Rattle.portmap_table.specs.declared.row.Row.{Row}
 use Rattle.portmap_table.specs.Rows.{name_of, RetiredName, Names, same_name, is_active, active_row, retired_row, without_at, old_name, retired_of, retired_at, retired_last}
-use Rattle.portmap_table.specs.Laws.{row_of, RegisteredNamesAreActive, NamesOutliveConnections, OthersStayAtRegistration, OthersStayAtRetirement, RegisteredNamesStandLast, RetiredNamesStandLast}
+use Rattle.portmap_table.specs.Laws.{row_of, RegisteredNamesAreActive, NamesOutliveConnections, OthersStayAtRegistration, OthersStayAtRetirement, RegisteredNamesStandLast, RetiredNamesStandLast, RetiredNamesStay}
 use Rattle.portmap_table.proofs.Distinct.{keys_moved}
 use Rattle.portmap_table.proofs.Finding.{is_none, find-push, find-push_other, find-remove, find-differs, position-find, first_part, second_part}
 use Rattle.portmap_table.proofs.Kept.{has_name, had_name, old_name_of}
@@ -81,8 +81,10 @@ others_stay_at_retirement names slot row other e differs =
 -- ---- the order
 
 pub registered_names_stand_last : RegisteredNamesStandLast
-registered_names_stand_last names reg creation slot =
-    take_at names.active (record { reg = reg; creation = creation; slot = slot } ∷ []) (length names.active) refl
+registered_names_stand_last names reg creation slot = refl
+
+pub retired_names_stand_last : RetiredNamesStandLast
+retired_names_stand_last names slot row e = ap (λ (left : Names). left.retired) (leaves names slot row e).after
 
 retired_last_stands_last : (names : Names) (at : ℕ) (o : Option Row) → take (length names.retired) (retired_last at o names).retired ≡ names.retired
 retired_last_stands_last names at None = take_all (length names.retired) names.retired (omega arith)
@@ -92,5 +94,5 @@ retired_at_stands_last : (names : Names) (o : Option ℕ) → take (length names
 retired_at_stands_last names None = take_all (length names.retired) names.retired (omega arith)
 retired_at_stands_last names (Some at) = retired_last_stands_last names at (slice_get names.active at)
 
-pub retired_names_stand_last : RetiredNamesStandLast
-retired_names_stand_last names slot = retired_at_stands_last names (position (λ (row : Row). row.slot == slot) names.active)
+pub retired_names_stay : RetiredNamesStay
+retired_names_stay names slot = retired_at_stands_last names (position (λ (row : Row). row.slot == slot) names.active)

@@ -1,5 +1,5 @@
 -- What a registration and a retirement do to each name.
-use Rattle.std.specs.Prelude.{◌≡◌, ℕ, false, List, length, take, Option, Some, find, ◌==◌}
+use Rattle.std.specs.Prelude.{◌≡◌, ℕ, false, List, [], ◌∷◌, ◌++◌, length, take, Option, Some, find, ◌==◌}
 use Rattle.portmap_wire.specs.Node.{Node}
 use Rattle.portmap_table.specs.declared.row.Row.{Row}
 use Rattle.portmap_table.specs.Rows.{Names, AreKept, same_name, is_active, active_row, retired_row, registered, retired_of, old_name}
@@ -31,10 +31,13 @@ abbrev pub OthersStayAtRetirement : Type 0
 OthersStayAtRetirement = (names : Names) (slot : ℕ) (row : Row) (other : List ℕ) → row_of slot names ≡ Some row → same_name row.reg.name other ≡ false
     → KnowsAlike other names (retired_of slot names)
 
--- the newest stand last: those that stood there stay where they are
+-- the newest stand last, and those that stood there stay where they are
 abbrev pub RegisteredNamesStandLast : Type 0
 RegisteredNamesStandLast = (names : Names) (reg : Node) (creation slot : ℕ)
-    → take (length names.active) (registered reg creation slot names).active ≡ names.active
+    → (registered reg creation slot names).active ≡ names.active ++ record { reg = reg; creation = creation; slot = slot } ∷ []
 
 abbrev pub RetiredNamesStandLast : Type 0
-RetiredNamesStandLast = (names : Names) (slot : ℕ) → take (length names.retired) (retired_of slot names).retired ≡ names.retired
+RetiredNamesStandLast = (names : Names) (slot : ℕ) (row : Row) → row_of slot names ≡ Some row → (retired_of slot names).retired ≡ names.retired ++ old_name row ∷ []
+
+abbrev pub RetiredNamesStay : Type 0
+RetiredNamesStay = (names : Names) (slot : ℕ) → take (length names.retired) (retired_of slot names).retired ≡ names.retired

@@ -1,5 +1,6 @@
 //! Which creation a node is given.
 ghost use Rattle.std.specs.Prelude.{◌≡◌, ◌↔◌, IsTrue};
+ghost use Rattle.portmap_table.specs.declared.creation.TheConstants.{COUNTER_LEAST, SHORT_MOST};
 ghost use Rattle.portmap_table.specs.Creation.{IsCounter, IsLegalCreation, IsCreationFor, ChoiceIsLegal, choice, counter_after, short_choice, successor, wide_choice};
 
 use portmap_wire::WIDE_VERSION;
@@ -9,6 +10,11 @@ const SHORT_MOST: u32 = 3;
 
 /// The least number of the counter: the short creations are below it.
 pub(crate) const COUNTER_LEAST: u32 = SHORT_MOST + 1;
+
+/// A law: the numbers that definitions take from the code are those of this profile.
+pub fn numbers_are_the_profiles()
+    ensures { (SHORT_MOST ≡ 3) × (COUNTER_LEAST ≡ 4) }
+{}
 
 fn successor(counter: u32) -> u32
     ensures { result ≡ successor counter }

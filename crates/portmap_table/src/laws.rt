@@ -1,5 +1,5 @@
 //! What registering and retiring do to each name.
-ghost use Rattle.portmap_table.specs.Laws.{NamesOutliveConnections, OthersStayAtRegistration, OthersStayAtRetirement, RegisteredNamesAreActive, RegisteredNamesStandLast, RetiredNamesStandLast};
+ghost use Rattle.portmap_table.specs.Laws.{NamesOutliveConnections, OthersStayAtRegistration, OthersStayAtRetirement, RegisteredNamesAreActive, RegisteredNamesStandLast, RetiredNamesStandLast, RetiredNamesStay};
 
 /// A name that registers is active. When its connection is lost it is so no more, and its port and its creation are
 /// remembered.
@@ -18,4 +18,5 @@ pub fn other_names_stay()
 pub fn newest_names_stand_last()
     ensures registered { RegisteredNamesStandLast }
     ensures retired { RetiredNamesStandLast }
+    ensures stay { RetiredNamesStay }
 {}

@@ -12,7 +12,7 @@ mod row;
 mod row_map;
 mod table;
 
-pub use creation::{choice_is_legal, is_legal};
+pub use creation::{choice_is_legal, is_legal, numbers_are_the_profiles};
 pub use known::Known;
 pub use laws::{names_outlive_connections, newest_names_stand_last, other_names_stay};
 pub use name_map::NameMap;

@@ -7,6 +7,7 @@ mod list;
 mod list_reading;
 mod list_writing;
 mod name;
+mod numbers;
 mod registration;
 mod reply_reading;
 mod reply_writing;
@@ -21,6 +22,7 @@ pub use list_reading::{
 };
 pub use list_writing::{ListReply, write_dump, write_names};
 pub use name::{NAME_MOST, Name, NameFault};
+pub use numbers::numbers_are_the_protocols;
 pub use registration::{ExtraFault, Reg};
 pub use reply_reading::{
     AliveReply, ReplyFault, alive_missing, alives_are_read_back, look_ups_are_read_back,

@@ -13,6 +13,7 @@ returns-in-Ok-clause-told g c = (
       (read_between _ _ _ _ _ c.flush.ensures.left c.in-Piece.ensures.bytes.2 c.reply-next.ensures.left)
       (c.reply-next.ensures.pulls ∙ c.in-Piece.ensures.noted ∙ ap (λ (t : List Pull). t ++ Piece c.in-Piece.n ∷ []) c.flush.ensures.pulls),
   c.in-Ok.ensures.told,
+  c.in-Ok.ensures.asks,
 )
 
 pub returns-in-Ok-clause-written : goal.returns-in-Ok-clause-written

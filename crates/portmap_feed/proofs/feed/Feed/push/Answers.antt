@@ -2,7 +2,7 @@ use Rattle.std.proofs.Common.{◌≡◌, ◌≤◌, List, ℕ, ◌++◌, vec_cap
 use Rattle.portmap_feed.specs.Seen.{seen_of}
 use Rattle.portmap_feed.specs.declared.feed.Seen.TheVariants as seen
 use Rattle.portmap_feed.specs.Stream.{More, first_request, kept, room}
-use Rattle.portmap_feed.proofs.StreamLaws.{kept-append_kept, kept-kept, first_request-kept, kept_more, more_seen, room-kept, known_decided}
+use Rattle.portmap_feed.proofs.StreamLaws.{kept-append_kept, kept-kept, first_request-kept, kept_more, more_seen, room-kept}
 use Rattle.portmap_feed.proofs.feed.Feed.push.Goals as goal
 
 -- the bytes that are held after the push
@@ -37,5 +37,3 @@ returns-clause-more c = λ is_more.
     let seen_more : first_request c.extend_from_slice.new.self.items ≡ More = more_seen _ (sym (answer_now c) ∙ answered) in
     held_now c ∙ kept_more _ (sym (first_request-kept _) ∙ ap first_request (sym (held_now c)) ∙ seen_more)
 
-pub returns-in_err-take_room-clause-decided : goal.returns-in_err-take_room-clause-decided
-returns-in_err-take_room-clause-decided c = search (rules, known_decided)
