@@ -17,6 +17,7 @@ mod nodes;
 mod pauses;
 mod places;
 mod playing;
+mod program;
 mod record;
 mod recorder;
 mod recordings;
