@@ -36,4 +36,3 @@ returns-clause-more c = λ is_more.
     let answered : c.seen_in.result ≡ seen.More = cc in
     let seen_more : first_request c.extend_from_slice.new.self.items ≡ More = more_seen _ (sym (answer_now c) ∙ answered) in
     held_now c ∙ kept_more _ (sym (first_request-kept _) ∙ ap first_request (sym (held_now c)) ∙ seen_more)
-
