@@ -4,6 +4,7 @@
 mod by_slot;
 mod config;
 mod connections;
+mod directory;
 mod event;
 mod judge;
 mod laws;

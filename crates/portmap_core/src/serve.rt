@@ -12,11 +12,13 @@ ghost use Rattle.portmap_core.specs.Next.{CreationFits, IsOffered, Tells, change
 
 use crate::config::Config;
 use crate::connections::Stage;
+use crate::directory::Directory;
 use crate::event::Fate;
 use portmap_feed::{Feed, Seen};
-use portmap_table::{Known, Table};
+use portmap_table::Known;
 use portmap_wire::{
-    ListReply, Malformed, Name, NoMemory, Reg, Request, read_request, write_alive, write_port2,
+    DUMP_LINE_REST, ListReply, Malformed, NAMES_LINE_REST, Name, NoMemory, Reg, Request,
+    read_request, write_alive, write_port2,
 };
 use std::alloc::Global;
 
@@ -45,11 +47,34 @@ pub(crate) fn replied(reply: Vec<u8>) -> Next
     }
 }
 
+/// How many bytes a line for each active name takes at most, where it has so many beside its name.
+fn active_room<N: Known>(names: &N, rest: usize) -> usize {
+    let mut room = 0usize;
+    for i in 0..names.active_len() {
+        if let Some(row) = names.active_at(i) {
+            room = room.saturating_add(row.reg.name.bytes().len().saturating_add(rest));
+        }
+    }
+    room
+}
+
+/// The same of each retired name.
+fn retired_room<N: Known>(names: &N, rest: usize) -> usize {
+    let mut room = 0usize;
+    for i in 0..names.retired_len() {
+        if let Some(old) = names.retired_at(i) {
+            room = room.saturating_add(old.name.bytes().len().saturating_add(rest));
+        }
+    }
+    room
+}
+
 /// NAMES_REQ: a line for each active name, in order of registration.
-fn names_text<N: Known>(alloc: Global, port: u16, names: &N) -> Result<Vec<u8>, NoMemory>
+pub(crate) fn names_text<N: Known>(alloc: Global, port: u16, names: &N) -> Result<Vec<u8>, NoMemory>
     ensures { IfOk result (λ v. v.items ≡ names_reply port (list_map names_line_of (N.names names.now).active)) }
 {
-    let mut reply = ListReply::new(alloc, port)?;
+    let room = active_room(names, NAMES_LINE_REST);
+    let mut reply = ListReply::with_room(alloc, port, room)?;
     for i in 0..names.active_len() {
         let Some(row) = names.active_at(i) else {
             unreachable!()
@@ -105,7 +130,9 @@ fn dump_retired<N: Known>(mut reply: ListReply, names: &N) -> Result<ListReply, 
 fn dump_text<N: Known>(alloc: Global, port: u16, names: &N) -> Result<Vec<u8>, NoMemory>
     ensures { IfOk result (λ v. v.items ≡ dump_reply port (dump_lines (N.names names.now))) }
 {
-    let active = dump_active(ListReply::new(alloc, port)?, names)?;
+    let room = active_room(names, DUMP_LINE_REST);
+    let room = room.saturating_add(retired_room(names, DUMP_LINE_REST));
+    let active = dump_active(ListReply::with_room(alloc, port, room)?, names)?;
     Ok(dump_retired(active, names)?.into_bytes())
 }
 
@@ -199,8 +226,28 @@ pub(crate) fn told<N: Known>(
     }
 }
 
+/// What the machine tells a request, as `told` does: the list of names is the one that was kept, if one was.
+fn told_by(
+    alloc: Global,
+    config: &Config,
+    table: &mut Directory,
+    local: bool,
+    request: &Request,
+    creation: u32,
+) -> Result<Next, NoMemory>
+    requires { CreationFits request.now creation }
+    ensures ok { IfOk result (λ next. (slot : ℕ) → Tells next (served config.now table.old.names local slot request.now creation)) }
+    ensures same { table.new ≡ table.old }
+{
+    match request {
+        Request::Names => Ok(replied(table.names_reply(alloc, config.port)?)),
+        Request::Port(_) | Request::Dump | Request::Kill | Request::Stop(_) | Request::Alive(_) =>
+            told(alloc, config, table.names(), local, request, creation),
+    }
+}
+
 /// The creation that the table offers for a request, or 0 where it offers none.
-fn creation_for(table: &Table, request: &Request) -> u32
+fn creation_for(table: &Directory, request: &Request) -> u32
     ensures exact { result ≡ offered_creation table.now request.now }
     ensures fits { CreationFits request.now result }
     ensures legal { IsOffered table.now request.now → MayTake table.now.names request.now result }
@@ -212,7 +259,7 @@ fn creation_for(table: &Table, request: &Request) -> u32
 }
 
 /// What a request was told is put into the table.
-fn change(table: &mut Table, slot: u64, request: Request, next: &Next) -> Result<(), NoMemory>
+fn change(table: &mut Directory, slot: u64, request: Request, next: &Next) -> Result<(), NoMemory>
     requires { owns_name slot table.old.names ≡ false }
     ensures ok { OnOk result (table.new.names ≡ changed next.now.stage next.now.stopped slot request (offered_creation table.old request) table.old.names) }
     ensures limit { table.new.known_max ≡ table.old.known_max }
@@ -234,7 +281,7 @@ fn change(table: &mut Table, slot: u64, request: Request, next: &Next) -> Result
 fn answer(
     alloc: Global,
     config: &Config,
-    table: &mut Table,
+    table: &mut Directory,
     local: bool,
     slot: u64,
     request: Request,
@@ -247,7 +294,7 @@ fn answer(
     ensures err { OnErr result (table.new ≡ table.old) }
 {
     let creation = creation_for(table, &request);
-    let next = told(alloc, config, table.names(), local, &request, creation)?;
+    let next = told_by(alloc, config, table, local, &request, creation)?;
     // Before anything is changed, so that for want of memory nothing is.
     let again = next.reply.clone()?;
     change(table, slot, request, &next)?;
@@ -258,7 +305,7 @@ fn answer(
 fn serve(
     alloc: Global,
     config: &Config,
-    table: &mut Table,
+    table: &mut Directory,
     local: bool,
     slot: u64,
     body: &[u8],
@@ -286,7 +333,7 @@ fn serve(
 pub(crate) fn advance(
     alloc: Global,
     config: &Config,
-    table: &mut Table,
+    table: &mut Directory,
     local: bool,
     slot: u64,
     mut feed: Feed,

@@ -146,6 +146,7 @@ impl NameMap {
     pub(crate) fn retire(&mut self, slot: u64) -> bool
         ensures found { result ≡ owns_name slot self.old }
         ensures retired { self.new ≡ retired_of slot self.old }
+        ensures none { result ≡ false → self.new ≡ self.old }
     {
         match self.place_of_slot(slot) {
             None => false,

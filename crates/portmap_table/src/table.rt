@@ -110,6 +110,7 @@ impl Table {
     pub fn retire(&mut self, slot: u64) -> bool
         ensures found { result ≡ owns_name slot self.old.names }
         ensures retired { self.new ≡ with_names self.old (retired_of slot self.old.names) }
+        ensures none { result ≡ false → self.new ≡ self.old }
         ensures kept { AreKept self.new.known_max self.new.names }
     {
         self.names.retire(slot)

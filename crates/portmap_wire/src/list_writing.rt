@@ -10,6 +10,12 @@ use itoa::Buffer;
 use std::alloc::Global;
 use std::marker::Model;
 
+/// What a line of the answer to NAMES_REQ has beside its name, with a port of five digits, in bytes.
+pub const NAMES_LINE_REST: usize = 20;
+
+/// The same of a line of the answer to DUMP_REQ, with a slot of twenty digits.
+pub const DUMP_LINE_REST: usize = 58;
+
 /// A list's reply in the making: one buffer, to which lines are added with no copy of their names. Where memory runs out
 /// the reply is given up whole.
 #[derive(Debug, Drop)]
@@ -71,9 +77,18 @@ impl ListReply {
     pub fn new(alloc: Global, port: u16) -> Result<ListReply, NoMemory>
         ensures { IfOk result (λ r. r ≡ be4 port) }
     {
-        Ok(ListReply {
-            bytes: Vec::from_slice(alloc, &u32::from(port).to_be_bytes())?,
-        })
+        ListReply::with_room(alloc, port, 0)
+    }
+
+    /// The same, with room for lines of so many bytes in all.
+    pub fn with_room(alloc: Global, port: u16, room: usize) -> Result<ListReply, NoMemory>
+        ensures { IfOk result (λ r. r ≡ be4 port) }
+    {
+        let head = u32::from(port).to_be_bytes();
+        let mut bytes = Vec::new(alloc);
+        bytes.reserve(room.saturating_add(head.len()))?;
+        bytes.extend_from_slice(&head)?;
+        Ok(ListReply { bytes })
     }
 
     /// With one more line of the answer to NAMES_REQ.
