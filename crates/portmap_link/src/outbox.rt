@@ -1,5 +1,5 @@
 //! Bytes that wait to be written.
-ghost use Rattle.std.specs.Prelude.{◌≡◌, ℕ, ◌+◌, ◌-◌, ◌≤◌, ◌||◌, ◌↔◌, List, [], ◌++◌, length, take, drop, vec_len, OnOk, OnErr};
+ghost use Rattle.std.specs.Prelude.{◌≡◌, ℕ, ◌+◌, ◌-◌, ◌≤◌, ◌||◌, ◌↔◌, List, [], ◌++◌, length, take, drop, vec_len, vec_capacity, IfOk, OnOk, OnErr};
 ghost use Rattle.std.specs.Io.KnownBytes.{Keeps, Appends};
 ghost use Rattle.portmap_link.specs.Flush.{flush_is_fault, Sends, Moves};
 
@@ -102,6 +102,31 @@ impl Outbox {
         flush
     }
 
+    /// Adds bytes at the end, and puts what waits, as `push` and `flush` after it would. Room is taken before anything is put, so
+    /// where memory runs out nothing is. Bytes before which none wait are put as they are, and copied only as far as they are not
+    /// taken.
+    pub fn write<W: Output>(&mut self, output: &mut W, bytes: &[u8]) -> Result<Flush, NoMemory>
+        ensures written { OnOk result (Moves (W.held output.old) (W.held output.new) (self.old ++ bytes.now) self.new) }
+        ensures empty { IfOk result (λ flush. (flush ≡ Flush.Empty) ↔ (self.new ≡ [])) }
+        ensures answers { IfOk result (λ flush. Sends (W.puts output.old) (W.puts output.new) (length (self.old ++ bytes.now) - length self.new) flush) }
+        ensures calls { length (W.puts output.new) ≤ length (W.puts output.old) + length (self.old ++ bytes.now) + 1 }
+        ensures broken { IfOk result (λ flush. W.broken output.new ≡ (flush_is_fault flush || W.broken output.old)) }
+        ensures left { Keeps (W.left output.old) (W.left output.new) }
+        ensures pulls { W.pulls output.new ≡ W.pulls output.old }
+        ensures err { OnErr result ((self.new ≡ self.old) × (output.new ≡ output.old)) }
+    {
+        drop_sent(&mut self.bytes, &mut self.sent);
+        self.bytes.reserve(bytes.len())?;
+        if self.sent < self.bytes.len() {
+            keep(&mut self.bytes, bytes);
+            return Ok(self.flush(output));
+        }
+        let (count, flush) = send(output, bytes);
+        let (_, rest) = bytes.split_at(count);
+        keep(&mut self.bytes, rest);
+        Ok(flush)
+    }
+
     // The first n bytes were written.
     fn advance(&mut self, n: usize)
         requires { n ≤ length self.old }
@@ -109,6 +134,16 @@ impl Outbox {
     {
         self.sent += n;
     }
+}
+
+// Adds bytes for which there is room.
+fn keep(kept: &mut Vec<u8>, bytes: &[u8])
+    requires { vec_len kept.old + length bytes.now ≤ vec_capacity kept.old }
+    ensures { kept.new.items ≡ kept.old.items ++ bytes.now }
+{
+    let Ok(()) = kept.extend_from_slice(bytes) else {
+        unreachable!()
+    };
 }
 
 // Drops the bytes that were sent once they are as many as the rest, so that they don't pile up. No more bytes move than are
