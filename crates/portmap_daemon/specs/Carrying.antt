@@ -117,3 +117,13 @@ FollowsNothing false old new waiting Close = OffersFirst old new waiting × (Pul
 FollowsNothing false old new waiting Fault = (PullsNothing old new × WritingEnds flush.Fault old.puts new.puts waiting) ⊎ (OffersFirst old new waiting × Pulls pull.Fault old new)
 FollowsNothing false old new waiting Halt = OffersFirst old new waiting × Refuses Halt old new
 FollowsNothing false old new waiting NoMemory = OffersFirst old new waiting × Refuses NoMemory old new
+
+-- ---- what a worker holds
+
+-- the connection is held no more
+abbrev pub LetsGo : Next → Type 0
+LetsGo Keep = ⊥
+LetsGo Close = Unit {0}
+LetsGo Fault = Unit {0}
+LetsGo Halt = ⊥
+LetsGo NoMemory = Unit {0}

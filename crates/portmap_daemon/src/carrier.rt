@@ -119,10 +119,10 @@ impl<L: Ledger> Carrier<L> {
     {
         let fate = fate_of(answer);
         self.due = fate == Fate::Close;
-        let Ok(()) = self.out.push(bytes_of(answer)) else {
-            return Next::NoMemory;
-        };
-        next_after(fate, self.out.flush(link))
+        match self.out.write(link, bytes_of(answer)) {
+            Ok(flush) => next_after(fate, flush),
+            Err(_) => Next::NoMemory,
+        }
     }
 
     /// The time that the connection has for its request, or for what waits to be written, is over. What is to be done next: what

@@ -1,6 +1,7 @@
 //! The daemon: workers that carry bytes between links and one desk, over memory or over sockets.
 #![tactic(auto)]
 
+mod accepting;
 mod carrier;
 mod crew;
 mod gate;

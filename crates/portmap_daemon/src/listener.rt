@@ -1,9 +1,14 @@
 //! A listening socket that several workers share.
+ghost use Rattle.std.specs.Prelude.{◌≡◌, ◌+◌, ◌-◌, ◌^◌, min, false, if◌then◌else◌};
+ghost use Rattle.portmap_daemon.specs.Listening.{lack_of};
+ghost use Rattle.portmap_daemon.specs.declared.listener.TheConstants.{AWAY};
+
+use crate::accepting::accept;
 use mio::net::{TcpListener, TcpStream};
 use mio::{Interest, Registry, Token};
 use std::io;
 use std::io::ErrorKind;
-use std::net::SocketAddr;
+use std::net::IpAddr;
 
 /// For so many milliseconds a worker leaves a listener alone at which nothing can be taken, as when the process has no
 /// descriptor left.
@@ -24,11 +29,33 @@ enum Watch {
 #[derive(Drop)]
 pub(crate) enum Accepted {
     /// A connection, with the address of its peer.
-    Taken(TcpStream, SocketAddr),
+    Taken(TcpStream, IpAddr),
     /// None: none waits, or none can be taken.
     Nothing,
     /// None since the listener was last reported: others took what waited.
     InVain,
+}
+
+/// Why no connection could be taken.
+#[derive(Clone, Copy, Debug, PartialEq, Eq)]
+enum Lack {
+    /// The one that waited has gone: another one may wait.
+    Gone,
+    /// None waits.
+    Empty,
+    /// None can be taken, for a while.
+    Barred,
+}
+
+/// Why none could be, by the kind of the error.
+fn lack_of(kind: ErrorKind) -> Lack
+    ensures { result ≡ lack_of kind }
+{
+    match kind {
+        ErrorKind::ConnectionAborted | ErrorKind::Interrupted => Lack::Gone,
+        ErrorKind::WouldBlock => Lack::Empty,
+        _ => Lack::Barred,
+    }
 }
 
 /// One worker's share of a listening socket. The system reports it to every worker that watches it, and one of them gets the
@@ -100,7 +127,7 @@ impl Listener {
         if !self.waiting {
             return Accepted::Nothing;
         }
-        match self.socket.accept() {
+        match accept(&self.socket) {
             Ok((stream, peer)) => {
                 self.took = true;
                 Accepted::Taken(stream, peer)
@@ -110,11 +137,14 @@ impl Listener {
     }
 
     /// None could be taken.
-    fn give_up(&mut self, registry: &Registry, now: u64, kind: ErrorKind) -> Accepted {
-        match kind {
-            // The one that waited has gone: another one may wait.
-            ErrorKind::ConnectionAborted | ErrorKind::Interrupted => Accepted::Nothing,
-            ErrorKind::WouldBlock => {
+    fn give_up(&mut self, registry: &Registry, now: u64, kind: ErrorKind) -> Accepted
+        ensures gone { lack_of kind ≡ Lack.Gone → (self.new ≡ self.old) × (result ≡ Accepted.Nothing) }
+        ensures empty { lack_of kind ≡ Lack.Empty → (self.new.waiting ≡ false) × (self.new.watch ≡ self.old.watch) × (result ≡ if self.old.took then Accepted.Nothing else Accepted.InVain) }
+        ensures barred { lack_of kind ≡ Lack.Barred → (self.new.waiting ≡ false) × (self.new.watch ≡ Watch.From (min (now + AWAY) (2 ^ 64 - 1))) × (result ≡ Accepted.Nothing) }
+    {
+        match lack_of(kind) {
+            Lack::Gone => Accepted::Nothing,
+            Lack::Empty => {
                 self.waiting = false;
                 if self.took {
                     Accepted::Nothing
@@ -123,7 +153,7 @@ impl Listener {
                 }
             }
             // What waits is not reported again, so the poll is to look anew after a while.
-            _ => {
+            Lack::Barred => {
                 self.leave(registry);
                 self.watch = Watch::From(now.saturating_add(AWAY));
                 Accepted::Nothing
@@ -132,7 +162,9 @@ impl Listener {
     }
 
     /// Leaves it to others.
-    pub(crate) fn leave(&mut self, registry: &Registry) {
+    pub(crate) fn leave(&mut self, registry: &Registry)
+        ensures { self.new.waiting ≡ false }
+    {
         if self.watch == Watch::On {
             let _ = registry.deregister(&mut self.socket);
         }

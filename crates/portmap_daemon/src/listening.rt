@@ -1,8 +1,10 @@
 //! One worker's shares of all listening sockets.
+ghost use Rattle.std.specs.Prelude.{◌≡◌};
+
 use crate::listener::{Accepted, Listener};
 use mio::net::TcpStream;
 use mio::{Registry, Token};
-use std::net::SocketAddr;
+use std::net::IpAddr;
 
 /// So many reports in a row that came to nothing, since other workers took what waited, and a worker comes in vain.
 const VAIN_MOST: u32 = 2;
@@ -21,7 +23,9 @@ pub(crate) struct Listening {
 
 impl Listening {
     /// The listeners of a worker that watches them, or that takes no connections.
-    pub(crate) fn new(listeners: Vec<Listener>, is_on: bool) -> Listening {
+    pub(crate) fn new(listeners: Vec<Listener>, is_on: bool) -> Listening
+        ensures { result.is_on ≡ is_on }
+    {
         Listening {
             listeners,
             first: 0,
@@ -61,11 +65,7 @@ impl Listening {
     }
 
     /// The next connection that waits, with the address of its peer. The listeners are asked in turn.
-    pub(crate) fn accept(
-        &mut self,
-        registry: &Registry,
-        now: u64,
-    ) -> Option<(TcpStream, SocketAddr)> {
+    pub(crate) fn accept(&mut self, registry: &Registry, now: u64) -> Option<(TcpStream, IpAddr)> {
         for _ in 0..self.listeners.len() {
             let place = self.first;
             self.first = next_place(place, self.listeners.len());

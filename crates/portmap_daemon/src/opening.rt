@@ -1,5 +1,6 @@
 //! The sockets that a daemon begins with.
-ghost use Rattle.std.specs.Prelude.{◌≡◌, vec_len, IfOk};
+ghost use Rattle.std.specs.Prelude.{◌≡◌, ◌==◌, ◌*◌, vec_len, length, IfOk, IfErr};
+ghost use Rattle.portmap_daemon.specs.Running.{IsOfAddresses};
 
 use crate::crew::{Crew, Wakers};
 use crate::listener::Listener;
@@ -23,7 +24,8 @@ pub(crate) fn open_sockets<R: Net>(
     timeout: u32,
     workers: u32,
 ) -> Result<(Vec<Sockets>, Vec<Waker>), RunFault>
-    ensures { IfOk result (λ opened. vec_len opened.1 ≡ workers) }
+    ensures workers { IfOk result (λ opened. vec_len opened.1 ≡ workers) }
+    ensures fault { IfErr result (λ f. IsOfAddresses (length addresses.now) f) }
 {
     let listening = listen(rt, alloc, port, addresses)?;
     open_all(rt, alloc, &listening, timeout, workers)
@@ -35,7 +37,9 @@ fn listen<R: Net>(
     alloc: Global,
     port: u16,
     addresses: &[[u8; 4]],
-) -> Result<Vec<net::TcpListener>, RunFault> {
+) -> Result<Vec<net::TcpListener>, RunFault>
+    ensures { IfErr result (λ f. IsOfAddresses (length addresses.now) f) }
+{
     let mut listening = Vec::new(alloc);
     for (place, address) in addresses.iter().enumerate() {
         let address = SocketAddr::from((Ipv4Addr::from(*address), port));
@@ -55,7 +59,8 @@ fn open_all<R: Net>(
     timeout: u32,
     workers: u32,
 ) -> Result<(Vec<Sockets>, Vec<Waker>), RunFault>
-    ensures { IfOk result (λ opened. vec_len opened.1 ≡ workers) }
+    ensures workers { IfOk result (λ opened. vec_len opened.1 ≡ workers) }
+    ensures fault { IfErr result (λ f. IsOfAddresses 0 f) }
 {
     let mut sockets = Vec::new(alloc);
     let mut wakers = Vec::new(alloc);
@@ -75,7 +80,8 @@ pub(crate) fn open_crew<R: Net + Clock>(
     workers: Vec<Waker>,
     places: u32,
 ) -> Result<(Crew, Pause), RunFault>
-    ensures { IfOk result (λ opened. vec_len opened.0.served ≡ vec_len workers) }
+    ensures workers { IfOk result (λ opened. vec_len opened.0.served ≡ vec_len workers) }
+    ensures fault { IfErr result (λ f. IsOfAddresses 0 f) }
 {
     let (poll, events, sealer) = open_poll(rt, alloc)?;
     let crew = Crew::new(rt, alloc, Wakers { workers, sealer }, places)?;
@@ -83,7 +89,9 @@ pub(crate) fn open_crew<R: Net + Clock>(
 }
 
 /// A poll, with room for its events and with what ends its wait.
-fn open_poll<R: Net>(rt: &R, alloc: Global) -> Result<(Poll, Events, Waker), RunFault> {
+fn open_poll<R: Net>(rt: &R, alloc: Global) -> Result<(Poll, Events, Waker), RunFault>
+    ensures { IfErr result (λ f. IsOfAddresses 0 f) }
+{
     let Ok(poll) = Poll::new(rt) else {
         return Err(RunFault::Poll);
     };
@@ -101,7 +109,12 @@ fn open_one<R: Net>(
     worker: usize,
     listening: &[net::TcpListener],
     timeout: u32,
-) -> Result<(Sockets, Waker), RunFault> {
+) -> Result<(Sockets, Waker), RunFault>
+    ensures worker { IfOk result (λ opened. opened.0.worker ≡ worker) }
+    ensures is_on { IfOk result (λ opened. opened.0.listening.is_on ≡ (worker == 0)) }
+    ensures timeout { IfOk result (λ opened. opened.0.timeout ≡ timeout * 1000) }
+    ensures fault { IfErr result (λ f. IsOfAddresses 0 f) }
+{
     let (poll, events, waker) = open_poll(rt, alloc)?;
     let is_on = worker == 0;
     let listeners = share(alloc, &poll, listening, is_on)?;
@@ -117,7 +130,9 @@ fn share(
     poll: &Poll,
     listening: &[net::TcpListener],
     is_on: bool,
-) -> Result<Vec<Listener>, RunFault> {
+) -> Result<Vec<Listener>, RunFault>
+    ensures { IfErr result (λ f. IsOfAddresses 0 f) }
+{
     let mut listeners = Vec::new(alloc);
     for (place, listener) in listening.iter().enumerate() {
         let Ok(socket) = listener.try_clone() else {

@@ -1,6 +1,7 @@
 //! The daemon over sockets.
-ghost use Rattle.std.specs.Prelude.{◌≡◌, ◌<◌, ◌≤◌, vec_len, false, IfOk, IfSome};
+ghost use Rattle.std.specs.Prelude.{◌≡◌, ◌<◌, ◌≤◌, vec_len, false, IfOk, IfErr, IfSome};
 ghost use Rattle.portmap_book.specs.declared.desk.TheConstants.{SEATS_MOST};
+ghost use Rattle.portmap_daemon.specs.Running.{IsOfAddresses};
 ghost use Rattle.portmap_daemon.specs.declared.running.TheConstants.{TIMEOUT_MOST};
 
 use crate::crew::Crew;
@@ -98,7 +99,8 @@ pub fn run<R: Net + MakesFiles + Threads + Wait + Clock + Clone + Drop + Send + 
     requires addresses { 0 < vec_len settings.addresses }
     requires timeout { (1 ≤ settings.timeout) × (settings.timeout ≤ TIMEOUT_MOST) }
     requires workers { (1 ≤ settings.workers) × (settings.workers ≤ SEATS_MOST) }
-    ensures { IfOk result (λ end. vec_len end.served ≡ settings.workers) }
+    ensures served { IfOk result (λ end. vec_len end.served ≡ settings.workers) }
+    ensures fault { IfErr result (λ f. IsOfAddresses (vec_len settings.addresses) f) }
 {
     run_gated(rt, alloc, settings, &Open)
 }
@@ -111,7 +113,8 @@ pub fn run_gated<
     requires addresses { 0 < vec_len settings.addresses }
     requires timeout { (1 ≤ settings.timeout) × (settings.timeout ≤ TIMEOUT_MOST) }
     requires workers { (1 ≤ settings.workers) × (settings.workers ≤ SEATS_MOST) }
-    ensures { IfOk result (λ end. vec_len end.served ≡ settings.workers) }
+    ensures served { IfOk result (λ end. vec_len end.served ≡ settings.workers) }
+    ensures fault { IfErr result (λ f. IsOfAddresses (vec_len settings.addresses) f) }
 {
     let book = Book::new(alloc, settings.config, settings.first)?;
     let (sockets, crew, pause) = open(rt, alloc, &settings)?;
@@ -124,7 +127,8 @@ fn open<R: Net + Clock>(
     alloc: Global,
     settings: &Settings,
 ) -> Result<(Vec<Sockets>, Crew, Pause), RunFault>
-    ensures { IfOk result (λ opened. vec_len opened.1.served ≡ settings.now.workers) }
+    ensures workers { IfOk result (λ opened. vec_len opened.1.served ≡ settings.now.workers) }
+    ensures fault { IfErr result (λ f. IsOfAddresses (vec_len settings.now.addresses) f) }
 {
     let (sockets, workers) = open_sockets(
         rt,
@@ -152,7 +156,8 @@ fn serve_open<
     pause: Pause,
     gate: &G,
 ) -> Result<RunEnd, RunFault>
-    ensures { IfOk result (λ end. vec_len end.served ≡ vec_len crew.now.served) }
+    ensures served { IfOk result (λ end. vec_len end.served ≡ vec_len crew.now.served) }
+    ensures fault { IfErr result (λ f. IsOfAddresses 0 f) }
 {
     let Settings {
         config,
@@ -196,7 +201,8 @@ fn serve_recorded<G: Gate + Sync, W: Output + Drop, R: Net + Threads + Wait + Cl
     gate: &G,
 ) -> Result<(Vec<u64>, bool), RunFault>
     requires { IfSome recorder (λ recorder. recorder.begun ≡ false) }
-    ensures { IfOk result (λ ended. vec_len ended.0 ≡ vec_len crew.now.served) }
+    ensures served { IfOk result (λ ended. vec_len ended.0 ≡ vec_len crew.now.served) }
+    ensures fault { IfErr result (λ f. IsOfAddresses 0 f) }
 {
     let sealing = Sealing::new(alloc, config, pause, recorder)?;
     let blank = Blank::new(PARTS);

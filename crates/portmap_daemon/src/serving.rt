@@ -1,5 +1,8 @@
 //! One worker: it serves what a source brings.
-ghost use Rattle.std.specs.Prelude.{◌≡◌, ◌+◌, ◌≤◌};
+ghost use Rattle.std.specs.Prelude.{◌≡◌, ◌+◌, ◌≤◌, None};
+ghost use Rattle.std.specs.Ordering.{nat_cmp};
+ghost use Rattle.std.specs.BTreeMap.{get};
+ghost use Rattle.portmap_daemon.specs.Carrying.{LetsGo};
 
 use crate::carrier::next_of;
 use crate::{Carrier, Gate, Next, Source, Turn};
@@ -110,7 +113,8 @@ impl<L: Ledger, S: Source + Drop, G: Gate, R: Wait> Worker<'_, L, S, G, R> {
 
     /// Does what is next for a connection. Whether there is more to do.
     fn follow(&mut self, key: u64, next: Next) -> bool
-        ensures { self.old.seat.count ≤ self.new.seat.count }
+        ensures count { self.old.seat.count ≤ self.new.seat.count }
+        ensures gone { LetsGo next → get nat_cmp self.new.held key ≡ None }
     {
         match next {
             Next::Keep => true,
@@ -158,7 +162,8 @@ impl<L: Ledger, S: Source + Drop, G: Gate, R: Wait> Worker<'_, L, S, G, R> {
 
     /// Gives up a connection, if it is held, as one that was closed.
     fn release(&mut self, key: u64)
-        ensures { self.old.seat.count ≤ self.new.seat.count }
+        ensures count { self.old.seat.count ≤ self.new.seat.count }
+        ensures gone { get nat_cmp self.new.held key ≡ None }
     {
         if let Some(carrier) = self.held.remove(&key) {
             let conn = carrier.into_conn();
@@ -168,7 +173,8 @@ impl<L: Ledger, S: Source + Drop, G: Gate, R: Wait> Worker<'_, L, S, G, R> {
 
     /// Gives up a connection, if it is held, as one that failed.
     fn fail(&mut self, key: u64)
-        ensures { self.old.seat.count ≤ self.new.seat.count }
+        ensures count { self.old.seat.count ≤ self.new.seat.count }
+        ensures gone { get nat_cmp self.new.held key ≡ None }
     {
         if let Some(carrier) = self.held.remove(&key) {
             let conn = carrier.into_conn();

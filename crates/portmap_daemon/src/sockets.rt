@@ -1,4 +1,7 @@
 //! What one worker knows of its sockets.
+ghost use Rattle.std.specs.Prelude.{◌≡◌, IfSome};
+ghost use Rattle.portmap_daemon.specs.Listening.{IsFreshFrom};
+
 use crate::Turn;
 use crate::crew::Crew;
 use crate::held_link::HeldLink;
@@ -12,7 +15,6 @@ use portmap_core::Name;
 use slab::Slab;
 use std::alloc::Global;
 use std::collections::VecDeque;
-use std::net::SocketAddr;
 use std::time::Duration;
 
 /// The token of the first listener. Below it are the keys of links.
@@ -114,7 +116,11 @@ impl Sockets {
         events: Events,
         listening: Listening,
         timeout: u64,
-    ) -> Sockets {
+    ) -> Sockets
+        ensures worker { result.worker ≡ worker }
+        ensures listening { result.listening ≡ listening }
+        ensures timeout { result.timeout ≡ timeout }
+    {
         Sockets {
             alloc,
             worker,
@@ -286,7 +292,7 @@ impl Sockets {
             crew.shifts.leave(self.worker);
         }
         let (stream, peer) = taken?;
-        let is_local = is_local_stream(&stream, peer.ip());
+        let is_local = is_local_stream(&stream, peer);
         Some(Guest {
             stream,
             is_local,
@@ -295,7 +301,9 @@ impl Sockets {
     }
 
     /// Takes a new connection, which has a place, where there is memory for it. It is closed otherwise.
-    fn take(&mut self, crew: &Crew, guest: Guest) -> Option<Turn> {
+    fn take(&mut self, crew: &Crew, guest: Guest) -> Option<Turn>
+        ensures { IfSome result (λ turn. IsFreshFrom guest.is_local turn) }
+    {
         let is_local = guest.is_local;
         if self.links.is_empty() {
             crew.sweeps.join(self.worker);
@@ -309,7 +317,9 @@ impl Sockets {
     }
 
     /// Holds a new connection. It is looked at without waiting for the poll, since its request is most likely there.
-    fn hold(&mut self, guest: Guest) -> Option<Turn> {
+    fn hold(&mut self, guest: Guest) -> Option<Turn>
+        ensures { IfSome result (λ turn. IsFreshFrom guest.is_local turn) }
+    {
         let local = guest.is_local;
         self.queue.reserve(self.links.len().saturating_add(1)).ok()?;
         let held = HeldLink::new(self.alloc, guest.stream, local, self.now);

@@ -1,6 +1,8 @@
 //! The threads of a daemon: each worker in one of its own, and the calling one beside them.
-ghost use Rattle.std.specs.Prelude.{◌≡◌, vec_len, IfOk};
+ghost use Rattle.std.specs.Prelude.{◌≡◌, ◌+◌, vec_len, map as list_map, IfOk, IfErr};
+ghost use Rattle.std.specs.List.{range_with_len};
 ghost use Rattle.portmap_book.specs.declared.desk.TheConstants.{PARTS};
+ghost use Rattle.portmap_daemon.specs.Running.{IsOfAddresses};
 
 use crate::crew::Crew;
 use crate::running::RunFault;
@@ -30,20 +32,28 @@ struct Job<L: Ledger> {
 }
 
 /// A seat for each worker. They are numbered from 1.
+#[tactic(auto, using(crate::proofs::Jobs::numbers_more, crate::proofs::Jobs::sockets_more))]
 fn jobs_of<L: Ledger, R: Wait>(
     rt: &R,
     alloc: Global,
     desk: &Desk<L>,
     sockets: Vec<Sockets>,
-) -> Result<Vec<Job<L>>, RunFault> {
+) -> Result<Vec<Job<L>>, RunFault>
+    ensures numbers { IfOk result (λ jobs. list_map (λ job. job.number) jobs.items ≡ list_map (λ place. place + 1) (range_with_len 0 (vec_len sockets))) }
+    ensures sockets { IfOk result (λ jobs. list_map (λ job. job.sockets) jobs.items ≡ sockets.items) }
+    ensures fault { IfErr result (λ f. IsOfAddresses 0 f) }
+{
     let mut jobs = Vec::new(alloc);
-    let mut number = 0u32;
+    let mut last = 0u32;
     for sockets in sockets {
         // There are no more workers than a desk has seats.
         let Some(seat) = desk.seat(rt) else {
             return Err(RunFault::NoMemory);
         };
-        number = number.saturating_add(1);
+        let Some(number) = last.checked_add(1) else {
+            return Err(RunFault::NoMemory);
+        };
+        last = number;
         jobs.push(Job {
             number,
             seat,
@@ -101,11 +111,15 @@ fn work_all<
         let mut started = false;
         for job in jobs {
             shared.crew.begin_one();
-            if scope.spawn(move || work_as(rt, alloc, shared, job)).is_ok() {
-                started = true;
-            } else {
+            if scope
+                .spawn(move || work_as(rt, alloc, shared, job))
+                .is_err()
+            {
                 shared.crew.end_one();
+                // The first one takes connections: without it the others would wait for ever.
+                break;
             }
+            started = true;
         }
         if !started {
             return None;
@@ -116,7 +130,8 @@ fn work_all<
 
 /// How many acts each worker made, and whether all of the log was recorded, where the daemon has ended as it was told to.
 fn ended(alloc: Global, crew: &Crew, is_whole: Option<bool>) -> Result<(Vec<u64>, bool), RunFault>
-    ensures { IfOk result (λ ended. vec_len ended.0 ≡ vec_len crew.now.served) }
+    ensures served { IfOk result (λ ended. vec_len ended.0 ≡ vec_len crew.now.served) }
+    ensures fault { IfErr result (λ f. IsOfAddresses 0 f) }
 {
     match is_whole {
         Some(_) if crew.are_starved() => Err(RunFault::NoMemory),
@@ -146,7 +161,8 @@ pub(crate) fn work<
     requires name { blank.name ≡ L.name }
     requires parts { blank.parts ≡ L.parts }
     requires enough { blank.parts ≡ PARTS }
-    ensures { IfOk result (λ ended. vec_len ended.0 ≡ vec_len crew.now.served) }
+    ensures served { IfOk result (λ ended. vec_len ended.0 ≡ vec_len crew.now.served) }
+    ensures fault { IfErr result (λ f. IsOfAddresses 0 f) }
 {
     let desk: Desk<L> = Desk::new(blank, book);
     let shared = Shared {
@@ -170,7 +186,8 @@ fn work_at<
     sockets: Vec<Sockets>,
     sealing: Sealing<W>,
 ) -> Result<(Vec<u64>, bool), RunFault>
-    ensures { IfOk result (λ ended. vec_len ended.0 ≡ vec_len shared.now.crew.now.served) }
+    ensures served { IfOk result (λ ended. vec_len ended.0 ≡ vec_len shared.now.crew.now.served) }
+    ensures fault { IfErr result (λ f. IsOfAddresses 0 f) }
 {
     let jobs = jobs_of(rt, alloc, shared.desk, sockets)?;
     let is_whole = work_all(rt, alloc, shared, jobs, sealing);

@@ -1,0 +1,10 @@
+-- How a daemon fails: profile.
+use Rattle.std.specs.Prelude.{ℕ, ◌<◌}
+use Rattle.portmap_daemon.specs.declared.running.RunFault.{RunFault}
+use Rattle.portmap_daemon.specs.declared.running.RunFault.TheVariants.{Listen, Poll, NoMemory}
+
+-- where an address can't be listened on, it is one of so many
+abbrev pub IsOfAddresses : ℕ → RunFault → Type 0
+IsOfAddresses count (Listen place) = place < count
+IsOfAddresses count Poll = Unit {0}
+IsOfAddresses count NoMemory = Unit {0}
