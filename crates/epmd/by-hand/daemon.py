@@ -6,6 +6,7 @@ PRODUCTS = os.path.join(tempfile.gettempdir(), f"epmd-by-hand-{os.getuid()}")  #
 SILENCE = 6.0  # A daemon may be silent for 5 seconds before it ends; one more for a machine that is shared.
 OUT_OF_MEMORY = (3, "epmd: out of memory")
 bad = 0
+sys.path.append(os.path.join(HERE, "..", "..", "..", "faults"))  # Where the shim is that has calls fail.
 
 
 def free_port():
@@ -33,11 +34,11 @@ def end():
     sys.exit(1 if bad else 0)
 
 
-def built(name, *words):
+def built(name, *words, folder=HERE):
     """The path of what gcc makes of NAME.c: a program, or a library to preload (with -shared)."""
     os.makedirs(PRODUCTS, exist_ok=True)
     path = os.path.join(PRODUCTS, f"lib{name}.so" if "-shared" in words else name)
-    source = os.path.join(HERE, name + ".c")
+    source = os.path.join(folder, name + ".c")
     if not os.path.exists(path) or os.path.getmtime(path) < os.path.getmtime(source):
         made = f"{path}.{os.getpid()}"
         subprocess.run(["gcc", "-O2", "-Wall", *words, "-o", made, source, "-lpthread", "-ldl"], check=True)

@@ -2,7 +2,8 @@
 
 usage: late.py EPMD"""
 import os, signal, socket, sys, time
-from daemon import Daemon, connect, end, framed, hold, preload, read_most, register, say
+from daemon import Daemon, connect, end, framed, hold, read_most, register, say
+from shim import Faults
 
 
 def stopped(path):
@@ -27,8 +28,8 @@ def stopped(path):
 def given_up(path):
     """A list of 240 KB whose reader waits for longer than the time-out, over sockets with little room: how much of it comes, and
     whether it ends like a whole one or by a reset."""
-    env = {"LD_PRELOAD": preload("eintr"), "SEND_ROOM": "4096"}
-    with Daemon(path, "-packet_timeout", "1", env=env) as daemon:
+    with Faults() as faults, Daemon(path, "-packet_timeout", "1", env=faults.env) as daemon:
+        faults.room = 4096
         held, _ = hold(daemon.port, [b"%0250d" % i for i in range(900)])
         whole = 4 + sum(len(b"name  at port 5000\n") + len(name) for name in held)
         with connect(daemon.port, 5, room=2048) as s:

@@ -2,7 +2,8 @@
 
 usage: threads.py EPMD     as root, since one of the ways needs another user"""
 import os, subprocess, sys, time
-from daemon import Daemon, SILENCE, ask, built, end, look_up, preload, register, say
+from daemon import Daemon, SILENCE, ask, built, end, look_up, register, say
+from shim import FOR_EVER, Faults
 
 MEMORY_MOST = 6 * 1024  # KB, after 20,000 look-ups: the log is taken out.
 
@@ -29,11 +30,13 @@ def case(what, path, workers, many=0, **how):
 
 
 def main(path):
-    shim = preload("threads")
     every = ("1", "2", "4") if not path.startswith("/usr/bin") else ("",)
     for workers in every:
         for k in range(1, 7):
-            case(f"thread {k} and later refused", path, workers, 20000, env={"LD_PRELOAD": shim, "THREADS_FROM": str(k)})
+            with Faults() as faults:
+                faults.refuse("pthread_create", k, "EAGAIN", FOR_EVER)
+                faults.on = 1
+                case(f"thread {k} and later refused", path, workers, 20000, env=faults.env)
     for workers in every:
         for most in range(1, 8):
             case(f"ulimit -u {most}", path, workers, limits={"RLIMIT_NPROC": most}, before=lambda: os.setuid(65534))

@@ -3,3 +3,4 @@ pub mod Lists
 pub mod Listening
 pub mod Sayings
 pub mod Completing
+pub mod LocalSessions

@@ -26,7 +26,7 @@ use Rattle.epmd.specs.declared.commands.Answer.{Answer}
 use Rattle.epmd.specs.declared.commands.Answer.TheVariants as answer
 use Rattle.epmd.specs.declared.commands.Page.{Page}
 use Rattle.epmd.specs.declared.words.Action.{Action}
-use Rattle.epmd.specs.declared.words.Action.TheVariants.{Serve, Names, Kill as AskKill, Stop as AskStop, Dump, Once, Check, Play}
+use Rattle.epmd.specs.declared.words.Action.TheVariants.{Serve, Names, Kill as AskKill, Stop as AskStop, Dump, Once, Check, Play, Local}
 
 -- ---- what is asked
 
@@ -40,6 +40,7 @@ IsOfClient Dump = Unit {0}
 IsOfClient Once = ⊥
 IsOfClient (Check path) = ⊥
 IsOfClient (Play path) = ⊥
+IsOfClient (Local path) = ⊥
 
 -- the result of a call, as that of an action
 abbrev pub answered : {X : Type 0} → (X → Answer) → Result X ClientFault → Result Answer ClientFault

@@ -6,14 +6,15 @@ ghost use Rattle.portmap_link.specs.Adapters.{writing_inner, writing_puts, writi
 ghost use Rattle.portmap_link.specs.Asking.{MakesTurns};
 ghost use Rattle.portmap_link.specs.Once.{Did};
 ghost use Rattle.portmap_link.specs.declared.single.OnceFault.{OnceFault};
-ghost use Rattle.portmap_record.specs.Playing.{Plays};
+ghost use Rattle.portmap_record.specs.Playing.{local_record, Plays, TellsFound};
+ghost use Rattle.portmap_record.specs.declared.verdict.Verdict.{Verdict};
 ghost use Rattle.portmap_record.specs.declared.playing.PlayFault.{PlayFault};
-ghost use Rattle.epmd.specs.Actions.{once_config, status_of, line_of, Passes, EndsWith, failure_of_once, failure_of_play, status_of_fate, status_of_verdict, IsOfFile, tells};
+ghost use Rattle.epmd.specs.Actions.{once_config, status_of, line_of, Passes, EndsWith, failure_of_once, failure_of_play, status_of_fate, status_of_found, status_of_verdict, IsOfFile, IsSilent, IsToShow, tells};
 
 use crate::words::Action;
 use portmap_core::{Config, Fate};
 use portmap_link::{OnceFault, Reading, Writing, once};
-use portmap_record::{PlayFault, play, tell_verdict};
+use portmap_record::{PlayFault, Verdict, play, tell_verdict, write_local};
 use std::alloc::Global;
 use std::io::{Read, Write};
 
@@ -221,6 +222,13 @@ pub fn do_once<R: Read, W: Write, E: Write>(
     }
 }
 
+/// The status that tells whether a session is a run.
+fn status_of_verdict(is_run: bool) -> u8
+    ensures { result ≡ status_of_verdict is_run }
+{
+    if is_run { DONE } else { NO_RUN }
+}
+
 /// Judges a recorded session and tells of it as the action asks.
 fn show<R: Read, W: Write>(
     alloc: Global,
@@ -228,7 +236,7 @@ fn show<R: Read, W: Write>(
     input: &mut Reading<R>,
     output: &mut Writing<W>,
 ) -> Result<bool, PlayFault>
-    requires { IsOfFile action.now }
+    requires { IsToShow action.now }
     ensures did { let seen = streams R.remaining W.contents in
         Plays (tells action.now) (seen input.old output.old) (seen input.new output.new) result }
     ensures turns { let seen = streams R.remaining W.contents in
@@ -241,17 +249,72 @@ fn show<R: Read, W: Write>(
     }
 }
 
-/// The status that tells whether a session is a run.
-fn status_of_verdict(is_run: bool) -> u8
-    ensures { result ≡ status_of_verdict is_run }
+/// The same, to the end.
+fn do_shown<R: Read, W: Write, E: Write>(
+    alloc: Global,
+    action: &Action,
+    input: &mut Reading<R>,
+    output: &mut Writing<W>,
+    errors: &mut E,
+) -> u8
+    requires { IsToShow action.now }
+    ensures silent { (result ≡ DONE) ⊎ (result ≡ NO_RUN) → errors.new ≡ errors.old }
+    ensures shown { (ended : Result Bool PlayFault)
+        × (let seen = streams R.remaining W.contents in
+        Plays (tells action.now) (seen input.old output.old) (seen input.new output.new) ended
+        × MakesTurns FILE_TURNS (seen input.old output.old) (seen input.new output.new) ended (λ sent. Err (PlayFault.TooManyTurns sent)))
+        × EndsWith status_of_verdict failure_of_play result ended (writing_broken output.new) }
 {
-    if is_run { DONE } else { NO_RUN }
+    match show(alloc, action, input, output) {
+        Ok(is_run) => end(output, errors, status_of_verdict(is_run)),
+        Err(fault) => fail(errors, Failure::from(fault)),
+    }
+}
+
+/// Ends with what is found of a session: where it is no run, `errors` is told where it is broken.
+fn end_found<W: Write, E: Write>(output: &mut Writing<W>, errors: &mut E, found: Verdict) -> u8
+    ensures passes { Passes (status_of_found found) result (writing_broken output.new) }
+    ensures silent { result ≡ DONE → errors.new ≡ errors.old }
+    ensures held { Keeps (W.contents (writing_inner output.old)) (W.contents (writing_inner output.new)) }
+    ensures puts { writing_puts output.new ≡ writing_puts output.old }
+{
+    match found {
+        Verdict::Run => end(output, errors, DONE),
+        Verdict::Broken(at) => {
+            let status = end(output, errors, NO_RUN);
+            if status == NO_RUN {
+                let _ = writeln!(errors, "broken at entry {at}");
+            }
+            status
+        }
+    }
+}
+
+/// Judges a recorded session, and writes it without its remote peers where it is a run.
+fn do_local<R: Read, W: Write, E: Write>(
+    alloc: Global,
+    input: &mut Reading<R>,
+    output: &mut Writing<W>,
+    errors: &mut E,
+) -> u8
+    ensures silent { result ≡ DONE → errors.new ≡ errors.old }
+    ensures written { (ended : Result Verdict PlayFault)
+        × (let seen = streams R.remaining W.contents in
+        TellsFound local_record (seen input.old output.old) (seen input.new output.new) ended
+        × MakesTurns FILE_TURNS (seen input.old output.old) (seen input.new output.new) ended (λ sent. Err (PlayFault.TooManyTurns sent)))
+        × EndsWith status_of_found failure_of_play result ended (writing_broken output.new) }
+{
+    match write_local(alloc, input, output, FILE_TURNS) {
+        Ok(found) => end_found(output, errors, found),
+        Err(fault) => fail(errors, Failure::from(fault)),
+    }
 }
 
 /// Reads a recorded session from `input`, to its end, and writes to `output` what is found of it: for `Check` whether it is a
-/// run of the port mapper's machine, for `Play` every entry before that. Status 0 for a run, 1 for none. Status 2 where the
-/// bytes are no record, status 3 where a device failed, `FILE_TURNS` pulls and puts were made and one more was due, the input
-/// has more bytes than a session may have, or memory ran out: `errors` then gets one line.
+/// run of the port mapper's machine, for `Play` every entry before that. For `Local` it writes the session without its remote
+/// peers where it is a run; where it is none, nothing, and `errors` gets the line that tells so. Status 0 for a run, 1 for
+/// none. Status 2 where the bytes are no record, status 3 where a device failed, `FILE_TURNS` pulls and puts were made and one
+/// more was due, the input has more bytes than a session may have, or memory ran out: `errors` then gets one line.
 ///
 /// The output is flushed at the end, as by `do_once`.
 pub fn do_file<R: Read, W: Write, E: Write>(
@@ -262,7 +325,7 @@ pub fn do_file<R: Read, W: Write, E: Write>(
     errors: &mut E,
 ) -> u8
     requires { IsOfFile action.now }
-    ensures silent { (result ≡ DONE) ⊎ (result ≡ NO_RUN) → errors.new ≡ errors.old }
+    ensures silent { IsSilent action.now result → errors.new ≡ errors.old }
     // What was read and written, in how many turns, and why the status is so.
     ensures shown { (ended : Result Bool PlayFault)
         × (let seen = streams R.remaining W.contents in
@@ -270,8 +333,9 @@ pub fn do_file<R: Read, W: Write, E: Write>(
         × MakesTurns FILE_TURNS (seen input.old output.old) (seen input.new output.new) ended (λ sent. Err (PlayFault.TooManyTurns sent)))
         × EndsWith status_of_verdict failure_of_play result ended (writing_broken output.new) }
 {
-    match show(alloc, action, input, output) {
-        Ok(is_run) => end(output, errors, status_of_verdict(is_run)),
-        Err(fault) => fail(errors, Failure::from(fault)),
+    match action {
+        Action::Check(_) | Action::Play(_) => do_shown(alloc, action, input, output, errors),
+        Action::Local(_) => do_local(alloc, input, output, errors),
+        _ => unreachable!(),
     }
 }

@@ -40,6 +40,7 @@ enum Valued {
     Stop,
     Check,
     Play,
+    Local,
 }
 
 /// What this word says by itself.
@@ -72,6 +73,7 @@ fn asks_value(word: &str) -> Option<Valued>
         "-stop" => Valued::Stop,
         "-check" => Valued::Check,
         "-play" => Valued::Play,
+        "-local" => Valued::Local,
         _ => return None,
     };
     Some(asks)
@@ -103,6 +105,7 @@ fn with_value(alloc: Global, asks: Valued, value: &str) -> Result<Option<Word>, 
         Valued::Stop => read_name(alloc, value)?.map(|name| Word::Act(Action::Stop(name))),
         Valued::Check => Some(Word::Act(Action::Check(String::from_str(alloc, value)?))),
         Valued::Play => Some(Word::Act(Action::Play(String::from_str(alloc, value)?))),
+        Valued::Local => Some(Word::Act(Action::Local(String::from_str(alloc, value)?))),
     };
     Ok(said)
 }
@@ -118,7 +121,10 @@ fn is_action(said: &Word) -> bool
 fn asks_action(asks: Valued) -> bool
     ensures { result ≡ asks_action asks }
 {
-    matches!(asks, Valued::Stop | Valued::Check | Valued::Play)
+    matches!(
+        asks,
+        Valued::Stop | Valued::Check | Valued::Play | Valued::Local
+    )
 }
 
 /// What is said by this word and, where it takes a value, by the one behind it; and the words that are left. `place` is the first

@@ -2,6 +2,7 @@
 //! texts, large values, devices and sockets that fail. The tests of every crate stand here, on top of all of them.
 mod actions;
 mod advance;
+mod broken_links;
 mod bytes;
 mod cases;
 mod client;
@@ -21,9 +22,13 @@ mod program;
 mod record;
 mod recorder;
 mod recordings;
+mod refusals;
+mod remote;
 mod restarts;
+mod segments;
 mod serving;
 mod settings;
+mod sources;
 mod stream_links;
 mod streams;
 mod table;

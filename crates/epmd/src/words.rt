@@ -33,6 +33,8 @@ pub enum Action {
     Check(String),
     /// The same, and to show it.
     Play(String),
+    /// To judge it, and to write it without its remote peers.
+    Local(String),
 }
 
 /// What the environment says.

@@ -6,7 +6,8 @@ use crate::tests::bytes::{
     ALIVE_A, Bytes, DUMP, FOURTH, KILL, NAMES, NONE_LISTED, NOT_FOUND, NOTHING, PORT_A, STOP_A,
 };
 use crate::tests::cases::{Case, all_hold};
-use crate::tests::record::changed;
+use crate::tests::record::{SESSION, changed};
+use crate::tests::remote::{HEADER, REMOTE_NAMES};
 use crate::tests::streams::{Broken, Interrupted};
 use crate::tests::transcript::{LOOK_UP_LINES, WRONG_LOOK_UP_LINES};
 use crate::words::Action;
@@ -107,11 +108,12 @@ fn each_failure_has_a_status_and_a_line(rt: HostRuntime) -> Result<(), Fail> {
     all_hold(&rt, FAILURES)
 }
 
-/// What is asked for of a session: its transcript, or the verdict alone.
+/// What is asked for of a session: its transcript, the verdict alone, or the session without its remote peers.
 #[derive(Clone, Copy)]
 enum Text {
     Transcript,
     Verdict,
+    Local,
 }
 
 fn action_of(alloc: Global, text: Text) -> Action
@@ -121,6 +123,7 @@ fn action_of(alloc: Global, text: Text) -> Action
     match text {
         Text::Transcript => Action::Play(path),
         Text::Verdict => Action::Check(path),
+        Text::Local => Action::Local(path),
     }
 }
 
@@ -142,6 +145,13 @@ const PLAYED: Shown = Shown {
     status: 0,
     written: LOOK_UP_LINES,
     errors: NOTHING,
+};
+
+/// All its peers are local, so all of it is left.
+const LOCAL: Shown = Shown {
+    text: Text::Local,
+    written: &SESSION,
+    ..PLAYED
 };
 
 const CUT: Shown = Shown {
@@ -183,6 +193,23 @@ const SHOWN: &[Shown] = &[
         ..CUT
     },
     Shown { length: 0, ..CUT },
+    LOCAL,
+    Shown {
+        last: 1,
+        status: 1,
+        written: NOTHING,
+        errors: b"broken at entry 3\n",
+        ..LOCAL
+    },
+    Shown {
+        length: 16,
+        written: HEADER,
+        ..LOCAL
+    },
+    Shown {
+        text: Text::Local,
+        ..CUT
+    },
 ];
 
 /// The status that ends what is asked for of a session, if the line of the errors is this.
@@ -219,6 +246,20 @@ fn a_recorded_session_is_judged_and_shown(rt: HostRuntime) -> Result<(), Fail> {
     all_hold(&rt, SHOWN)
 }
 
+/// Whether the header alone is left of a session in which a remote peer alone asks for the names.
+fn is_left(alloc: Global, output: &mut Writing<Vec<u8>>) -> bool {
+    let mut input = Reading::new(REMOTE_NAMES);
+    status_of(alloc, Text::Local, &mut input, output, NOTHING) == Some(0)
+}
+
+#[test]
+fn a_session_is_written_without_its_remote_peers(rt: HostRuntime) -> Result<(), Fail> {
+    let mut output = Writing::new(Vec::new(rt.alloc()));
+    assert!(rt; is_left(rt.alloc(), &mut output));
+    assert!(rt; output.into_inner().as_slice() == HEADER);
+    Ok(())
+}
+
 /// Whether status 3 and the line of a failed device come of a session over these.
 fn session_is_told<R: Read, W: Write>(
     alloc: Global,
@@ -227,6 +268,36 @@ fn session_is_told<R: Read, W: Write>(
 ) -> bool {
     let line = b"epmd: input or output failed\n";
     status_of(alloc, Text::Transcript, input, output, line) == Some(3)
+}
+
+/// The same of a session that is to be written without its remote peers.
+fn local_session_is_told<R: Read, W: Write>(
+    alloc: Global,
+    input: &mut Reading<R>,
+    output: &mut Writing<W>,
+) -> bool {
+    let line = b"epmd: input or output failed\n";
+    status_of(alloc, Text::Local, input, output, line) == Some(3)
+}
+
+#[test]
+fn a_local_session_over_devices_that_fail_is_told(rt: HostRuntime) {
+    let mut taken = Writing::new(Vec::new(rt.alloc()));
+    assert!(rt; local_session_is_told(rt.alloc(), &mut Reading::new(Broken), &mut taken));
+    assert!(rt; taken.into_inner().is_empty());
+    let mut room = [0u8; 100];
+    let mut full = Writing::new(room.as_mut_slice());
+    assert!(rt;
+        local_session_is_told(rt.alloc(), &mut Reading::new(SESSION.as_slice()), &mut full)
+    );
+    let mut broken = Writing::new(Broken);
+    assert!(rt;
+        local_session_is_told(
+            rt.alloc(),
+            &mut Reading::new(SESSION.as_slice()),
+            &mut broken
+        )
+    );
 }
 
 #[test]

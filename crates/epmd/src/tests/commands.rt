@@ -9,12 +9,13 @@ use crate::tests::bytes::{
 };
 use crate::tests::cases::{Case, all_hold};
 use crate::tests::nodes::name_a;
-use crate::tests::streams::Broken;
+use crate::tests::streams;
+use crate::tests::streams::{Broken, scripted};
 use crate::tests::tape::{PAIRS, Plan, SINGLE, STEADY, Tape};
 use crate::words::Action;
 use portmap_link::Writing;
 use std::alloc::Global;
-use std::io::Write;
+use std::io::{ErrorKind, Write};
 use std::test::Fail;
 
 const HEAD: Bytes = b"epmd: up and running on port 4369 with data:\n";
@@ -339,6 +340,27 @@ fn an_output_that_fails_is_told(rt: HostRuntime) -> Result<(), Fail> {
 fn an_output_that_fails_at_its_flush_is_told(rt: HostRuntime) -> Result<(), Fail> {
     let mut output = Writing::new(Broken);
     assert!(rt; is_output_told(rt.alloc(), &mut output)?);
+    Ok(())
+}
+
+/// An output that takes the front of a list, is interrupted, and takes the rest.
+const IN_PARTS: &[streams::Told] = &[
+    streams::Told::Count(10),
+    streams::Told::Error(ErrorKind::Interrupted),
+    streams::Told::Count(1000),
+];
+
+/// How often such an output is asked until the list is told, if that is done.
+fn puts_of_parts(alloc: Global) -> Result<Option<usize>, Fail> {
+    let mut tape = Tape::new(alloc, A_LISTED, STEADY);
+    let mut output = Writing::new(scripted(IN_PARTS));
+    let status = status_of(alloc, Asked::Names, &mut tape, &mut output, NOTHING)?;
+    Ok((status == Some(0)).then_some(output.into_inner().asked))
+}
+
+#[test]
+fn a_list_is_told_in_as_many_parts_as_it_takes(rt: HostRuntime) -> Result<(), Fail> {
+    assert_eq!(rt; puts_of_parts(rt.alloc())?, Some(3));
     Ok(())
 }
 

@@ -33,7 +33,7 @@ enum Story {
     Stalls,
     /// Eight peers ask for the list of names, one after the other, and read nothing.
     Crowds,
-    /// What a node does is recorded.
+    /// That a node registers, is listed, and leaves is recorded.
     Records,
     /// It was to be recorded, and can't be.
     Nowhere,
@@ -125,9 +125,12 @@ pub fn registered<R: Net<Stream = TcpStream> + Clock>(rt: &R, port: u16) -> Opti
 /// The list of names of the daemon at port 14,369, which is 0x3821, with `a` in it.
 const LISTED: &[u8] = b"\x00\x00\x38\x21name a at port 5000\n";
 
-fn leaves<R: Net<Stream = TcpStream> + Clock>(rt: &R, port: u16) -> Option<bool> {
+/// The same at port 14,374, which is 0x3826.
+const LISTED_AS_RECORDED: &[u8] = b"\x00\x00\x38\x26name a at port 5000\n";
+
+fn leaves<R: Net<Stream = TcpStream> + Clock>(rt: &R, port: u16, listed: &[u8]) -> Option<bool> {
     let node = registered(rt, port)?;
-    let is_listed = is_answered(rt, port, NAMES, LISTED)?;
+    let is_listed = is_answered(rt, port, NAMES, listed)?;
     let is_found = is_answered(rt, port, PORT_A, FOUND_A)?;
     drop(node);
     Some(is_listed && is_found && comes_to(rt, port, PORT_A, NOT_FOUND))
@@ -194,9 +197,9 @@ fn crowds<R: Net<Stream = TcpStream> + Clock>(rt: &R, alloc: Global, port: u16) 
 fn goes_well<R: Net<Stream = TcpStream> + Clock>(rt: &R, alloc: Global, story: Story) -> bool {
     let port = story.port();
     let told = match story {
-        Story::Leaves => leaves(rt, port),
-        Story::Records | Story::Nowhere => resets(rt, port),
-        Story::Resets => resets(rt, port),
+        Story::Leaves => leaves(rt, port, LISTED),
+        Story::Records => leaves(rt, port, LISTED_AS_RECORDED),
+        Story::Resets | Story::Nowhere => resets(rt, port),
         Story::Silent => is_silent(rt, port),
         Story::Stalls => stalls(rt, alloc, port),
         Story::Crowds => crowds(rt, alloc, port),

@@ -453,7 +453,7 @@ fn one_node(alloc: Global) -> Option<Book> {
     Some(book)
 }
 
-fn tickets_of(alloc: Global, table: &[(u64, Kept)]) -> Result<Vec<Ticket>, Fail> {
+pub fn tickets_of(alloc: Global, table: &[(u64, Kept)]) -> Result<Vec<Ticket>, Fail> {
     let mut tickets = Vec::new(alloc);
     for (place, kept) in table {
         tickets.push(ticket(*place, entry(alloc, kept)?))?;
@@ -525,7 +525,7 @@ fn a_log_is_sealed_in_segments(rt: HostRuntime) -> Result<(), Fail> {
 struct Chained(&'static [usize], bool, Result<(), GatherFault>);
 
 /// A node connects, registers and leaves, and another one connects.
-const ALL: &[(u64, Kept)] = &[(0, OPENED), (1, REGISTERED), (2, LEFT), (3, OPENED)];
+pub const ALL: &[(u64, Kept)] = &[(0, OPENED), (1, REGISTERED), (2, LEFT), (3, OPENED)];
 
 const CHAINED: &[Chained] = &[
     Chained(&[0, 1], false, Ok(())),
@@ -553,7 +553,7 @@ fn segment_of(alloc: Global, relaxed: bool, place: usize) -> Option<Segment> {
     segment_in(alloc, &mut book, place)
 }
 
-fn segments_of(alloc: Global, relaxed: bool, places: &[usize]) -> Option<Vec<Segment>> {
+pub fn segments_of(alloc: Global, relaxed: bool, places: &[usize]) -> Option<Vec<Segment>> {
     let mut segments = Vec::new(alloc);
     for place in places {
         segments.push(segment_of(alloc, relaxed, *place)?).ok()?;
@@ -562,7 +562,7 @@ fn segments_of(alloc: Global, relaxed: bool, places: &[usize]) -> Option<Vec<Seg
 }
 
 /// The book behind both segments.
-fn two_nodes(alloc: Global) -> Option<Book> {
+pub fn two_nodes(alloc: Global) -> Option<Book> {
     let mut book = book(alloc, false)?;
     seals_twice(alloc, &mut book)?;
     Some(book)

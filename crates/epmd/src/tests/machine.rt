@@ -8,7 +8,7 @@ mod requests;
 mod runs;
 mod state;
 mod steps;
-mod stories;
+pub mod stories;
 
 use portmap_core::{
     entries_determine, malformed_changes_no_name, names_belong_to_connections, steps_keep_owned,

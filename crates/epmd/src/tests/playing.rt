@@ -2,7 +2,7 @@
 use crate::tests::bytes::{Bytes, NOTHING};
 use crate::tests::cases::{Case, all_hold};
 use crate::tests::record::{CUT, changed};
-use crate::tests::tape::{Plan, SINGLE, STEADY, Tape};
+use crate::tests::tape::{NEVER, Plan, SINGLE, STEADY, Tape};
 use crate::tests::transcript::{LOOK_UP_LINES, WRONG_LOOK_UP_LINES};
 use portmap_core::{Config, Entry, Fate};
 use portmap_record::{
@@ -109,6 +109,13 @@ const PLAYS: &[Played] = &[
         ended: Err(PlayFault::TooManyTurns { sent: 0 }),
         written: NOTHING,
         ..HEADER
+    },
+    Played {
+        input: NEVER,
+        turns: 1000,
+        ended: Err(PlayFault::TooManyTurns { sent: 0 }),
+        written: NOTHING,
+        ..LOOK_UP
     },
     Played {
         length: 17,

@@ -10,7 +10,7 @@ use std::alloc::Global;
 use std::test::Fail;
 
 /// Port 4369, not relaxed, two connections and two names at most: a node registers `a`, and another one looks it up.
-const SESSION: [u8; 109] = [
+pub const SESSION: [u8; 109] = [
     0x45, 0x50, 0x4D, 0x53, 1, 0, 0x11, 0x11, 0, 0, 0, 2, 0, 0, 0, 2, //
     1, 1, 0, 0, 0, 0, 0, 0, 0, 0, //
     2, 0, 0, 0, 0, 0, 0, 0, 0, 0, 0x10, 0, 0x0E, 0x78, 0x13, 0x88, 0x4D, 0, 0, 6, 0, 5, 0, 1, 0x61,

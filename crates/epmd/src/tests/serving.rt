@@ -6,63 +6,16 @@ use crate::tests::bytes::{
 };
 use crate::tests::desk::is_killed;
 use crate::tests::record::{Kept, are_kept};
-use crate::tests::tape::{Plan, STEADY, Tape};
+use crate::tests::sources::{Fake, Wires, two_links};
+use crate::tests::tape::{Plan, STEADY};
 use portmap_book::{Book, Desk, PARTS, Seat};
 use portmap_core::{Config, Entry, Fate};
-use portmap_daemon::{Open, Outcome, Source, Turn, serve};
+use portmap_daemon::{Open, Outcome, Turn, serve};
 use std::alloc::{AllocError, Global};
 use std::marker::Brand;
 use std::sync::Wait;
 use std::sync::ledger::{Blank, Ledger};
 use std::test::Fail;
-
-/// The links with the keys 7 and 8, and the keys of those that were given up.
-#[derive(Drop)]
-pub struct Wires {
-    pub seven: Tape<'static>,
-    eight: Tape<'static>,
-    ended: Vec<u64>,
-}
-
-/// A source that tells the turns of a list, and then Stop. It has no link but those two.
-#[derive(Drop)]
-pub struct Fake<'a> {
-    wires: &'a mut Wires,
-    turns: &'static [Turn],
-    next: usize,
-}
-
-impl<'a> Fake<'a> {
-    pub fn new(wires: &'a mut Wires, turns: &'static [Turn]) -> Fake<'a> {
-        Fake {
-            wires,
-            turns,
-            next: 0,
-        }
-    }
-}
-
-impl<'a> Source for Fake<'a> {
-    type Link = Tape<'static>;
-
-    fn turn(&mut self) -> Turn {
-        let turn = self.turns.get(self.next).copied();
-        self.next = self.next.saturating_add(1);
-        turn.unwrap_or(Turn::Stop)
-    }
-
-    fn link(&mut self, key: u64) -> Option<&mut Tape<'static>> {
-        match key {
-            7 => Some(&mut self.wires.seven),
-            8 => Some(&mut self.wires.eight),
-            _ => None,
-        }
-    }
-
-    fn end(&mut self, key: u64) {
-        let _ = self.wires.ended.push(key);
-    }
-}
 
 /// What a source brings to one worker, and what comes of it.
 #[derive(Clone, Copy)]
@@ -111,7 +64,7 @@ const REMOTE: Turn = Turn::Fresh {
     local: false,
 };
 
-const FRESH_8: Turn = Turn::Fresh {
+pub const FRESH_8: Turn = Turn::Fresh {
     key: 8,
     local: true,
 };
@@ -365,6 +318,29 @@ const WAITS: &[Story] = &[
         served: 3,
         ..WAITING
     },
+    // Another one is served while the peer of this one reads nothing.
+    Story {
+        turns: &[
+            FRESH,
+            Turn::Ready(7),
+            FRESH_8,
+            Turn::Ready(8),
+            Turn::Ready(7),
+        ],
+        given: [NAMES, NAMES],
+        written: [NONE_LISTED, NONE_LISTED],
+        ended: &[8, 7],
+        log: &[
+            OPENED,
+            LISTED,
+            OPENED_1,
+            Kept::Piece(1, NAMES, NONE_LISTED, Fate::Close),
+            Kept::Closed(1),
+            CLOSED,
+        ],
+        served: 6,
+        ..WAITING
+    },
     Story {
         turns: &[FRESH, Turn::Ready(7), Turn::Late(7)],
         lost: NONE_LISTED,
@@ -456,14 +432,6 @@ pub fn book(alloc: Global, relaxed: bool, conn_max: u32) -> Option<Book> {
     Book::new(alloc, config, 4).ok()
 }
 
-pub fn two_links(alloc: Global, given: [Bytes; 2], plan: Plan) -> Wires {
-    Wires {
-        seven: Tape::new(alloc, given[0], plan),
-        eight: Tape::new(alloc, given[1], STEADY),
-        ended: Vec::new(alloc),
-    }
-}
-
 /// The replies to all pieces, joined.
 fn replies(alloc: Global, log: &[Entry]) -> Result<Vec<u8>, AllocError> {
     let mut replies = Vec::new(alloc);
@@ -500,7 +468,7 @@ impl Story {
 }
 
 /// The book of a worker that is done, if its seat has counted all of it.
-fn finished<L: Ledger>(alloc: Global, desk: Desk<L>, seat: Seat<L>) -> Option<Book> {
+pub fn finished<L: Ledger>(alloc: Global, desk: Desk<L>, seat: Seat<L>) -> Option<Book> {
     let mut seats = Vec::new(alloc);
     seats.push(seat).ok()?;
     desk.finish(seats).ok()

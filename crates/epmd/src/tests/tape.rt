@@ -3,6 +3,7 @@ ghost use Rattle.std.specs.Prelude.{◌≡◌, true};
 
 use portmap_link::{Device, Input, Output, Past, Pull, Put};
 use std::alloc::Global;
+use std::sync::atomic::{AtomicU64, Ordering};
 
 /// How a device answers its calls, pulls and puts counted together from 0: those from one number up to another are Later, one
 /// and all after it are faults, and the others move so many bytes at most.
@@ -23,6 +24,12 @@ pub const STEADY: Plan = Plan {
 pub const SINGLE: Plan = Plan { most: 1, ..STEADY };
 
 pub const PAIRS: Plan = Plan { most: 2, ..STEADY };
+
+/// Later without end.
+pub const NEVER: Plan = Plan {
+    later: &[(0, usize::MAX)],
+    ..STEADY
+};
 
 /// What one call is to do.
 #[derive(Clone, Copy)]
@@ -201,5 +208,56 @@ impl Output for Fountain {
 
     fn failed(&self) -> bool {
         false
+    }
+}
+
+/// A tape that counts the bytes that are written to it where others see it.
+#[derive(Drop)]
+pub struct Watched<'a> {
+    tape: Tape<'static>,
+    written: &'a AtomicU64,
+}
+
+impl<'a> Watched<'a> {
+    pub fn new(tape: Tape<'static>, written: &'a AtomicU64) -> Watched<'a> {
+        Watched { tape, written }
+    }
+}
+
+impl<'a> Device for Watched<'a> {
+    ghost use Rattle.std.specs.Prelude.{Some};
+
+    ghost left = { λ t. Some t.tape.source.now };
+
+    ghost held = { λ t. Some t.tape.sink.items };
+
+    ghost pulls = { λ t. t.tape.pulls };
+
+    ghost puts = { λ t. t.tape.puts };
+
+    ghost broken = { λ t. t.tape.failed };
+}
+
+impl<'a> Input for Watched<'a> {
+    fn pull(&mut self, buffer: &mut [u8]) -> Pull {
+        self.tape.pull(buffer)
+    }
+
+    fn failed(&self) -> bool {
+        self.tape.failed
+    }
+}
+
+impl<'a> Output for Watched<'a> {
+    fn put(&mut self, bytes: &[u8]) -> Put {
+        let answer = self.tape.put(bytes);
+        if let Put::Wrote(count) = answer {
+            self.written.fetch_add(count as u64, Ordering::SeqCst);
+        }
+        answer
+    }
+
+    fn failed(&self) -> bool {
+        self.tape.failed
     }
 }

@@ -115,7 +115,8 @@ pub fn entry(alloc: Global, kept: &Kept) -> Result<Entry, AllocError> {
     })
 }
 
-fn entries(alloc: Global, table: &[Kept]) -> Result<Vec<Entry>, AllocError> {
+/// The entries of a table of them.
+pub fn entries(alloc: Global, table: &[Kept]) -> Result<Vec<Entry>, AllocError> {
     let mut entries = Vec::new(alloc);
     for kept in table {
         entries.push(entry(alloc, kept)?)?;

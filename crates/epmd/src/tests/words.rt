@@ -20,6 +20,7 @@ enum Asked {
     Once,
     Check(&'static str),
     Play(&'static str),
+    Local(&'static str),
 }
 
 fn is_asked(action: &Action, asked: Asked) -> bool {
@@ -32,6 +33,7 @@ fn is_asked(action: &Action, asked: Asked) -> bool {
         (Action::Once, Asked::Once) => true,
         (Action::Check(path), Asked::Check(text)) => path.as_str() == text,
         (Action::Play(path), Asked::Play(text)) => path.as_str() == text,
+        (Action::Local(path), Asked::Local(text)) => path.as_str() == text,
         _ => false,
     }
 }
@@ -84,6 +86,10 @@ const ACTIONS: &[Asks] = &[
     Asks(&["-check", "-play"], Asked::Check("-play")),
     Asks(&["-play", "/tmp/session"], Asked::Play("/tmp/session")),
     Asks(&["-play", ""], Asked::Play("")),
+    Asks(&["-local", "x"], Asked::Local("x")),
+    Asks(&["-local", "-play"], Asked::Local("-play")),
+    Asks(&["-local", ""], Asked::Local("")),
+    Asks(&["-d", "-local", "x", "-port", "1"], Asked::Local("x")),
     Asks(&["-port", "4370", "-names"], Asked::Names),
     Asks(&["-names", "-port", "4370"], Asked::Names),
     Asks(&["-once", "-d", "-workers", "2", "-daemon"], Asked::Once),
@@ -290,6 +296,12 @@ const RECORDS: &[Records] = &[
         Some("x"),
     ),
     Records(
+        &["-local", "y", "-record", "x"],
+        Asked::Local("y"),
+        false,
+        Some("x"),
+    ),
+    Records(
         &["-record", "x", "-check", "x"],
         Asked::Check("x"),
         false,
@@ -348,6 +360,7 @@ const PORTS: &[Ports] = &[
     Ports("x", &["-once"], None),
     Ports("x", &["-check", "a"], None),
     Ports("x", &["-play", "a"], None),
+    Ports("x", &["-local", "a"], None),
     Ports("x", &["-d", "-workers", "2"], None),
     Ports("x", &["-port", "4370"], Some(4370)),
     Ports("", &["-port", "4370"], Some(4370)),

@@ -4,15 +4,17 @@ ghost use Rattle.std.specs.Prelude.{◌≡◌};
 use crate::tests::bytes::{ALIVE_A, Bytes, FOUND_A, FOURTH, NAMES, NONE_LISTED, NOTHING, PORT_A};
 use crate::tests::desk::is_said;
 use crate::tests::gates::{Meet, Relay};
-use crate::tests::serving::{FRESH, Fake, book, two_links};
-use crate::tests::tape::{Plan, STEADY, Tape};
+use crate::tests::serving::{FRESH, book};
+use crate::tests::sources::{Fake, two_links};
+use crate::tests::tape::{Plan, STEADY, Tape, Watched};
 use portmap_book::{Desk, PARTS, Seat};
 use portmap_core::Fate;
-use portmap_daemon::{Carrier, Gate, Next, Open, Outcome, Source, Turn, serve};
+use portmap_daemon::{Carrier, Gate, Next, Open, Outcome, Point, Source, Turn, serve};
 use std::alloc::Global;
 use std::marker::Brand;
 use std::rt::Clock;
 use std::sync::Wait;
+use std::sync::atomic::{AtomicU64, Ordering};
 use std::sync::ledger::{Blank, Ledger};
 use std::test::Fail;
 use std::thread;
@@ -55,6 +57,65 @@ fn a_carrier_tells_what_it_writes(rt: HostRuntime) -> Result<(), Fail> {
     assert_eq!(rt;
         one_carrier::<Brand, HostRuntime>(&rt, rt.alloc(), Blank::new(PARTS)),
         Some(true)
+    );
+    Ok(())
+}
+
+/// A gate that notes how many bytes of an answer are written at each point.
+#[derive(Drop)]
+struct Looks<'a> {
+    written: &'a AtomicU64,
+    answered: AtomicU64,
+    sent: AtomicU64,
+}
+
+impl Gate for Looks<'_> {
+    fn pass(&self, _worker: u32, point: Point) {
+        let noted = match point {
+            Point::Answered => &self.answered,
+            Point::Sent => &self.sent,
+        };
+        noted.store(self.written.load(Ordering::SeqCst), Ordering::SeqCst);
+    }
+}
+
+/// How many bytes of the reply to a registration are written when the gate is passed, at each of its points.
+fn written_at<L: Ledger, R: Wait>(rt: &R, alloc: Global, blank: Blank) -> Option<[u64; 2]>
+    requires name { blank.name ≡ L.name }
+    requires parts { blank.parts ≡ L.parts }
+    requires enough { blank.parts ≡ PARTS }
+{
+    let desk: Desk<L> = Desk::new(blank, book(alloc, false, 2)?);
+    let mut seat = desk.seat(rt)?;
+    passed(rt, alloc, &desk, &mut seat)
+}
+
+fn passed<L: Ledger, R: Wait>(
+    rt: &R,
+    alloc: Global,
+    desk: &Desk<L>,
+    seat: &mut Seat<L>,
+) -> Option<[u64; 2]> {
+    let written = AtomicU64::new(0);
+    let gate = Looks {
+        written: &written,
+        answered: AtomicU64::new(u64::MAX),
+        sent: AtomicU64::new(u64::MAX),
+    };
+    let mut link = Watched::new(Tape::new(alloc, ALIVE_A, STEADY), &written);
+    let (_, conn) = desk.connect(rt, alloc, seat, true).ok()?;
+    Carrier::new(alloc, conn).ready(rt, alloc, desk, seat, 0, &mut link, &gate);
+    Some([
+        gate.answered.load(Ordering::SeqCst),
+        gate.sent.load(Ordering::SeqCst),
+    ])
+}
+
+#[test]
+fn a_gate_is_passed_before_an_answer_is_written_and_after(rt: HostRuntime) -> Result<(), Fail> {
+    assert_eq!(rt;
+        written_at::<Brand, HostRuntime>(&rt, rt.alloc(), Blank::new(PARTS)),
+        Some([0, 6])
     );
     Ok(())
 }

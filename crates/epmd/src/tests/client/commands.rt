@@ -1,8 +1,8 @@
 //! The commands that end the port mapper, or a registration.
 use crate::tests::bytes::{Bytes, KILL, STOP_A};
-use crate::tests::cases::{Case, all_hold};
+use crate::tests::cases::{Case, all_hold, is_so};
 use crate::tests::nodes::name_a;
-use crate::tests::tape::{STEADY, Tape};
+use crate::tests::tape::{NEVER, STEADY, Tape};
 use portmap_client::{ClientFault, Kill, Stop, kill, stop};
 use std::alloc::Global;
 use std::test::Fail;
@@ -59,4 +59,22 @@ impl Case for Stopped {
 #[test]
 fn a_stop_finds_the_name_or_not(rt: HostRuntime) -> Result<(), Fail> {
     all_hold(&rt, STOPS)
+}
+
+/// Whether a stream that says Later without end is given up by a KILL, with nothing written, and by a STOP.
+fn is_kill_given_up(alloc: Global) -> bool {
+    let mut tape = Tape::new(alloc, b"OK", NEVER);
+    kill(alloc, &mut tape) == Err(ClientFault::TooManyTurns) && has_moved(&tape, b"", b"OK")
+}
+
+fn is_stop_given_up(alloc: Global) -> Result<bool, Fail> {
+    let name = name_a(alloc)?;
+    let mut tape = Tape::new(alloc, b"STOPPED", NEVER);
+    Ok(stop(alloc, &mut tape, &name) == Err(ClientFault::TooManyTurns))
+}
+
+#[test]
+fn a_command_ends_at_the_thousandth_later(rt: HostRuntime) -> Result<(), Fail> {
+    is_so(&rt, Ok(is_kill_given_up(rt.alloc())))?;
+    is_so(&rt, is_stop_given_up(rt.alloc()))
 }

@@ -3,7 +3,7 @@ use crate::tests::bytes::{ALIVE_A, Bytes, FOURTH, NO_ROOM};
 use crate::tests::cases::{Case, all_hold, is_so};
 use crate::tests::client::look_ups::is_found_whole;
 use crate::tests::nodes::{node, node_a};
-use crate::tests::tape::{STEADY, Tape};
+use crate::tests::tape::{NEVER, STEADY, Tape};
 use portmap_client::{ClientFault, Registration};
 use portmap_wire::Reg;
 use std::alloc::Global;
@@ -50,6 +50,20 @@ fn a_registration_is_given_its_creation_or_hands_the_stream_back(
     rt: HostRuntime,
 ) -> Result<(), Fail> {
     all_hold(&rt, ANSWERS)
+}
+
+/// Whether a stream that says Later without end is handed back, with nothing written.
+fn is_given_up(alloc: Global) -> Result<bool, Fail> {
+    let node = node_a(alloc)?;
+    match Registration::make(alloc, Tape::new(alloc, FOURTH, NEVER), &node) {
+        Ok(_) => Ok(false),
+        Err((fault, tape)) => Ok(fault == ClientFault::TooManyTurns && tape.sink.is_empty()),
+    }
+}
+
+#[test]
+fn a_registration_ends_at_the_thousandth_later(rt: HostRuntime) -> Result<(), Fail> {
+    is_so(&rt, is_given_up(rt.alloc()))
 }
 
 /// A node that fills a request of 8,192 bytes: 13, the name's one and 8,178 extra ones.

@@ -1,7 +1,7 @@
 //! One connection over memory.
-use crate::tests::bytes::{ALIVE_A, Bytes, NAMES, NONE_LISTED, PORT_A};
+use crate::tests::bytes::{ALIVE_A, Bytes, NAMES, NONE_LISTED, NOT_FOUND, NOTHING, PORT_A, PORT_B};
 use crate::tests::cases::{Case, all_hold, is_so};
-use crate::tests::tape::{PAIRS, Plan, SINGLE, STEADY, Tape};
+use crate::tests::tape::{NEVER, PAIRS, Plan, SINGLE, STEADY, Tape};
 use portmap_core::{Config, Fate};
 use portmap_link::{OnceFault, once, tell};
 use std::alloc::Global;
@@ -81,6 +81,12 @@ const FEW_TURNS: &[Served] = &[
     Served {
         turns: 0,
         sent: &[],
+        ..NO_TURN_LEFT
+    },
+    Served {
+        turns: 1000,
+        input: NEVER,
+        pulls: Some(1000),
         ..NO_TURN_LEFT
     },
 ];
@@ -193,6 +199,49 @@ fn one_connection_tells_why_it_gave_up_and_how_much_was_written(
     rt: HostRuntime,
 ) -> Result<(), Fail> {
     all_hold(&rt, GIVEN_UP)
+}
+
+/// A look-up of a name that nobody has, byte by byte: 4 pulls and 2 puts.
+const UNKNOWN: Served = Served {
+    sent: PORT_B,
+    turns: 6,
+    told: NOT_FOUND,
+    ..LISTED
+};
+
+fn pull_fails(call: usize) -> Served {
+    Served {
+        input: failing(Some(call)),
+        ended: Err(OnceFault::ReadFault),
+        told: NOTHING,
+        ..UNKNOWN
+    }
+}
+
+fn put_fails(call: usize) -> Served {
+    Served {
+        output: failing(Some(call)),
+        ended: Err(OnceFault::WriteFault { sent: call as u64 }),
+        told: &NOT_FOUND[..call.min(2)],
+        ..UNKNOWN
+    }
+}
+
+/// The first pull or put at which a fault ends a look-up otherwise.
+fn first_fault_untold(alloc: Global) -> Result<Option<usize>, Fail> {
+    for call in 0..4 {
+        let is_told = call >= 2 || put_fails(call).holds(alloc)?;
+        if !is_told || !pull_fails(call).holds(alloc)? {
+            return Ok(Some(call));
+        }
+    }
+    Ok(None)
+}
+
+#[test]
+fn one_connection_tells_at_which_call_it_failed(rt: HostRuntime) -> Result<(), Fail> {
+    assert_eq!(rt; first_fault_untold(rt.alloc())?, None);
+    Ok(())
 }
 
 const SLOW: Plan = Plan {
