@@ -1,12 +1,13 @@
 -- What a search finds in a list to which an element is added, or from which one is removed.
-use Rattle.std.proofs.Common.{◌≡◌, ℕ, suc, zero, Bool, true, false, cond, List, [], ◌∷◌, ◌++◌, length, map, Option, Some, None, refl, sym, ap, ◌∙◌, ltb}
+use Rattle.std.proofs.Common.{◌≡◌, ℕ, suc, zero, Bool, true, false, cond, List, [], ◌∷◌, ◌++◌, ◌+◌, length, map, take, Option, Some, None, refl, sym, ap, ◌∙◌, ltb, arith}
 use Rattle.std.specs.Prelude.{find, position, remove, is_some, slice_get, nat_lt}
 use Rattle.std.specs.List.{AllByRecursion, position_or_len}
 use Rattle.std.specs.Option.{option_or}
 use Rattle.std.specs.Cmp.{IsEquivalence}
 use Rattle.std.proofs.lemmas.Bool.{lt-ltb}
 use Rattle.std.proofs.lemmas.List.Folds.{find_at, find-append}
-use Rattle.std.proofs.lemmas.Option.{slice_get_within}
+use Rattle.std.proofs.lemmas.Option.{get_or_from_slice_get, slice_get_within}
+use Rattle.std.proofs.Math.Seq.{take-suc}
 
 or_none : {X : Type 0} (o : Option X) → option_or o None ≡ o
 or_none None = refl
@@ -62,3 +63,13 @@ first_part P (x ∷ xs) ys p = (p.0, first_part P xs ys p.1)
 pub second_part : {K : Type 0} (P : K → Type 0) (xs ys : List K) → AllByRecursion P (xs ++ ys) → AllByRecursion P ys
 second_part P [] ys p = p
 second_part P (x ∷ xs) ys p = second_part P xs ys p.1
+
+more : (i : ℕ) → i + 1 ≡ suc i
+more i = omega arith
+
+take_read : {X : Type 0} (xs : List X) (i : ℕ) (x : X) → slice_get xs i ≡ Some x → take (i + 1) xs ≡ take i xs ++ x ∷ []
+take_read xs i x e = ap (λ n. take n xs) (more i) ∙ take-suc xs i x (slice_get_within xs i x e) ∙ ap (λ y. take i xs ++ y ∷ []) (get_or_from_slice_get xs i x x e)
+
+-- two lists that agree before this place, and at it, agree up to and with it
+pub same_through : {X : Type 0} (xs ys : List X) (i : ℕ) (x : X) → take i xs ≡ take i ys → slice_get xs i ≡ Some x → slice_get ys i ≡ Some x → take (i + 1) xs ≡ take (i + 1) ys
+same_through xs ys i x same one other = take_read xs i x one ∙ ap (λ l. l ++ x ∷ []) same ∙ sym (take_read ys i x other)

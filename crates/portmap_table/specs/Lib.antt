@@ -2,3 +2,4 @@ pub mod Creation
 pub mod Rows
 pub mod Table
 pub mod Laws
+pub mod Store

@@ -4,6 +4,7 @@
 mod creation;
 mod known;
 mod laws;
+mod name_lists;
 mod name_map;
 mod names;
 mod parts;

@@ -3,6 +3,7 @@ ghost use Rattle.std.specs.Prelude.{◌≡◌, ◌==◌, ◌+◌, ◌<◌, ◌�
 ghost use Rattle.portmap_table.specs.Rows.{active_row, is_active, is_full_for, names_in, no_names, old_name, owner_of, owns_name, registered, remembered, retired_at, retired_name, retired_of};
 
 use crate::known::Known;
+use crate::name_lists::NameLists;
 use crate::names::Names;
 use crate::row::{Retired, Row};
 use crate::row_map::RowMap;
@@ -86,7 +87,7 @@ impl NameMap {
     }
 
     /// The rows of the active names.
-    fn active(&self) -> &[Row]
+    pub(crate) fn active(&self) -> &[Row]
         ensures { result.now ≡ self.now.active }
     {
         &self.rows.rows()[self.retired..]
@@ -159,10 +160,17 @@ impl NameMap {
     }
 
     /// The same names as plain lists.
-    pub fn lists(&self, alloc: Global) -> Result<Names, NoMemory>
+    pub(crate) fn lists(&self, alloc: Global) -> Result<NameLists, NoMemory>
         ensures same { IfOk result (λ names. names ≡ self.now) }
     {
-        Names::copy_of(alloc, self.active(), self.retired())
+        NameLists::copy_of(alloc, self.active(), self.retired())
+    }
+
+    /// The same names as those of a state.
+    pub fn names(&self, alloc: Global) -> Result<Names, NoMemory>
+        ensures same { IfOk result (λ names. names ≡ self.now) }
+    {
+        Ok(Names::of(alloc, self.lists(alloc)?))
     }
 }
 

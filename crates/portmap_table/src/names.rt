@@ -1,68 +1,84 @@
-//! The names that are known, active and retired.
-ghost use Rattle.std.specs.Prelude.{◌≡◌, ◌↔◌, false, IsTrue, length, map, option_copied, option_map, slice_get, Some, IfOk, OnOk, OnErr, position, [], ◌∷◌, ◌++◌, ◌+◌, ◌<◌, ◌≤◌, vec_len, vec_capacity};
-ghost use Rattle.portmap_table.specs.Rows.{active_row, is_active, is_full_for, no_names, owner_of, owns_name, old_name, registered, remembered, retired_at, retired_name, retired_of, same_name, without_at};
+//! The names of a state, which may be any.
+ghost use Rattle.std.specs.Prelude.{◌≡◌, ◌↔◌, IsTrue, length, option_copied, option_map, slice_get, IfOk, OnOk, OnErr};
+ghost use Rattle.portmap_table.specs.Rows.{active_row, is_full_for, no_names, owns_name, registered, remembered, retired_name, retired_of};
+ghost use Rattle.portmap_table.specs.Store.{names_of};
 
 use crate::known::Known;
-use crate::parts::{copy_all, old_names, same_all};
-use crate::place::{active_row, forget, last_creation, slot_place};
-use crate::row::{Old, Retired, Row};
+use crate::name_lists::NameLists;
+use crate::name_map::NameMap;
+use crate::parts::same_all;
+use crate::row::{Retired, Row};
 use portmap_wire::{Name, NoMemory, Reg};
 use std::alloc::Global;
 use std::marker::Model;
 
-/// The names that are known.
+/// How names are kept.
+#[derive(Debug, Drop)]
+enum Store {
+    /// As a table has them: each is found without a walk, none stands twice, and no slot owns two.
+    Map(NameMap),
+    /// As lists, which may be any.
+    Lists(NameLists),
+}
+
+/// The names that are known in a state. Those that a machine may have come to are found without a walk over the others.
 #[derive(Debug, Drop)]
 pub struct Names {
-    active: Vec<Row>,
-    // It has room for each active row besides, so that retiring takes no memory.
-    retired: Vec<Old>,
+    alloc: Global,
+    store: Store,
 }
 
 impl Model for Names {
-    ghost use Rattle.std.specs.Prelude.{◌+◌, ◌≤◌, vec_len, vec_capacity};
     ghost use Rattle.portmap_table.specs.Rows.{Names};
+    ghost use Rattle.portmap_table.specs.Store.{names_of};
 
     ghost Value = { Names };
 
-    ghost view = { λ n. record { active = n.active.items; retired = n.retired.items } };
-
-    ghost invariant = { λ n. vec_len n.active + vec_len n.retired ≤ vec_capacity n.retired };
+    ghost view = { λ n. names_of n.store };
 }
 
-/// Makes room for one more active row, and for that and each other one among the retired names.
-fn make_room(active: &mut Vec<Row>, retired: &mut Vec<Old>) -> Result<(), NoMemory>
-    ensures active { active.new.items ≡ active.old.items }
-    ensures retired { retired.new.items ≡ retired.old.items }
-    ensures room { OnOk result (vec_len active.new < vec_capacity active.new) }
-    ensures retired_room { OnOk result (vec_len active.new + vec_len retired.new < vec_capacity retired.new) }
-    ensures kept { vec_capacity retired.old ≤ vec_capacity retired.new }
+/// Whether the same names are retired, in the same order.
+#[tactic(auto, using(crate::proofs::Finding::same_through))]
+fn same_retired(names: &Names, others: &Names) -> bool
+    ensures { IsTrue result ↔ (names.now.retired ≡ others.now.retired) }
 {
-    retired.reserve(active.len() + 1)?;
-    active.reserve(1)
+    if names.retired_len() != others.retired_len() {
+        return false;
+    }
+    for i in 0..names.retired_len() {
+        let (Some(name), Some(other)) = (names.retired_at(i), others.retired_at(i)) else {
+            return false;
+        };
+        if !name.is_same(&other) {
+            return false;
+        }
+    }
+    true
 }
 
-/// A name becomes the last active one, and is a retired one no more.
-fn enter(active: &mut Vec<Row>, retired: &mut Vec<Old>, row: Row)
-    requires { vec_len active.old < vec_capacity active.old }
-    ensures active { active.new.items ≡ active.old.items ++ row ∷ [] }
-    ensures retired { retired.new.items ≡ without_at (position (λ old. same_name old.name row.reg.name) retired.old.items) retired.old.items }
-    ensures few { vec_len active.new + vec_len retired.new ≤ vec_len active.old + vec_len retired.old + 1 }
-    ensures room { vec_capacity retired.new ≡ vec_capacity retired.old }
+/// A name becomes active.
+fn register(
+    alloc: Global,
+    store: &mut Store,
+    reg: Reg,
+    creation: u32,
+    slot: u64,
+) -> Result<(), NoMemory>
+    ensures ok { OnOk result (names_of store.new ≡ registered reg creation slot (names_of store.old)) }
+    ensures err { OnErr result (names_of store.new ≡ names_of store.old) }
 {
-    forget(retired, &row.reg.name);
-    active.push_reserved(row);
-}
-
-/// The active name at this place becomes the last retired one.
-fn leave(active: &mut Vec<Row>, retired: &mut Vec<Old>, at: usize)
-    requires place { at < vec_len active.old }
-    requires room { vec_len retired.old < vec_capacity retired.old }
-    ensures names { retired_at (Some at) (record { active = active.old.items; retired = retired.old.items }) ≡ record { active = active.new.items; retired = retired.new.items } }
-    ensures few { vec_len active.new + vec_len retired.new ≡ vec_len active.old + vec_len retired.old }
-    ensures room { vec_capacity retired.new ≡ vec_capacity retired.old }
-{
-    let row = active.remove(at);
-    retired.push_reserved(Old::of(row));
+    match store {
+        Store::Map(map) if !map.is_active(&reg.name) && !map.holds(slot) => {
+            map.register(reg, creation, slot)
+        }
+        Store::Map(map) => {
+            let mut lists = map.lists(alloc)?;
+            lists.register(reg, creation, slot)?;
+            *store = Store::Lists(lists);
+            Ok(())
+        }
+        Store::Lists(lists) => lists.register(reg, creation, slot),
+    }
 }
 
 impl Names {
@@ -71,8 +87,18 @@ impl Names {
         ensures { result ≡ no_names }
     {
         Names {
-            active: Vec::new(alloc),
-            retired: Vec::new(alloc),
+            alloc,
+            store: Store::Map(NameMap::new(alloc)),
+        }
+    }
+
+    /// Those of lists.
+    pub(crate) fn of(alloc: Global, lists: NameLists) -> Names
+        ensures { result ≡ lists }
+    {
+        Names {
+            alloc,
+            store: Store::Lists(lists),
         }
     }
 
@@ -81,14 +107,7 @@ impl Names {
         ensures ok { OnOk result (self.new ≡ registered reg creation slot self.old) }
         ensures err { OnErr result (self.new ≡ self.old) }
     {
-        make_room(&mut self.active, &mut self.retired)?;
-        let row = Row {
-            reg,
-            creation,
-            slot,
-        };
-        enter(&mut self.active, &mut self.retired, row);
-        Ok(())
+        register(self.alloc, &mut self.store, reg, creation, slot)
     }
 
     /// Retires the name that a slot owns, and says whether it owned one. It takes no memory.
@@ -96,12 +115,9 @@ impl Names {
         ensures found { result ≡ owns_name slot self.old }
         ensures retired { self.new ≡ retired_of slot self.old }
     {
-        match slot_place(self.active.as_slice(), slot) {
-            None => false,
-            Some(at) => {
-                leave(&mut self.active, &mut self.retired, at);
-                true
-            }
+        match &mut self.store {
+            Store::Map(map) => map.retire(slot),
+            Store::Lists(lists) => lists.retire(slot),
         }
     }
 
@@ -109,40 +125,38 @@ impl Names {
     pub fn remembered(&self, name: &Name) -> Option<u32>
         ensures { result ≡ remembered name.now self.now }
     {
-        last_creation(self.retired.as_slice(), name)
+        match &self.store {
+            Store::Map(map) => map.remembered(name),
+            Store::Lists(lists) => lists.remembered(name),
+        }
     }
 
-    /// Names that are copies of these, where the second rows are those that the retired names had.
-    pub(crate) fn copy_of(alloc: Global, active: &[Row], retired: &[Row]) -> Result<Names, NoMemory>
-        ensures { IfOk result (λ names. names ≡ record { active = active.now; retired = map old_name retired.now }) }
+    /// The rows of the active names.
+    fn active(&self) -> &[Row]
+        ensures { result.now ≡ self.now.active }
     {
-        Names::of(copy_all(alloc, active)?, old_names(alloc, retired)?)
-    }
-
-    fn of(active: Vec<Row>, mut retired: Vec<Old>) -> Result<Names, NoMemory>
-        ensures { IfOk result (λ names. names ≡ record { active = active.items; retired = retired.items }) }
-    {
-        retired.reserve(active.len())?;
-        Ok(Names { active, retired })
+        match &self.store {
+            Store::Map(map) => map.active(),
+            Store::Lists(lists) => lists.active(),
+        }
     }
 
     /// A second one.
     pub fn try_copy(&self, alloc: Global) -> Result<Names, NoMemory>
         ensures same { IfOk result (λ copy. copy ≡ self.now) }
     {
-        let active = copy_all(alloc, self.active.as_slice())?;
-        let retired = copy_all(alloc, self.retired.as_slice())?;
-        Names::of(active, retired)
+        let lists = match &self.store {
+            Store::Map(map) => map.lists(alloc)?,
+            Store::Lists(lists) => lists.try_copy(alloc)?,
+        };
+        Ok(Names::of(alloc, lists))
     }
 
     /// Whether they are the same in every respect. It takes no memory.
     pub fn same(&self, other: &Names) -> bool
         ensures { IsTrue result ↔ (self.now ≡ other.now) }
     {
-        if !same_all(self.active.as_slice(), other.active.as_slice()) {
-            return false;
-        }
-        same_all(self.retired.as_slice(), other.retired.as_slice())
+        same_all(self.active(), other.active()) && same_retired(self, other)
     }
 }
 
@@ -150,29 +164,38 @@ impl Known for Names {
     ghost names = { λ n. n };
 
     fn find(&self, name: &Name) -> Option<&Row> {
-        active_row(self.active.as_slice(), name)
+        match &self.store {
+            Store::Map(map) => map.find(name),
+            Store::Lists(lists) => lists.find(name),
+        }
     }
 
     fn is_full_for(&self, known_max: u32, name: &Name) -> bool {
-        let Names { active, retired } = self;
-        active.len() + retired.len() >= known_max as usize
-            && !self.is_active(name)
-            && self.remembered(name).is_none()
+        match &self.store {
+            Store::Map(map) => map.is_full_for(known_max, name),
+            Store::Lists(lists) => lists.is_full_for(known_max, name),
+        }
     }
 
     fn active_len(&self) -> usize {
-        self.active.len()
+        self.active().len()
     }
 
     fn active_at(&self, i: usize) -> Option<&Row> {
-        self.active.get(i)
+        self.active().get(i)
     }
 
     fn retired_len(&self) -> usize {
-        self.retired.len()
+        match &self.store {
+            Store::Map(map) => map.retired_len(),
+            Store::Lists(lists) => lists.retired_len(),
+        }
     }
 
     fn retired_at(&self, i: usize) -> Option<Retired<'_>> {
-        self.retired.get(i).map(|old| old.lend())
+        match &self.store {
+            Store::Map(map) => map.retired_at(i),
+            Store::Lists(lists) => lists.retired_at(i),
+        }
     }
 }

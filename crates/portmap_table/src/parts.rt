@@ -29,7 +29,7 @@ impl Part for Row {
 
 impl Part for Old {
     fn same(&self, other: &Old) -> bool {
-        self.creation == other.creation && self.port == other.port && self.name == other.name
+        self.lend().is_same(&other.lend())
     }
 
     fn copy(&self, alloc: Global) -> Result<Old, NoMemory> {

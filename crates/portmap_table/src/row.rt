@@ -1,5 +1,5 @@
 //! What is kept of each name.
-ghost use Rattle.std.specs.Prelude.{◌≡◌, IfOk};
+ghost use Rattle.std.specs.Prelude.{◌≡◌, ◌↔◌, IfOk, IsTrue};
 ghost use Rattle.portmap_table.specs.Rows.{old_name, retired_name};
 
 use portmap_wire::{Name, NoMemory, Reg};
@@ -101,6 +101,13 @@ impl Old {
 }
 
 impl Retired<'_> {
+    /// Whether it is the same in every respect.
+    pub(crate) fn is_same(&self, other: &Retired<'_>) -> bool
+        ensures { IsTrue result ↔ (retired_name self.now ≡ retired_name other.now) }
+    {
+        self.creation == other.creation && self.port == other.port && *self.name == *other.name
+    }
+
     /// A copy that is the caller's own.
     pub fn try_copy(&self, alloc: Global) -> Result<Old, NoMemory>
         ensures same { IfOk result (λ copy. copy ≡ retired_name self.now) }
