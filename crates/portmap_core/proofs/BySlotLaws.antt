@@ -14,11 +14,11 @@ use Rattle.std.specs.Map.{keys_of}
 use Rattle.std.proofs.lemmas.Bool.{cases_eq}
 use Rattle.std.specs.Cmp.Lexicographic.{pointwise, same_text}
 use Rattle.std.proofs.lemmas.Cmp.{nat_list_eq_equiv}
-use Rattle.portmap_core.specs.declared.connections.Connection.{Connection}
-use Rattle.portmap_core.specs.declared.connections.Stage.{Stage}
-use Rattle.portmap_core.specs.declared.connections.Stage.TheVariants.{Waiting, Holding, Done}
-use Rattle.portmap_core.specs.contracts.connections.ConnectionPartialEq.TheImpl as connection_eq
-use Rattle.portmap_core.specs.contracts.connections.StagePartialEq.TheImpl as stage_eq
+use Rattle.portmap_core.specs.declared.connection.Connection.{Connection}
+use Rattle.portmap_core.specs.declared.connection.Stage.{Stage}
+use Rattle.portmap_core.specs.declared.connection.Stage.TheVariants.{Waiting, Holding, Done}
+use Rattle.portmap_core.specs.contracts.connection.ConnectionPartialEq.TheImpl as connection_eq
+use Rattle.portmap_core.specs.contracts.connection.StagePartialEq.TheImpl as stage_eq
 use Rattle.std.specs.contracts.prelude.U64PartialEq.TheImpl as number_eq
 use Rattle.std.specs.contracts.prelude.BoolPartialEq.TheImpl as bool_eq
 use Rattle.std.proofs.Common.{eq-eqb, eqb-true}

@@ -8,10 +8,10 @@ use Rattle.portmap_wire.specs.declared.request.Request.{Request}
 use Rattle.portmap_wire.specs.declared.request.Request.TheVariants.{Alive, Port, Names, Dump, Kill, Stop}
 use Rattle.portmap_table.specs.Rows as rows
 use Rattle.portmap_core.specs.declared.event.Fate.{Fate}
-use Rattle.portmap_core.specs.declared.connections.Connection.{Connection}
-use Rattle.portmap_core.specs.declared.connections.Stage.{Stage}
-use Rattle.portmap_core.specs.declared.connections.Stage.TheVariants.{Waiting, Holding, Done}
-use Rattle.portmap_core.specs.declared.connections.Phase.TheVariants as phase
+use Rattle.portmap_core.specs.declared.connection.Connection.{Connection}
+use Rattle.portmap_core.specs.declared.connection.Stage.{Stage}
+use Rattle.portmap_core.specs.declared.connection.Stage.TheVariants.{Waiting, Holding, Done}
+use Rattle.portmap_core.specs.declared.connection.Phase.TheVariants as phase
 use Rattle.portmap_core.specs.Config.{Configuration}
 use Rattle.portmap_core.specs.Connections.{ConnectionMap, at_stage, stopped_in}
 use Rattle.portmap_core.specs.State.{State, empty_state, phase_at, phase_of_connection, phase_of_stage, state_of}

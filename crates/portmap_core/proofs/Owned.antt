@@ -14,9 +14,9 @@ use Rattle.portmap_table.specs.Rows.{AreKept, owns_name, is_active, is_full_for,
 use Rattle.portmap_table.specs.Rows as rows
 use Rattle.portmap_table.proofs.Kept.{kept_empty, kept_registers, kept_retired}
 use Rattle.portmap_table.proofs.Owners.{owns_registered, owns_registered_other, owns_retired, owns_retired_other}
-use Rattle.portmap_core.specs.declared.connections.Connection.{Connection}
-use Rattle.portmap_core.specs.declared.connections.Stage.{Stage}
-use Rattle.portmap_core.specs.declared.connections.Stage.TheVariants.{Waiting, Holding, Done}
+use Rattle.portmap_core.specs.declared.connection.Connection.{Connection}
+use Rattle.portmap_core.specs.declared.connection.Stage.{Stage}
+use Rattle.portmap_core.specs.declared.connection.Stage.TheVariants.{Waiting, Holding, Done}
 use Rattle.portmap_core.specs.Config.{Configuration}
 use Rattle.portmap_core.specs.Connections.{ConnectionMap, at_stage, ended, ended_at}
 use Rattle.portmap_core.specs.State.{State, empty_state, state_of}

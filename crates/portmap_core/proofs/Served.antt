@@ -10,7 +10,7 @@ use Rattle.portmap_table.specs.Creation.{choice}
 use Rattle.portmap_table.specs.Rows.{Names, is_active, is_full_for, owner_of, remembered}
 use Rattle.portmap_table.specs.Table.{TableState}
 use Rattle.portmap_table.specs.declared.table.RegFault.TheVariants as fault
-use Rattle.portmap_core.specs.declared.connections.Stage.TheVariants.{Holding}
+use Rattle.portmap_core.specs.declared.connection.Stage.TheVariants.{Holding}
 use Rattle.portmap_core.specs.declared.serve.Next.{Next}
 use Rattle.portmap_core.specs.Config.{Configuration}
 use Rattle.portmap_core.specs.Serving.{MayTake, Served, Serves, alive_served, closed, dump_served, halts, if_local, kill_served, registers, replied, served, stop_served, stops}

@@ -13,8 +13,8 @@ use Rattle.std.proofs.lemmas.Bool.Decides.{nat_tests}
 use Rattle.std.proofs.lemmas.List.{append-nil, append_assoc}
 use Rattle.slab.specs.Slab.{ContainsKey, Slab, Updates, entries_from, get, with_value}
 use Rattle.slab.proofs.SlabLemmas.{Updates-with_value, length-entries_from}
-use Rattle.portmap_core.specs.declared.connections.Connection.{Connection}
-use Rattle.portmap_core.specs.declared.connections.Stage.TheVariants.{Done}
+use Rattle.portmap_core.specs.declared.connection.Connection.{Connection}
+use Rattle.portmap_core.specs.declared.connection.Stage.TheVariants.{Done}
 use Rattle.portmap_core.specs.Connections.{ConnectionMap, SlotsRise, at_stage, connections_of, ended, ended_at, stopped_in}
 
 pub same_key : (q : ℕ) → eq_by_cmp nat_cmp q q ≡ true

@@ -4,9 +4,9 @@ use Rattle.std.specs.Ordering.{nat_cmp}
 use Rattle.std.specs.FinMap as map
 use Rattle.std.specs.FinMap.Entries.{is_sorted}
 use Rattle.slab.specs.Slab.{entries_from}
-use Rattle.portmap_core.specs.declared.connections.Connection.{Connection}
-use Rattle.portmap_core.specs.declared.connections.Stage.{Stage}
-use Rattle.portmap_core.specs.declared.connections.Stage.TheVariants.{Holding, Done}
+use Rattle.portmap_core.specs.declared.connection.Connection.{Connection}
+use Rattle.portmap_core.specs.declared.connection.Stage.{Stage}
+use Rattle.portmap_core.specs.declared.connection.Stage.TheVariants.{Holding, Done}
 
 abbrev pub ConnectionMap : Type 0
 ConnectionMap = map.FinMap nat_cmp Connection

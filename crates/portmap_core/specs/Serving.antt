@@ -17,8 +17,8 @@ use Rattle.portmap_table.specs.Rows as rows
 use Rattle.portmap_table.specs.declared.row.Row.{Row}
 use Rattle.portmap_core.specs.declared.event.Fate.{Fate}
 use Rattle.portmap_core.specs.declared.event.Fate.TheVariants.{Stay, Close, Halt}
-use Rattle.portmap_core.specs.declared.connections.Stage.{Stage}
-use Rattle.portmap_core.specs.declared.connections.Stage.TheVariants.{Waiting, Holding, Done}
+use Rattle.portmap_core.specs.declared.connection.Stage.{Stage}
+use Rattle.portmap_core.specs.declared.connection.Stage.TheVariants.{Waiting, Holding, Done}
 use Rattle.portmap_core.specs.Config.{Configuration}
 
 -- the reply, what becomes of the connection, its next stage, the names after it, and the slot of another connection whose

@@ -4,11 +4,11 @@ use Rattle.std.specs.Coded.{Coded, code_by, coded×, coded_list, coded_ℕ, code
 use Rattle.std.specs.FinMap as map
 use Rattle.portmap_table.specs.Rows.{Names, RetiredName, no_names}
 use Rattle.portmap_table.specs.declared.row.Row.{Row}
-use Rattle.portmap_core.specs.declared.connections.Connection.{Connection}
-use Rattle.portmap_core.specs.declared.connections.Stage.{Stage}
-use Rattle.portmap_core.specs.declared.connections.Stage.TheVariants as stage
-use Rattle.portmap_core.specs.declared.connections.Phase.{Phase}
-use Rattle.portmap_core.specs.declared.connections.Phase.TheVariants as phase
+use Rattle.portmap_core.specs.declared.connection.Connection.{Connection}
+use Rattle.portmap_core.specs.declared.connection.Stage.{Stage}
+use Rattle.portmap_core.specs.declared.connection.Stage.TheVariants as stage
+use Rattle.portmap_core.specs.declared.connection.Phase.{Phase}
+use Rattle.portmap_core.specs.declared.connection.Phase.TheVariants as phase
 use Rattle.portmap_core.specs.Config.{Configuration}
 use Rattle.portmap_core.specs.Connections.{ConnectionMap}
 

@@ -2,10 +2,10 @@
 ghost use Rattle.std.specs.Prelude.{◌≡◌, ◌↔◌, Some, IfOk, IsSome, IsTrue, OnErr, OnOk};
 ghost use Rattle.std.specs.Option.{option_copied};
 ghost use Rattle.std.specs.FinMap as map;
-ghost use Rattle.portmap_core.specs.declared.connections.Connection.{Connection};
+ghost use Rattle.portmap_core.specs.declared.connection.Connection.{Connection};
 ghost use Rattle.portmap_core.specs.Connections.{IsHolding, at_stage, ended, stopped_in};
 
-use crate::connections::{Connection, Stage};
+use crate::connection::{Connection, Stage};
 use portmap_wire::NoMemory;
 use std::alloc::Global;
 use std::collections::BTreeMap;
@@ -21,7 +21,7 @@ impl Model for BySlot {
     ghost use Rattle.std.specs.Coded.{coded_ℕ};
     ghost use Rattle.std.specs.FinMap as map;
     ghost use Rattle.portmap_core.specs.Connections.{ConnectionMap, SlotsRise};
-    ghost use Rattle.portmap_core.specs.contracts.connections.Connection as connection;
+    ghost use Rattle.portmap_core.specs.contracts.connection.Connection as connection;
 
     ghost Value = { ConnectionMap };
 

@@ -3,53 +3,13 @@ ghost use Rattle.std.specs.Prelude.{◌≡◌, Some, None, IfOk, OnErr, IsSome};
 ghost use Rattle.std.specs.Option.{option_copied};
 ghost use Rattle.portmap_core.specs.Connections.{ended, stopped_in};
 ghost use Rattle.std.specs.FinMap as map;
-ghost use Rattle.portmap_core.specs.declared.connections.Connection.{Connection};
-ghost use Rattle.portmap_core.specs.State.{phase_of_stage};
+ghost use Rattle.portmap_core.specs.declared.connection.Connection.{Connection};
 
-use portmap_feed::Feed;
+use crate::connection::{Connection, Stage};
 use portmap_wire::NoMemory;
 use slab::{Iter, Slab};
 use std::alloc::Global;
 use std::marker::Model;
-
-/// Where a connection stands.
-#[derive(Clone, Copy, Debug, PartialEq, Eq)]
-pub enum Phase {
-    /// Its request is not whole yet.
-    Waiting,
-    /// It owns an active name.
-    Holding,
-    /// It is to be closed.
-    Done,
-}
-
-/// Where a connection stands, with what it sent so far.
-#[derive(Clone, Debug, PartialEq, Eq, Drop)]
-pub(crate) enum Stage {
-    Waiting(Feed),
-    Holding,
-    Done,
-}
-
-/// An open connection.
-#[derive(Clone, Debug, PartialEq, Eq, Drop)]
-pub(crate) struct Connection {
-    pub(crate) local: bool,
-    pub(crate) stage: Stage,
-}
-
-impl Stage {
-    /// Without the bytes.
-    pub(crate) fn phase(&self) -> Phase
-        ensures { result ≡ phase_of_stage self.now }
-    {
-        match self {
-            Stage::Waiting(_) => Phase::Waiting,
-            Stage::Holding => Phase::Holding,
-            Stage::Done => Phase::Done,
-        }
-    }
-}
 
 /// The open connections by slot. A slot is a key of the slab.
 #[derive(Drop)]
@@ -61,7 +21,7 @@ impl Model for Connections {
     ghost use Rattle.std.specs.Coded.{coded_ℕ};
     ghost use Rattle.std.specs.FinMap as map;
     ghost use Rattle.portmap_core.specs.Connections.{ConnectionMap, connections_of};
-    ghost use Rattle.portmap_core.specs.contracts.connections.Connection as connection;
+    ghost use Rattle.portmap_core.specs.contracts.connection.Connection as connection;
 
     ghost Value = { ConnectionMap };
 

@@ -3,6 +3,7 @@
 
 mod by_slot;
 mod config;
+mod connection;
 mod connections;
 mod directory;
 mod event;
@@ -16,7 +17,7 @@ mod serve;
 mod state;
 
 pub use config::{Config, ConfigFault, LIMIT_MOST, numbers_are_the_profiles};
-pub use connections::Phase;
+pub use connection::Phase;
 pub use event::{Answer, Entry, Event, Fate, Refusal};
 pub use laws::{
     entries_determine, malformed_changes_no_name, names_belong_to_connections, steps_keep_owned,

@@ -5,13 +5,13 @@ ghost use Rattle.portmap_feed.specs.Stream.{first_request};
 ghost use Rattle.portmap_wire.specs.declared.reply_writing.TheConstants.{WIDE_VERSION};
 ghost use Rattle.portmap_wire.specs.List.{names_reply, dump_line, dump_reply};
 ghost use Rattle.portmap_table.specs.Rows.{owns_name};
-ghost use Rattle.portmap_core.specs.declared.connections.Stage.TheVariants.{Done};
+ghost use Rattle.portmap_core.specs.declared.connection.Stage.TheVariants.{Done};
 ghost use Rattle.portmap_core.specs.declared.event.Fate.TheVariants.{Close};
 ghost use Rattle.portmap_core.specs.Serving.{MayTake, Serves, ServesBody, ToldAt, active_line, alive_served, dump_lines, dump_served, kill_served, names_line_of, names_served, port_served, retired_line, served, stop_served};
 ghost use Rattle.portmap_core.specs.Next.{CreationFits, IsOffered, Tells, changed, offered_creation, served_with};
 
 use crate::config::Config;
-use crate::connections::Stage;
+use crate::connection::Stage;
 use crate::directory::Directory;
 use crate::event::Fate;
 use portmap_feed::{Feed, Seen};

@@ -2,7 +2,7 @@ use Rattle.std.proofs.Common.{◌≡◌, ℕ, true, List, ap, sym, subst, ◌∙
 use Rattle.std.specs.FinMap as map
 use Rattle.std.specs.Ordering.{nat_cmp}
 use Rattle.std.specs.Cmp.Lexicographic.{pointwise}
-use Rattle.portmap_core.specs.declared.connections.Connection.{Connection}
+use Rattle.portmap_core.specs.declared.connection.Connection.{Connection}
 use Rattle.portmap_core.proofs.BySlotLaws.{pairs_refl, same_lists, same_pair, same_pairs}
 use Rattle.portmap_core.proofs.by_slot.BySlot.same.Goals as goal
 
