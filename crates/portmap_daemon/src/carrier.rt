@@ -148,7 +148,7 @@ impl<L: Ledger> Carrier<L> {
     }
 
     /// Writes what waits, as far as the link takes it. Whether some waits on.
-    pub(crate) fn waits<I: Output>(&mut self, link: &mut I) -> bool {
+    pub(crate) fn flush<I: Output>(&mut self, link: &mut I) -> bool {
         self.out.flush(link) == Flush::Later
     }
 

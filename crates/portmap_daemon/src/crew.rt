@@ -138,7 +138,7 @@ impl Crew {
         }
     }
 
-    /// A worker has had no rest for long: one behind it is to take connections too.
+    /// There is more for a worker to do than it need do alone: one behind it is to take connections too.
     pub(crate) fn call_behind(&self, worker: usize) {
         if let Some(next) = self.shifts.call_behind(worker) {
             self.wake(next);

@@ -105,7 +105,7 @@ impl HeldLink {
     /// The poll has reported it: what is reported goes before what is late.
     pub(crate) fn report(&mut self, queue: &mut VecDeque<usize>, key: usize) {
         self.late = false;
-        self.link.is_reported();
+        self.link.note_report();
         self.enqueue(queue, key);
     }
 
@@ -135,9 +135,9 @@ impl HeldLink {
         }
     }
 
-    /// Whether there is something to tell of it at a look at this time, up to which the poll has reported all. The look before
-    /// was at that one.
-    pub(crate) fn is_due(&mut self, now: u64, before: u64, timeout: u64) -> bool {
+    /// Looks at it at this time, up to which the poll has reported all. The look before was at that one. Whether there is something
+    /// to tell of it.
+    pub(crate) fn look(&mut self, now: u64, before: u64, timeout: u64) -> bool {
         self.begin_time(now);
         if self.parked {
             return false;
@@ -152,7 +152,7 @@ impl HeldLink {
         // The poll has refused to report it, so it was asked after the look before, and no more is known of it than up to then.
         self.late = self.is_over(before, timeout);
         if !self.late {
-            self.link.is_reported();
+            self.link.note_report();
         }
         true
     }
@@ -160,7 +160,7 @@ impl HeldLink {
     /// Its time begins at this look, if it is to begin, or to begin anew: not for bytes of a remote peer, since who sends one now
     /// and then would have its place for ever.
     fn begin_time(&mut self, now: u64) {
-        let has_moved = self.link.has_moved();
+        let has_moved = self.link.take_moved();
         if !self.link.is_timed() {
             self.since = None;
         } else if self.since.is_none() || (has_moved && self.is_local) {

@@ -102,7 +102,7 @@ impl Listener {
     }
 
     /// The poll has reported it. A report that comes before the last one has come to nothing is one with it.
-    pub(crate) fn is_reported(&mut self) {
+    pub(crate) fn note_report(&mut self) {
         if !self.waiting {
             self.took = false;
         }
@@ -191,7 +191,7 @@ impl Listener {
             Ok(()) => Watch::On,
             // It was never left, so what waits at it is not reported again.
             Err(error) if error.kind() == ErrorKind::AlreadyExists => {
-                self.is_reported();
+                self.note_report();
                 Watch::On
             }
             Err(_) => Watch::From(now.saturating_add(AWAY)),

@@ -59,7 +59,7 @@ impl Listening {
     pub(crate) fn report(&mut self, token: Token) {
         for listener in &mut self.listeners {
             if listener.has_token(token) {
-                listener.is_reported();
+                listener.note_report();
             }
         }
     }
@@ -84,7 +84,7 @@ impl Listening {
     }
 
     /// Whether the worker has come in vain so often that it may leave the listeners to others. It is asked once.
-    pub(crate) fn is_vain(&mut self) -> bool {
+    pub(crate) fn take_vain(&mut self) -> bool {
         let is_vain = self.vain >= VAIN_MOST;
         if is_vain {
             self.vain = 0;

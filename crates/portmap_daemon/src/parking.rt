@@ -23,15 +23,15 @@ pub(crate) struct Parked {
 }
 
 impl Parked {
-    /// Whether it has waited for long enough, where its name is active at this time. If not it goes on waiting.
-    pub(crate) fn is_over(&mut self, crew: &Crew, worker: usize, now: u64) -> bool {
+    /// Its name is active at this time. It waits on, unless it has waited for long enough. Whether it does.
+    pub(crate) fn wait_on(&mut self, crew: &Crew, worker: usize, now: u64) -> bool {
         match self.sweep {
-            None if now < self.until => false,
+            None if now < self.until => true,
             None => {
                 self.sweep = Some(crew.sweep(worker));
-                false
+                true
             }
-            Some(sweep) => crew.sweeps.is_met(sweep) || now >= self.until.saturating_add(LAST),
+            Some(sweep) => !crew.sweeps.is_met(sweep) && now < self.until.saturating_add(LAST),
         }
     }
 }

@@ -116,8 +116,8 @@ pub fn run_gated<
     ensures served { IfOk result (λ end. vec_len end.served ≡ settings.workers) }
     ensures fault { IfErr result (λ f. IsOfAddresses (vec_len settings.addresses) f) }
 {
-    let book = Book::new(alloc, settings.config, settings.first)?;
     let (sockets, crew, pause) = open(rt, alloc, &settings)?;
+    let book = Book::new(alloc, settings.config, settings.first)?;
     serve_open(rt, alloc, settings, book, sockets, &crew, pause, gate)
 }
 

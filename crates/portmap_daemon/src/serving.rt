@@ -193,7 +193,7 @@ impl<L: Ledger, S: Source + Drop, G: Gate, R: Wait> Worker<'_, L, S, G, R> {
             return;
         };
         for _ in 0..LAST_TRIES {
-            if !carrier.waits(link) {
+            if !carrier.flush(link) {
                 break;
             }
         }

@@ -16,7 +16,7 @@ const REST: u64 = 10;
 /// A worker that has had no rest for so many microseconds,
 const LONG: u64 = 4000;
 
-/// nor in so many looks at its poll on end, calls a further one.
+/// nor in so many looks at its poll on end, counts the connections that wait.
 const LOOKS: u32 = 4;
 
 /// The shifts of a daemon. The first workers take connections, as many as there is work for: each that takes some is woken by
@@ -110,8 +110,8 @@ impl Unrest {
         Unrest { since: 0, looks: 0 }
     }
 
-    /// The worker was at its poll. Whether it has been without a rest for so long that a further one is to be called.
-    pub(crate) fn is_long(&mut self, before: u64, after: u64) -> bool {
+    /// The worker was at its poll. Whether it has been without a rest for so long that perhaps a further one is to be called.
+    pub(crate) fn note_look(&mut self, before: u64, after: u64) -> bool {
         if after.saturating_sub(before) >= REST {
             self.since = after;
             self.looks = 0;

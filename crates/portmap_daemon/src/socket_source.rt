@@ -13,8 +13,8 @@ use std::sync::ledger::Ledger;
 /// How often the poll is asked within one turn, where what it reports comes to nothing: other workers took it.
 const ROUNDS: u32 = 64;
 
-/// After how many turns the log is looked at.
-const TURNS: u32 = 128;
+/// After how many turns the thread is woken that looks at the log.
+const LOG_TURNS: u32 = 128;
 
 /// A worker's sockets with a clock, the desk and the other workers.
 #[derive(Drop)]
@@ -48,7 +48,7 @@ impl<'a, L: Ledger, R: Wait + Clock> SocketSource<'a, L, R> {
 
     /// Counts a turn.
     fn count(&mut self) {
-        if self.turns < TURNS {
+        if self.turns < LOG_TURNS {
             self.turns += 1;
             return;
         }
@@ -104,8 +104,8 @@ impl<'a, L: Ledger, R: Wait + Clock> SocketSource<'a, L, R> {
         if self.crew.ends() {
             return Some(Turn::Stop);
         }
-        if self.unrest.is_long(before, after) {
-            self.crew.call_behind(worker);
+        if self.unrest.note_look(before, after) {
+            self.sockets.count_waiting();
         }
         if !self.sockets.pass(self.crew, after / 1000) {
             return self.sockets.make_way(self.crew);

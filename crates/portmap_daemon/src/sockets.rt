@@ -29,6 +29,10 @@ pub(crate) const EVENTS_MOST: usize = 256;
 /// After so many turns the poll is asked, also where there is more to do.
 const TURNS_MOST: u32 = 64;
 
+/// So many connections that wait at once are more than one worker need serve. It is less than the turns between two looks at the
+/// poll.
+const MANY: u32 = 32;
+
 /// How many milliseconds pass between two looks at what no event tells: whether another worker has stopped a connection, and
 /// whose time is over.
 const WHILE: u64 = 450;
@@ -85,6 +89,8 @@ pub(crate) struct Sockets {
     last: Option<usize>,
     /// The last turn took a connection, so the next one goes on with another.
     took: bool,
+    /// How many more connections are taken in a row, to learn whether so many wait.
+    counted: u32,
     /// The connection that waits for a place. While it does none is taken.
     guest: Option<Guest>,
     parking: Parking,
@@ -131,6 +137,7 @@ impl Sockets {
             queue: VecDeque::new(alloc),
             last: None,
             took: false,
+            counted: 0,
             guest: None,
             parking: Parking::new(alloc),
             sweep: 0,
@@ -174,7 +181,7 @@ impl Sockets {
         let Some(mut held) = self.links.try_remove(key as usize) else {
             return;
         };
-        if held.link().has_written() {
+        if held.link().take_written() {
             self.news.answered = true;
         }
         if !held.is_answered() {
@@ -222,7 +229,7 @@ impl Sockets {
         let Some(mut parked) = self.parking.take_first() else {
             return;
         };
-        let waits = is_active && !parked.is_over(crew, self.worker, self.now);
+        let waits = is_active && parked.wait_on(crew, self.worker, self.now);
         if waits && self.parking.put_back(parked) {
             return;
         }
@@ -239,7 +246,7 @@ impl Sockets {
         let Some(held) = self.links.get_mut(key) else {
             return;
         };
-        if held.link().has_written() {
+        if held.link().take_written() {
             self.news.answered = true;
         }
         held.put_back(&mut self.queue, self.poll.registry(), key);
@@ -251,14 +258,30 @@ impl Sockets {
             return None;
         }
         self.turns = self.turns.saturating_add(1);
-        if !self.took {
+        if !self.took || self.counted > 0 {
             if let Some(turn) = self.come(crew) {
                 self.took = true;
+                self.count_one(crew);
                 return Some(turn);
             }
+            self.counted = 0;
         }
         self.took = false;
         self.pop()
+    }
+
+    /// The connections that wait are counted from now on: they are taken in a row, and none is served before. Where there are many,
+    /// a further worker takes some too.
+    pub(crate) fn count_waiting(&mut self) {
+        self.counted = MANY;
+    }
+
+    /// One was taken.
+    fn count_one(&mut self, crew: &Crew) {
+        if self.counted == 1 {
+            crew.call_behind(self.worker);
+        }
+        self.counted = self.counted.saturating_sub(1);
     }
 
     /// The next link of which there is something to tell.
@@ -288,7 +311,7 @@ impl Sockets {
     /// The next connection that waits at a listener.
     fn accept(&mut self, crew: &Crew) -> Option<Guest> {
         let taken = self.listening.accept(self.poll.registry(), self.now);
-        if self.listening.is_vain() {
+        if self.listening.take_vain() {
             crew.shifts.leave(self.worker);
         }
         let (stream, peer) = taken?;
@@ -466,7 +489,7 @@ impl Sockets {
         }
         for key in 0..self.links.capacity() {
             if let Some(held) = self.links.get_mut(key) {
-                if held.is_due(self.now, self.looked, self.timeout) {
+                if held.look(self.now, self.looked, self.timeout) {
                     held.enqueue(&mut self.queue, key);
                 }
             }

@@ -103,21 +103,21 @@ impl<S: Read + Write> StreamLink<S> {
     }
 
     /// Whether a put has answered Wrote since this was last asked.
-    pub(crate) fn has_written(&mut self) -> bool {
+    pub(crate) fn take_written(&mut self) -> bool {
         let wrote = self.wrote;
         self.wrote = false;
         wrote
     }
 
     /// Whether bytes have moved since this was last asked.
-    pub(crate) fn has_moved(&mut self) -> bool {
+    pub(crate) fn take_moved(&mut self) -> bool {
         let moved = self.moved;
         self.moved = false;
         moved
     }
 
     /// The poll has reported the stream, or it is to be asked without that.
-    pub(crate) fn is_reported(&mut self) {
+    pub(crate) fn note_report(&mut self) {
         self.dry = false;
         self.blocked = false;
     }
