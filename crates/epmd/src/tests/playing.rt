@@ -223,6 +223,55 @@ fn nothing_is_written_of_a_session_that_is_cut(rt: HostRuntime) -> Result<(), Fa
     Ok(())
 }
 
+/// What stands behind the wrong look-up, how the session ends, and what is written of it.
+struct Behind(&'static [u8], Result<bool, PlayFault>, Bytes);
+
+/// An entry that is whole changes nothing of the verdict, and one that is not is told before it.
+const BEHIND: &[Behind] = &[
+    Behind(
+        &[3, 0, 0, 0, 0, 0, 0, 0, 0],
+        Ok(false),
+        b"0 connect 0 local
+1 piece 0 get 000e7813884d00000600050001610000 say 760000000004 stay
+2 connect 1 local
+3 piece 1 get 00027a61 say 770013884d00000600050001610001 close
+4 close 0
+broken at entry 3
+",
+    ),
+    Behind(
+        &[6],
+        Err(PlayFault::Bad(RecordFault::BadEntry(109))),
+        NOTHING,
+    ),
+    Behind(
+        &[3, 0],
+        Err(PlayFault::Bad(RecordFault::Truncated(109))),
+        NOTHING,
+    ),
+    Behind(
+        &[3, 0, 0, 0, 0, 0, 0, 0, 0, 6],
+        Err(PlayFault::Bad(RecordFault::BadEntry(118))),
+        NOTHING,
+    ),
+];
+
+impl Case for Behind {
+    fn holds(&self, alloc: Global) -> Result<bool, Fail> {
+        let mut session = changed(alloc, 108, &[1])?;
+        session.extend_from_slice(self.0)?;
+        let mut input = Tape::new(alloc, &session, STEADY);
+        let mut output = Tape::new(alloc, &[], STEADY);
+        let ended = play(alloc, &mut input, &mut output, 100);
+        Ok(ended == self.1 && output.sink.as_slice() == self.2)
+    }
+}
+
+#[test]
+fn what_stands_behind_a_broken_place_is_read(rt: HostRuntime) -> Result<(), Fail> {
+    all_hold(&rt, BEHIND)
+}
+
 // That a session of one byte more ends so is tried by hand: it takes a test too long.
 #[test]
 fn a_session_has_268435456_bytes_at_most(rt: HostRuntime) {
