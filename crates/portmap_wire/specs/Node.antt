@@ -34,10 +34,6 @@ pub record IsNode (g : Node) : Type 0 where
   pub name : IsName g.name
   pub fits : 13 + length g.name + length g.extra ≤ BODY_MOST
 
--- the same with no extra bytes
-abbrev pub without_extra : Node → Node
-without_extra g = record { port = g.port; kind = g.kind; proto = g.proto; high = g.high; low = g.low; name = g.name; extra = [] }
-
 -- two registrations are equal, as a test: field by field
 abbrev pub are_same : Node → Node → Bool
 are_same = eq_of_both (on (λ g. g.port) nat_eq) (eq_of_both (on (λ g. g.kind) nat_eq) (eq_of_both (on (λ g. g.proto) nat_eq) (eq_of_both (on (λ g. g.high) nat_eq) (eq_of_both (on (λ g. g.low) nat_eq) (eq_of_both (on (λ g. g.name) (pointwise nat_eq)) (on (λ g. g.extra) (pointwise nat_eq)))))))

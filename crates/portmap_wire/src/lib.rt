@@ -20,7 +20,9 @@ pub use list_reading::{
     ListFault, lines_have_one_reading, lists_have_one_reading, names_are_read_back, read_dump,
     read_names,
 };
-pub use list_writing::{DUMP_LINE_REST, ListReply, NAMES_LINE_REST, write_dump, write_names};
+pub use list_writing::{
+    DUMP_LINE_REST, ListReply, NAMES_LINE_REST, put_names_line, write_dump, write_names,
+};
 pub use name::{NAME_MOST, Name, NameFault};
 pub use numbers::numbers_are_the_protocols;
 pub use registration::{ExtraFault, Reg};

@@ -41,7 +41,8 @@ fn put_name(out: &mut Vec<u8>, head: &[u8], name: &Name, port: u16) -> Result<()
     out.extend_from_slice(Buffer::new().format(port).as_bytes())
 }
 
-fn put_names_line(out: &mut Vec<u8>, name: &Name, port: u16) -> Result<(), NoMemory>
+/// The line of the answer to NAMES_REQ that tells of this name.
+pub fn put_names_line(out: &mut Vec<u8>, name: &Name, port: u16) -> Result<(), NoMemory>
     ensures { OnOk result (out.new.items ≡ out.old.items ++ names_line (record { name = name.now; port = port })) }
 {
     put_name(out, b"name ", name, port)?;

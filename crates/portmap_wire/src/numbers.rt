@@ -9,5 +9,5 @@ pub fn numbers_are_the_protocols()
     ensures requests { (ALIVE2_REQ ≡ 120) × (PORT_PLEASE2_REQ ≡ 122) × (NAMES_REQ ≡ 110)
         × (DUMP_REQ ≡ 100) × (KILL_REQ ≡ 107) × (STOP_REQ ≡ 115) }
     ensures replies { (ALIVE2_X_RESP ≡ 118) × (ALIVE2_RESP ≡ 121) × (PORT2_RESP ≡ 119) × (WIDE_VERSION ≡ 6) }
-    ensures lengths { (BODY_MOST ≡ 8192) × (NAME_MOST ≡ 255) }
+    ensures lengths { (BODY_MOST ≡ 8192) × (NAME_MOST ≡ 1020) }
 {}

@@ -1,6 +1,5 @@
 //! What a node registers.
 ghost use Rattle.std.specs.Prelude.{◌≡◌, ◌↔◌, ◌+◌, ◌<◌, ◌≤◌, length, IfOk, OnOk};
-ghost use Rattle.portmap_wire.specs.Node.{without_extra};
 
 use crate::NoMemory;
 use crate::name::Name;
@@ -103,13 +102,6 @@ impl Reg {
             name,
             extra,
         })
-    }
-
-    /// Forgets the extra bytes. It takes no memory, and gives theirs back.
-    pub fn forget_extra(&mut self)
-        ensures { self.new ≡ without_extra self.old }
-    {
-        self.extra = Vec::new(*self.extra.allocator());
     }
 
     /// A second one.
