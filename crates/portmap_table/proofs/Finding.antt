@@ -67,7 +67,7 @@ second_part P (x ∷ xs) ys p = second_part P xs ys p.1
 more : (i : ℕ) → i + 1 ≡ suc i
 more i = omega arith
 
-take_read : {X : Type 0} (xs : List X) (i : ℕ) (x : X) → slice_get xs i ≡ Some x → take (i + 1) xs ≡ take i xs ++ x ∷ []
+pub take_read : {X : Type 0} (xs : List X) (i : ℕ) (x : X) → slice_get xs i ≡ Some x → take (i + 1) xs ≡ take i xs ++ x ∷ []
 take_read xs i x e = ap (λ n. take n xs) (more i) ∙ take-suc xs i x (slice_get_within xs i x e) ∙ ap (λ y. take i xs ++ y ∷ []) (get_or_from_slice_get xs i x x e)
 
 -- two lists that agree before this place, and at it, agree up to and with it

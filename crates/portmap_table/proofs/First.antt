@@ -1,6 +1,6 @@
 -- The first element that passes a test, in a list and in its parts.
-use Rattle.std.proofs.Common.{◌≡◌, ℕ, zero, suc, ◌+◌, ◌<◌, Bool, true, false, not, cond, List, [], ◌∷◌, length, map, take, drop, ◌⊎◌, Some, None, refl, sym, ap, ◌∙◌, subst, arith, inl, inr}
-use Rattle.std.specs.Prelude.{find, is_some, position, slice_get, nat_lt}
+use Rattle.std.proofs.Common.{◌≡◌, ℕ, zero, suc, ◌+◌, ◌<◌, Bool, true, false, not, cond, List, [], ◌∷◌, length, map, drop, ◌⊎◌, Some, None, refl, sym, ap, ◌∙◌, subst, arith, inl, inr}
+use Rattle.std.specs.Prelude.{find, is_some, position, nat_lt}
 use Rattle.std.specs.List.{AllByRecursion, position_or_len}
 use Rattle.std.proofs.lemmas.Bool.{lt-ltb, le-ltb}
 
@@ -71,11 +71,6 @@ module _ {X : Type 0} (p : X → Bool) where
 
   -- ---- what `find` says
 
-  pub finds_first : (xs : List X) (at : ℕ) → IsFirst xs at → find p xs ≡ slice_get xs at
-  finds_first [] at f = absurd f
-  finds_first (x ∷ xs) zero f = ap (λ (b : Bool). cond b (Some x) (find p xs)) f
-  finds_first (x ∷ xs) (suc at) f = ap (λ (b : Bool). cond b (Some x) (find p xs)) f.0 ∙ finds_first xs at f.1
-
   pub finds_some : (xs : List X) (at : ℕ) → IsFirst xs at → is_some (find p xs) ≡ true
   finds_some [] at f = absurd f
   finds_some (x ∷ xs) zero f = ap (λ (b : Bool). is_some (cond b (Some x) (find p xs))) f
@@ -91,31 +86,12 @@ module _ {X : Type 0} (p : X → Bool) where
   finds_none [] none = refl
   finds_none (x ∷ xs) none = ap (λ (b : Bool). cond b (Some x) (find p xs)) none.0 ∙ finds_none xs none.1
 
-  -- ---- parts of a list
-
-  pub none_in_front : (r : ℕ) (xs : List X) → NonePass xs → NonePass (take r xs)
-  none_in_front zero xs none = tt
-  none_in_front (suc r) [] none = tt
-  none_in_front (suc r) (x ∷ xs) none = (none.0, none_in_front r xs none.1)
+  -- ---- a part of a list
 
   pub none_behind : (r : ℕ) (xs : List X) → NonePass xs → NonePass (drop r xs)
   none_behind zero xs none = none
   none_behind (suc r) [] none = tt
   none_behind (suc r) (x ∷ xs) none = none_behind r xs none.1
-
-  -- the first of all stands in the first r
-  pub first_in_front : (r : ℕ) (xs : List X) (at : ℕ) → IsFirst xs at → at < r → IsFirst (take r xs) at
-  first_in_front zero xs at f lt = absurd (omega arith)
-  first_in_front (suc r) [] at f lt = absurd f
-  first_in_front (suc r) (x ∷ xs) zero f lt = f
-  first_in_front (suc r) (x ∷ xs) (suc at) f lt = (f.0, first_in_front r xs at f.1 (omega arith))
-
-  -- or behind them, and then none of them passes
-  pub first_behind : (r : ℕ) (xs : List X) (at k : ℕ) → at ≡ r + k → IsFirst xs at → NonePass (take r xs) × IsFirst (drop r xs) k
-  first_behind zero xs at k e f = (tt, subst (IsFirst xs) (let same : at ≡ k = omega arith in same) f)
-  first_behind (suc r) [] at k e f = absurd f
-  first_behind (suc r) (x ∷ xs) zero k e f = absurd (omega arith)
-  first_behind (suc r) (x ∷ xs) (suc at) k e f = let rest = first_behind r xs at k (omega arith) f.1 in ((f.0, rest.0), rest.1)
 
 -- a test of what a function makes of each element
 pub first_of_map : {X Y : Type 0} (f : X → Y) (p : Y → Bool) (xs : List X) (at : ℕ) → IsFirst (λ x. p (f x)) xs at → IsFirst p (map f xs) at

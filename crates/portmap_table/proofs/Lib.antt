@@ -4,5 +4,6 @@ pub mod Kept
 pub mod NameLaws
 pub mod Owners
 pub mod First
-pub mod Ordered
-pub mod InRows
+pub mod Places
+pub mod Each
+pub mod InPlace

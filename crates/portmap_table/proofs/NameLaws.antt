@@ -1,9 +1,10 @@
 -- What a registration and a retirement do to each name.
-use Rattle.std.proofs.Common.{◌≡◌, ℕ, false, List, [], ◌∷◌, ◌++◌, length, map, take, get_or, arith, Option, Some, None, refl, sym, ap, ◌∙◌}
-use Rattle.std.specs.Prelude.{find, position, remove, is_some, slice_get, ◌==◌}
+use Rattle.std.proofs.Common.{◌≡◌, ◌<◌, ◌≤◌, ℕ, Bool, true, false, not, List, [], ◌∷◌, ◌++◌, length, map, take, get_or, arith, Option, Some, None, refl, sym, ap, ◌∙◌}
+use Rattle.std.specs.Prelude.{◌&&◌, if◌then◌else◌, nat_le, find, position, remove, is_some, slice_get, ◌==◌}
 use Rattle.std.specs.List.{AllByRecursion, IsDistinct, position_or_len}
 use Rattle.std.specs.List.Sorted.{IsPermutation}
 use Rattle.std.specs.Cmp.Lexicographic.{same_text}
+use Rattle.std.proofs.lemmas.Bool.Decides.{nat_tests}
 use Rattle.std.proofs.lemmas.Cmp.{nat_list_eq_equiv}
 use Rattle.std.proofs.lemmas.List.{take_all, take_at}
 use Rattle.std.proofs.lemmas.List.Quantifiers.{position-Some}
@@ -11,8 +12,8 @@ use Rattle.std.proofs.lemmas.List.Sorted.{IsPermutation-append_left}
 use Rattle.std.proofs.lemmas.Map.Keys.{IsDistinct-IsPermutation, IsDistinct-head}
 use Rattle.std.proofs.lemmas.Option.{slice_get_within, slice_get-get_or, get_or_from_slice_get}
 use Rattle.portmap_table.specs.declared.row.Row.{Row}
-use Rattle.portmap_table.specs.Rows.{name_of, RetiredName, Names, same_name, is_active, active_row, retired_row, without_at, old_name, retired_of, retired_at, retired_last}
-use Rattle.portmap_table.specs.Laws.{row_of, RegisteredNamesAreActive, NamesOutliveConnections, OthersStayAtRegistration, OthersStayAtRetirement, RegisteredNamesStandLast, RetiredNamesStandLast, RetiredNamesStay}
+use Rattle.portmap_table.specs.Rows.{name_of, RetiredName, Names, same_name, is_active, active_row, retired_row, without_at, old_name, retired_of, retired_at, retired_last, is_known, known_len, without_oldest}
+use Rattle.portmap_table.specs.Laws.{row_of, ActiveNamesStay, KnownNamesCostNone, OldestMakesRoom, RegisteredNamesAreActive, NamesOutliveConnections, OthersStayAtRegistration, OthersStayAtRetirement, RegisteredNamesStandLast, RetiredNamesStandLast, RetiredNamesStay, RoomCostsNone}
 use Rattle.portmap_table.proofs.Distinct.{keys_moved}
 use Rattle.portmap_table.proofs.Finding.{is_none, find-push, find-push_other, find-remove, find-differs, position-find, first_part, second_part}
 use Rattle.portmap_table.proofs.Kept.{has_name, had_name, old_name_of}
@@ -96,3 +97,35 @@ retired_at_stands_last names (Some at) = retired_last_stands_last names at (slic
 
 pub retired_names_stay : RetiredNamesStay
 retired_names_stay names slot = retired_at_stands_last names (position (λ (row : Row). row.slot == slot) names.active)
+
+-- ---- names that are forgotten
+
+active_by : (b : Bool) (names : Names) → (if b then without_oldest names else names).active ≡ names.active
+active_by true names = refl
+active_by false names = refl
+
+pub active_names_stay : ActiveNamesStay
+active_names_stay known_max names name = active_by (nat_le known_max (known_len names) && not (is_known name names)) names
+
+known_by : (over known : Bool) (names : Names) → known ≡ true → (if over && not known then without_oldest names else names) ≡ names
+known_by true true names e = refl
+known_by false true names e = refl
+known_by over false names e = absurd cc
+
+pub known_names_cost_none : KnownNamesCostNone
+known_names_cost_none known_max names name e = known_by (nat_le known_max (known_len names)) (is_known name names) names e
+
+room_by : (b c : Bool) (names : Names) → b ≡ c → (if b then without_oldest names else names) ≡ (if c then without_oldest names else names)
+room_by b c names e = ap (λ (d : Bool). if d then without_oldest names else names) e
+
+few_known : (m n : ℕ) (known : Bool) → n < m → (nat_le m n && not known) ≡ false
+few_known m n known lt = grind (arith, nat_tests)
+
+many_known : (m n : ℕ) (known : Bool) → m ≤ n → known ≡ false → (nat_le m n && not known) ≡ true
+many_known m n known le e = grind (arith, nat_tests)
+
+pub room_costs_none : RoomCostsNone
+room_costs_none known_max names name lt = room_by _ false names (few_known known_max (known_len names) (is_known name names) lt)
+
+pub oldest_makes_room : OldestMakesRoom
+oldest_makes_room known_max names name le e = ap (λ (after : Names). after.retired) (room_by _ true names (many_known known_max (known_len names) (is_known name names) le e))

@@ -1,6 +1,6 @@
 -- Which slots own a name after a registration and after a retirement.
 use Rattle.std.proofs.Common.{◌≡◌, ◌≢◌, ℕ, zero, suc, ◌+◌, ◌<◌, Bool, true, false, not, cond, List, [], ◌∷◌, length, map, get_or, Option, Some, None, refl, sym, ap, ◌∙◌, arith, inl, inr}
-use Rattle.std.specs.Prelude.{find, position, remove, is_some, slice_get, nat_lt, ◌==◌, ◌||◌}
+use Rattle.std.specs.Prelude.{find, position, remove, is_some, slice_get, nat_le, nat_lt, ◌==◌, ◌&&◌, ◌||◌, if◌then◌else◌}
 use Rattle.std.specs.List.{IsDistinct, AllByRecursion, list_any, position_or_len}
 use Rattle.std.proofs.lemmas.Bool.{cases_lt, lt-ltb, le-ltb, eq-eqb, eqb-true, ne_eqb}
 use Rattle.std.proofs.lemmas.Cmp.{nat_eq_equiv}
@@ -11,7 +11,7 @@ use Rattle.std.proofs.lemmas.Map.Keys.{IsDistinct-IsPermutation}
 use Rattle.std.proofs.lemmas.Option.{slice_get_within, get_or_from_slice_get}
 use Rattle.portmap_wire.specs.Node.{Node}
 use Rattle.portmap_table.specs.declared.row.Row.{Row}
-use Rattle.portmap_table.specs.Rows.{Names, active_row, owns_name, registered, retired_last, retired_at, retired_of, same_name, slot_of}
+use Rattle.portmap_table.specs.Rows.{Names, active_row, is_known, known_len, owns_name, registered, retired_last, retired_at, retired_of, same_name, slot_of, with_room, without_oldest}
 use Rattle.portmap_table.proofs.First.{is_first, within}
 use Rattle.portmap_table.proofs.Distinct.{keys_moved}
 
@@ -80,6 +80,14 @@ pub owns_registered_other : (q : ℕ) (g : Node) (creation slot : ℕ) (names : 
 owns_registered_other q g creation slot names other =
     let differs : slot ≢ q = λ e. other (sym e) in
     registered_owns q g creation slot names ∙ ap (λ (b : Bool). owns_name q names || (b || false)) (ne_eqb slot q differs) ∙ or_false (owns_name q names)
+
+-- room for a name is made at the cost of no owner
+owns_by : (b : Bool) (q : ℕ) (names : Names) → owns_name q (if b then without_oldest names else names) ≡ owns_name q names
+owns_by true q names = refl
+owns_by false q names = refl
+
+pub owns_in_room : (known_max : ℕ) (name : List ℕ) (q : ℕ) (names : Names) → owns_name q (with_room known_max name names) ≡ owns_name q names
+owns_in_room known_max name q names = owns_by (nat_le known_max (known_len names) && not (is_known name names)) q names
 
 -- ---- a name retires
 

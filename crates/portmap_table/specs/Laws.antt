@@ -1,8 +1,8 @@
 -- What a registration and a retirement do to each name.
-use Rattle.std.specs.Prelude.{◌≡◌, ℕ, false, List, [], ◌∷◌, ◌++◌, length, take, Option, Some, find, ◌==◌}
+use Rattle.std.specs.Prelude.{◌≡◌, ◌<◌, ◌≤◌, ℕ, true, false, List, [], ◌∷◌, ◌++◌, length, drop, take, Option, Some, find, ◌==◌}
 use Rattle.portmap_wire.specs.Node.{Node}
 use Rattle.portmap_table.specs.declared.row.Row.{Row}
-use Rattle.portmap_table.specs.Rows.{Names, AreKept, same_name, is_active, active_row, retired_row, registered, retired_of, old_name}
+use Rattle.portmap_table.specs.Rows.{Names, AreKept, same_name, is_active, active_row, retired_row, is_known, known_len, registered, retired_of, old_name, with_room}
 
 -- the row that a slot owns
 abbrev pub row_of : ℕ → Names → Option Row
@@ -41,3 +41,18 @@ RetiredNamesStandLast = (names : Names) (slot : ℕ) (row : Row) → row_of slot
 
 abbrev pub RetiredNamesStay : Type 0
 RetiredNamesStay = (names : Names) (slot : ℕ) → take (length names.retired) (retired_of slot names).retired ≡ names.retired
+
+-- room for a name is made at the cost of no active name, and of no name where the name is known
+abbrev pub ActiveNamesStay : Type 0
+ActiveNamesStay = (known_max : ℕ) (names : Names) (name : List ℕ) → (with_room known_max name names).active ≡ names.active
+
+abbrev pub KnownNamesCostNone : Type 0
+KnownNamesCostNone = (known_max : ℕ) (names : Names) (name : List ℕ) → is_known name names ≡ true → with_room known_max name names ≡ names
+
+-- it costs none where fewer are known than may be
+abbrev pub RoomCostsNone : Type 0
+RoomCostsNone = (known_max : ℕ) (names : Names) (name : List ℕ) → known_len names < known_max → with_room known_max name names ≡ names
+
+-- and else a new name costs the one that was retired longest
+abbrev pub OldestMakesRoom : Type 0
+OldestMakesRoom = (known_max : ℕ) (names : Names) (name : List ℕ) → known_max ≤ known_len names → is_known name names ≡ false → (with_room known_max name names).retired ≡ drop 1 names.retired

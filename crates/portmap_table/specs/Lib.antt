@@ -1,5 +1,6 @@
 pub mod Creation
 pub mod Rows
+pub mod Places
 pub mod Table
 pub mod Laws
 pub mod Store

@@ -1,11 +1,13 @@
 -- The names that a port mapper knows: the active ones, each with its registration, and the retired ones. ERTS User's
 -- Guide, EPMD Protocol: a registration lasts as long as its connection. What is remembered of old names: profile.
-use Rattle.std.specs.Prelude.{ℕ, zero, suc, ◌+◌, ◌≤◌, ◌<◌, ◌^◌, Bool, not, nat_le, ◌&&◌, ◌||◌, List, [], ◌∷◌, ◌++◌, length, map, drop, take, remove, position, find, Option, Some, None, is_some, option_map, slice_get, ◌==◌, All}
+use Rattle.std.specs.Prelude.{ℕ, ◌+◌, ◌≤◌, ◌<◌, ◌^◌, Bool, not, nat_le, ◌&&◌, ◌||◌, List, [], ◌∷◌, ◌++◌, length, map, drop, remove, position, find, Option, Some, None, is_some, option_map, slice_get, ◌==◌, All, if◌then◌else◌}
 use Rattle.std.specs.List.{IsDistinct}
 use Rattle.std.specs.Cmp.Lexicographic.{pointwise}
-use Rattle.portmap_wire.specs.Node.{Node, without_extra}
+use Rattle.portmap_wire.specs.Node.{Node}
 use Rattle.portmap_table.specs.declared.row.Row.{Row}
 use Rattle.portmap_table.specs.declared.row.Retired.{Retired}
+use Rattle.portmap_table.specs.declared.standing.Standing.{Standing}
+use Rattle.portmap_table.specs.declared.standing.Standing.TheVariants as how
 use Rattle.portmap_table.specs.Creation.{IsCreationFor}
 
 -- an old name, the port that it had, and its last creation
@@ -38,10 +40,6 @@ slot_of row = row.slot
 abbrev pub same_name : List ℕ → List ℕ → Bool
 same_name = pointwise ◌==◌
 
--- where the row of a name stands in a list
-abbrev pub place_of : List ℕ → List Row → Option ℕ
-place_of name rows = position (λ row. same_name row.reg.name name) rows
-
 abbrev pub active_row : List ℕ → Names → Option Row
 active_row name names = find (λ row. same_name row.reg.name name) names.active
 
@@ -58,13 +56,20 @@ is_known name names = is_active name names || is_some (retired_row name names)
 abbrev pub known_len : Names → ℕ
 known_len names = length names.active + length names.retired
 
--- as many names are known as may be, and this is none of them
+-- as many names are active as may be known, and this name is not known
 abbrev pub is_full_for : ℕ → List ℕ → Names → Bool
-is_full_for known_max name names = nat_le known_max (known_len names) && not (is_known name names)
+is_full_for known_max name names = nat_le known_max (length names.active) && not (is_known name names)
 
 -- the creation that is remembered for a name
 abbrev pub remembered : List ℕ → Names → Option ℕ
 remembered name names = option_map (λ old. old.creation) (retired_row name names)
+
+-- how a name stands: active, one too many, or free to be registered
+abbrev pub standing : ℕ → List ℕ → Names → Standing
+standing known_max name names =
+    if is_active name names then how.Active
+    else if is_full_for known_max name names then how.NoRoom
+    else how.Free (remembered name names)
 
 -- the slot that owns a name
 abbrev pub owner_of : List ℕ → Names → Option ℕ
@@ -78,6 +83,14 @@ owns_name slot names = is_some (position (λ row. row.slot == slot) names.active
 abbrev pub without_at : {X : Type 0} → Option ℕ → List X → List X
 without_at None xs = xs
 without_at (Some at) xs = remove xs at
+
+-- the name that was retired longest is known no more
+abbrev pub without_oldest : Names → Names
+without_oldest names = record { active = names.active; retired = drop 1 names.retired }
+
+-- where a name comes that is not known, and as many are as may be, the one retired longest is forgotten
+abbrev pub with_room : ℕ → List ℕ → Names → Names
+with_room known_max name names = if nat_le known_max (known_len names) && not (is_known name names) then without_oldest names else names
 
 -- a name that registers is the last active one, and no retired one any more
 abbrev pub registered : Node → ℕ → ℕ → Names → Names
@@ -100,20 +113,6 @@ retired_at (Some at) names = retired_last at (slice_get names.active at) names
 -- the name that a slot owns is active no more and goes last into the retired list
 abbrev pub retired_of : ℕ → Names → Names
 retired_of slot names = retired_at (position (λ row. row.slot == slot) names.active) names
-
--- the row with no extra bytes
-abbrev pub bare : Row → Row
-bare row = record { reg = without_extra row.reg; creation = row.creation; slot = row.slot }
-
--- the rows, of which the one at a place has none
-abbrev pub bare_at : ℕ → List Row → List Row
-bare_at at [] = []
-bare_at zero (row ∷ rows) = bare row ∷ rows
-bare_at (suc at) (row ∷ rows) = row ∷ bare_at at rows
-
--- the names in rows of which the first so many are retired ones
-abbrev pub names_in : ℕ → List Row → Names
-names_in retired rows = record { active = drop retired rows; retired = map old_name (take retired rows) }
 
 -- ---- what always holds
 

@@ -3,7 +3,7 @@ use Rattle.std.specs.Prelude.{◌≡◌, ℕ, List, Result, Ok, Err, max, if◌t
 use Rattle.portmap_wire.specs.Node.{Node}
 use Rattle.portmap_table.specs.declared.creation.TheConstants.{COUNTER_LEAST}
 use Rattle.portmap_table.specs.Creation.{choice, counter_after}
-use Rattle.portmap_table.specs.Rows.{Names, no_names, is_active, is_full_for, remembered, registered}
+use Rattle.portmap_table.specs.Rows.{Names, no_names, is_active, is_full_for, remembered, registered, with_room}
 use Rattle.portmap_table.specs.declared.table.RegFault.{RegFault}
 use Rattle.portmap_table.specs.declared.table.RegFault.TheVariants as fault
 
@@ -29,7 +29,7 @@ offered t name high =
 -- the table after a registration with this creation
 abbrev pub with_registration : TableState → Node → ℕ → ℕ → TableState
 with_registration t reg slot creation = record {
-  names = registered reg creation slot t.names;
+  names = registered reg creation slot (with_room t.known_max reg.name t.names);
   known_max = t.known_max;
   counter = counter_after t.counter reg.high creation;
 }

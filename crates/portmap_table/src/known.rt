@@ -1,8 +1,9 @@
 //! What is asked of names.
 ghost use Rattle.std.specs.Prelude.{◌≡◌, length, option_copied, option_map, slice_get};
-ghost use Rattle.portmap_table.specs.Rows.{Names, active_row, is_active, is_full_for, owner_of, retired_name};
+ghost use Rattle.portmap_table.specs.Rows.{Names, active_row, is_active, owner_of, retired_name, standing};
 
 use crate::row::{Retired, Row};
+use crate::standing::Standing;
 use portmap_wire::Name;
 
 /// Names that are known, as a request asks for them.
@@ -14,9 +15,9 @@ pub trait Known {
     fn find(&self, name: &Name) -> Option<&Row>
         ensures { option_copied result ≡ active_row name.now (Self.names self.now) };
 
-    /// Whether as many names are known as may be, and this is none of them.
-    fn is_full_for(&self, known_max: u32, name: &Name) -> bool
-        ensures { result ≡ is_full_for known_max name.now (Self.names self.now) };
+    /// How a name stands, where so many may be known.
+    fn standing(&self, known_max: u32, name: &Name) -> Standing
+        ensures { result ≡ standing known_max name.now (Self.names self.now) };
 
     /// How many names are active.
     fn active_len(&self) -> usize

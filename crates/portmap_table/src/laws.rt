@@ -1,5 +1,5 @@
 //! What registering and retiring do to each name.
-ghost use Rattle.portmap_table.specs.Laws.{NamesOutliveConnections, OthersStayAtRegistration, OthersStayAtRetirement, RegisteredNamesAreActive, RegisteredNamesStandLast, RetiredNamesStandLast, RetiredNamesStay};
+ghost use Rattle.portmap_table.specs.Laws.{ActiveNamesStay, KnownNamesCostNone, NamesOutliveConnections, OldestMakesRoom, OthersStayAtRegistration, OthersStayAtRetirement, RegisteredNamesAreActive, RegisteredNamesStandLast, RetiredNamesStandLast, RetiredNamesStay, RoomCostsNone};
 
 /// A name that registers is active. When its connection is lost it is so no more, and its port and its creation are
 /// remembered.
@@ -19,4 +19,12 @@ pub fn newest_names_stand_last()
     ensures registered { RegisteredNamesStandLast }
     ensures retired { RetiredNamesStandLast }
     ensures stay { RetiredNamesStay }
+{}
+
+/// Where a new name comes and as many are known as may be, the one retired longest is forgotten; else none is, and an active one never.
+pub fn oldest_names_are_forgotten()
+    ensures active { ActiveNamesStay }
+    ensures known { KnownNamesCostNone }
+    ensures few { RoomCostsNone }
+    ensures oldest { OldestMakesRoom }
 {}

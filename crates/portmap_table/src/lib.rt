@@ -1,22 +1,27 @@
 //! The names that a port mapper knows, active and retired, and the creations that it gives.
 #![tactic(auto)]
 
+mod copies;
 mod creation;
+mod entries;
 mod known;
 mod laws;
 mod name_lists;
 mod name_map;
 mod names;
-mod parts;
 mod place;
 mod row;
-mod row_map;
+mod standing;
 mod table;
 
 pub use creation::{choice_is_legal, is_legal, numbers_are_the_profiles};
 pub use known::Known;
-pub use laws::{names_outlive_connections, newest_names_stand_last, other_names_stay};
+pub use laws::{
+    names_outlive_connections, newest_names_stand_last, oldest_names_are_forgotten,
+    other_names_stay,
+};
 pub use name_map::NameMap;
 pub use names::Names;
 pub use row::{Old, Retired, Row};
+pub use standing::Standing;
 pub use table::{RegFault, Table};

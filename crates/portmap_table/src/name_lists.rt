@@ -1,11 +1,12 @@
 //! Names that are known, as plain lists.
-ghost use Rattle.std.specs.Prelude.{◌≡◌, ◌↔◌, false, IsTrue, length, map, option_copied, option_map, slice_get, Some, IfOk, OnOk, OnErr, position, [], ◌∷◌, ◌++◌, ◌+◌, ◌<◌, ◌≤◌, vec_len, vec_capacity};
-ghost use Rattle.portmap_table.specs.Rows.{active_row, is_active, is_full_for, no_names, owner_of, owns_name, old_name, registered, remembered, retired_at, retired_name, retired_of, same_name, without_at};
+ghost use Rattle.std.specs.Prelude.{◌≡◌, ◌↔◌, false, IsTrue, length, map, drop, option_copied, option_map, slice_get, Some, IfOk, OnOk, OnErr, position, [], ◌∷◌, ◌++◌, ◌+◌, ◌<◌, ◌≤◌, vec_len, vec_capacity};
+ghost use Rattle.portmap_table.specs.Rows.{active_row, is_active, no_names, owner_of, owns_name, old_name, registered, remembered, retired_at, retired_name, retired_of, same_name, standing, with_room, without_at};
 
+use crate::copies::{copy_active, copy_retired};
 use crate::known::Known;
-use crate::parts::{copy_all, old_names};
-use crate::place::{active_row, forget, last_creation, slot_place};
+use crate::place::{active_row, last_creation, slot_place, take_back};
 use crate::row::{Old, Retired, Row};
+use crate::standing::Standing;
 use portmap_wire::{Name, NoMemory, Reg};
 use std::alloc::Global;
 use std::marker::Model;
@@ -41,6 +42,17 @@ fn make_room(active: &mut Vec<Row>, retired: &mut Vec<Old>) -> Result<(), NoMemo
     active.reserve(1)
 }
 
+/// The name that was retired longest is known no more.
+fn forget_oldest(retired: &mut Vec<Old>)
+    ensures names { retired.new.items ≡ drop 1 retired.old.items }
+    ensures few { vec_len retired.new ≤ vec_len retired.old }
+    ensures room { vec_capacity retired.new ≡ vec_capacity retired.old }
+{
+    if !retired.is_empty() {
+        retired.remove(0);
+    }
+}
+
 /// A name becomes the last active one, and is a retired one no more.
 fn enter(active: &mut Vec<Row>, retired: &mut Vec<Old>, row: Row)
     requires { vec_len active.old < vec_capacity active.old }
@@ -49,7 +61,7 @@ fn enter(active: &mut Vec<Row>, retired: &mut Vec<Old>, row: Row)
     ensures few { vec_len active.new + vec_len retired.new ≤ vec_len active.old + vec_len retired.old + 1 }
     ensures room { vec_capacity retired.new ≡ vec_capacity retired.old }
 {
-    forget(retired, &row.reg.name);
+    take_back(retired, &row.reg.name);
     active.push_reserved(row);
 }
 
@@ -76,12 +88,23 @@ impl NameLists {
         }
     }
 
-    /// A name becomes active, with this creation, and is owned by the connection in this slot.
-    pub(crate) fn register(&mut self, reg: Reg, creation: u32, slot: u64) -> Result<(), NoMemory>
-        ensures ok { OnOk result (self.new ≡ registered reg creation slot self.old) }
+    /// A name becomes active, with this creation, and is owned by the connection in this slot. Where it is new and as many are known
+    /// as may be, the one retired longest is forgotten. Memory is asked for before anything changes.
+    pub(crate) fn admit(
+        &mut self,
+        known_max: u32,
+        reg: Reg,
+        creation: u32,
+        slot: u64,
+    ) -> Result<(), NoMemory>
+        ensures ok { OnOk result (self.new ≡ registered reg creation slot (with_room known_max reg.name self.old)) }
         ensures err { OnErr result (self.new ≡ self.old) }
     {
         make_room(&mut self.active, &mut self.retired)?;
+        let is_new = !self.is_active(&reg.name) && self.remembered(&reg.name).is_none();
+        if is_new && self.active.len() + self.retired.len() >= known_max as usize {
+            forget_oldest(&mut self.retired);
+        }
         let row = Row {
             reg,
             creation,
@@ -112,15 +135,11 @@ impl NameLists {
         last_creation(self.retired.as_slice(), name)
     }
 
-    /// Lists that are copies of these, where the second rows are those that the retired names had.
-    pub(crate) fn copy_of(
-        alloc: Global,
-        active: &[Row],
-        retired: &[Row],
-    ) -> Result<NameLists, NoMemory>
-        ensures { IfOk result (λ names. names ≡ record { active = active.now; retired = map old_name retired.now }) }
+    /// Copies of the names that are known.
+    pub(crate) fn copy_of<K: Known>(alloc: Global, names: &K) -> Result<NameLists, NoMemory>
+        ensures { IfOk result (λ copy. copy ≡ K.names names.now) }
     {
-        NameLists::of(copy_all(alloc, active)?, old_names(alloc, retired)?)
+        NameLists::of(copy_active(alloc, names)?, copy_retired(alloc, names)?)
     }
 
     fn of(active: Vec<Row>, mut retired: Vec<Old>) -> Result<NameLists, NoMemory>
@@ -128,22 +147,6 @@ impl NameLists {
     {
         retired.reserve(active.len())?;
         Ok(NameLists { active, retired })
-    }
-
-    /// A second one.
-    pub(crate) fn try_copy(&self, alloc: Global) -> Result<NameLists, NoMemory>
-        ensures same { IfOk result (λ copy. copy ≡ self.now) }
-    {
-        let active = copy_all(alloc, self.active.as_slice())?;
-        let retired = copy_all(alloc, self.retired.as_slice())?;
-        NameLists::of(active, retired)
-    }
-
-    /// The rows of the active names.
-    pub(crate) fn active(&self) -> &[Row]
-        ensures { result.now ≡ self.now.active }
-    {
-        self.active.as_slice()
     }
 }
 
@@ -154,11 +157,14 @@ impl Known for NameLists {
         active_row(self.active.as_slice(), name)
     }
 
-    fn is_full_for(&self, known_max: u32, name: &Name) -> bool {
-        let NameLists { active, retired } = self;
-        active.len() + retired.len() >= known_max as usize
-            && !self.is_active(name)
-            && self.remembered(name).is_none()
+    fn standing(&self, known_max: u32, name: &Name) -> Standing {
+        if self.is_active(name) {
+            return Standing::Active;
+        }
+        match self.remembered(name) {
+            None if self.active.len() >= known_max as usize => Standing::NoRoom,
+            last => Standing::Free(last),
+        }
     }
 
     fn active_len(&self) -> usize {

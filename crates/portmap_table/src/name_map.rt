@@ -1,77 +1,132 @@
 //! The names that are known, active and retired, each found without a walk.
-ghost use Rattle.std.specs.Prelude.{◌≡◌, ◌==◌, ◌+◌, ◌<◌, ◌≤◌, false, length, map, drop, take, find, position, option_copied, option_map, slice_get, IfOk, OnOk, OnErr, IsSome, Some, None, ◌++◌, ◌∷◌, []};
-ghost use Rattle.portmap_table.specs.Rows.{active_row, is_active, is_full_for, names_in, no_names, old_name, owner_of, owns_name, registered, remembered, retired_at, retired_name, retired_of};
+ghost use Rattle.std.specs.Prelude.{◌≡◌, ◌==◌, ℕ, ◌+◌, ◌<◌, ◌≤◌, ◌^◌, false, length, map, find, position, remove, nat_eq, option_copied, option_map, slice_get, vec_len, vec_capacity, IfSome, IfOk, OnOk, OnErr, IsTrue, IsSome, Some, None, ◌++◌, ◌∷◌, []};
+ghost use Rattle.indexmap.specs.IndexMap.{IsUnchanged, get, spare};
+ghost use Rattle.portmap_table.specs.declared.row.Row.{Row};
+ghost use Rattle.portmap_table.specs.Places.{HasEach, IsNew, IsRetiredAt, TakesPlace, active_entry};
+ghost use Rattle.portmap_table.specs.Rows.{active_row, is_active, is_full_for, known_len, no_names, old_name, owner_of, owns_name, registered, retired_name, retired_of, standing, with_room};
 
+use crate::entries::{Entries, Kept};
 use crate::known::Known;
-use crate::name_lists::NameLists;
-use crate::names::Names;
 use crate::row::{Retired, Row};
-use crate::row_map::RowMap;
-use indexmap::IndexSet;
+use crate::standing::Standing;
+use indexmap::IndexMap;
 use portmap_wire::{Name, NoMemory, Reg};
 use std::alloc::Global;
 use std::marker::Model;
 
-/// The names that are known, in one ordered map.
+/// The names that are known. Each has a place of its own; their orders are lists of places.
 #[derive(Debug, Drop)]
 pub struct NameMap {
-    // The retired names in order of retirement, and then the active ones in order of registration. Of a retired row only the
-    // name, the port and the creation count.
-    rows: RowMap,
-    // How many of them are retired.
-    retired: usize,
-    // The slots of the active names, in their order: so the place of a slot is that of its name.
-    owners: IndexSet<u64>,
+    entries: Entries,
+    // The places of the active names, in order of registration.
+    active: Vec<u32>,
+    // Those of the retired names, in order of retirement, with room for each active one besides: so retiring takes no memory.
+    retired: Vec<u32>,
+    // The place of the active name of each slot that owns one.
+    owners: IndexMap<u64, u32>,
 }
 
 impl Model for NameMap {
-    ghost use Rattle.std.specs.Prelude.{◌≡◌, ◌≤◌, length, map, drop};
-    ghost use Rattle.portmap_table.specs.Rows.{Names, names_in, slot_of};
+    ghost use Rattle.std.specs.Prelude.{◌≤◌, ◌+◌, nat_eq, vec_len, vec_capacity};
+    ghost use Rattle.indexmap.specs.IndexMap.{get};
+    ghost use Rattle.portmap_table.specs.Places.{AreInPlace, names_at};
+    ghost use Rattle.portmap_table.specs.Rows.{Names};
 
     ghost Value = { Names };
 
-    ghost view = { λ n. names_in n.retired n.rows };
+    ghost view = { λ n. names_at n.entries n.active.items n.retired.items };
 
-    ghost invariant = { λ n. (n.retired ≤ length n.rows) × (n.owners.keys ≡ map slot_of (drop n.retired n.rows)) };
+    ghost invariant = { λ n. AreInPlace n.entries n.active.items n.retired.items (get nat_eq n.owners) × (vec_len n.active + vec_len n.retired ≤ vec_capacity n.retired) };
 }
 
-/// The creation of the row at this place.
-fn creation_at(rows: &[Row], at: usize) -> Option<u32>
-    ensures { result ≡ option_map (λ row. row.creation) (slice_get rows.now at) }
+/// Where a place stands in a list that has it. Looked for from both ends: the newest and the oldest are found at once.
+fn index_of(places: &[u32], place: u32) -> usize
+    requires { (i : ℕ) × (slice_get places.now i ≡ Some place) }
+    ensures { slice_get places.now result ≡ Some place }
 {
-    rows.get(at).map(|row| row.creation)
+    let mut front = 0;
+    let mut back = places.len();
+    while front < back {
+        if places[front] == place {
+            return front;
+        }
+        back -= 1;
+        if places[back] == place {
+            return back;
+        }
+        front += 1;
+    }
+    unreachable!()
 }
 
-/// A name becomes the last active one, and is a retired one no more.
-fn enter(rows: &mut RowMap, retired: &mut usize, row: Row) -> Result<(), NoMemory>
-    requires retired { retired.old ≤ length rows.old }
-    requires name { is_active row.reg.name (names_in retired.old rows.old) ≡ false }
-    ensures ok { OnOk result (names_in retired.new rows.new ≡ registered row.reg row.creation row.slot (names_in retired.old rows.old)) }
-    ensures retired { retired.new ≤ length rows.new }
-    ensures err_rows { OnErr result (rows.new ≡ rows.old) }
-    ensures err_retired { OnErr result (retired.new ≡ retired.old) }
+/// A place is taken out of a list that has it.
+fn take_out(places: &mut Vec<u32>, place: u32)
+    requires { (i : ℕ) × (slice_get places.old.items i ≡ Some place) }
+    ensures items { (i : ℕ) × (slice_get places.old.items i ≡ Some place) × (places.new.items ≡ remove places.old.items i) }
+    ensures len { vec_len places.new + 1 ≡ vec_len places.old }
+    ensures room { vec_capacity places.new ≡ vec_capacity places.old }
 {
-    match rows.place(&row.reg.name) {
-        None => rows.push(row),
+    let at = index_of(places.as_slice(), place);
+    places.remove(at);
+}
+
+/// A name settles at a place: a retired one at its own, a new one behind all others, or, where as many are known as may be, at that
+/// of the name retired longest, which is forgotten. Memory is asked for before anything changes.
+fn settle(
+    entries: &mut Entries,
+    retired: &mut Vec<u32>,
+    known_max: u32,
+    row: Row,
+) -> Result<u32, NoMemory>
+    requires places { HasEach (IsRetiredAt entries.old) retired.old.items }
+    requires name { (place : ℕ) (active : Row) → slice_get entries.old place ≡ Some (active_entry active) → active.reg.name ≡ row.reg.name → ⊥ }
+    requires few { length entries.old ≤ known_max }
+    requires oldest { IsNew row.reg.name entries.old → known_max ≤ length entries.old → 0 < length retired.old.items }
+    ensures ok { IfOk result (λ place. TakesPlace known_max row entries.old entries.new retired.old.items retired.new.items place) }
+    ensures few { vec_len retired.new ≤ vec_len retired.old }
+    ensures room { vec_capacity retired.new ≡ vec_capacity retired.old }
+    ensures err_entries { OnErr result (entries.new ≡ entries.old) }
+    ensures err_retired { OnErr result (retired.new.items ≡ retired.old.items) }
+{
+    match entries.place(&row.reg.name) {
         Some(at) => {
-            rows.renew(at, row);
-            *retired -= 1;
-            Ok(())
+            let place = at as u32;
+            entries.activate(at, row);
+            take_out(retired, place);
+            Ok(place)
+        }
+        None if entries.len() < known_max as usize => {
+            let place = entries.len() as u32;
+            entries.push(row)?;
+            Ok(place)
+        }
+        None => {
+            let place = retired[0];
+            entries.replace(place as usize, row)?;
+            retired.remove(0);
+            Ok(place)
         }
     }
 }
 
-/// The active name at this place becomes the last retired one.
-fn leave(rows: &mut RowMap, retired: &mut usize, at: usize)
-    requires { retired.old + at < length rows.old }
-    ensures names { names_in retired.new rows.new ≡ retired_at (Some at) (names_in retired.old rows.old) }
-    ensures retired { retired.new ≤ length rows.new }
+/// Makes room for one more active name, and for that and each other one among the retired names.
+fn make_room(
+    active: &mut Vec<u32>,
+    retired: &mut Vec<u32>,
+    owners: &mut IndexMap<u64, u32>,
+) -> Result<(), NoMemory>
+    ensures active { active.new.items ≡ active.old.items }
+    ensures retired { retired.new.items ≡ retired.old.items }
+    ensures owners { IsUnchanged owners.old owners.new }
+    ensures active_room { OnOk result (vec_len active.new < vec_capacity active.new) }
+    ensures retired_room { OnOk result (vec_len active.new + vec_len retired.new < vec_capacity retired.new) }
+    ensures owners_room { OnOk result (0 < spare owners.new) }
+    ensures kept { vec_capacity retired.old ≤ vec_capacity retired.new }
 {
-    // A proof learns from the length that the sums fit.
-    let _len = rows.len();
-    rows.shift(*retired + at, *retired);
-    rows.forget_extra(*retired);
-    *retired += 1;
+    retired.reserve(active.len() + 1)?;
+    active.reserve(1)?;
+    owners.reserve(1)?;
+    Ok(())
 }
 
 impl NameMap {
@@ -80,64 +135,59 @@ impl NameMap {
         ensures { result ≡ no_names }
     {
         NameMap {
-            rows: RowMap::new(alloc),
-            retired: 0,
-            owners: IndexSet::new(alloc),
+            entries: Entries::new(alloc),
+            active: Vec::new(alloc),
+            retired: Vec::new(alloc),
+            owners: IndexMap::new(alloc),
         }
-    }
-
-    /// The rows of the active names.
-    pub(crate) fn active(&self) -> &[Row]
-        ensures { result.now ≡ self.now.active }
-    {
-        &self.rows.rows()[self.retired..]
-    }
-
-    /// The rows that the retired names had.
-    fn retired(&self) -> &[Row]
-        ensures { map old_name result.now ≡ self.now.retired }
-    {
-        &self.rows.rows()[..self.retired]
-    }
-
-    /// Where the name of a slot stands among the active ones.
-    fn place_of_slot(&self, slot: u64) -> Option<usize>
-        ensures { result ≡ position (λ row. row.slot == slot) self.now.active }
-    {
-        self.owners.get_index_of(&slot)
     }
 
     /// Whether a slot owns an active name.
     pub(crate) fn holds(&self, slot: u64) -> bool
         ensures { result ≡ owns_name slot self.now }
     {
-        self.place_of_slot(slot).is_some()
+        self.owners.contains_key(&slot)
     }
 
-    /// The creation that is remembered for a retired name.
-    pub(crate) fn remembered(&self, name: &Name) -> Option<u32>
-        ensures { result ≡ remembered name.now self.now }
+    /// Whether `admit` may be asked to register this name for this slot.
+    pub(crate) fn may_admit(&self, known_max: u32, name: &Name, slot: u64) -> bool
+        ensures name { IsTrue result → is_active name.now self.now ≡ false }
+        ensures room { IsTrue result → is_full_for known_max name.now self.now ≡ false }
+        ensures slot { IsTrue result → owns_name slot self.now ≡ false }
+        ensures few { IsTrue result → known_len self.now ≤ known_max }
     {
-        let at = self.rows.place(name)?;
-        creation_at(self.retired(), at)
+        let is_free = match self.standing(known_max, name) {
+            Standing::Free(_) => true,
+            Standing::Active | Standing::NoRoom => false,
+        };
+        is_free && !self.holds(slot) && self.entries.len() <= known_max as usize
     }
 
-    /// A name becomes active, with this creation, and is owned by the connection in this slot.
-    pub(crate) fn register(&mut self, reg: Reg, creation: u32, slot: u64) -> Result<(), NoMemory>
+    /// A name becomes active, with this creation, and is owned by the connection in this slot. Where it is new and as many are known
+    /// as may be, the one retired longest is forgotten. Memory is asked for before anything changes.
+    pub(crate) fn admit(
+        &mut self,
+        known_max: u32,
+        reg: Reg,
+        creation: u32,
+        slot: u64,
+    ) -> Result<(), NoMemory>
         requires name { is_active reg.name self.old ≡ false }
+        requires room { is_full_for known_max reg.name self.old ≡ false }
         requires slot { owns_name slot self.old ≡ false }
-        ensures ok { OnOk result (self.new ≡ registered reg creation slot self.old) }
+        requires few { known_len self.old ≤ known_max }
+        ensures ok { OnOk result (self.new ≡ registered reg creation slot (with_room known_max reg.name self.old)) }
         ensures err { OnErr result (self.new ≡ self.old) }
     {
-        // Its room is taken before anything changes.
-        self.owners.reserve(1)?;
+        make_room(&mut self.active, &mut self.retired, &mut self.owners)?;
         let row = Row {
             reg,
             creation,
             slot,
         };
-        enter(&mut self.rows, &mut self.retired, row)?;
-        match self.owners.insert(slot) {
+        let place = settle(&mut self.entries, &mut self.retired, known_max, row)?;
+        self.active.push_reserved(place);
+        match self.owners.insert(slot, place) {
             Ok(_) => Ok(()),
             Err(_) => unreachable!(),
         }
@@ -149,28 +199,13 @@ impl NameMap {
         ensures retired { self.new ≡ retired_of slot self.old }
         ensures none { result ≡ false → self.new ≡ self.old }
     {
-        match self.place_of_slot(slot) {
-            None => false,
-            Some(at) => {
-                leave(&mut self.rows, &mut self.retired, at);
-                self.owners.shift_remove_index(at);
-                true
-            }
-        }
-    }
-
-    /// The same names as plain lists.
-    pub(crate) fn lists(&self, alloc: Global) -> Result<NameLists, NoMemory>
-        ensures same { IfOk result (λ names. names ≡ self.now) }
-    {
-        NameLists::copy_of(alloc, self.active(), self.retired())
-    }
-
-    /// The same names as those of a state.
-    pub fn names(&self, alloc: Global) -> Result<Names, NoMemory>
-        ensures same { IfOk result (λ names. names ≡ self.now) }
-    {
-        Ok(Names::of(alloc, self.lists(alloc)?))
+        let Some(place) = self.owners.swap_remove(&slot) else {
+            return false;
+        };
+        self.entries.retire(place as usize);
+        take_out(&mut self.active, place);
+        self.retired.push_reserved(place);
+        true
     }
 }
 
@@ -178,32 +213,37 @@ impl Known for NameMap {
     ghost names = { λ n. n };
 
     fn find(&self, name: &Name) -> Option<&Row> {
-        let at = self.rows.place(name)?;
-        if at < self.retired {
-            return None;
-        }
-        self.rows.at(at)
+        self.entries.row(self.entries.place(name)?)
     }
 
-    fn is_full_for(&self, known_max: u32, name: &Name) -> bool {
-        self.rows.len() >= known_max as usize
-            && !self.is_active(name)
-            && self.remembered(name).is_none()
+    fn standing(&self, known_max: u32, name: &Name) -> Standing {
+        let Some(place) = self.entries.place(name) else {
+            if self.active.len() >= known_max as usize {
+                return Standing::NoRoom;
+            }
+            return Standing::Free(None);
+        };
+        match self.entries.retired(place) {
+            None => Standing::Active,
+            Some(retired) => Standing::Free(Some(retired.creation)),
+        }
     }
 
     fn active_len(&self) -> usize {
-        self.active().len()
+        self.active.len()
     }
 
     fn active_at(&self, i: usize) -> Option<&Row> {
-        self.active().get(i)
+        let place = self.active.get(i)?;
+        self.entries.row(*place as usize)
     }
 
     fn retired_len(&self) -> usize {
-        self.retired().len()
+        self.retired.len()
     }
 
     fn retired_at(&self, i: usize) -> Option<Retired<'_>> {
-        self.retired().get(i).map(|row| row.as_retired())
+        let place = self.retired.get(i)?;
+        self.entries.retired(*place as usize)
     }
 }

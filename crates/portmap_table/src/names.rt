@@ -1,13 +1,14 @@
 //! The names of a state, which may be any.
 ghost use Rattle.std.specs.Prelude.{◌≡◌, ◌↔◌, IsTrue, length, option_copied, option_map, slice_get, IfOk, OnOk, OnErr};
-ghost use Rattle.portmap_table.specs.Rows.{active_row, is_full_for, no_names, owns_name, registered, remembered, retired_name, retired_of};
+ghost use Rattle.portmap_table.specs.Rows.{active_row, no_names, owns_name, registered, retired_name, retired_of, standing, with_room};
 ghost use Rattle.portmap_table.specs.Store.{names_of};
 
+use crate::copies::{same_active, same_retired};
 use crate::known::Known;
 use crate::name_lists::NameLists;
 use crate::name_map::NameMap;
-use crate::parts::same_all;
 use crate::row::{Retired, Row};
+use crate::standing::Standing;
 use portmap_wire::{Name, NoMemory, Reg};
 use std::alloc::Global;
 use std::marker::Model;
@@ -37,47 +38,29 @@ impl Model for Names {
     ghost view = { λ n. names_of n.store };
 }
 
-/// Whether the same names are retired, in the same order.
-#[tactic(auto, using(crate::proofs::Finding::same_through))]
-fn same_retired(names: &Names, others: &Names) -> bool
-    ensures { IsTrue result ↔ (names.now.retired ≡ others.now.retired) }
-{
-    if names.retired_len() != others.retired_len() {
-        return false;
-    }
-    for i in 0..names.retired_len() {
-        let (Some(name), Some(other)) = (names.retired_at(i), others.retired_at(i)) else {
-            return false;
-        };
-        if !name.is_same(&other) {
-            return false;
-        }
-    }
-    true
-}
-
-/// A name becomes active.
-fn register(
+/// A name becomes active, as `Names::admit` says.
+fn admit(
     alloc: Global,
     store: &mut Store,
+    known_max: u32,
     reg: Reg,
     creation: u32,
     slot: u64,
 ) -> Result<(), NoMemory>
-    ensures ok { OnOk result (names_of store.new ≡ registered reg creation slot (names_of store.old)) }
+    ensures ok { OnOk result (names_of store.new ≡ registered reg creation slot (with_room known_max reg.name (names_of store.old))) }
     ensures err { OnErr result (names_of store.new ≡ names_of store.old) }
 {
     match store {
-        Store::Map(map) if !map.is_active(&reg.name) && !map.holds(slot) => {
-            map.register(reg, creation, slot)
+        Store::Map(map) if map.may_admit(known_max, &reg.name, slot) => {
+            map.admit(known_max, reg, creation, slot)
         }
         Store::Map(map) => {
-            let mut lists = map.lists(alloc)?;
-            lists.register(reg, creation, slot)?;
+            let mut lists = NameLists::copy_of(alloc, map)?;
+            lists.admit(known_max, reg, creation, slot)?;
             *store = Store::Lists(lists);
             Ok(())
         }
-        Store::Lists(lists) => lists.register(reg, creation, slot),
+        Store::Lists(lists) => lists.admit(known_max, reg, creation, slot),
     }
 }
 
@@ -92,22 +75,19 @@ impl Names {
         }
     }
 
-    /// Those of lists.
-    pub(crate) fn of(alloc: Global, lists: NameLists) -> Names
-        ensures { result ≡ lists }
-    {
-        Names {
-            alloc,
-            store: Store::Lists(lists),
-        }
-    }
-
-    /// A name becomes active, with this creation, and is owned by the connection in this slot.
-    pub fn register(&mut self, reg: Reg, creation: u32, slot: u64) -> Result<(), NoMemory>
-        ensures ok { OnOk result (self.new ≡ registered reg creation slot self.old) }
+    /// A name becomes active, with this creation, and is owned by the connection in this slot. Where it is new and as many are known
+    /// as may be, the one retired longest is forgotten.
+    pub fn admit(
+        &mut self,
+        known_max: u32,
+        reg: Reg,
+        creation: u32,
+        slot: u64,
+    ) -> Result<(), NoMemory>
+        ensures ok { OnOk result (self.new ≡ registered reg creation slot (with_room known_max reg.name self.old)) }
         ensures err { OnErr result (self.new ≡ self.old) }
     {
-        register(self.alloc, &mut self.store, reg, creation, slot)
+        admit(self.alloc, &mut self.store, known_max, reg, creation, slot)
     }
 
     /// Retires the name that a slot owns, and says whether it owned one. It takes no memory.
@@ -121,42 +101,28 @@ impl Names {
         }
     }
 
-    /// The creation that is remembered for a retired name.
-    pub fn remembered(&self, name: &Name) -> Option<u32>
-        ensures { result ≡ remembered name.now self.now }
+    /// Copies of those that are known.
+    pub fn copy_of<K: Known>(alloc: Global, names: &K) -> Result<Names, NoMemory>
+        ensures same { IfOk result (λ copy. copy ≡ K.names names.now) }
     {
-        match &self.store {
-            Store::Map(map) => map.remembered(name),
-            Store::Lists(lists) => lists.remembered(name),
-        }
-    }
-
-    /// The rows of the active names.
-    fn active(&self) -> &[Row]
-        ensures { result.now ≡ self.now.active }
-    {
-        match &self.store {
-            Store::Map(map) => map.active(),
-            Store::Lists(lists) => lists.active(),
-        }
+        Ok(Names {
+            alloc,
+            store: Store::Lists(NameLists::copy_of(alloc, names)?),
+        })
     }
 
     /// A second one.
     pub fn try_copy(&self, alloc: Global) -> Result<Names, NoMemory>
         ensures same { IfOk result (λ copy. copy ≡ self.now) }
     {
-        let lists = match &self.store {
-            Store::Map(map) => map.lists(alloc)?,
-            Store::Lists(lists) => lists.try_copy(alloc)?,
-        };
-        Ok(Names::of(alloc, lists))
+        Names::copy_of(alloc, self)
     }
 
     /// Whether they are the same in every respect. It takes no memory.
     pub fn same(&self, other: &Names) -> bool
         ensures { IsTrue result ↔ (self.now ≡ other.now) }
     {
-        same_all(self.active(), other.active()) && same_retired(self, other)
+        same_active(self, other) && same_retired(self, other)
     }
 }
 
@@ -170,19 +136,25 @@ impl Known for Names {
         }
     }
 
-    fn is_full_for(&self, known_max: u32, name: &Name) -> bool {
+    fn standing(&self, known_max: u32, name: &Name) -> Standing {
         match &self.store {
-            Store::Map(map) => map.is_full_for(known_max, name),
-            Store::Lists(lists) => lists.is_full_for(known_max, name),
+            Store::Map(map) => map.standing(known_max, name),
+            Store::Lists(lists) => lists.standing(known_max, name),
         }
     }
 
     fn active_len(&self) -> usize {
-        self.active().len()
+        match &self.store {
+            Store::Map(map) => map.active_len(),
+            Store::Lists(lists) => lists.active_len(),
+        }
     }
 
     fn active_at(&self, i: usize) -> Option<&Row> {
-        self.active().get(i)
+        match &self.store {
+            Store::Map(map) => map.active_at(i),
+            Store::Lists(lists) => lists.active_at(i),
+        }
     }
 
     fn retired_len(&self) -> usize {

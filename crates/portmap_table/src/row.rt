@@ -18,15 +18,11 @@ pub struct Row {
 }
 
 impl Row {
-    /// What is remembered of it, for a caller to read.
-    pub(crate) fn as_retired(&self) -> Retired<'_>
-        ensures { retired_name result ≡ old_name self.now }
+    /// Whether it is the same in every respect.
+    pub(crate) fn is_same(&self, other: &Row) -> bool
+        ensures { IsTrue result ↔ (self.now ≡ other.now) }
     {
-        Retired {
-            name: &self.reg.name,
-            port: self.reg.port,
-            creation: self.creation,
-        }
+        self.reg == other.reg && self.creation == other.creation && self.slot == other.slot
     }
 
     /// A second one.

@@ -1,5 +1,5 @@
 //! The table of names.
-ghost use Rattle.std.specs.Prelude.{◌≡◌, false, length, slice_get, option_copied, option_map, Err, IfOk, OnErr, IsOk, ◌^◌, ◌<◌};
+ghost use Rattle.std.specs.Prelude.{◌≡◌, false, length, slice_get, option_copied, option_map, Ok, Err, IfOk, OnOk, OnErr, IsOk, ◌^◌, ◌<◌};
 ghost use Rattle.portmap_table.specs.Creation.{IsCounter, IsLegalCreation};
 ghost use Rattle.portmap_table.specs.Rows.{AreKept, active_row, owner_of, owns_name, remembered, retired_name, retired_of};
 ghost use Rattle.portmap_table.specs.Table.{GivesOffer, new_table, offered, with_names, with_registration};
@@ -8,6 +8,7 @@ use crate::creation::{COUNTER_LEAST, choice, counter_after};
 use crate::known::Known;
 use crate::name_map::NameMap;
 use crate::row::{Retired, Row};
+use crate::standing::Standing;
 use portmap_wire::{Name, NoMemory, Reg};
 use std::alloc::Global;
 use std::marker::Model;
@@ -17,7 +18,7 @@ use std::marker::Model;
 pub enum RegFault {
     /// The name is active.
     Taken,
-    /// The name is not known, and as many are as may be.
+    /// The name is not known, and as many are active as may be known.
     NoRoom,
     NoMemory,
 }
@@ -78,17 +79,17 @@ impl Table {
     pub fn offer(&self, name: &Name, high: u16) -> Result<u32, RegFault>
         ensures exact { result ≡ offered self.now name.now high }
         ensures legal { IfOk result (λ c. IsLegalCreation high (remembered name.now self.now.names) c) }
+        ensures kept { AreKept self.now.known_max self.now.names }
     {
-        if self.names.is_active(name) {
-            return Err(RegFault::Taken);
+        match self.names.standing(self.known_max, name) {
+            Standing::Active => Err(RegFault::Taken),
+            Standing::NoRoom => Err(RegFault::NoRoom),
+            Standing::Free(last) => Ok(choice(self.counter, high, last)),
         }
-        if self.names.is_full_for(self.known_max, name) {
-            return Err(RegFault::NoRoom);
-        }
-        Ok(choice(self.counter, high, self.names.remembered(name)))
     }
 
-    /// Registers a name for the connection in this slot, and returns its creation.
+    /// Registers a name for the connection in this slot, and returns its creation. Where the name is new and as many are known as may
+    /// be, the one retired longest is forgotten.
     pub fn register(&mut self, reg: Reg, slot: u64) -> Result<u32, RegFault>
         requires { owns_name slot self.old.names ≡ false }
         ensures gives { GivesOffer result (offered self.old reg.name reg.high) }
@@ -99,11 +100,24 @@ impl Table {
         ensures memory { result ≡ Err RegFault.NoMemory → IsOk (offered self.old reg.name reg.high) }
         ensures kept { AreKept self.new.known_max self.new.names }
     {
-        let high = reg.high;
-        let creation = self.offer(&reg.name, high)?;
-        self.names.register(reg, creation, slot)?;
-        self.counter = counter_after(self.counter, high, creation);
+        let creation = self.offer(&reg.name, reg.high)?;
+        self.admit(reg, creation, slot)?;
         Ok(creation)
+    }
+
+    /// Registers a name for the connection in this slot, with the creation that it is offered.
+    pub fn admit(&mut self, reg: Reg, creation: u32, slot: u64) -> Result<(), NoMemory>
+        requires offered { offered self.old reg.name reg.high ≡ Ok creation }
+        requires legal { IsLegalCreation reg.high (remembered reg.name self.old.names) creation }
+        requires slot { owns_name slot self.old.names ≡ false }
+        ensures ok { OnOk result (self.new ≡ with_registration self.old reg slot creation) }
+        ensures err { OnErr result (self.new ≡ self.old) }
+        ensures kept { AreKept self.new.known_max self.new.names }
+    {
+        let high = reg.high;
+        self.names.admit(self.known_max, reg, creation, slot)?;
+        self.counter = counter_after(self.counter, high, creation);
+        Ok(())
     }
 
     /// Retires the name that a slot owns, and says whether it owned one. It takes no memory.

@@ -1,0 +1,135 @@
+-- Where known names stand: each at a place of its own, for as long as it is known. Two lists of places hold their orders.
+use Rattle.std.specs.Prelude.{◌≡◌, ◌≢◌, ◌⊎◌, ℕ, ◌+◌, ◌<◌, ◌≤◌, List, [], map, length, remove, Option, Some, None, slice_get}
+use Rattle.portmap_table.specs.declared.row.Row.{Row}
+use Rattle.portmap_table.specs.declared.entries.Kept.{Kept}
+use Rattle.portmap_table.specs.declared.entries.Kept.TheVariants.{Active, Retired}
+use Rattle.portmap_table.specs.Rows.{Names, RetiredName}
+
+-- a name with what is kept of it
+abbrev pub Entry : Type 0
+Entry = List ℕ × Kept
+
+abbrev pub active_entry : Row → Entry
+active_entry row = (row.reg.name, Active row)
+
+abbrev pub retired_entry : RetiredName → Entry
+retired_entry old = (old.name, Retired old.port old.creation)
+
+-- an active name is that of its row
+abbrev pub IsNamed : Entry → Type 0
+IsNamed (name, Active row) = name ≡ row.reg.name
+IsNamed (name, Retired port creation) = Unit {0}
+
+abbrev pub AreNamed : List Entry → Type 0
+AreNamed entries = (place : ℕ) (entry : Entry) → slice_get entries place ≡ Some entry → IsNamed entry
+
+-- a name that stands nowhere
+abbrev pub IsNew : List ℕ → List Entry → Type 0
+IsNew name entries = (place : ℕ) (kept : Kept) → slice_get entries place ≡ Some (name, kept) → ⊥
+
+-- an entry is put at a place, and the others stay
+pub record Puts (old new : List Entry) (at : ℕ) (entry : Entry) : Type 0 where
+  pub there : slice_get new at ≡ Some entry
+  pub others : (place : ℕ) → place ≢ at → slice_get new place ≡ slice_get old place
+
+-- ---- what stands at a place
+
+abbrev pub IsActiveAt : List Entry → ℕ → Type 0
+IsActiveAt entries place = (row : Row) × (slice_get entries place ≡ Some (active_entry row))
+
+abbrev pub IsRetiredAt : List Entry → ℕ → Type 0
+IsRetiredAt entries place = (old : RetiredName) × (slice_get entries place ≡ Some (retired_entry old))
+
+-- this name stands there, active or retired
+abbrev pub StandsAs : List ℕ → List Entry → ℕ → Type 0
+StandsAs name entries place = ((row : Row) × (slice_get entries place ≡ Some (active_entry row)) × (row.reg.name ≡ name)) ⊎ ((old : RetiredName) × (slice_get entries place ≡ Some (retired_entry old)) × (old.name ≡ name))
+
+-- and at no other
+abbrev pub StandsOnce : List ℕ → List Entry → ℕ → Type 0
+StandsOnce name entries place = (q : ℕ) (kept : Kept) → slice_get entries q ≡ Some (name, kept) → q ≡ place
+
+-- a row that is read at no place of an active name
+abbrev no_row : Row
+no_row = record { reg = record { port = 0; kind = 0; proto = 0; high = 0; low = 0; name = []; extra = [] }; creation = 0; slot = 0 }
+
+abbrev no_old : RetiredName
+no_old = record { name = []; port = 0; creation = 0 }
+
+abbrev pub row_in : Option Entry → Row
+row_in None = no_row
+row_in (Some (name, Active row)) = row
+row_in (Some (name, Retired port creation)) = no_row
+
+abbrev pub old_in : Option Entry → RetiredName
+old_in None = no_old
+old_in (Some (name, Active row)) = no_old
+old_in (Some (name, Retired port creation)) = record { name = name; port = port; creation = creation }
+
+-- the row that is kept there, and the old name
+abbrev pub active_in : Option Entry → Option Row
+active_in None = None
+active_in (Some (name, Active row)) = Some row
+active_in (Some (name, Retired port creation)) = None
+
+abbrev pub retired_in : Option Entry → Option RetiredName
+retired_in None = None
+retired_in (Some (name, Active row)) = None
+retired_in (Some (name, Retired port creation)) = Some (record { name = name; port = port; creation = creation })
+
+abbrev pub row_at : List Entry → ℕ → Row
+row_at entries place = row_in (slice_get entries place)
+
+abbrev pub old_at : List Entry → ℕ → RetiredName
+old_at entries place = old_in (slice_get entries place)
+
+-- the names at these places, in these orders
+abbrev pub names_at : List Entry → List ℕ → List ℕ → Names
+names_at entries active retired = record { active = map (row_at entries) active; retired = map (old_at entries) retired }
+
+-- ---- what always holds
+
+-- a list has the places of this kind, each once
+pub record HasEach (Is : ℕ → Type 0) (places : List ℕ) : Type 0 where
+  pub sound : (i place : ℕ) → slice_get places i ≡ Some place → Is place
+  pub whole : (place : ℕ) → Is place → (i : ℕ) × (slice_get places i ≡ Some place)
+  pub once : (i j place : ℕ) → slice_get places i ≡ Some place → slice_get places j ≡ Some place → i ≡ j
+
+-- the slots of the active names lead to their places
+pub record AreOwners (entries : List Entry) (owner : ℕ → Option ℕ) : Type 0 where
+  pub active : (place : ℕ) (row : Row) → slice_get entries place ≡ Some (active_entry row) → owner row.slot ≡ Some place
+  pub slots : (slot place : ℕ) → owner slot ≡ Some place → (row : Row) × (slice_get entries place ≡ Some (active_entry row)) × (row.slot ≡ slot)
+
+pub record AreInPlace (entries : List Entry) (active retired : List ℕ) (owner : ℕ → Option ℕ) : Type 0 where
+  pub active_places : HasEach (IsActiveAt entries) active
+  pub retired_places : HasEach (IsRetiredAt entries) retired
+  pub owners : AreOwners entries owner
+  pub count : length active + length retired ≡ length entries
+
+-- ---- a name settles at a place
+
+-- a retired one, at its own
+pub record Returns (name : List ℕ) (entries new : List Entry) (retired left : List ℕ) (place : ℕ) : Type 0 where
+  pub known : (old : RetiredName) × (slice_get entries place ≡ Some (retired_entry old)) × (old.name ≡ name)
+  pub once : StandsOnce name entries place
+  pub out : (i : ℕ) × (slice_get retired i ≡ Some place) × (left ≡ remove retired i)
+  pub len : length new ≡ length entries
+
+-- a new one, behind all others
+pub record Adds (known_max : ℕ) (name : List ℕ) (entries new : List Entry) (retired left : List ℕ) (place : ℕ) : Type 0 where
+  pub fresh : IsNew name entries
+  pub few : length entries < known_max
+  pub last : place ≡ length entries
+  pub same : left ≡ retired
+  pub len : length new ≡ length entries + 1
+
+-- a new one, at that of the name retired longest
+pub record Replaces (known_max : ℕ) (name : List ℕ) (entries new : List Entry) (retired left : List ℕ) (place : ℕ) : Type 0 where
+  pub fresh : IsNew name entries
+  pub many : known_max ≤ length entries
+  pub oldest : slice_get retired 0 ≡ Some place
+  pub out : left ≡ remove retired 0
+  pub len : length new ≡ length entries
+
+pub record TakesPlace (known_max : ℕ) (row : Row) (entries new : List Entry) (retired left : List ℕ) (place : ℕ) : Type 0 where
+  pub puts : Puts entries new place (active_entry row)
+  pub how : Returns row.reg.name entries new retired left place ⊎ (Adds known_max row.reg.name entries new retired left place ⊎ Replaces known_max row.reg.name entries new retired left place)

@@ -1,0 +1,151 @@
+//! What is kept of each name, at a place that stays the name's own for as long as it is known.
+ghost use Rattle.std.specs.Prelude.{◌≡◌, ◌<◌, ◌^◌, ℕ, length, slice_get, option_copied, option_map, Some, None, IfSome, IfOk, OnOk, OnErr, [], ◌++◌, ◌∷◌};
+ghost use Rattle.portmap_table.specs.declared.entries.Kept.{Kept};
+ghost use Rattle.portmap_table.specs.declared.row.Row.{Row};
+ghost use Rattle.portmap_table.specs.Places.{IsActiveAt, IsNew, Puts, StandsAs, active_entry, active_in, retired_entry, retired_in};
+ghost use Rattle.portmap_table.specs.Rows.{old_name, retired_name};
+
+use crate::row::{Retired, Row};
+use indexmap::IndexMap;
+use portmap_wire::{Name, NoMemory};
+use std::alloc::Global;
+use std::marker::Model;
+
+/// What is kept of a name.
+#[derive(Debug, Drop)]
+pub(crate) enum Kept {
+    /// It is active.
+    Active(Row),
+    /// It was, with this port and this creation.
+    Retired { port: u16, creation: u32 },
+}
+
+/// Names, each at a place of its own.
+#[derive(Debug, Drop)]
+pub(crate) struct Entries {
+    kept: IndexMap<Name, Kept>,
+}
+
+impl Model for Entries {
+    ghost use Rattle.std.specs.Prelude.{List};
+    ghost use Rattle.std.specs.Coded.{coded_list, coded_ℕ, coded×};
+    ghost use Rattle.portmap_table.specs.contracts.entries.Kept as what;
+    ghost use Rattle.portmap_table.specs.Places.{AreNamed, Entry};
+
+    ghost Value = { List Entry };
+
+    ghost coded = { coded_list (coded× (coded_list coded_ℕ) what.the_row.coded) };
+
+    ghost view = { λ e. e.kept.entries };
+
+    ghost invariant = { λ e. AreNamed e.kept.entries };
+}
+
+impl Entries {
+    /// No name. It takes no memory.
+    pub(crate) fn new(alloc: Global) -> Entries
+        ensures { result ≡ [] }
+    {
+        Entries {
+            kept: IndexMap::new(alloc),
+        }
+    }
+
+    /// How many names there are.
+    pub(crate) fn len(&self) -> usize
+        ensures len { result ≡ length self.now }
+        ensures small { result < 2 ^ 63 }
+    {
+        self.kept.len()
+    }
+
+    /// The place of a name.
+    pub(crate) fn place(&self, name: &Name) -> Option<usize>
+        ensures found { IfSome result (λ place. StandsAs name.now self.now place) }
+        ensures within { IfSome result (λ place. place < length self.now) }
+        ensures only { (place : ℕ) (kept : Kept) → slice_get self.now place ≡ Some (name.now, kept) → result ≡ Some place }
+    {
+        self.kept.get_index_of(name)
+    }
+
+    /// What is kept of the name at this place.
+    pub(crate) fn at(&self, place: usize) -> Option<(&Name, &Kept)>
+        ensures { option_map (λ e. (e.0.now, e.1.now)) result ≡ slice_get self.now place }
+    {
+        self.kept.get_index(place)
+    }
+
+    /// The row of the active name at this place.
+    pub(crate) fn row(&self, place: usize) -> Option<&Row>
+        ensures { option_copied result ≡ active_in (slice_get self.now place) }
+    {
+        match self.at(place)? {
+            (_, Kept::Active(row)) => Some(row),
+            (_, Kept::Retired { .. }) => None,
+        }
+    }
+
+    /// What is remembered of the retired name at this place.
+    pub(crate) fn retired(&self, place: usize) -> Option<Retired<'_>>
+        ensures { option_map retired_name result ≡ retired_in (slice_get self.now place) }
+    {
+        match self.at(place)? {
+            (_, Kept::Active(_)) => None,
+            (name, Kept::Retired { port, creation }) => Some(Retired {
+                name,
+                port: *port,
+                creation: *creation,
+            }),
+        }
+    }
+
+    /// A new name gets a place behind all others.
+    pub(crate) fn push(&mut self, row: Row) -> Result<(), NoMemory>
+        requires { IsNew row.reg.name self.old }
+        ensures ok { OnOk result (self.new ≡ self.old ++ active_entry row ∷ []) }
+        ensures err { OnErr result (self.new ≡ self.old) }
+    {
+        let name = row.reg.name.try_copy(*self.kept.allocator())?;
+        match self.kept.insert(name, Kept::Active(row)) {
+            Ok(_) => Ok(()),
+            Err(_) => Err(NoMemory),
+        }
+    }
+
+    /// A new name gets the place of another one, which is forgotten. Memory is asked for first.
+    pub(crate) fn replace(&mut self, place: usize, row: Row) -> Result<(), NoMemory>
+        requires place { place < length self.old }
+        requires name { IsNew row.reg.name self.old }
+        ensures ok { OnOk result (Puts self.old self.new place (active_entry row)) }
+        ensures len { OnOk result (length self.new ≡ length self.old) }
+        ensures err { OnErr result (self.new ≡ self.old) }
+    {
+        self.push(row)?;
+        self.kept.swap_remove_index(place);
+        Ok(())
+    }
+
+    /// The retired name at this place is active again. It takes no memory.
+    pub(crate) fn activate(&mut self, place: usize, row: Row)
+        requires { StandsAs row.reg.name self.old place }
+        ensures puts { Puts self.old self.new place (active_entry row) }
+        ensures len { length self.new ≡ length self.old }
+    {
+        self.kept[place] = Kept::Active(row);
+    }
+
+    /// The active name at this place is so no more. It takes no memory.
+    pub(crate) fn retire(&mut self, place: usize)
+        requires { IsActiveAt self.old place }
+        ensures puts { (row : Row) → slice_get self.old place ≡ Some (active_entry row) → Puts self.old self.new place (retired_entry (old_name row)) }
+        ensures len { length self.new ≡ length self.old }
+    {
+        let Kept::Active(row) = &self.kept[place] else {
+            unreachable!()
+        };
+        self.kept[place] = Kept::Retired {
+            port: row.reg.port,
+            creation: row.creation,
+        };
+    }
+}
