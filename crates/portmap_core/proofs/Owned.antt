@@ -10,10 +10,10 @@ use Rattle.portmap_wire.specs.Node.{Node}
 use Rattle.portmap_wire.specs.declared.request.Request.{Request}
 use Rattle.portmap_wire.specs.declared.request.Request.TheVariants.{Alive, Port, Dump, Kill, Stop}
 use Rattle.portmap_wire.specs.declared.request.Request.TheVariants as request
-use Rattle.portmap_table.specs.Rows.{AreKept, owns_name, is_active, is_full_for, owner_of, registered, retired_of}
+use Rattle.portmap_table.specs.Rows.{AreKept, owns_name, is_active, is_full_for, owner_of, registered, retired_of, with_room}
 use Rattle.portmap_table.specs.Rows as rows
 use Rattle.portmap_table.proofs.Kept.{kept_empty, kept_registers, kept_retired}
-use Rattle.portmap_table.proofs.Owners.{owns_registered, owns_registered_other, owns_retired, owns_retired_other}
+use Rattle.portmap_table.proofs.Owners.{owns_in_room, owns_registered, owns_registered_other, owns_retired, owns_retired_other}
 use Rattle.portmap_core.specs.declared.connection.Connection.{Connection}
 use Rattle.portmap_core.specs.declared.connection.Stage.{Stage}
 use Rattle.portmap_core.specs.declared.connection.Stage.TheVariants.{Waiting, Holding, Done}
@@ -123,11 +123,11 @@ module _ (cfg : Configuration) (s : State) (slot : ℕ) (connection : Connection
   closed_owned = stays_owned Done s.halted refl
 
   register_owned : (g : Node) (creation : ℕ) → connection.local ≡ true → is_active g.name s.names ≡ false → is_full_for cfg.known_max g.name s.names ≡ false → MayTake s.names (Alive g) creation
-      → IsOwned cfg (settled s slot connection (registers s.names slot g creation))
-  register_owned g creation local inactive room legal = record {
-    names = kept_registers cfg.known_max creation slot s.names g owned.names inactive room free legal;
+      → IsOwned cfg (settled s slot connection (registers cfg.known_max s.names slot g creation))
+  register_owned g creation local inactive fits legal = let room = with_room cfg.known_max g.name s.names in record {
+    names = kept_registers cfg.known_max creation slot s.names g owned.names inactive fits free legal;
     few = rw (len_open s.connections slot (at_stage connection Holding) connection here) owned.few;
-    slots = slots_with s.names (registered g creation slot s.names) s.connections slot (at_stage connection Holding) (λ q other. owns_registered_other q g creation slot s.names other) owned.slots (owns_registered g creation slot s.names, local);
+    slots = slots_with s.names (registered g creation slot room) s.connections slot (at_stage connection Holding) (λ q other. owns_registered_other q g creation slot room other ∙ owns_in_room cfg.known_max g.name q s.names) owned.slots (owns_registered g creation slot room, local);
   }
 
   stop_owned : (o : Option ℕ) → IsOwned cfg (settled s slot connection (stops s.names o))

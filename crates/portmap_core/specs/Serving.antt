@@ -93,15 +93,16 @@ stop_served cfg names name = if not cfg.relaxed then closed names else stops nam
 
 -- ---- ALIVE2
 
--- the name becomes active, and the connection holds it
-abbrev pub registers : rows.Names → ℕ → Node → ℕ → Served
-registers names slot g creation = record { reply = alive_reply g.high 0 creation; fate = Stay; stage = Holding; names = rows.registered g creation slot names; stopped = None }
+-- the name becomes active, and the connection holds it; where as many names are known as may be, the one retired longest is forgotten for a new one
+abbrev pub registers : ℕ → rows.Names → ℕ → Node → ℕ → Served
+registers known_max names slot g creation =
+    record { reply = alive_reply g.high 0 creation; fate = Stay; stage = Holding; names = rows.registered g creation slot (rows.with_room known_max g.name names); stopped = None }
 
 abbrev pub alive_served : Configuration → rows.Names → ℕ → Node → ℕ → Served
 alive_served cfg names slot g creation =
     if rows.is_active g.name names then replied names (alive_reply g.high 1 0)
     else if rows.is_full_for cfg.known_max g.name names then replied names (alive_reply g.high 2 0)
-    else registers names slot g creation
+    else registers cfg.known_max names slot g creation
 
 -- ---- every request
 

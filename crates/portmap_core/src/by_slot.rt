@@ -3,6 +3,7 @@ ghost use Rattle.std.specs.Prelude.{◌≡◌, ◌↔◌, Some, IfOk, IsSome, Is
 ghost use Rattle.std.specs.Option.{option_copied};
 ghost use Rattle.std.specs.FinMap as map;
 ghost use Rattle.portmap_core.specs.declared.connection.Connection.{Connection};
+ghost use Rattle.portmap_core.specs.declared.connection.Stage.TheVariants.{Done};
 ghost use Rattle.portmap_core.specs.Connections.{IsHolding, at_stage, ended, stopped_in};
 
 use crate::connection::{Connection, Stage};
@@ -85,31 +86,34 @@ impl BySlot {
         }
     }
 
-    /// Whether the connection in an open slot comes from this host.
-    pub(crate) fn is_local(&self, slot: u64) -> bool
-        requires { IsSome (map.get self.now slot) }
-        ensures { (connection : Connection) → map.get self.now slot ≡ Some connection → result ≡ connection.local }
-    {
-        match self.get(slot) {
-            Some(connection) => connection.local,
-            None => unreachable!(),
-        }
-    }
-
-    /// Puts another stage at an open slot, and gives the one that was there. It takes no memory.
-    pub(crate) fn swap_stage(&mut self, slot: u64, stage: Stage) -> Stage
+    /// Takes the stage from an open slot, with whether its connection comes from this host. The connection is done, until
+    /// another stage is put there. It takes no memory.
+    pub(crate) fn take(&mut self, slot: u64) -> Connection
         requires { IsSome (map.get self.old slot) }
-        ensures was { (connection : Connection) → map.get self.old slot ≡ Some connection → result ≡ connection.stage }
-        ensures now { (connection : Connection) → map.get self.old slot ≡ Some connection → self.new ≡ map.insert self.old slot (record { local = connection.local; stage = stage }) }
+        ensures was { map.get self.old slot ≡ Some result }
+        ensures done { self.new ≡ map.insert self.old slot (at_stage result Done) }
     {
-        let local = self.is_local(slot);
-        match self.open.insert(slot, Connection { local, stage }) {
-            Ok(Some(connection)) => connection.stage,
-            Ok(None) | Err(_) => unreachable!(),
+        let Some(connection) = self.open.get_mut(&slot) else {
+            unreachable!()
+        };
+        Connection {
+            local: connection.local,
+            stage: std::mem::replace(&mut connection.stage, Stage::Done),
         }
     }
 
-    fn stop(&mut self, stopped: Option<u64>)
+    /// Puts another stage at a slot, where it is open. It takes no memory.
+    pub(crate) fn put(&mut self, slot: u64, stage: Stage)
+        ensures open { (connection : Connection) → map.get self.old slot ≡ Some connection → self.new ≡ map.insert self.old slot (at_stage connection stage) }
+        ensures free { map.get self.old slot ≡ None → self.new ≡ self.old }
+    {
+        if let Some(connection) = self.open.get_mut(&slot) {
+            connection.stage = stage;
+        }
+    }
+
+    /// The connection in this slot, where there is one, is done. It takes no memory.
+    pub(crate) fn stop(&mut self, stopped: Option<u64>)
         ensures { self.new ≡ stopped_in stopped self.old }
     {
         match stopped {
@@ -121,19 +125,7 @@ impl BySlot {
     fn end(&mut self, slot: u64)
         ensures { self.new ≡ ended slot self.old }
     {
-        if self.get(slot).is_some() {
-            self.swap_stage(slot, Stage::Done);
-        }
-    }
-
-    /// Puts the next stage at a waiting connection's slot, and ends the connection whose name was stopped. It takes no
-    /// memory.
-    pub(crate) fn settle(&mut self, slot: u64, stopped: Option<u64>, stage: Stage)
-        requires { IsSome (map.get self.old slot) }
-        ensures { (connection : Connection) → map.get self.old slot ≡ Some connection → self.new ≡ map.insert (stopped_in stopped self.old) slot (at_stage connection stage) }
-    {
-        self.stop(stopped);
-        self.swap_stage(slot, stage);
+        self.put(slot, Stage::Done);
     }
 
     /// A second one.

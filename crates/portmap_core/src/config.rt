@@ -23,7 +23,7 @@ pub enum ConfigFault {
 }
 
 /// What a port mapper is set to. Both limits are 1 to 65,535.
-#[derive(Clone, Copy, Debug)]
+#[derive(Clone, Copy, Debug, PartialEq, Eq)]
 pub struct Config {
     /// The port that the port mapper tells of itself.
     pub port: u16,

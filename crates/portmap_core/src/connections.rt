@@ -1,9 +1,10 @@
 //! The open connections.
 ghost use Rattle.std.specs.Prelude.{◌≡◌, Some, None, IfOk, OnErr, IsSome};
 ghost use Rattle.std.specs.Option.{option_copied};
-ghost use Rattle.portmap_core.specs.Connections.{ended, stopped_in};
+ghost use Rattle.portmap_core.specs.Connections.{at_stage, ended, stopped_in};
 ghost use Rattle.std.specs.FinMap as map;
 ghost use Rattle.portmap_core.specs.declared.connection.Connection.{Connection};
+ghost use Rattle.portmap_core.specs.declared.connection.Stage.TheVariants.{Done};
 
 use crate::connection::{Connection, Stage};
 use portmap_wire::NoMemory;
@@ -62,17 +63,6 @@ impl Connections {
         self.open.get(slot as usize)
     }
 
-    /// Whether the connection in an open slot comes from this host.
-    pub(crate) fn is_local(&self, slot: u64) -> bool
-        requires { IsSome (map.get self.now slot) }
-        ensures { (connection : Connection) → map.get self.now slot ≡ Some connection → result ≡ connection.local }
-    {
-        match self.get(slot) {
-            Some(connection) => connection.local,
-            None => unreachable!(),
-        }
-    }
-
     /// Opens a connection in a free slot, the one that was freed last where there is one.
     pub(crate) fn add(&mut self, connection: Connection) -> Result<u64, NoMemory>
         ensures fresh { IfOk result (λ slot. map.get self.old slot ≡ None) }
@@ -102,17 +92,30 @@ impl Connections {
     fn end(&mut self, slot: u64)
         ensures { self.new ≡ ended slot self.old }
     {
-        if self.get(slot).is_some() {
-            self.swap_stage(slot, Stage::Done);
+        self.put(slot, Stage::Done);
+    }
+
+    /// Takes the stage from an open slot, with whether its connection comes from this host. The connection is done, until
+    /// another stage is put there.
+    pub(crate) fn take(&mut self, slot: u64) -> Connection
+        requires { IsSome (map.get self.old slot) }
+        ensures was { map.get self.old slot ≡ Some result }
+        ensures done { self.new ≡ map.insert self.old slot (at_stage result Done) }
+    {
+        let connection = &mut self.open[slot as usize];
+        Connection {
+            local: connection.local,
+            stage: std::mem::replace(&mut connection.stage, Stage::Done),
         }
     }
 
-    /// Puts another stage at an open slot, and gives the one that was there.
-    pub(crate) fn swap_stage(&mut self, slot: u64, stage: Stage) -> Stage
-        requires { IsSome (map.get self.old slot) }
-        ensures was { (connection : Connection) → map.get self.old slot ≡ Some connection → result ≡ connection.stage }
-        ensures now { (connection : Connection) → map.get self.old slot ≡ Some connection → self.new ≡ map.insert self.old slot (record { local = connection.local; stage = stage }) }
+    /// Puts another stage at a slot, where it is open.
+    pub(crate) fn put(&mut self, slot: u64, stage: Stage)
+        ensures open { (connection : Connection) → map.get self.old slot ≡ Some connection → self.new ≡ map.insert self.old slot (at_stage connection stage) }
+        ensures free { map.get self.old slot ≡ None → self.new ≡ self.old }
     {
-        std::mem::replace(&mut self.open[slot as usize].stage, stage)
+        if let Some(connection) = self.open.get_mut(slot as usize) {
+            connection.stage = stage;
+        }
     }
 }

@@ -1,9 +1,9 @@
 //! The table of names, with the list that was made of it last.
-ghost use Rattle.std.specs.Prelude.{◌≡◌, false, map as list_map, IfOk, OnErr, IsOk, Err};
+ghost use Rattle.std.specs.Prelude.{◌≡◌, false, map as list_map, Ok, IfOk, OnOk, OnErr};
 ghost use Rattle.portmap_wire.specs.List.{names_reply};
 ghost use Rattle.portmap_table.specs.Creation.{IsLegalCreation};
-ghost use Rattle.portmap_table.specs.Rows.{AreKept, owns_name, remembered, retired_of};
-ghost use Rattle.portmap_table.specs.Table.{GivesOffer, new_table, offered, with_names, with_registration};
+ghost use Rattle.portmap_table.specs.Rows.{owns_name, remembered, retired_of};
+ghost use Rattle.portmap_table.specs.Table.{new_table, offered, with_names, with_registration};
 ghost use Rattle.portmap_core.specs.Serving.{names_line_of};
 
 use crate::serve::names_text;
@@ -37,8 +37,7 @@ impl Model for Directory {
 impl Directory {
     /// A table with no names, that will know at most so many, and of which no list was made yet.
     pub(crate) fn new(alloc: Global, known_max: u32, first: u32) -> Result<Directory, NoMemory>
-        ensures empty { IfOk result (λ d. d ≡ new_table known_max first) }
-        ensures kept { IfOk result (λ d. AreKept d.known_max d.names) }
+        ensures { IfOk result (λ d. d ≡ new_table known_max first) }
     {
         let table = Table::new(alloc, known_max, first)?;
         Ok(Directory { table, list: None })
@@ -59,32 +58,26 @@ impl Directory {
         self.table.offer(name, high)
     }
 
-    /// Registers a name for the connection in this slot, and returns its creation.
-    pub(crate) fn register(&mut self, reg: Reg, slot: u64) -> Result<u32, RegFault>
-        requires { owns_name slot self.old.names ≡ false }
-        ensures gives { GivesOffer result (offered self.old reg.name reg.high) }
-        ensures ok { IfOk result (λ c. self.new ≡ with_registration self.old reg slot c) }
+    /// Registers a name for the connection in this slot, with the creation that it is offered.
+    pub(crate) fn admit(&mut self, reg: Reg, creation: u32, slot: u64) -> Result<(), NoMemory>
+        requires offered { offered self.old reg.name reg.high ≡ Ok creation }
+        requires legal { IsLegalCreation reg.high (remembered reg.name self.old.names) creation }
+        requires slot { owns_name slot self.old.names ≡ false }
+        ensures ok { OnOk result (self.new ≡ with_registration self.old reg slot creation) }
         ensures err { OnErr result (self.new ≡ self.old) }
-        ensures legal { IfOk result (λ c. IsLegalCreation reg.high (remembered reg.name self.old.names) c) }
-        ensures memory { result ≡ Err RegFault.NoMemory → IsOk (offered self.old reg.name reg.high) }
-        ensures kept { AreKept self.new.known_max self.new.names }
     {
-        let creation = self.table.register(reg, slot)?;
+        self.table.admit(reg, creation, slot)?;
         self.list = None;
-        Ok(creation)
+        Ok(())
     }
 
-    /// Retires the name that a slot owns, and says whether it owned one. It takes no memory.
-    pub(crate) fn retire(&mut self, slot: u64) -> bool
-        ensures found { result ≡ owns_name slot self.old.names }
-        ensures retired { self.new ≡ with_names self.old (retired_of slot self.old.names) }
-        ensures kept { AreKept self.new.known_max self.new.names }
+    /// Retires the name that a slot owns, where it owns one. It takes no memory.
+    pub(crate) fn retire(&mut self, slot: u64)
+        ensures { self.new ≡ with_names self.old (retired_of slot self.old.names) }
     {
-        let is_retired = self.table.retire(slot);
-        if is_retired {
+        if self.table.retire(slot) {
             self.list = None;
         }
-        is_retired
     }
 
     /// The answer to NAMES_REQ of a port mapper on this port.

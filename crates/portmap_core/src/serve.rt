@@ -1,21 +1,23 @@
 //! What a waiting connection is told, and what becomes of the names, as functions over their parts.
-ghost use Rattle.std.specs.Prelude.{◌≡◌, ℕ, ◌<◌, ◌^◌, ◌++◌, false, None, IfOk, IfErr, OnOk, OnErr, map as list_map};
+ghost use Rattle.std.specs.Prelude.{◌≡◌, ℕ, ◌++◌, true, false, None, IfOk, IfErr, OnOk, OnErr, map as list_map};
 ghost use Rattle.std.specs.List.{flat_map};
 ghost use Rattle.portmap_feed.specs.Stream.{first_request};
-ghost use Rattle.portmap_wire.specs.declared.reply_writing.TheConstants.{WIDE_VERSION};
 ghost use Rattle.portmap_wire.specs.List.{names_reply, dump_line, dump_reply};
-ghost use Rattle.portmap_table.specs.Rows.{owns_name};
+ghost use Rattle.portmap_wire.specs.declared.request.Request.TheVariants.{Alive};
+ghost use Rattle.portmap_table.specs.Creation.{IsCreationFor};
+ghost use Rattle.portmap_table.specs.Rows.{Names, owns_name};
+ghost use Rattle.portmap_core.specs.Config.{Configuration};
 ghost use Rattle.portmap_core.specs.declared.connection.Stage.TheVariants.{Done};
 ghost use Rattle.portmap_core.specs.declared.event.Fate.TheVariants.{Close};
-ghost use Rattle.portmap_core.specs.Serving.{MayTake, Serves, ServesBody, ToldAt, active_line, alive_served, dump_lines, dump_served, kill_served, names_line_of, names_served, port_served, retired_line, served, stop_served};
-ghost use Rattle.portmap_core.specs.Next.{CreationFits, IsOffered, Tells, changed, offered_creation, served_with};
+ghost use Rattle.portmap_core.specs.Serving.{Serves, ServesBody, ToldAt, active_line, dump_lines, dump_served, kill_served, names_line_of, names_served, port_served, retired_line, served, stop_served};
+ghost use Rattle.portmap_core.specs.Next.{RegistersNone, Tells, alive_told, served_with};
 
 use crate::config::Config;
 use crate::connection::Stage;
 use crate::directory::Directory;
 use crate::event::Fate;
 use portmap_feed::{Feed, Seen};
-use portmap_table::Known;
+use portmap_table::{Known, RegFault};
 use portmap_wire::{
     DUMP_LINE_REST, ListReply, Malformed, NAMES_LINE_REST, Name, NoMemory, Reg, Request,
     read_request, write_alive, write_port2,
@@ -175,43 +177,38 @@ fn stop<N: Known>(alloc: Global, config: &Config, names: &N, name: &Name) -> Res
     })
 }
 
-/// ALIVE2_REQ of a local peer, with this creation where the name registers.
-fn alive<N: Known>(
+/// ALIVE2_REQ of a local peer, by what its name is offered.
+pub(crate) fn alive(
     alloc: Global,
-    config: &Config,
-    names: &N,
     reg: &Reg,
-    creation: u32,
+    offer: Result<u32, RegFault>,
 ) -> Result<Next, NoMemory>
-    requires { reg.now.high < WIDE_VERSION → creation < 2 ^ 16 }
-    ensures { IfOk result (λ next. (slot : ℕ) → Tells next (alive_served config.now (N.names names.now) slot reg.now creation)) }
+    requires { IfOk offer (λ creation. IsCreationFor reg.now.high creation) }
+    ensures { IfOk result (λ next. (known_max : ℕ) (names : Names) (slot : ℕ) → Tells next (alive_told known_max names slot reg.now offer)) }
 {
-    if names.is_active(&reg.name) {
-        return Ok(replied(write_alive(alloc, reg.high, 1, 0)?));
+    match offer {
+        Ok(creation) => Ok(Next {
+            stage: Stage::Holding,
+            reply: write_alive(alloc, reg.high, 0, creation)?,
+            fate: Fate::Stay,
+            stopped: None,
+        }),
+        Err(RegFault::Taken) => Ok(replied(write_alive(alloc, reg.high, 1, 0)?)),
+        Err(RegFault::NoRoom) => Ok(replied(write_alive(alloc, reg.high, 2, 0)?)),
+        Err(RegFault::NoMemory) => Err(NoMemory),
     }
-    if names.is_full_for(config.known_max, &reg.name) {
-        return Ok(replied(write_alive(alloc, reg.high, 2, 0)?));
-    }
-    Ok(Next {
-        stage: Stage::Holding,
-        reply: write_alive(alloc, reg.high, 0, creation)?,
-        fate: Fate::Stay,
-        stopped: None,
-    })
 }
 
-/// What a request is told, with this creation where a name registers. Nothing is changed yet, so that for want of memory
-/// nothing is.
+/// What any other request is told. Nothing is changed yet, so that for want of memory nothing is.
 pub(crate) fn told<N: Known>(
     alloc: Global,
     config: &Config,
     names: &N,
     local: bool,
     request: &Request,
-    creation: u32,
 ) -> Result<Next, NoMemory>
-    requires { CreationFits request.now creation }
-    ensures { IfOk result (λ next. (slot : ℕ) → Tells next (served config.now (N.names names.now) local slot request.now creation)) }
+    requires { RegistersNone local request.now }
+    ensures { IfOk result (λ next. (slot creation : ℕ) → Tells next (served config.now (N.names names.now) local slot request.now creation)) }
 {
     match request {
         Request::Names => list(alloc, config, names),
@@ -219,7 +216,6 @@ pub(crate) fn told<N: Known>(
         Request::Dump if local => dump(alloc, config, names),
         Request::Kill if local => kill(alloc, config, names),
         Request::Stop(name) if local => stop(alloc, config, names, name),
-        Request::Alive(reg) if local => alive(alloc, config, names, reg, creation),
         Request::Dump | Request::Kill | Request::Stop(_) | Request::Alive(_) => {
             Ok(replied(Vec::new(alloc)))
         }
@@ -233,72 +229,68 @@ fn told_by(
     table: &mut Directory,
     local: bool,
     request: &Request,
-    creation: u32,
 ) -> Result<Next, NoMemory>
-    requires { CreationFits request.now creation }
-    ensures ok { IfOk result (λ next. (slot : ℕ) → Tells next (served config.now table.old.names local slot request.now creation)) }
+    requires { RegistersNone local request.now }
+    ensures ok { IfOk result (λ next. (slot creation : ℕ) → Tells next (served config.now table.old.names local slot request.now creation)) }
     ensures same { table.new ≡ table.old }
 {
     match request {
         Request::Names => Ok(replied(table.names_reply(alloc, config.port)?)),
         Request::Port(_) | Request::Dump | Request::Kill | Request::Stop(_) | Request::Alive(_) =>
-            told(alloc, config, table.names(), local, request, creation),
+            told(alloc, config, table.names(), local, request),
     }
 }
 
-/// The creation that the table offers for a request, or 0 where it offers none.
-fn creation_for(table: &Directory, request: &Request) -> u32
-    ensures exact { result ≡ offered_creation table.now request.now }
-    ensures fits { CreationFits request.now result }
-    ensures legal { IsOffered table.now request.now → MayTake table.now.names request.now result }
+/// What is told, with its reply once more. The copy is made before anything is changed, so that for want of memory nothing is.
+fn with_copy(next: Next) -> Result<(Next, Vec<u8>), NoMemory>
+    ensures same { IfOk result (λ r. r.0 ≡ next) }
+    ensures again { IfOk result (λ r. r.1.items ≡ r.0.reply.items) }
 {
-    match request {
-        Request::Alive(reg) => table.offer(&reg.name, reg.high).unwrap_or(0),
-        Request::Port(_) | Request::Names | Request::Dump | Request::Kill | Request::Stop(_) => 0,
-    }
+    let again = next.reply.clone()?;
+    Ok((next, again))
 }
 
-/// What a request was told is put into the table.
-fn change(table: &mut Directory, slot: u64, request: Request, next: &Next) -> Result<(), NoMemory>
+/// What a registration of a local peer is told, with its reply once more. Its name registers, where it is free.
+fn register(
+    alloc: Global,
+    table: &mut Directory,
+    slot: u64,
+    reg: Reg,
+) -> Result<(Next, Vec<u8>), NoMemory>
     requires { owns_name slot table.old.names ≡ false }
-    ensures ok { OnOk result (table.new.names ≡ changed next.now.stage next.now.stopped slot request (offered_creation table.old request) table.old.names) }
+    ensures ok { IfOk result (λ r. (cfg : Configuration) → table.old.known_max ≡ cfg.known_max → Serves cfg table.old.names true slot (Alive reg) (served_with r.0 table.new.names)) }
+    ensures again { IfOk result (λ r. r.1.items ≡ r.0.reply.items) }
     ensures limit { table.new.known_max ≡ table.old.known_max }
     ensures err { OnErr result (table.new ≡ table.old) }
 {
-    if let (Request::Alive(reg), Stage::Holding) = (request, &next.stage) {
-        return match table.register(reg, slot) {
-            Ok(_) => Ok(()),
-            Err(_) => Err(NoMemory),
-        };
-    }
-    if let Some(owner) = next.stopped {
-        table.retire(owner);
-    }
-    Ok(())
+    let offer = table.offer(&reg.name, reg.high);
+    let told = with_copy(alive(alloc, &reg, offer)?)?;
+    let Ok(creation) = offer else {
+        return Ok(told);
+    };
+    table.admit(reg, creation, slot)?;
+    Ok(told)
 }
 
-/// What a request is told, with its reply once more, and what becomes of the names.
+/// What any other request is told, with its reply once more, and what becomes of the names.
 fn answer(
     alloc: Global,
     config: &Config,
     table: &mut Directory,
     local: bool,
-    slot: u64,
-    request: Request,
+    request: &Request,
 ) -> Result<(Next, Vec<u8>), NoMemory>
-    requires free { owns_name slot table.old.names ≡ false }
-    requires limit { table.old.known_max ≡ config.now.known_max }
-    ensures ok { IfOk result (λ r. Serves config.now table.old.names local slot request (served_with r.0 table.new.names)) }
+    requires { RegistersNone local request.now }
+    ensures ok { IfOk result (λ r. (slot : ℕ) → Serves config.now table.old.names local slot request.now (served_with r.0 table.new.names)) }
     ensures again { IfOk result (λ r. r.1.items ≡ r.0.reply.items) }
     ensures limit { table.new.known_max ≡ table.old.known_max }
     ensures err { OnErr result (table.new ≡ table.old) }
 {
-    let creation = creation_for(table, &request);
-    let next = told_by(alloc, config, table, local, &request, creation)?;
-    // Before anything is changed, so that for want of memory nothing is.
-    let again = next.reply.clone()?;
-    change(table, slot, request, &next)?;
-    Ok((next, again))
+    let told = with_copy(told_by(alloc, config, table, local, request)?)?;
+    if let Some(owner) = told.0.stopped {
+        table.retire(owner);
+    }
+    Ok(told)
 }
 
 /// What a whole body is told, with the reply once more.
@@ -318,7 +310,8 @@ fn serve(
     ensures err { OnErr result (table.new ≡ table.old) }
 {
     match read_request(alloc, body) {
-        Ok(request) => answer(alloc, config, table, local, slot, request),
+        Ok(Request::Alive(reg)) if local => register(alloc, table, slot, reg),
+        Ok(request) => answer(alloc, config, table, local, &request),
         Err(Malformed::NoMemory) => Err(NoMemory),
         Err(
             Malformed::Short
