@@ -7,12 +7,12 @@ ghost use Rattle.portmap_client.specs.declared.exchange.TheConstants.{LATERS_MOS
 
 use crate::fault::GivenUp;
 use crate::outcome::{OK, STOPPED};
-use portmap_link::{Flush, Input, Output, Pull, send};
+use portmap_link::{Flush, Input, Limit, Output, Pull, send_all};
 use portmap_wire::{alive_missing, port2_missing};
 use std::alloc::Global;
 
 /// How many Laters end a call.
-const LATERS_MOST: u32 = 1000;
+const LATERS_MOST: u64 = 1000;
 
 /// How many bytes are pulled at once, at most.
 const PULL_MOST: usize = 4096;
@@ -54,7 +54,7 @@ fn missing(awaited: Awaited, read: &[u8]) -> usize
 }
 
 /// Writes the bytes, and says how many Laters were met.
-fn ask<S: Output>(stream: &mut S, bytes: &[u8]) -> Result<u32, GivenUp>
+fn ask<S: Output>(stream: &mut S, bytes: &[u8]) -> Result<u64, GivenUp>
     ensures writes { Writes bytes.now (S.held stream.old) (S.held stream.new) result }
     ensures memory { result ≢ Err GivenUp.NoMemory }
     ensures waited { Waited (laters (S.pulls stream.old) (S.puts stream.old)) (laters (S.pulls stream.new) (S.puts stream.new)) result }
@@ -62,19 +62,12 @@ fn ask<S: Output>(stream: &mut S, bytes: &[u8]) -> Result<u32, GivenUp>
     ensures left { Keeps (S.left stream.old) (S.left stream.new) }
     ensures pulls { S.pulls stream.new ≡ S.pulls stream.old }
 {
-    let mut sent = 0;
-    let mut laters = 0;
-    while laters < LATERS_MOST {
-        let (_, rest) = bytes.split_at(sent);
-        let (count, flush) = send(stream, rest);
-        sent += count;
-        match flush {
-            Flush::Empty => return Ok(laters),
-            Flush::Later => laters += 1,
-            Flush::Fault => return Err(GivenUp::Write),
-        }
+    let sent = send_all(stream, bytes, Limit::Laters(LATERS_MOST));
+    match sent.flush {
+        Flush::Empty => Ok(sent.laters),
+        Flush::Later => Err(GivenUp::TooManyTurns),
+        Flush::Fault => Err(GivenUp::Write),
     }
-    Err(GivenUp::TooManyTurns)
 }
 
 /// Reads the answer, or what there is of it up to the end. So many Laters were met before.
@@ -82,7 +75,7 @@ fn hear<S: Input>(
     alloc: Global,
     stream: &mut S,
     awaited: Awaited,
-    met: u32,
+    met: u64,
 ) -> Result<Vec<u8>, GivenUp>
     requires { met < LATERS_MOST }
     ensures heard { Answers awaited IsRead (S.left stream.old) (S.left stream.new) (S.pulls stream.old) (S.pulls stream.new) result }

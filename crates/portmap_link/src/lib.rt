@@ -4,10 +4,12 @@
 mod adapters;
 mod device;
 mod outbox;
+mod putting;
 mod single;
 
 pub use crate::adapters::{Both, Reading, Writing};
 pub use crate::device::{Device, Input, Output, Pull, Put};
 pub use crate::outbox::{Flush, Outbox, send};
+pub use crate::putting::{Limit, Sent, send_all};
 pub use crate::single::{OnceFault, numbers_are_the_profiles, once, tell};
 pub use portmap_core::{NoMemory, Past};

@@ -3,7 +3,7 @@ ghost use Rattle.std.specs.Prelude.{◌≡◌, ℕ, ◌+◌, ◌-◌, ◌≤◌,
 ghost use Rattle.std.specs.Io.KnownBytes.{Keeps, Appends};
 ghost use Rattle.portmap_link.specs.Flush.{flush_is_fault, Sends, Moves};
 
-use crate::{NoMemory, Output, Put};
+use crate::{Limit, NoMemory, Output, send_all};
 use std::alloc::Global;
 use std::marker::Model;
 
@@ -29,16 +29,8 @@ pub fn send<W: Output>(output: &mut W, bytes: &[u8]) -> (usize, Flush)
     ensures left { Keeps (W.left output.old) (W.left output.new) }
     ensures pulls { W.pulls output.new ≡ W.pulls output.old }
 {
-    let mut sent = 0;
-    while sent < bytes.len() {
-        let (_, rest) = bytes.split_at(sent);
-        match output.put(rest) {
-            Put::Wrote(n) => sent += n,
-            Put::Later => return (sent, Flush::Later),
-            Put::Fault => return (sent, Flush::Fault),
-        }
-    }
-    (sent, Flush::Empty)
+    let sent = send_all(output, bytes, Limit::Laters(1));
+    (sent.count, sent.flush)
 }
 
 /// Bytes in the order in which they are to be written, as clauses see it: those that wait.
