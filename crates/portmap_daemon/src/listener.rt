@@ -1,7 +1,7 @@
 //! A listening socket that several workers share.
 ghost use Rattle.std.specs.Prelude.{◌≡◌, ◌+◌, ◌-◌, ◌^◌, min, false, if◌then◌else◌};
 ghost use Rattle.portmap_daemon.specs.Listening.{lack_of};
-ghost use Rattle.portmap_daemon.specs.declared.listener.TheConstants.{AWAY};
+ghost use Rattle.portmap_daemon.specs.declared.listener.TheConstants.{BACKOFF};
 
 use crate::accepting::accept;
 use mio::net::{TcpListener, TcpStream};
@@ -12,7 +12,7 @@ use std::net::IpAddr;
 
 /// For so many milliseconds a worker leaves a listener alone at which nothing can be taken, as when the process has no
 /// descriptor left.
-const AWAY: u64 = 20;
+const BACKOFF: u64 = 20;
 
 /// How a worker stands to a listening socket.
 #[derive(Clone, Copy, Debug, PartialEq, Eq)]
@@ -115,7 +115,7 @@ impl Listener {
     }
 
     /// From when on it is to be watched, if it isn't yet.
-    pub(crate) fn away(&self) -> Option<u64> {
+    pub(crate) fn watch_from(&self) -> Option<u64> {
         match self.watch {
             Watch::From(time) => Some(time),
             Watch::Off | Watch::On => None,
@@ -140,7 +140,7 @@ impl Listener {
     fn give_up(&mut self, registry: &Registry, now: u64, kind: ErrorKind) -> Accepted
         ensures gone { lack_of kind ≡ Lack.Gone → (self.new ≡ self.old) × (result ≡ Accepted.Nothing) }
         ensures empty { lack_of kind ≡ Lack.Empty → (self.new.waiting ≡ false) × (self.new.watch ≡ self.old.watch) × (result ≡ if self.old.took then Accepted.Nothing else Accepted.InVain) }
-        ensures barred { lack_of kind ≡ Lack.Barred → (self.new.waiting ≡ false) × (self.new.watch ≡ Watch.From (min (now + AWAY) (2 ^ 64 - 1))) × (result ≡ Accepted.Nothing) }
+        ensures barred { lack_of kind ≡ Lack.Barred → (self.new.waiting ≡ false) × (self.new.watch ≡ Watch.From (min (now + BACKOFF) (2 ^ 64 - 1))) × (result ≡ Accepted.Nothing) }
     {
         match lack_of(kind) {
             Lack::Gone => Accepted::Nothing,
@@ -155,7 +155,7 @@ impl Listener {
             // What waits is not reported again, so the poll is to look anew after a while.
             Lack::Barred => {
                 self.leave(registry);
-                self.watch = Watch::From(now.saturating_add(AWAY));
+                self.watch = Watch::From(now.saturating_add(BACKOFF));
                 Accepted::Nothing
             }
         }
@@ -181,7 +181,7 @@ impl Listener {
 
     /// Watches it, where it is time.
     pub(crate) fn come_back(&mut self, registry: &Registry, now: u64) {
-        let Some(from) = self.away() else {
+        let Some(from) = self.watch_from() else {
             return;
         };
         if now < from {
@@ -194,7 +194,7 @@ impl Listener {
                 self.note_report();
                 Watch::On
             }
-            Err(_) => Watch::From(now.saturating_add(AWAY)),
+            Err(_) => Watch::From(now.saturating_add(BACKOFF)),
         };
     }
 }

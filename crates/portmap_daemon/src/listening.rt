@@ -48,8 +48,8 @@ impl Listening {
     pub(crate) fn until(&self, time: u64) -> u64 {
         let mut until = time;
         for listener in &self.listeners {
-            if let Some(away) = listener.away() {
-                until = until.min(away);
+            if let Some(from) = listener.watch_from() {
+                until = until.min(from);
             }
         }
         until

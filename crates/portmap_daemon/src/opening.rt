@@ -5,7 +5,7 @@ ghost use Rattle.portmap_daemon.specs.Running.{IsOfAddresses};
 use crate::crew::{Crew, Wakers};
 use crate::listener::Listener;
 use crate::listening::Listening;
-use crate::running::RunFault;
+use crate::running::{RunFault, Settings};
 use crate::sealing::Pause;
 use crate::sockets::{EVENTS_MOST, FIRST_LISTENER, Sockets, WAKE};
 use mio::net::TcpListener;
@@ -15,8 +15,29 @@ use std::net;
 use std::net::{Ipv4Addr, Net, SocketAddr};
 use std::rt::Clock;
 
+/// The sockets of the workers, what the threads tell each other, and the wait of the one that takes out the log.
+pub(crate) fn open<R: Net + Clock>(
+    rt: &R,
+    alloc: Global,
+    settings: &Settings,
+) -> Result<(Vec<Sockets>, Crew, Pause), RunFault>
+    ensures workers { IfOk result (λ opened. vec_len opened.1.served ≡ settings.now.workers) }
+    ensures fault { IfErr result (λ f. IsOfAddresses (vec_len settings.now.addresses) f) }
+{
+    let (sockets, workers) = open_sockets(
+        rt,
+        alloc,
+        settings.config.port,
+        &settings.addresses,
+        settings.timeout,
+        settings.workers,
+    )?;
+    let (crew, pause) = open_crew(rt, alloc, workers, settings.config.conn_max)?;
+    Ok((sockets, crew, pause))
+}
+
 /// The sockets of so many workers, which share what listens on each of the addresses, with what ends the wait of each.
-pub(crate) fn open_sockets<R: Net>(
+fn open_sockets<R: Net>(
     rt: &R,
     alloc: Global,
     port: u16,
@@ -74,7 +95,7 @@ fn open_all<R: Net>(
 
 /// What the threads of a daemon tell each other, whose workers have these wakers and which has so many places for connections, with
 /// the wait of the one that takes out the log.
-pub(crate) fn open_crew<R: Net + Clock>(
+fn open_crew<R: Net + Clock>(
     rt: &R,
     alloc: Global,
     workers: Vec<Waker>,

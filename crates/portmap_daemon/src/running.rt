@@ -5,7 +5,7 @@ ghost use Rattle.portmap_daemon.specs.Running.{IsOfAddresses};
 ghost use Rattle.portmap_daemon.specs.declared.running.TheConstants.{TIMEOUT_MOST};
 
 use crate::crew::Crew;
-use crate::opening::{open_crew, open_sockets};
+use crate::opening::open;
 use crate::recorder::Recorder;
 use crate::recording::{MakesFiles, start_recording};
 use crate::sealing::{Pause, Sealing};
@@ -26,7 +26,7 @@ use std::thread::Threads;
 use std::time::Duration;
 
 /// For so many seconds after its end a daemon waits for the last write of its recording.
-const PATIENCE: u64 = 5;
+const FLUSH_TIMEOUT: u64 = 5;
 
 /// The most seconds that a connection may move no byte before its request is whole.
 pub const TIMEOUT_MOST: u32 = 86_400;
@@ -121,27 +121,6 @@ pub fn run_gated<
     serve_open(rt, alloc, settings, book, sockets, &crew, pause, gate)
 }
 
-/// The sockets of the workers, what the threads tell each other, and the wait of the one that takes out the log.
-fn open<R: Net + Clock>(
-    rt: &R,
-    alloc: Global,
-    settings: &Settings,
-) -> Result<(Vec<Sockets>, Crew, Pause), RunFault>
-    ensures workers { IfOk result (λ opened. vec_len opened.1.served ≡ settings.now.workers) }
-    ensures fault { IfErr result (λ f. IsOfAddresses (vec_len settings.now.addresses) f) }
-{
-    let (sockets, workers) = open_sockets(
-        rt,
-        alloc,
-        settings.config.port,
-        &settings.addresses,
-        settings.timeout,
-        settings.workers,
-    )?;
-    let (crew, pause) = open_crew(rt, alloc, workers, settings.config.conn_max)?;
-    Ok((sockets, crew, pause))
-}
-
 /// Serves over sockets that are open, and has it recorded where that is asked for.
 fn serve_open<
     G: Gate + Sync,
@@ -178,7 +157,7 @@ fn serve_open<
         rt, alloc, config, book, sockets, crew, pause, recorder, gate,
     );
     spool.close(rt);
-    let is_written = is_recorded && spool.is_written(rt, Duration::from_secs(PATIENCE));
+    let is_written = is_recorded && spool.is_written(rt, Duration::from_secs(FLUSH_TIMEOUT));
     let (served, is_whole) = ended?;
     let recorded = if is_recorded {
         Some(is_whole && is_written)

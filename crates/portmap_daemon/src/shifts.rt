@@ -16,7 +16,7 @@ const REST: u64 = 10;
 /// A worker that has had no rest for so many microseconds,
 const LONG: u64 = 4000;
 
-/// nor in so many looks at its poll on end, counts the connections that wait.
+/// nor in so many looks at its poll on end, counts the connections that wait, if one behind it may be called.
 const LOOKS: u32 = 4;
 
 /// The shifts of a daemon. The first workers take connections, as many as there is work for: each that takes some is woken by
@@ -41,6 +41,12 @@ impl Shifts {
     /// Whether a worker takes connections.
     pub(crate) fn is_on(&self, worker: usize) -> bool {
         (worker as u64) < self.on.load(Ordering::SeqCst)
+    }
+
+    /// Whether one behind this worker may be called: it is the last that takes connections, and there is one.
+    pub(crate) fn may_call_behind(&self, worker: usize) -> bool {
+        let next = worker.saturating_add(1);
+        next < self.since.len() && self.on.load(Ordering::SeqCst) == next as u64
     }
 
     /// One behind this worker is to take connections too, if it is the last that does and there is one. Which one.

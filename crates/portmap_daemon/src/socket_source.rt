@@ -104,7 +104,7 @@ impl<'a, L: Ledger, R: Wait + Clock> SocketSource<'a, L, R> {
         if self.crew.ends() {
             return Some(Turn::Stop);
         }
-        if self.unrest.note_look(before, after) {
+        if self.unrest.note_look(before, after) && self.crew.shifts.may_call_behind(worker) {
             self.sockets.count_waiting();
         }
         if !self.sockets.pass(self.crew, after / 1000) {

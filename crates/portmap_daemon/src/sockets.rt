@@ -35,19 +35,19 @@ const MANY: u32 = 32;
 
 /// How many milliseconds pass between two looks at what no event tells: whether another worker has stopped a connection, and
 /// whose time is over.
-const WHILE: u64 = 450;
+const LOOK_INTERVAL: u64 = 450;
 
 /// How many pass at most where there is nothing to look at. What ends the wait then is a connection that comes, or another thread.
-const LONG: u64 = 10_000;
+const IDLE_TIMEOUT: u64 = 10_000;
 
 /// How many pass at most where others are waited for.
-const BRIEF: u64 = 1;
+const SHORT_TIMEOUT: u64 = 1;
 
 /// For so many milliseconds a local peer waits for a place.
 const GUEST_MOST: u64 = 200;
 
 /// Where none was found that may be given up for another one, so many pass until the next look for one.
-const BARREN: u64 = 10;
+const BACKOFF: u64 = 10;
 
 /// What has become of a worker's connections since it was last asked.
 #[derive(Clone, Copy, Debug, PartialEq, Eq)]
@@ -107,7 +107,7 @@ pub(crate) struct Sockets {
     /// The time of the last look.
     looked: u64,
     /// No link is looked for before this time that may be given up for another one.
-    barren: u64,
+    backoff: u64,
     /// How long a link may move no byte.
     timeout: u64,
     news: News,
@@ -144,9 +144,9 @@ impl Sockets {
             left: 0,
             turns: 0,
             now: 0,
-            look: WHILE,
+            look: LOOK_INTERVAL,
             looked: 0,
-            barren: 0,
+            backoff: 0,
             timeout,
             news: NO_NEWS,
         }
@@ -391,7 +391,7 @@ impl Sockets {
     /// The oldest connection that may be given up for another one: one of a remote peer, or, for a local one, of any if there is no
     /// such.
     fn oldest(&mut self, for_local: bool) -> Option<usize> {
-        if self.now < self.barren {
+        if self.now < self.backoff {
             return None;
         }
         let mut found: Option<(bool, u64, usize)> = None;
@@ -405,27 +405,27 @@ impl Sockets {
             }
         }
         if found.is_none() {
-            self.barren = self.now.saturating_add(BARREN);
+            self.backoff = self.now.saturating_add(BACKOFF);
         }
         found.map(|(_, _, key)| key)
     }
 
     /// How long the poll may wait, in milliseconds.
-    fn patience(&self, crew: &Crew) -> u64 {
+    fn poll_timeout(&self, crew: &Crew) -> u64 {
         let has_met = crew.sweeps.is_met_by(self.worker, self.sweep);
         if !has_met || !self.queue.is_empty() || self.listening.is_waiting() {
             return 0;
         }
         if self.guest.is_some() {
-            return BRIEF;
+            return SHORT_TIMEOUT;
         }
         let look = if self.links.is_empty() && self.news == NO_NEWS {
-            self.now.saturating_add(LONG)
+            self.now.saturating_add(IDLE_TIMEOUT)
         } else {
             self.look
         };
         let until = self.listening.until(self.parking.until(look));
-        until.saturating_sub(self.now).max(BRIEF)
+        until.saturating_sub(self.now).max(SHORT_TIMEOUT)
     }
 
     /// Asks the poll what is to be told, and waits for it where there is nothing else to do. False where the poll has failed.
@@ -439,7 +439,7 @@ impl Sockets {
             }
             self.sweep = crew.sweeps.last();
         }
-        if !self.ask(self.patience(crew)) {
+        if !self.ask(self.poll_timeout(crew)) {
             return false;
         }
         if begins {
@@ -451,9 +451,9 @@ impl Sockets {
     }
 
     /// Asks the poll, which may wait for so many milliseconds, and notes what it reports. False where it has failed.
-    fn ask(&mut self, patience: u64) -> bool {
-        let patience = Duration::from_millis(patience);
-        if self.poll.poll(&mut self.events, Some(patience)).is_err() {
+    fn ask(&mut self, timeout: u64) -> bool {
+        let timeout = Duration::from_millis(timeout);
+        if self.poll.poll(&mut self.events, Some(timeout)).is_err() {
             return false;
         }
         self.take_events();
@@ -483,7 +483,7 @@ impl Sockets {
     /// Looks at every link: whether its time is over, and whether the poll has refused to report it. The time was read before, and
     /// all that has happened up to it is noted first. False where the poll has failed.
     pub(crate) fn look_round(&mut self) -> bool {
-        self.look = self.now.saturating_add(WHILE);
+        self.look = self.now.saturating_add(LOOK_INTERVAL);
         if !self.ask_for_all() {
             return false;
         }
