@@ -8,7 +8,6 @@ use Rattle.portmap_daemon.specs.declared.running.RunFault.TheVariants.{Listen, P
 use Rattle.portmap_daemon.specs.declared.running.Settings.{Settings}
 use Rattle.portmap_core.specs.Config.{Configuration}
 use Rattle.epmd.specs.declared.actions.TheConstants as actions
-use Rattle.epmd.specs.declared.daemon.TheConstants as the
 use Rattle.epmd.specs.declared.words.Command.{Command}
 
 -- where creations start: at the seconds since 1970, as far as 32 bits hold them
@@ -37,6 +36,6 @@ status_of_recorded recorded = actions.DONE
 -- the status that tells the end
 abbrev pub status_of_end : Result RunEnd RunFault → ℕ
 status_of_end (Ok end) = status_of_recorded end.recorded
-status_of_end (Err (Listen place)) = the.NOT_SERVED
+status_of_end (Err (Listen place)) = actions.NOT_DONE
 status_of_end (Err Poll) = actions.FAILED
 status_of_end (Err NoMemory) = actions.FAILED

@@ -21,10 +21,8 @@ use std::io::{Read, Write};
 /// All went well.
 pub const DONE: u8 = 0;
 
-/// A recorded session is no run of the machine.
-pub const NO_RUN: u8 = 1;
-
-/// A port mapper that runs did not do what it was asked to, or can't be asked.
+/// It did not come to what was asked for: a recorded session is no run of the machine, a port mapper that runs did not do what it
+/// was asked to, or can't be asked, or the daemon can't listen.
 pub const NOT_DONE: u8 = 1;
 
 /// The words of the command are none that it knows, or a record is none.
@@ -226,7 +224,7 @@ pub fn do_once<R: Read, W: Write, E: Write>(
 fn status_of_verdict(is_run: bool) -> u8
     ensures { result ≡ status_of_verdict is_run }
 {
-    if is_run { DONE } else { NO_RUN }
+    if is_run { DONE } else { NOT_DONE }
 }
 
 /// Judges a recorded session and tells of it as the action asks.
@@ -258,7 +256,7 @@ fn do_shown<R: Read, W: Write, E: Write>(
     errors: &mut E,
 ) -> u8
     requires { IsToShow action.now }
-    ensures silent { (result ≡ DONE) ⊎ (result ≡ NO_RUN) → errors.new ≡ errors.old }
+    ensures silent { (result ≡ DONE) ⊎ (result ≡ NOT_DONE) → errors.new ≡ errors.old }
     ensures shown { (ended : Result Bool PlayFault)
         × (let seen = streams R.remaining W.contents in
         Plays (tells action.now) (seen input.old output.old) (seen input.new output.new) ended
@@ -281,8 +279,8 @@ fn end_found<W: Write, E: Write>(output: &mut Writing<W>, errors: &mut E, found:
     match found {
         Verdict::Run => end(output, errors, DONE),
         Verdict::Broken(at) => {
-            let status = end(output, errors, NO_RUN);
-            if status == NO_RUN {
+            let status = end(output, errors, NOT_DONE);
+            if status == NOT_DONE {
                 let _ = writeln!(errors, "broken at entry {at}");
             }
             status

@@ -1,6 +1,5 @@
 //! The actions of a client: what the port mapper that runs is asked, and how its answer is told.
-ghost use Rattle.std.specs.Prelude.{◌≡◌, ◌≢◌, ◌++◌, Result, Ok, IfOk, OnOk};
-ghost use Rattle.portmap_wire.specs.List.{names_line};
+ghost use Rattle.std.specs.Prelude.{◌≡◌, ◌≢◌, ◌++◌, Result, Ok, IfOk};
 ghost use Rattle.portmap_link.specs.Adapters.{writing_inner, writing_broken};
 ghost use Rattle.portmap_client.specs.Exchange.{view};
 ghost use Rattle.portmap_client.specs.declared.fault.ClientFault.{ClientFault};
@@ -14,7 +13,7 @@ use crate::words::Action;
 use itoa::Buffer;
 use portmap_client::{ClientFault, Kill, Stop, dump, kill, names, stop};
 use portmap_link::{Input, NoMemory, Output, Writing, tell};
-use portmap_wire::Line;
+use portmap_wire::{Line, put_names_line};
 use std::alloc::Global;
 use std::io::Write;
 
@@ -100,23 +99,13 @@ fn head_line(alloc: Global, port: u32) -> Result<Vec<u8>, NoMemory>
     Ok(text)
 }
 
-fn put_line(text: &mut Vec<u8>, line: &Line) -> Result<(), NoMemory>
-    ensures { OnOk result (text.new.items ≡ text.old.items ++ names_line line.now) }
-{
-    text.extend_from_slice(b"name ")?;
-    text.extend_from_slice(line.name.bytes())?;
-    text.extend_from_slice(b" at port ")?;
-    text.extend_from_slice(Buffer::new().format(line.port).as_bytes())?;
-    text.extend_from_slice(b"\n")
-}
-
 /// The text that tells of the registered names.
 fn names_text(alloc: Global, port: u32, lines: &[Line]) -> Result<Vec<u8>, NoMemory>
     ensures { IfOk result (λ v. v.items ≡ names_text port lines.now) }
 {
     let mut text = head_line(alloc, port)?;
     for line in lines {
-        put_line(&mut text, line)?;
+        put_names_line(&mut text, &line.name, line.port)?;
     }
     Ok(text)
 }

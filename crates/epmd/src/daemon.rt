@@ -2,7 +2,7 @@
 ghost use Rattle.std.specs.Prelude.{◌≡◌, false, IfOk};
 ghost use Rattle.epmd.specs.Daemon.{SetsAs, first_by, status_of_end};
 
-use crate::actions::{CONNECTIONS_MOST, DONE, Failure, NAMES_MOST, fail};
+use crate::actions::{CONNECTIONS_MOST, DONE, Failure, NAMES_MOST, NOT_DONE, fail};
 use crate::words::Command;
 use portmap_core::Config;
 use portmap_daemon::{RunEnd, RunFault, Settings};
@@ -11,9 +11,6 @@ use std::alloc::Global;
 use std::io::Write;
 use std::net::Ipv4Addr;
 use std::time::Duration;
-
-/// The daemon could not listen where it was to.
-pub const NOT_SERVED: u8 = 1;
 
 /// Where creations start, by the time since 1970: its seconds, so that a name which registers with the next daemon most likely gets
 /// another creation. 0 where the time is not known.
@@ -65,7 +62,7 @@ fn tell_unheard<E: Write>(errors: &mut E, command: &Command, place: usize) {
 }
 
 /// Tells how the daemon of this command has ended, and gives the status that does: `DONE` where the port mapper was told to end,
-/// `NOT_SERVED` where it can't listen, `FAILED` where readiness of sockets can't be had or memory ran out, or where it was told to
+/// `NOT_DONE` where it can't listen, `FAILED` where readiness of sockets can't be had or memory ran out, or where it was told to
 /// end and its recording failed. With debug output a daemon that was told to end first tells how many acts each worker made, by
 /// rising number from 1.
 pub fn end_daemon<E: Write>(
@@ -88,7 +85,7 @@ pub fn end_daemon<E: Write>(
         }
         Err(RunFault::Listen(place)) => {
             tell_unheard(errors, command, *place);
-            NOT_SERVED
+            NOT_DONE
         }
         Err(RunFault::Poll) => fail(errors, Failure::Polling),
         Err(RunFault::NoMemory) => fail(errors, Failure::Memory),

@@ -8,6 +8,8 @@ ghost use Rattle.epmd.specs.Values.{name_of, asks_action};
 use crate::addresses::read_listening;
 use crate::numbers::read_within;
 use crate::words::{Action, WordFault};
+use portmap_book::SEATS_MOST;
+use portmap_daemon::TIMEOUT_MOST;
 use portmap_link::NoMemory;
 use portmap_wire::{Name, NameFault};
 use std::alloc::Global;
@@ -99,8 +101,10 @@ fn with_value(alloc: Global, asks: Valued, value: &str) -> Result<Option<Word>, 
     let said = match asks {
         Valued::Port => read_within(text, 1, 65_535).map(|number| Word::Port(number as u16)),
         Valued::Address => read_listening(alloc, text)?.map(|addresses| Word::Addresses(addresses)),
-        Valued::Timeout => read_within(text, 1, 86_400).map(|seconds| Word::Timeout(seconds)),
-        Valued::Workers => read_within(text, 1, 64).map(|number| Word::Workers(number)),
+        Valued::Timeout => read_within(text, 1, TIMEOUT_MOST).map(|seconds| Word::Timeout(seconds)),
+        Valued::Workers => read_within(text, 1, SEATS_MOST as u32).map(|number| Word::Workers(
+            number,
+        )),
         Valued::Record => Some(Word::Recording(String::from_str(alloc, value)?)),
         Valued::Stop => read_name(alloc, value)?.map(|name| Word::Act(Action::Stop(name))),
         Valued::Check => Some(Word::Act(Action::Check(String::from_str(alloc, value)?))),

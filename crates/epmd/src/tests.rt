@@ -1,7 +1,7 @@
 //! What no clause says: that calls succeed where memory is ample, the bytes of worked examples of the protocol, printed
-//! texts, large values, devices and sockets that fail. The tests of every crate stand here, on top of all of them.
+//! texts, large values, devices and sockets that fail. The tests of every crate but those of the machine and of what it stands on,
+//! which stand in `portmap_book`, stand here, on top of all of them.
 mod actions;
-mod advance;
 mod broken_links;
 mod bytes;
 mod cases;
@@ -10,10 +10,8 @@ mod clocks;
 mod commands;
 mod daemon;
 mod desk;
-mod feed;
 mod gates;
 mod link;
-mod machine;
 mod nodes;
 mod pauses;
 mod places;
@@ -31,9 +29,7 @@ mod settings;
 mod sources;
 mod stream_links;
 mod streams;
-mod table;
 mod tape;
 mod transcript;
-mod wire;
 mod words;
 mod workers;

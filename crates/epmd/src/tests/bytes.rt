@@ -1,5 +1,7 @@
 //! Requests and replies, byte for byte as the protocol spells them. A request stands behind its length in two bytes. The
 //! port mapper has port 4369, which is 0x1111.
+//!
+//! No crate's tests reach those of another one, so this file stands in `portmap_book` too, word for word.
 
 pub type Bytes = &'static [u8];
 
@@ -44,7 +46,7 @@ pub const FOURTH: &[u8] = &[0x76, 0x00, 0x00, 0x00, 0x00, 0x04];
 
 pub const FIFTH: &[u8] = &[0x76, 0x00, 0x00, 0x00, 0x00, 0x05];
 
-/// It is refused: the name is active, or too many names are known.
+/// It is refused: the name is active, or too many names are active.
 pub const TAKEN: &[u8] = &[0x76, 0x01, 0x00, 0x00, 0x00, 0x00];
 
 pub const NO_ROOM: &[u8] = &[0x76, 0x02, 0x00, 0x00, 0x00, 0x00];

@@ -151,19 +151,19 @@ fn is_silent<R: Net<Stream = TcpStream> + Clock>(rt: &R, port: u16) -> Option<bo
     Some(is_closed && is_answered(rt, port, PORT_A, FOUND_A)?)
 }
 
-/// A registration of a name of 255 bytes, the first of which is this one.
+/// A registration of a name of 1,020 (0x03FC) bytes, the first of which is this one. Its body has 1,033 (0x0409).
 fn long_registration(alloc: Global, first: u8) -> Option<Vec<u8>> {
     let mut request = [
-        0x01, 0x0C, 0x78, 0x13, 0x88, 0x4D, 0x00, 0x00, 0x06, 0x00, 0x05, 0x00, 0xFF, first,
+        0x04, 0x09, 0x78, 0x13, 0x88, 0x4D, 0x00, 0x00, 0x06, 0x00, 0x05, 0x03, 0xFC, first,
     ]
     .to_vec(alloc)
     .ok()?;
-    request.resize(268, 0x6E).ok()?;
-    request.resize(270, 0).ok()?;
+    request.resize(1033, 0x6E).ok()?;
+    request.resize(1035, 0).ok()?;
     Some(request)
 }
 
-/// The connections of 64 nodes whose names are long: their list has more than 16,000 bytes.
+/// The connections of 64 nodes whose names are as long as may be: their list has more than 65,000 bytes.
 fn long_nodes<R: Net<Stream = TcpStream> + Clock>(
     rt: &R,
     alloc: Global,

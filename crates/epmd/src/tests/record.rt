@@ -425,6 +425,51 @@ fn a_record_is_a_run_or_broken_at_one_place(rt: HostRuntime) -> Result<(), Fail>
     all_hold(&rt, FOUND)
 }
 
+/// One name known at most: `a` registers and leaves, and `b` is told something on a new connection, with the last bytes of its
+/// entry: a fate and a reply behind its length.
+fn b_behind_a(alloc: Global, told: &[u8]) -> Result<Vec<u8>, Fail> {
+    let mut all = SESSION[..64].to_vec(alloc)?;
+    all[15] = 1;
+    all.extend_from_slice(&[3, 0, 0, 0, 0, 0, 0, 0, 0])?;
+    all.extend_from_slice(&[1, 1, 0, 0, 0, 0, 0, 0, 0, 0])?;
+    all.extend_from_slice(&[2, 0, 0, 0, 0, 0, 0, 0, 0])?;
+    all.extend_from_slice(&[
+        0, 0x10, 0, 0x0E, 0x78, 0x13, 0x88, 0x4D, 0, 0, 6, 0, 5, 0, 1, 0x62, 0, 0,
+    ])?;
+    all.extend_from_slice(told)?;
+    Ok(all)
+}
+
+/// What `b` is told, and what is found of that.
+struct Newcomer(&'static [u8], Result<(), CheckFault>);
+
+const NEWCOMERS: &[Newcomer] = &[
+    // It takes the place of `a`.
+    Newcomer(&[0, 0, 0, 0, 6, 0x76, 0, 0, 0, 0, 5], Ok(())),
+    // There is no room.
+    Newcomer(
+        &[1, 0, 0, 0, 6, 0x76, 2, 0, 0, 0, 0],
+        Err(CheckFault::Illegal(4)),
+    ),
+    // It gets no creation.
+    Newcomer(
+        &[0, 0, 0, 0, 6, 0x76, 0, 0, 0, 0, 0],
+        Err(CheckFault::Illegal(4)),
+    ),
+];
+
+impl Case for Newcomer {
+    fn holds(&self, alloc: Global) -> Result<bool, Fail> {
+        let session = read_record(alloc, &b_behind_a(alloc, self.0)?)?;
+        Ok(check(alloc, &session) == self.1)
+    }
+}
+
+#[test]
+fn a_retired_name_leaves_its_room_to_a_new_one(rt: HostRuntime) -> Result<(), Fail> {
+    all_hold(&rt, NEWCOMERS)
+}
+
 /// Whether these bytes are told apart: no record, a run, or none. Memory is ample.
 fn is_judged(alloc: Global, bytes: &[u8]) -> bool {
     match read_record(alloc, bytes) {

@@ -3,9 +3,8 @@
 //! has that one refused.
 mod book;
 mod client;
-mod machine;
+mod desk;
 mod record;
-mod table;
 
 use std::alloc::Global;
 

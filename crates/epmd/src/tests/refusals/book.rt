@@ -1,18 +1,48 @@
 //! Acts and seals of a book, and what is gathered of them.
 use super::{begin, end};
-use crate::tests::bytes::{A_LISTED, ALIVE_A, FOURTH, NAMES};
+use crate::tests::bytes::{A_LISTED, ALIVE_A, Bytes, FOURTH, NAMES};
 use crate::tests::cases::is_so;
 use crate::tests::desk::{ALL, segments_of, tickets_of, two_nodes};
-use crate::tests::machine::stories::Comes::{Close, Connect, Fault, Piece};
-use crate::tests::machine::stories::{Comes, Told, event_of};
 use crate::tests::nodes::name_a;
 use crate::tests::serving::book;
 use portmap_book::{ActFault, Book, GatherFault, Segment, gather};
-use portmap_core::{Answer, Fate, NoMemory, Refusal, State};
+use portmap_core::{Answer, Event, Fate, NoMemory, Refusal, State};
 use std::alloc::Global;
 use std::test::Fail;
 
 type Acted = Result<(u64, Answer), ActFault>;
+
+/// What comes to a book.
+#[derive(Clone, Copy)]
+enum Comes {
+    Connect,
+    Piece(u64, Bytes),
+    Close(u64),
+    Fault(u64),
+}
+
+impl Comes {
+    fn event(&self, alloc: Global) -> Result<Event, NoMemory> {
+        Ok(match self {
+            Comes::Connect => Event::Connect { local: true },
+            Comes::Piece(slot, bytes) => Event::Piece {
+                slot: *slot,
+                bytes: bytes.to_vec(alloc)?,
+            },
+            Comes::Close(slot) => Event::Close { slot: *slot },
+            Comes::Fault(slot) => Event::Fault { slot: *slot },
+        })
+    }
+}
+
+/// What it answers.
+#[derive(Clone, Copy)]
+enum Told {
+    Slot(u64),
+    Said(Bytes, Fate),
+    Gone,
+    Refused(Refusal),
+}
 
 /// How a book stands.
 #[derive(Drop)]
@@ -45,14 +75,12 @@ impl Stood {
 }
 
 /// What the book answers, while memory may be refused.
-fn act(alloc: Global, book: &mut Book, comes: &Comes) -> Result<Option<Acted>, Fail> {
-    let Some(event) = event_of(alloc, comes)? else {
-        return Ok(None);
-    };
+fn act(alloc: Global, book: &mut Book, comes: &Comes) -> Result<Acted, Fail> {
+    let event = comes.event(alloc)?;
     begin(alloc);
     let acted = book.act(alloc, event);
     end(alloc);
-    Ok(Some(acted))
+    Ok(acted)
 }
 
 /// The log that is taken out, while memory may be refused.
@@ -63,15 +91,15 @@ fn seal(alloc: Global, book: &mut Book) -> Result<Segment, NoMemory> {
     sealed
 }
 
-fn is_refused(acted: &Option<Acted>) -> bool {
-    matches!(acted, Some(Err(ActFault::Refused(Refusal::NoMemory))))
+fn is_refused(acted: &Acted) -> bool {
+    matches!(acted, Err(ActFault::Refused(Refusal::NoMemory)))
 }
 
 /// Whether this is the place and the answer that are wanted.
-fn is_answered(acted: &Option<Acted>, place: u64, told: &Told) -> bool {
+fn is_answered(acted: &Acted, place: u64, told: &Told) -> bool {
     match (acted, told) {
-        (Some(Ok((at, answer))), _) => *at == place && is_said(answer, told),
-        (Some(Err(ActFault::Refused(refusal))), Told::Refused(wanted)) => *refusal == *wanted,
+        (Ok((at, answer)), _) => *at == place && is_said(answer, told),
+        (Err(ActFault::Refused(refusal)), Told::Refused(wanted)) => *refusal == *wanted,
         _ => false,
     }
 }
@@ -129,12 +157,17 @@ fn seals(alloc: Global, book: &mut Book, first: u64, entries: usize) -> Result<b
 
 /// A node connects, registers and leaves.
 const NODE: &[Turn] = &[
-    Turn(Connect, 0, Told::Slot(0), true),
-    Turn(Piece(0, ALIVE_A), 1, Told::Said(FOURTH, Fate::Stay), true),
-    Turn(Close(0), 2, Told::Gone, false),
+    Turn(Comes::Connect, 0, Told::Slot(0), true),
+    Turn(
+        Comes::Piece(0, ALIVE_A),
+        1,
+        Told::Said(FOURTH, Fate::Stay),
+        true,
+    ),
+    Turn(Comes::Close(0), 2, Told::Gone, false),
 ];
 
-const NEXT: &[Turn] = &[Turn(Connect, 3, Told::Slot(0), true)];
+const NEXT: &[Turn] = &[Turn(Comes::Connect, 3, Told::Slot(0), true)];
 
 /// Whether the log of a node is sealed, and that of the next one behind it.
 fn is_sealed_twice(alloc: Global, book: &mut Book) -> Result<bool, Fail> {
@@ -160,24 +193,34 @@ fn an_act_or_a_seal_that_is_refused_changes_nothing(rt: HostRuntime) -> Result<(
 
 /// Two connect, and one registers.
 const BEGIN: &[Turn] = &[
-    Turn(Connect, 0, Told::Slot(0), true),
-    Turn(Connect, 1, Told::Slot(1), true),
-    Turn(Piece(0, ALIVE_A), 2, Told::Said(FOURTH, Fate::Stay), true),
+    Turn(Comes::Connect, 0, Told::Slot(0), true),
+    Turn(Comes::Connect, 1, Told::Slot(1), true),
+    Turn(
+        Comes::Piece(0, ALIVE_A),
+        2,
+        Told::Said(FOURTH, Fate::Stay),
+        true,
+    ),
 ];
 
-const LIST: Turn = Turn(Piece(1, NAMES), 3, Told::Said(A_LISTED, Fate::Close), true);
+const LIST: Turn = Turn(
+    Comes::Piece(1, NAMES),
+    3,
+    Told::Said(A_LISTED, Fate::Close),
+    true,
+);
 
 /// No third one has room, and both leave, without memory: at these places where the list was answered, and where not.
 const LEAVE: &[Turn] = &[
-    Turn(Connect, 4, Told::Refused(Refusal::Full), false),
-    Turn(Close(0), 4, Told::Gone, false),
-    Turn(Fault(1), 5, Told::Gone, false),
+    Turn(Comes::Connect, 4, Told::Refused(Refusal::Full), false),
+    Turn(Comes::Close(0), 4, Told::Gone, false),
+    Turn(Comes::Fault(1), 5, Told::Gone, false),
 ];
 
 const LEAVE_UNTOLD: &[Turn] = &[
-    Turn(Connect, 3, Told::Refused(Refusal::Full), false),
-    Turn(Close(0), 3, Told::Gone, false),
-    Turn(Fault(1), 4, Told::Gone, false),
+    Turn(Comes::Connect, 3, Told::Refused(Refusal::Full), false),
+    Turn(Comes::Close(0), 3, Told::Gone, false),
+    Turn(Comes::Fault(1), 4, Told::Gone, false),
 ];
 
 /// Whether one more is told the list: None where memory is refused to that, which changes nothing.
@@ -239,7 +282,11 @@ const MOST: u64 = 8;
 /// Whether so many connect, and the log is sealed behind them where that is asked for.
 fn all_connect(alloc: Global, book: &mut Book, count: u64, is_sealed: bool) -> Result<bool, Fail> {
     for place in 0..count {
-        if !answers(alloc, book, &Turn(Connect, place, Told::Slot(place), true))? {
+        if !answers(
+            alloc,
+            book,
+            &Turn(Comes::Connect, place, Told::Slot(place), true),
+        )? {
             return Ok(false);
         }
     }
@@ -250,7 +297,11 @@ fn all_connect(alloc: Global, book: &mut Book, count: u64, is_sealed: bool) -> R
 fn all_close(alloc: Global, book: &mut Book, count: u64) -> Result<bool, Fail> {
     for slot in 0..count {
         let place = count.saturating_add(slot);
-        if !answers(alloc, book, &Turn(Close(slot), place, Told::Gone, false))? {
+        if !answers(
+            alloc,
+            book,
+            &Turn(Comes::Close(slot), place, Told::Gone, false),
+        )? {
             return Ok(false);
         }
     }
