@@ -92,6 +92,8 @@ test:
 # Refuses each request for memory, and has each call of the system fail, one in each run: in the tests of `refusals`, and in the
 # daemon. It takes minutes once both are built.
 faults: epmd
+	cd crates/portmap_book && rt test -- refusals
 	cd crates/epmd && rt test -- refusals
+	python3 faults/rows.py crates/portmap_book/out/portmap_book_tests
 	python3 faults/rows.py crates/epmd/out/epmd_tests
 	python3 faults/calls.py build/epmd
