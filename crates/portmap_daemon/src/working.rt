@@ -40,17 +40,18 @@ fn jobs_of<L: Ledger, R: Wait>(
     sockets: Vec<Sockets>,
 ) -> Result<Vec<Job<L>>, RunFault>
     ensures numbers { IfOk result (λ jobs. list_map (λ job. job.number) jobs.items ≡ list_map (λ place. place + 1) (range_with_len 0 (vec_len sockets))) }
+    ensures workers { IfOk result (λ jobs. list_map (λ job. job.seat.worker) jobs.items ≡ list_map (λ place. place + 1) (range_with_len 0 (vec_len sockets))) }
     ensures sockets { IfOk result (λ jobs. list_map (λ job. job.sockets) jobs.items ≡ sockets.items) }
     ensures fault { IfErr result (λ f. IsOfAddresses 0 f) }
 {
     let mut jobs = Vec::new(alloc);
     let mut last = 0u32;
     for sockets in sockets {
-        // There are no more workers than a desk has seats.
-        let Some(seat) = desk.seat(rt) else {
+        let Some(number) = last.checked_add(1) else {
             return Err(RunFault::NoMemory);
         };
-        let Some(number) = last.checked_add(1) else {
+        // There are no more workers than a desk has seats.
+        let Some(seat) = desk.seat(rt, number) else {
             return Err(RunFault::NoMemory);
         };
         last = number;

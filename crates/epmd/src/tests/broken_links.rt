@@ -108,7 +108,7 @@ fn book_left<L: Ledger, R: Wait>(
     requires enough { blank.parts ≡ PARTS }
 {
     let desk: Desk<L> = Desk::new(blank, book(alloc, false, 2)?);
-    let seat = desk.seat(rt)?;
+    let seat = desk.seat(rt, 1)?;
     let source = Fake::new(wires, turns);
     let Outcome { seat, served: _ } = serve(rt, alloc, &desk, seat, 0, source, &Open);
     finished(alloc, desk, seat)

@@ -136,7 +136,19 @@ enum Ended {
     Missing(u64, u64),
 }
 
-/// The book tells whether the tickets are its log.
+/// Whether the book has each ticket as the entry of the worker that was told it: of the first so many of worker 1, and of the
+/// others of worker 2.
+fn are_of_workers(book: &Book, tickets: &[Ticket], first: u64) -> bool {
+    for (at, ticket) in tickets.iter().enumerate() {
+        let worker = if (at as u64) < first { 1 } else { 2 };
+        if book.workers().get(ticket.place as usize) != Some(&worker) {
+            return false;
+        }
+    }
+    true
+}
+
+/// The book tells whether the tickets are its log, each of the worker that was told it.
 fn ending_of<L: Ledger>(
     alloc: Global,
     desk: Desk<L>,
@@ -146,6 +158,9 @@ fn ending_of<L: Ledger>(
 ) -> Option<Ended> {
     match desk.finish(seats) {
         Ok(book) => {
+            if !are_of_workers(&book, &tickets, counts[0]) {
+                return None;
+            }
             gather(alloc, &[], &book, tickets).ok()?;
             Some(Ended::Whole([counts[0], counts[1], book.count()]))
         }
@@ -174,8 +189,8 @@ fn two_workers<L: Ledger + Send + Sync, R: Threads + Wait + Sync>(
     requires enough { blank.parts ≡ PARTS }
 {
     let desk: Desk<L> = Desk::new(blank, book(alloc, false)?);
-    let one = desk.seat(rt)?;
-    let two = desk.seat(rt)?;
+    let one = desk.seat(rt, 1)?;
+    let two = desk.seat(rt, 2)?;
     let shared = &desk;
     let ((one, first), (two, second)) = thread::join(
         rt,
@@ -212,7 +227,7 @@ fn first_places<L: Ledger, R: Wait>(rt: &R, alloc: Global, blank: Blank) -> Opti
     requires enough { blank.parts ≡ PARTS }
 {
     let desk: Desk<L> = Desk::new(blank, book(alloc, false)?);
-    let mut seat = desk.seat(rt)?;
+    let mut seat = desk.seat(rt, 1)?;
     let [opened, said, closed] = round(rt, alloc, &desk, &mut seat, ALIVE_A)?;
     Some([opened.place, said.place, closed.place])
 }
@@ -235,9 +250,9 @@ fn seats_end<L: Ledger, R: Wait>(rt: &R, alloc: Global, blank: Blank) -> Option<
     let desk: Desk<L> = Desk::new(blank, book(alloc, false)?);
     let mut seats = Vec::new(alloc);
     for _ in 0..SEATS_MOST {
-        seats.push(desk.seat(rt)?).ok()?;
+        seats.push(desk.seat(rt, 1)?).ok()?;
     }
-    Some(seats.len() == 64 && desk.seat(rt).is_none())
+    Some(seats.len() == 64 && desk.seat(rt, 1).is_none())
 }
 
 #[test]
@@ -314,7 +329,7 @@ fn one_worker<L: Ledger, R: Wait>(rt: &R, alloc: Global, blank: Blank) -> Option
     requires enough { blank.parts ≡ PARTS }
 {
     let desk: Desk<L> = Desk::new(blank, book(alloc, false)?);
-    let mut seat = desk.seat(rt)?;
+    let mut seat = desk.seat(rt, 1)?;
     let (_, conn) = desk.connect(rt, alloc, &mut seat, false).ok()?;
     let is_first = conn.slot() == 0;
     let has_failed = fails_late(rt, alloc, &desk, &mut seat, conn)?;
@@ -380,8 +395,8 @@ fn one_reads_the_other<L: Ledger + Send + Sync, R: Threads + Wait + Clock + Sync
     requires enough { blank.parts ≡ PARTS }
 {
     let desk: Desk<L> = Desk::new(blank, book(alloc, false)?);
-    let one = desk.seat(rt)?;
-    let two = desk.seat(rt)?;
+    let one = desk.seat(rt, 1)?;
+    let two = desk.seat(rt, 2)?;
     let flag = AtomicU64::new(0);
     let (shared, flag) = (&desk, &flag);
     let (is_registered, is_found) = thread::join(
@@ -439,10 +454,10 @@ const GATHERED: &[Gathered] = &[
 
 /// A node connects, registers and leaves: the places of the three entries.
 fn node_places(alloc: Global, book: &mut Book) -> Option<[u64; 3]> {
-    let (opened, _) = book.act(alloc, Event::Connect { local: true }).ok()?;
+    let (opened, _) = book.act(alloc, 1, Event::Connect { local: true }).ok()?;
     let bytes = ALIVE_A.to_vec(alloc).ok()?;
-    let (said, _) = book.act(alloc, Event::Piece { slot: 0, bytes }).ok()?;
-    let (closed, _) = book.act(alloc, Event::Close { slot: 0 }).ok()?;
+    let (said, _) = book.act(alloc, 1, Event::Piece { slot: 0, bytes }).ok()?;
+    let (closed, _) = book.act(alloc, 1, Event::Close { slot: 0 }).ok()?;
     Some([opened, said, closed])
 }
 
@@ -493,7 +508,7 @@ fn seals(alloc: Global, book: &mut Book, first: u64, entries: usize, next: u64) 
 fn seals_twice(alloc: Global, book: &mut Book) -> Option<bool> {
     let places = node_places(alloc, book)?;
     let has_three = seals(alloc, book, 0, 3, 3)?;
-    let (next, _) = book.act(alloc, Event::Connect { local: true }).ok()?;
+    let (next, _) = book.act(alloc, 1, Event::Connect { local: true }).ok()?;
     let has_one = seals(alloc, book, 3, 1, 4)?;
     Some(places == [0, 1, 2] && has_three && next == 3 && has_one)
 }
@@ -501,7 +516,7 @@ fn seals_twice(alloc: Global, book: &mut Book) -> Option<bool> {
 /// Whether the empty log behind both is sealed to an empty segment, and a close has its place behind that.
 fn seals_nothing(alloc: Global, book: &mut Book) -> Option<bool> {
     let has_none = seals(alloc, book, 4, 0, 4)?;
-    let (place, gone) = book.act(alloc, Event::Close { slot: 0 }).ok()?;
+    let (place, gone) = book.act(alloc, 1, Event::Close { slot: 0 }).ok()?;
     Some(has_none && place == 4 && is_gone(&gone))
 }
 
@@ -543,7 +558,7 @@ fn segment_in(alloc: Global, book: &mut Book, place: usize) -> Option<Segment> {
     node_places(alloc, book)?;
     if place == 1 {
         seals(alloc, book, 0, 3, 3)?;
-        book.act(alloc, Event::Connect { local: true }).ok()?;
+        book.act(alloc, 1, Event::Connect { local: true }).ok()?;
     }
     book.seal(alloc).ok()
 }

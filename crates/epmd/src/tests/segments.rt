@@ -16,7 +16,7 @@ struct Parts {
 
 /// One more connection comes, and the log is sealed.
 fn open_and_seal(alloc: Global, book: &mut Book, parts: &mut Parts) -> Option<()> {
-    let (place, answer) = book.act(alloc, Event::Connect { local: true }).ok()?;
+    let (place, answer) = book.act(alloc, 1, Event::Connect { local: true }).ok()?;
     let Answer::Connected(slot) = answer else {
         return None;
     };

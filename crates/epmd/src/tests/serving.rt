@@ -487,7 +487,7 @@ fn book_left<L: Ledger, R: Wait>(
     requires enough { blank.parts ≡ PARTS }
 {
     let desk: Desk<L> = Desk::new(blank, book(alloc, story.relaxed, story.conn_max)?);
-    let mut seat = desk.seat(rt)?;
+    let mut seat = desk.seat(rt, 1)?;
     if story.killed {
         is_killed(rt, alloc, &desk, &mut seat)?;
     }

@@ -48,7 +48,7 @@ fn one_carrier<L: Ledger, R: Wait>(rt: &R, alloc: Global, blank: Blank) -> Optio
     };
     let mut tape = Tape::new(alloc, ALIVE_A, plan);
     let desk: Desk<L> = Desk::new(blank, book(alloc, false, 2)?);
-    let mut seat = desk.seat(rt)?;
+    let mut seat = desk.seat(rt, 1)?;
     registers_once(rt, alloc, &desk, &mut seat, &mut tape)
 }
 
@@ -86,7 +86,7 @@ fn written_at<L: Ledger, R: Wait>(rt: &R, alloc: Global, blank: Blank) -> Option
     requires enough { blank.parts ≡ PARTS }
 {
     let desk: Desk<L> = Desk::new(blank, book(alloc, false, 2)?);
-    let mut seat = desk.seat(rt)?;
+    let mut seat = desk.seat(rt, 1)?;
     passed(rt, alloc, &desk, &mut seat)
 }
 
@@ -167,8 +167,8 @@ fn two_lists<L: Ledger + Send + Sync, G: Gate + Sync, R: Threads + Wait + Sync>(
     requires enough { blank.parts ≡ PARTS }
 {
     let desk: Desk<L> = Desk::new(blank, book(alloc, false, 2)?);
-    let one = desk.seat(rt)?;
-    let two = desk.seat(rt)?;
+    let one = desk.seat(rt, 1)?;
+    let two = desk.seat(rt, 2)?;
     let shared = &desk;
     let ((one, is_one), (two, is_two)) = thread::join(
         rt,
@@ -246,8 +246,8 @@ fn one_finds_the_other<L: Ledger + Send + Sync, R: Threads + Wait + Clock + Sync
     requires enough { blank.parts ≡ PARTS }
 {
     let desk: Desk<L> = Desk::new(blank, book(alloc, false, 2)?);
-    let one = desk.seat(rt)?;
-    let two = desk.seat(rt)?;
+    let one = desk.seat(rt, 1)?;
+    let two = desk.seat(rt, 2)?;
     let shared = &desk;
     let ((one, is_registered), (two, is_found)) = thread::join(
         rt,

@@ -78,7 +78,7 @@ impl Stood {
 fn act(alloc: Global, book: &mut Book, comes: &Comes) -> Result<Acted, Fail> {
     let event = comes.event(alloc)?;
     begin(alloc);
-    let acted = book.act(alloc, event);
+    let acted = book.act(alloc, 1, event);
     end(alloc);
     Ok(acted)
 }

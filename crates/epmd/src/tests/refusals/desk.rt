@@ -33,7 +33,7 @@ fn ends_and_tells<L: Ledger, R: Wait>(rt: &R, alloc: Global, blank: Blank) -> Op
     requires enough { blank.parts ≡ PARTS }
 {
     let desk: Desk<L> = Desk::new(blank, book(alloc, false, 2)?);
-    let mut seat = desk.seat(rt)?;
+    let mut seat = desk.seat(rt, 1)?;
     let (_, conn) = desk.connect(rt, alloc, &mut seat, true).ok()?;
     let is_killed = is_killed(rt, alloc, &desk, &mut seat)?;
     Some(is_killed && is_told_the_end(rt, alloc, &desk, &mut seat, &conn))
