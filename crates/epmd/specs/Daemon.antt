@@ -1,5 +1,5 @@
 -- What the daemon of a command is set to, and how its end is told. Profile.
-use Rattle.std.specs.Prelude.{◌≡◌, ℕ, ◌%◌, ◌/◌, ◌^◌, Bool, false, string_bytes, Option, Some, None, option_map, Result, Ok, Err}
+use Rattle.std.specs.Prelude.{◌≡◌, ℕ, ◌%◌, ◌/◌, ◌^◌, Bool, true, false, string_bytes, Option, Some, None, option_map, Result, Ok, Err}
 use Rattle.std.specs.Duration.{as_nanos}
 use Rattle.std.specs.declared.time.Duration.{Duration}
 use Rattle.portmap_daemon.specs.declared.running.RunEnd.{RunEnd}
@@ -28,10 +28,10 @@ pub record SetsAs (command : Command) (now : Option Duration) (settings : Settin
   pub workers : settings.workers ≡ command.workers
   pub recording : option_map string_bytes settings.recording ≡ option_map string_bytes command.recording
 
--- the status that tells what became of the recording, if there was to be one
-abbrev pub status_of_recorded : Option Bool → ℕ
-status_of_recorded (Some false) = actions.FAILED
-status_of_recorded recorded = actions.DONE
+-- the status that tells whether the recording is whole, where there was to be one
+abbrev pub status_of_recorded : Bool → ℕ
+status_of_recorded false = actions.FAILED
+status_of_recorded true = actions.DONE
 
 -- the status that tells the end
 abbrev pub status_of_end : Result RunEnd RunFault → ℕ

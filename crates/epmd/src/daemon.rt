@@ -78,7 +78,7 @@ pub fn end_daemon<E: Write>(
             if command.debug {
                 tell_served(errors, end.served.as_slice());
             }
-            if end.recorded == Some(false) {
+            if !end.recorded {
                 return fail(errors, Failure::Recording);
             }
             DONE

@@ -1,5 +1,5 @@
 //! The daemon over sockets.
-ghost use Rattle.std.specs.Prelude.{◌≡◌, ◌<◌, ◌≤◌, vec_len, false, IfOk, IfErr, IfSome};
+ghost use Rattle.std.specs.Prelude.{◌≡◌, ◌<◌, ◌≤◌, ◌&&◌, ◌||◌, not, vec_len, false, IfOk, IfErr, IfSome};
 ghost use Rattle.portmap_book.specs.declared.desk.TheConstants.{SEATS_MOST};
 ghost use Rattle.portmap_daemon.specs.Running.{IsOfAddresses};
 ghost use Rattle.portmap_daemon.specs.declared.running.TheConstants.{TIMEOUT_MOST};
@@ -54,8 +54,9 @@ pub struct Settings {
 pub struct RunEnd {
     /// How many acts of the port mapper each worker made.
     pub served: Vec<u64>,
-    /// Whether all that was answered is in the recording. None where nothing was to be recorded.
-    pub recorded: Option<bool>,
+    /// False where all that was answered was to be recorded, and is not in the file: that couldn't be made, a write failed, or
+    /// entries were left for want of memory.
+    pub recorded: bool,
 }
 
 /// Why a daemon did not serve, or ended before it was told to.
@@ -159,12 +160,18 @@ fn serve_open<
     spool.close(rt);
     let is_written = is_recorded && spool.is_written(rt, Duration::from_secs(FLUSH_TIMEOUT));
     let (served, is_whole) = ended?;
-    let recorded = if is_recorded {
-        Some(is_whole && is_written)
-    } else {
-        None
-    };
-    Ok(RunEnd { served, recorded })
+    Ok(RunEnd {
+        served,
+        recorded: has_recorded(is_recorded, is_whole, is_written),
+    })
+}
+
+/// What a daemon's end says of its recording: by whether there was to be one, whether the recorder was handed all that was
+/// answered, and whether the file has it.
+fn has_recorded(is_recorded: bool, is_whole: bool, is_written: bool) -> bool
+    ensures { result ≡ (not is_recorded || (is_whole && is_written)) }
+{
+    !is_recorded || (is_whole && is_written)
 }
 
 /// Serves over sockets that are open. How many acts each worker made, and whether all was recorded.

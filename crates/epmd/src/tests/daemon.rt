@@ -245,7 +245,7 @@ fn settings(alloc: Global, story: Story, recording: Option<String>) -> Result<Se
 }
 
 /// Whether each of two workers has told what it served, together one act at least, and whether all was recorded is told so.
-fn have_served(ended: &Result<RunEnd, RunFault>, recorded: Option<bool>) -> bool {
+fn have_served(ended: &Result<RunEnd, RunFault>, recorded: bool) -> bool {
     match ended {
         Ok(end) => {
             end.served.len() == 2
@@ -265,7 +265,7 @@ fn a_node_registers_and_leaves(rt: HostRuntime) -> Result<(), Fail> {
         || run(&rt, alloc, settings),
         || goes_well(&rt, alloc, Story::Leaves),
     );
-    assert!(rt; told && have_served(&ended, None));
+    assert!(rt; told && have_served(&ended, true));
     Ok(())
 }
 
@@ -278,7 +278,7 @@ fn a_name_is_free_once_its_connection_is_reset(rt: HostRuntime) -> Result<(), Fa
         || run(&rt, alloc, settings),
         || goes_well(&rt, alloc, Story::Resets),
     );
-    assert!(rt; told && have_served(&ended, None));
+    assert!(rt; told && have_served(&ended, true));
     Ok(())
 }
 
@@ -291,7 +291,7 @@ fn a_silent_connection_is_closed_and_a_registered_one_is_not(rt: HostRuntime) ->
         || run(&rt, alloc, settings),
         || goes_well(&rt, alloc, Story::Silent),
     );
-    assert!(rt; told && have_served(&ended, None));
+    assert!(rt; told && have_served(&ended, true));
     Ok(())
 }
 
@@ -304,7 +304,7 @@ fn a_peer_that_reads_nothing_stops_no_other(rt: HostRuntime) -> Result<(), Fail>
         || run(&rt, alloc, settings),
         || goes_well(&rt, alloc, Story::Stalls),
     );
-    assert!(rt; told && have_served(&ended, None));
+    assert!(rt; told && have_served(&ended, true));
     Ok(())
 }
 
@@ -318,7 +318,7 @@ fn a_worker_that_is_held_stops_no_other(rt: HostRuntime) -> Result<(), Fail> {
         || run_gated(&rt, alloc, settings, &gate),
         || goes_well(&rt, alloc, Story::Crowds),
     );
-    assert!(rt; told && have_served(&ended, None) && gate.have_met());
+    assert!(rt; told && have_served(&ended, true) && gate.have_met());
     Ok(())
 }
 
@@ -365,7 +365,7 @@ fn what_is_answered_is_recorded(rt: HostRuntime) -> Result<(), Fail> {
         || run(&rt, alloc, settings),
         || goes_well(&rt, alloc, Story::Records),
     );
-    assert!(rt; told && have_served(&ended, Some(true)));
+    assert!(rt; told && have_served(&ended, true));
     let file = File::open(&rt, RECORDING)?;
     fs::remove_file(&rt, RECORDING)?;
     is_so(&rt, is_run_of(alloc, file, acts_of(&ended)))
@@ -384,6 +384,6 @@ fn a_recording_that_cannot_be_made_is_told(rt: HostRuntime) -> Result<(), Fail> 
         || run(&rt, alloc, settings),
         || goes_well(&rt, alloc, Story::Nowhere),
     );
-    assert!(rt; told && have_served(&ended, Some(false)));
+    assert!(rt; told && have_served(&ended, false));
     Ok(())
 }

@@ -40,6 +40,6 @@ fn a_recording_that_stalls_holds_nobody(rt: HostRuntime) -> Result<(), Fail> {
     let settings = settings_at(alloc, PORT, 60, 2, Some(path))?;
     let (ended, told) = thread::join(&rt, || run(&rt, alloc, settings), || are_answered(&rt));
     assert!(rt; told && acts_of(&ended) > u64::from(LOOK_UPS));
-    assert!(rt; ended.is_ok_and(|end| end.recorded == Some(false)));
+    assert!(rt; ended.is_ok_and(|end| !end.recorded));
     Ok(())
 }

@@ -92,39 +92,25 @@ fn a_daemon_records_where_its_command_says(rt: HostRuntime) -> Result<(), Fail> 
 }
 
 /// Whether with debug output, how many acts each of three workers made, whether all was recorded, the status, and what is told.
-struct Serves(bool, [u64; 3], Option<bool>, u8, Bytes);
+struct Serves(bool, [u64; 3], bool, u8, Bytes);
 
 const SERVES: &[Serves] = &[
-    Serves(false, [5, 0, 7], None, 0, b""),
+    Serves(false, [5, 0, 7], true, 0, b""),
     Serves(
         true,
         [5, 0, 18_446_744_073_709_551_615],
-        None,
+        true,
         0,
         b"epmd: worker 1 served 5\nepmd: worker 2 served 0\nepmd: worker 3 served 18446744073709551615\n",
     ),
 ];
 
 const RECORDS: &[Serves] = &[
-    Serves(false, [5, 0, 7], Some(true), 0, b""),
+    Serves(false, [5, 0, 7], false, 3, b"epmd: recording failed\n"),
     Serves(
+        true,
+        [5, 0, 7],
         false,
-        [5, 0, 7],
-        Some(false),
-        3,
-        b"epmd: recording failed\n",
-    ),
-    Serves(
-        true,
-        [5, 0, 7],
-        Some(true),
-        0,
-        b"epmd: worker 1 served 5\nepmd: worker 2 served 0\nepmd: worker 3 served 7\n",
-    ),
-    Serves(
-        true,
-        [5, 0, 7],
-        Some(false),
         3,
         b"epmd: worker 1 served 5\nepmd: worker 2 served 0\nepmd: worker 3 served 7\nepmd: recording failed\n",
     ),
