@@ -228,8 +228,8 @@ fn first_places<L: Ledger, R: Wait>(rt: &R, alloc: Global, blank: Blank) -> Opti
 {
     let desk: Desk<L> = Desk::new(blank, book(alloc, false)?);
     let mut seat = desk.seat(rt, 1)?;
-    let [opened, said, closed] = round(rt, alloc, &desk, &mut seat, ALIVE_A)?;
-    Some([opened.place, said.place, closed.place])
+    let tickets = round(rt, alloc, &desk, &mut seat, ALIVE_A)?;
+    Some([tickets[0].place, tickets[1].place, tickets[2].place])
 }
 
 #[test]
