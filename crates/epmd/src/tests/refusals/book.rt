@@ -2,8 +2,8 @@
 use super::{begin, end};
 use crate::tests::bytes::{A_LISTED, ALIVE_A, Bytes, FOURTH, NAMES};
 use crate::tests::cases::is_so;
-use crate::tests::desk::{ALL, segments_of, tickets_of, two_nodes};
 use crate::tests::nodes::name_a;
+use crate::tests::segments::{ALL, segments_of, tickets_of, two_nodes};
 use crate::tests::serving::book;
 use portmap_book::{ActFault, Book, GatherFault, Segment, gather};
 use portmap_core::{Answer, Event, Fate, NoMemory, Refusal, State};
