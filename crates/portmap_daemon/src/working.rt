@@ -26,7 +26,6 @@ const FIRST: usize = 64;
 /// What one worker begins with.
 #[derive(Drop)]
 struct Job<L: Ledger> {
-    number: u32,
     seat: Seat<L>,
     sockets: Sockets,
 }
@@ -39,7 +38,6 @@ fn jobs_of<L: Ledger, R: Wait>(
     desk: &Desk<L>,
     sockets: Vec<Sockets>,
 ) -> Result<Vec<Job<L>>, RunFault>
-    ensures numbers { IfOk result (λ jobs. list_map (λ job. job.number) jobs.items ≡ list_map (λ place. place + 1) (range_with_len 0 (vec_len sockets))) }
     ensures workers { IfOk result (λ jobs. list_map (λ job. job.seat.worker) jobs.items ≡ list_map (λ place. place + 1) (range_with_len 0 (vec_len sockets))) }
     ensures sockets { IfOk result (λ jobs. list_map (λ job. job.sockets) jobs.items ≡ sockets.items) }
     ensures fault { IfErr result (λ f. IsOfAddresses 0 f) }
@@ -55,11 +53,7 @@ fn jobs_of<L: Ledger, R: Wait>(
             return Err(RunFault::NoMemory);
         };
         last = number;
-        jobs.push(Job {
-            number,
-            seat,
-            sockets,
-        })?;
+        jobs.push(Job { seat, sockets })?;
     }
     Ok(jobs)
 }
@@ -80,11 +74,8 @@ fn work_as<L: Ledger, G: Gate, R: Wait + Clock>(
     job: Job<L>,
 ) {
     drop(Vec::<u8>::with_capacity(alloc, FIRST));
-    let Job {
-        number,
-        seat,
-        sockets,
-    } = job;
+    let Job { seat, sockets } = job;
+    let number = seat.worker();
     let source = SocketSource::new(rt, shared.desk, shared.crew, sockets);
     let outcome = serve(rt, alloc, shared.desk, seat, number, source, shared.gate);
     shared

@@ -5,7 +5,6 @@ use Rattle.portmap_daemon.proofs.working.jobs_of.Given as goal
 -- one for each so far
 abbrev pub invariant-loop-sockets : goal.invariant-loop-sockets
 invariant-loop-sockets g l = record {
-  numbers : list_map (λ job. job.number) l.jobs.items ≡ list_map (λ place. place + 1) (range_with_len 0 l.last);
   workers : list_map (λ job. job.seat.worker) l.jobs.items ≡ list_map (λ place. place + 1) (range_with_len 0 l.last);
   last : l.last ≡ length l.yielded;
   sockets : list_map (λ job. job.sockets) l.jobs.items ≡ l.yielded;
