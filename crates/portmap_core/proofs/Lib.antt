@@ -1,4 +1,3 @@
-pub mod BySlotLaws
 pub mod Determined
 pub mod Fronts
 pub mod Judged
@@ -11,3 +10,5 @@ pub mod Steps
 pub mod Traces
 pub mod Hearing
 pub mod Counts
+pub mod HeldLaws
+pub mod Fitting

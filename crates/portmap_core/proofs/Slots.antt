@@ -1,16 +1,13 @@
 -- Slots as a finite map.
-use Rattle.std.proofs.Common.{◌≡◌, ◌≢◌, ℕ, suc, zero, ◌+◌, ◌<◌, Bool, true, false, cond, List, [], ◌∷◌, ◌++◌, length, get_or, Option, Some, None, refl, sym, ap, subst, ◌∙◌, arith, inl, inr}
-use Rattle.std.specs.Prelude.{count_by, is_some, T}
+use Rattle.std.proofs.Common.{◌≡◌, ◌≢◌, ℕ, suc, zero, ◌+◌, ◌<◌, Bool, true, false, cond, List, [], ◌∷◌, length, get_or, Option, Some, None, refl, sym, ap, subst, ◌∙◌, arith, inl, inr}
+use Rattle.std.specs.Prelude.{count_by, is_some}
 use Rattle.std.specs.Ordering.{nat_cmp, eq_by_cmp, is_eq, is_lt}
-use Rattle.std.specs.declared.cmp.Ordering.{Ordering}
 use Rattle.std.specs.declared.cmp.Ordering.TheVariants.{Less, Equal, Greater}
 use Rattle.std.specs.FinMap as map
 use Rattle.std.specs.FinMap.{nat_cmp-IsAntisymmetric}
-use Rattle.std.specs.FinMap.Entries.{below_all, by_order, is_sorted}
+use Rattle.std.specs.FinMap.Entries.{below_all}
 use Rattle.std.specs.Cmp.{nat_cmp_is, nat_cmp_total}
-use Rattle.std.proofs.lemmas.Bool.{and_parts, cases_eq, cases_lt}
-use Rattle.std.proofs.lemmas.Bool.Decides.{nat_tests}
-use Rattle.std.proofs.lemmas.List.{append-nil, append_assoc}
+use Rattle.std.proofs.lemmas.Bool.{cases_eq, cases_lt}
 use Rattle.slab.specs.Slab.{ContainsKey, Slab, Updates, entries_from, get, with_value}
 use Rattle.slab.proofs.SlabLemmas.{Updates-with_value, length-entries_from}
 use Rattle.portmap_core.specs.declared.connection.Connection.{Connection}
@@ -106,39 +103,6 @@ pub len-connections : (slots : List (Option Connection)) → map.len (connection
 len-connections slots = map.len-entries (connections_of slots) ∙ ap length (entries-connections slots) ∙ length-entries_from 0 slots
 
 pub ruleset slot_laws = (get-connections, len-connections, entries-connections, connections_put, connections_cut, connections-with_value)
-
--- ---- a copy, connection by connection
-
--- what is below all entries is below each one
-below_each : (q : ℕ) (es rest : List (ℕ × Connection)) (k : ℕ) (connection : Connection) → below_all nat_cmp q (es ++ (k, connection) ∷ rest) ≡ true → q < k
-below_each q [] rest k connection below = let lt : is_lt (nat_cmp q k) ≡ true = (and_parts _ _ below).0 in grind (arith, nat_tests)
-below_each q (e ∷ es) rest k connection below = below_each q es rest k connection (and_parts (is_lt (nat_cmp q e.0)) _ below).1
-
--- to insert above all others is to push
-put_last : (es rest : List (ℕ × Connection)) (k : ℕ) (connection : Connection) → is_sorted nat_cmp (es ++ (k, connection) ∷ rest) ≡ true → map.put nat_cmp k connection es ≡ es ++ (k, connection) ∷ []
-put_last [] rest k connection rises = refl
-put_last (e ∷ es) rest k connection rises =
-    let parts = and_parts (below_all nat_cmp e.0 (es ++ (k, connection) ∷ rest)) (is_sorted nat_cmp (es ++ (k, connection) ∷ rest)) rises in
-    let greater : nat_cmp k e.0 ≡ Greater = sym (nat_cmp_is k e.0 Greater (below_each e.0 es rest k connection parts.0)) in
-    ap (λ (o : Ordering). by_order o ((k, connection) ∷ e ∷ es) ((e.0, connection) ∷ es) (e ∷ map.put nat_cmp k connection es)) greater ∙ ap (λ (xs : List (ℕ × Connection)). e ∷ xs) (put_last es rest k connection parts.1)
-
-is_true : (b : Bool) → T b → b ≡ true
-is_true true t = refl
-is_true false t = absurd t
-
--- what is copied, followed by what is left, is all
-pub copied_none : (source : ConnectionMap) → map.entries (map.empty {X = Connection} {R = nat_cmp}) ++ map.entries source ≡ map.entries source
-copied_none source = ap (λ (es : List (ℕ × Connection)). es ++ map.entries source) (entries-connections [])
-
-pub copied_more : (source copy : ConnectionMap) (k : ℕ) (connection : Connection) (rest : List (ℕ × Connection)) → map.entries copy ++ (k, connection) ∷ rest ≡ map.entries source → map.entries (map.insert copy k connection) ++ rest ≡ map.entries source
-copied_more source copy k connection rest all =
-    let rises = is_true _ (subst (λ (es : List (ℕ × Connection)). SlotsRise es) (sym all) (map.entries_sorted source)) in
-    ap (λ (es : List (ℕ × Connection)). es ++ rest) (map.entries-insert nat_cmp_total copy k connection ∙ put_last (map.entries copy) rest k connection rises) ∙ append_assoc (map.entries copy) ((k, connection) ∷ []) rest ∙ all
-
-pub copied_all : (source copy : ConnectionMap) → map.entries copy ++ [] ≡ map.entries source → copy ≡ source
-copied_all source copy all = map.same_entries_map copy source (sym (append-nil (map.entries copy)) ∙ all)
-
-pub ruleset copy_laws = (copied_none, copied_more, copied_all)
 
 -- ---- maps of connections
 

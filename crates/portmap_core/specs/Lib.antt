@@ -13,3 +13,5 @@ pub mod Locality
 pub mod Laws
 pub mod Following
 pub mod Registering
+pub mod Held
+pub mod Fitting

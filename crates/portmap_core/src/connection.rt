@@ -16,7 +16,7 @@ pub enum Phase {
 }
 
 /// Where a connection stands, with what it sent so far.
-#[derive(Clone, Debug, PartialEq, Eq, Drop)]
+#[derive(Debug, Drop)]
 pub(crate) enum Stage {
     Waiting(Feed),
     Holding,
@@ -24,7 +24,7 @@ pub(crate) enum Stage {
 }
 
 /// An open connection.
-#[derive(Clone, Debug, PartialEq, Eq, Drop)]
+#[derive(Debug, Drop)]
 pub(crate) struct Connection {
     pub(crate) local: bool,
     pub(crate) stage: Stage,

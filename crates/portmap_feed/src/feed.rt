@@ -121,41 +121,6 @@ impl Model for Feed {
         × (room feed.bytes.items ≤ vec_capacity feed.bytes) };
 }
 
-impl Clone for Feed {
-    ghost use Rattle.std.specs.Prelude.{◌≡◌};
-
-    ghost is_clone = { λ feed copy. copy ≡ feed };
-
-    // By a push, so that the copy has room for its whole request too.
-    fn clone(&self) -> Result<Feed, NoMemory> {
-        let mut copy = Feed::new(*self.bytes.allocator());
-        copy.push(self.kept())?;
-        Ok(copy)
-    }
-}
-
-impl PartialEq for Feed {
-    ghost use Rattle.std.specs.Prelude.{◌==◌};
-    ghost use Rattle.std.specs.Cmp.Lexicographic.{pointwise};
-    ghost use Rattle.std.proofs.Common.{rules};
-    ghost use Rattle.std.specs.Cmp.Rules.{comparing};
-
-    ghost eq = { pointwise ◌==◌ };
-
-    ghost laws = { Prim.search (comparing, rules) };
-
-    fn eq(&self, other: &Feed) -> bool {
-        self.bytes.as_slice() == other.bytes.as_slice()
-    }
-}
-
-impl Eq for Feed {
-    ghost use Rattle.std.proofs.Common.{rules};
-    ghost use Rattle.std.specs.Cmp.Rules.{comparing};
-
-    ghost laws = { Prim.search (comparing, rules) };
-}
-
 impl Feed {
     /// A feed that has received nothing. It takes no memory.
     #[tactic(auto, unfolding(crate::specs::Stream::kept, crate::specs::Stream::room))]
@@ -231,6 +196,13 @@ impl Feed {
         ensures most { length self.now ≤ BODY_MOST + 2 }
     {
         &self.bytes
+    }
+
+    /// The bytes that it keeps, as a value. It takes no memory.
+    pub fn into_bytes(self) -> Vec<u8>
+        ensures { result.items ≡ self }
+    {
+        self.bytes
     }
 
     /// Forgets every byte kept but the first `len`, as if no more had been received. It takes no

@@ -7,3 +7,4 @@ pub mod First
 pub mod Places
 pub mod Each
 pub mod InPlace
+pub mod OneMore

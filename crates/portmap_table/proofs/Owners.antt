@@ -110,7 +110,7 @@ gone rows at row lt here d =
     let first = IsDistinct-IsPermutation ◌==◌ nat_eq_equiv.symm (map slot_of rows) (row.slot ∷ map slot_of (remove rows at)) (keys_moved slot_of rows at row lt here) d in
     any_slot row.slot (remove rows at) ∙ none_same row.slot (map slot_of (remove rows at)) first.0
 
-not_past : {X : Type 0} (xs : List X) (at : ℕ) → at < length xs → slice_get xs at ≡ None → ⊥
+pub not_past : {X : Type 0} (xs : List X) (at : ℕ) → at < length xs → slice_get xs at ≡ None → ⊥
 not_past [] at lt e = omega arith
 not_past (x ∷ xs) zero lt e = absurd cc
 not_past (x ∷ xs) (suc at) lt e = not_past xs at (omega arith) e

@@ -126,3 +126,9 @@ pub record AreKept (known_max : ℕ) (names : Names) : Type 0 where
   pub owners : IsDistinct ◌==◌ (map (λ row. row.slot) names.active)
   pub active_creations : All (λ row. IsCreationFor row.reg.high row.creation) names.active
   pub retired_creations : All (λ old. (1 ≤ old.creation) × (old.creation < 2 ^ 32)) names.retired
+
+-- no name is known twice, none more than the most are known, and no slot owns two
+pub record AreDistinct (known_max : ℕ) (names : Names) : Type 0 where
+  pub distinct : IsDistinct same_name (known_names names)
+  pub few : known_len names ≤ known_max
+  pub owners : IsDistinct ◌==◌ (map (λ row. row.slot) names.active)

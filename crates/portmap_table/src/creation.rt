@@ -44,21 +44,22 @@ fn short_choice(last: Option<u32>) -> u32
     }
 }
 
+/// Whether a creation is in the range of a node of this highest version.
+pub(crate) fn is_creation_for(high: u16, creation: u32) -> bool
+    ensures { IsTrue result ↔ IsCreationFor high creation }
+{
+    if high < WIDE_VERSION {
+        1 <= creation && creation <= SHORT_MOST
+    } else {
+        COUNTER_LEAST <= creation
+    }
+}
+
 /// Whether a name may get this creation from a node of this highest version, where the last one is remembered for it.
 pub fn is_legal(high: u16, last: Option<u32>, creation: u32) -> bool
     ensures { IsTrue result ↔ IsLegalCreation high last creation }
 {
-    let least = if high < WIDE_VERSION {
-        1
-    } else {
-        COUNTER_LEAST
-    };
-    let most = if high < WIDE_VERSION {
-        SHORT_MOST
-    } else {
-        u32::MAX
-    };
-    least <= creation && creation <= most && last != Some(creation)
+    is_creation_for(high, creation) && last != Some(creation)
 }
 
 /// A creation for a node of this highest version, whose name had the last one.

@@ -1,10 +1,10 @@
 //! What is asked of names.
-ghost use Rattle.std.specs.Prelude.{◌≡◌, length, option_copied, option_map, slice_get};
-ghost use Rattle.portmap_table.specs.Rows.{Names, active_row, is_active, owner_of, retired_name, standing};
+ghost use Rattle.std.specs.Prelude.{◌≡◌, length, option_copied, option_map, slice_get, IfOk, OnErr, OnOk};
+ghost use Rattle.portmap_table.specs.Rows.{Names, active_row, is_active, owner_of, owns_name, registered, retired_name, retired_of, standing, with_room};
 
 use crate::row::{Retired, Row};
 use crate::standing::Standing;
-use portmap_wire::Name;
+use portmap_wire::{Name, NoMemory, Reg};
 
 /// Names that are known, as a request asks for them.
 pub trait Known {
@@ -48,4 +48,19 @@ pub trait Known {
     {
         self.find(name).is_some()
     }
+}
+
+/// Names that can change.
+pub trait NameStore: Known {
+    /// A name becomes active, with this creation, and is owned by the connection in this slot. Where it is new and as many are known
+    /// as may be, the one retired longest is forgotten.
+    fn admit(&mut self, known_max: u32, reg: Reg, creation: u32, slot: u64) -> Result<(), NoMemory>
+        ensures ok { OnOk result (Self.names self.new ≡ registered reg creation slot (with_room known_max reg.name (Self.names self.old))) }
+        ensures err { OnErr result (Self.names self.new ≡ Self.names self.old) };
+
+    /// Retires the name that a slot owns, and says whether it owned one.
+    fn retire(&mut self, slot: u64) -> Result<bool, NoMemory>
+        ensures found { IfOk result (λ found. found ≡ owns_name slot (Self.names self.old)) }
+        ensures retired { OnOk result (Self.names self.new ≡ retired_of slot (Self.names self.old)) }
+        ensures err { OnErr result (Self.names self.new ≡ Self.names self.old) };
 }

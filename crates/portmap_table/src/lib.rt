@@ -4,6 +4,7 @@
 mod copies;
 mod creation;
 mod entries;
+mod filling;
 mod known;
 mod laws;
 mod name_lists;
@@ -15,11 +16,12 @@ mod standing;
 mod table;
 
 pub use creation::{choice_is_legal, is_legal, numbers_are_the_profiles};
-pub use known::Known;
+pub use known::{Known, NameStore};
 pub use laws::{
     names_outlive_connections, newest_names_stand_last, oldest_names_are_forgotten,
     other_names_stay,
 };
+pub use name_lists::NameLists;
 pub use name_map::NameMap;
 pub use names::Names;
 pub use row::{Old, Retired, Row};

@@ -143,7 +143,7 @@ impl NameMap {
     }
 
     /// Whether a slot owns an active name.
-    pub(crate) fn holds(&self, slot: u64) -> bool
+    pub fn holds(&self, slot: u64) -> bool
         ensures { result ≡ owns_name slot self.now }
     {
         self.owners.contains_key(&slot)

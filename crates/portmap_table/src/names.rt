@@ -1,10 +1,9 @@
 //! The names of a state, which may be any.
-ghost use Rattle.std.specs.Prelude.{◌≡◌, ◌↔◌, IsTrue, length, option_copied, option_map, slice_get, IfOk, OnOk, OnErr};
+ghost use Rattle.std.specs.Prelude.{◌≡◌, length, option_copied, option_map, slice_get, IfOk, OnOk, OnErr};
 ghost use Rattle.portmap_table.specs.Rows.{active_row, no_names, owns_name, registered, retired_name, retired_of, standing, with_room};
 ghost use Rattle.portmap_table.specs.Store.{names_of};
 
-use crate::copies::{same_active, same_retired};
-use crate::known::Known;
+use crate::known::{Known, NameStore};
 use crate::name_lists::NameLists;
 use crate::name_map::NameMap;
 use crate::row::{Retired, Row};
@@ -38,32 +37,6 @@ impl Model for Names {
     ghost view = { λ n. names_of n.store };
 }
 
-/// A name becomes active, as `Names::admit` says.
-fn admit(
-    alloc: Global,
-    store: &mut Store,
-    known_max: u32,
-    reg: Reg,
-    creation: u32,
-    slot: u64,
-) -> Result<(), NoMemory>
-    ensures ok { OnOk result (names_of store.new ≡ registered reg creation slot (with_room known_max reg.name (names_of store.old))) }
-    ensures err { OnErr result (names_of store.new ≡ names_of store.old) }
-{
-    match store {
-        Store::Map(map) if map.may_admit(known_max, &reg.name, slot) => {
-            map.admit(known_max, reg, creation, slot)
-        }
-        Store::Map(map) => {
-            let mut lists = NameLists::copy_of(alloc, map)?;
-            lists.admit(known_max, reg, creation, slot)?;
-            *store = Store::Lists(lists);
-            Ok(())
-        }
-        Store::Lists(lists) => lists.admit(known_max, reg, creation, slot),
-    }
-}
-
 impl Names {
     /// None is known. It takes no memory.
     pub fn new(alloc: Global) -> Names
@@ -75,54 +48,15 @@ impl Names {
         }
     }
 
-    /// A name becomes active, with this creation, and is owned by the connection in this slot. Where it is new and as many are known
-    /// as may be, the one retired longest is forgotten.
-    pub fn admit(
-        &mut self,
-        known_max: u32,
-        reg: Reg,
-        creation: u32,
-        slot: u64,
-    ) -> Result<(), NoMemory>
-        ensures ok { OnOk result (self.new ≡ registered reg creation slot (with_room known_max reg.name self.old)) }
-        ensures err { OnErr result (self.new ≡ self.old) }
+    /// The names that are known.
+    pub fn of<K: Known>(alloc: Global, names: &K) -> Result<Names, NoMemory>
+        ensures { IfOk result (λ n. n ≡ K.names names.now) }
     {
-        admit(self.alloc, &mut self.store, known_max, reg, creation, slot)
-    }
-
-    /// Retires the name that a slot owns, and says whether it owned one. It takes no memory.
-    pub fn retire(&mut self, slot: u64) -> bool
-        ensures found { result ≡ owns_name slot self.old }
-        ensures retired { self.new ≡ retired_of slot self.old }
-    {
-        match &mut self.store {
-            Store::Map(map) => map.retire(slot),
-            Store::Lists(lists) => lists.retire(slot),
-        }
-    }
-
-    /// Copies of those that are known.
-    pub fn copy_of<K: Known>(alloc: Global, names: &K) -> Result<Names, NoMemory>
-        ensures same { IfOk result (λ copy. copy ≡ K.names names.now) }
-    {
-        Ok(Names {
-            alloc,
-            store: Store::Lists(NameLists::copy_of(alloc, names)?),
-        })
-    }
-
-    /// A second one.
-    pub fn try_copy(&self, alloc: Global) -> Result<Names, NoMemory>
-        ensures same { IfOk result (λ copy. copy ≡ self.now) }
-    {
-        Names::copy_of(alloc, self)
-    }
-
-    /// Whether they are the same in every respect. It takes no memory.
-    pub fn same(&self, other: &Names) -> bool
-        ensures { IsTrue result ↔ (self.now ≡ other.now) }
-    {
-        same_active(self, other) && same_retired(self, other)
+        let store = match NameMap::of(alloc, u32::MAX, names)? {
+            Some(map) => Store::Map(map),
+            None => Store::Lists(NameLists::copy_of(alloc, names)?),
+        };
+        Ok(Names { alloc, store })
     }
 }
 
@@ -168,6 +102,51 @@ impl Known for Names {
         match &self.store {
             Store::Map(map) => map.retired_at(i),
             Store::Lists(lists) => lists.retired_at(i),
+        }
+    }
+}
+
+/// A name becomes active, as `NameStore::admit` says.
+fn admit(
+    alloc: Global,
+    store: &mut Store,
+    known_max: u32,
+    reg: Reg,
+    creation: u32,
+    slot: u64,
+) -> Result<(), NoMemory>
+    ensures ok { OnOk result (names_of store.new ≡ registered reg creation slot (with_room known_max reg.name (names_of store.old))) }
+    ensures err { OnErr result (names_of store.new ≡ names_of store.old) }
+{
+    match store {
+        Store::Map(map) if map.may_admit(known_max, &reg.name, slot) => {
+            map.admit(known_max, reg, creation, slot)
+        }
+        Store::Map(map) => {
+            let mut lists = NameLists::copy_of(alloc, map)?;
+            lists.admit(known_max, reg, creation, slot)?;
+            *store = Store::Lists(lists);
+            Ok(())
+        }
+        Store::Lists(lists) => lists.admit(known_max, reg, creation, slot),
+    }
+}
+
+impl NameStore for Names {
+    fn admit(
+        &mut self,
+        known_max: u32,
+        reg: Reg,
+        creation: u32,
+        slot: u64,
+    ) -> Result<(), NoMemory> {
+        admit(self.alloc, &mut self.store, known_max, reg, creation, slot)
+    }
+
+    fn retire(&mut self, slot: u64) -> Result<bool, NoMemory> {
+        match &mut self.store {
+            Store::Map(map) => Ok(map.retire(slot)),
+            Store::Lists(lists) => lists.retire(slot),
         }
     }
 }

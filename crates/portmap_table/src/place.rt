@@ -1,5 +1,5 @@
 //! Where a name stands in plain lists.
-ghost use Rattle.std.specs.Prelude.{◌≡◌, ◌==◌, position, find, option_map, option_copied, vec_len, vec_capacity, ◌≤◌};
+ghost use Rattle.std.specs.Prelude.{◌≡◌, ◌==◌, position, find, option_map, option_copied};
 ghost use Rattle.portmap_table.specs.Rows.{same_name, without_at};
 
 use crate::row::{Old, Row};
@@ -28,9 +28,7 @@ pub(crate) fn retired_place(names: &[Old], name: &Name) -> Option<usize>
 
 /// A name is a retired one no more, if it was one.
 pub(crate) fn take_back(names: &mut Vec<Old>, name: &Name)
-    ensures names { names.new.items ≡ without_at (position (λ old. same_name old.name name.now) names.old.items) names.old.items }
-    ensures few { vec_len names.new ≤ vec_len names.old }
-    ensures room { vec_capacity names.new ≡ vec_capacity names.old }
+    ensures { names.new.items ≡ without_at (position (λ old. same_name old.name name.now) names.old.items) names.old.items }
 {
     let Some(at) = retired_place(names.as_slice(), name) else {
         return;

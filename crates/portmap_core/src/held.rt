@@ -1,0 +1,84 @@
+//! An open connection of a plain state.
+ghost use Rattle.std.specs.Prelude.{◌≡◌, ◌↔◌, IfOk, IsTrue};
+ghost use Rattle.portmap_core.specs.Connections.{at_stage};
+ghost use Rattle.portmap_core.specs.Held.{IsHeld, IsKeptFor, connection_held, entry_held, stage_held};
+
+use crate::connection::{Phase, Stage};
+use portmap_wire::NoMemory;
+use std::alloc::Global;
+use std::marker::Model;
+
+/// An open connection of a plain state.
+#[derive(Debug, Drop)]
+pub struct Held {
+    pub slot: u64,
+    /// Whether it comes from this host.
+    pub local: bool,
+    pub phase: Phase,
+    /// What it sent, while its request is not whole.
+    pub bytes: Vec<u8>,
+}
+
+impl Model for Held {
+    ghost use Rattle.portmap_core.specs.Held.{HeldValue};
+
+    ghost Value = { HeldValue };
+
+    ghost view = { λ h. record { slot = h.slot; local = h.local; phase = h.phase; bytes = h.bytes.items } };
+}
+
+impl Held {
+    /// A second one.
+    pub fn try_copy(&self, alloc: Global) -> Result<Held, NoMemory>
+        ensures same { IfOk result (λ copy. copy ≡ self.now) }
+    {
+        Ok(Held {
+            slot: self.slot,
+            local: self.local,
+            phase: self.phase,
+            bytes: Vec::from_slice(alloc, self.bytes.as_slice())?,
+        })
+    }
+
+    /// Whether it is the same in every respect. It takes no memory.
+    pub(crate) fn is_same(&self, other: &Held) -> bool
+        ensures { IsTrue result ↔ (self.now ≡ other.now) }
+    {
+        self.slot == other.slot
+            && self.local == other.local
+            && self.phase == other.phase
+            && self.bytes.as_slice() == other.bytes.as_slice()
+    }
+
+    /// Whether it has the bytes alone that its phase keeps. It takes no memory.
+    pub(crate) fn is_held(&self) -> bool
+        ensures { IsTrue result ↔ IsHeld self.now }
+    {
+        match self.phase {
+            Phase::Waiting => true,
+            Phase::Holding | Phase::Done => self.bytes.is_empty(),
+        }
+    }
+
+    /// It is at this stage now. It takes no memory.
+    pub(crate) fn turn(&mut self, stage: Stage)
+        ensures entry { entry_held self.new ≡ (self.old.slot, at_stage (connection_held self.old) stage) }
+        ensures held { IsHeld self.new }
+    {
+        let (phase, bytes) = parts_of(*self.bytes.allocator(), stage);
+        self.phase = phase;
+        self.bytes = bytes;
+    }
+}
+
+/// The phase of a stage, and what is kept of what was sent.
+fn parts_of(alloc: Global, stage: Stage) -> (Phase, Vec<u8>)
+    ensures stage { stage_held result.0 result.1.items ≡ stage }
+    ensures kept { IsKeptFor result.0 result.1.items }
+{
+    match stage {
+        Stage::Waiting(feed) => (Phase::Waiting, feed.into_bytes()),
+        Stage::Holding => (Phase::Holding, Vec::new(alloc)),
+        Stage::Done => (Phase::Done, Vec::new(alloc)),
+    }
+}
