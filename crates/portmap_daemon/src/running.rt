@@ -1,21 +1,21 @@
 //! The daemon over sockets.
-ghost use Rattle.std.specs.Prelude.{◌≡◌, ◌<◌, ◌≤◌, ◌&&◌, ◌||◌, not, vec_len, false, IfOk, IfErr, IfSome};
+ghost use Rattle.std.specs.Prelude.{◌≡◌, ◌<◌, ◌≤◌, ◌&&◌, ◌||◌, not, vec_len, IfOk, IfErr};
 ghost use Rattle.portmap_book.specs.declared.desk.TheConstants.{SEATS_MOST};
 ghost use Rattle.portmap_daemon.specs.Running.{IsOfAddresses};
 ghost use Rattle.portmap_daemon.specs.declared.running.TheConstants.{TIMEOUT_MOST};
 
 use crate::crew::Crew;
 use crate::opening::open;
-use crate::recorder::Recorder;
 use crate::recording::{MakesFiles, start_recording};
 use crate::sealing::{Pause, Sealing};
 use crate::sockets::Sockets;
-use crate::spool::{Inlet, Spool};
+use crate::spool::{Spool, WAITING_MOST};
 use crate::working::work;
 use crate::{Gate, Open};
 use portmap_book::{Book, PARTS, SEATS_MOST};
 use portmap_core::Config;
-use portmap_link::{NoMemory, Output, Writing};
+use portmap_link::NoMemory;
+use portmap_record::SESSION_MOST;
 use std::alloc::{AllocFailed, Global};
 use std::marker::Brand;
 use std::net::Net;
@@ -31,6 +31,9 @@ const FLUSH_TIMEOUT: u64 = 5;
 /// The most seconds that a connection may move no byte before its request is whole.
 pub const TIMEOUT_MOST: u32 = 86_400;
 
+/// A file of a recording that has so many bytes is full. With all that may wait for it, it has no more than are read again.
+const FILE_MOST: u64 = (SESSION_MOST - WAITING_MOST) as u64;
+
 /// What a daemon is set to.
 #[derive(Drop)]
 pub struct Settings {
@@ -45,7 +48,8 @@ pub struct Settings {
     pub timeout: u32,
     /// How many workers serve: 1 to `SEATS_MOST`.
     pub workers: u32,
-    /// The file to record to, if any. It is made anew: what it held is lost.
+    /// The file to record to, if any. It is made anew: what it held is lost. Where it is full the recording goes on in another
+    /// one, whose name has `.1` behind it, then `.2`, and so on.
     pub recording: Option<String>,
 }
 
@@ -54,7 +58,7 @@ pub struct Settings {
 pub struct RunEnd {
     /// How many acts of the port mapper each worker made.
     pub served: Vec<u64>,
-    /// False where all that was answered was to be recorded, and is not in the file: that couldn't be made, a write failed, or
+    /// False where all that was answered was to be recorded, and is not in the files: one couldn't be made, a write failed, or
     /// entries were left for want of memory.
     pub recorded: bool,
 }
@@ -140,23 +144,21 @@ fn serve_open<
     ensures fault { IfErr result (λ f. IsOfAddresses 0 f) }
 {
     let Settings {
-        config,
+        config: _,
         first: _,
         addresses: _,
         timeout: _,
         workers: _,
         recording,
     } = settings;
-    let spool = Arc::new(alloc, Spool::new(alloc))?;
+    let spool = Arc::new(alloc, Spool::new(alloc, FILE_MOST))?;
     // The file is made once the daemon listens: so one that can't leaves the file of another alone.
     let is_recorded = recording.is_some();
     if let Some(path) = recording {
         start_recording(rt, alloc, &spool, path);
     }
-    let recorder = recorder_into(rt, &spool, is_recorded);
-    let ended = serve_recorded(
-        rt, alloc, config, book, sockets, crew, pause, recorder, gate,
-    );
+    let records: Option<&Spool> = if is_recorded { Some(&spool) } else { None };
+    let ended = serve_recorded(rt, alloc, book, sockets, crew, pause, records, gate);
     spool.close(rt);
     let is_written = is_recorded && spool.is_written(rt, Duration::from_secs(FLUSH_TIMEOUT));
     let (served, is_whole) = ended?;
@@ -175,37 +177,20 @@ fn has_recorded(is_recorded: bool, is_whole: bool, is_written: bool) -> bool
 }
 
 /// Serves over sockets that are open. How many acts each worker made, and whether all was recorded.
-fn serve_recorded<G: Gate + Sync, W: Output + Drop, R: Net + Threads + Wait + Clock + Sync>(
+fn serve_recorded<G: Gate + Sync, R: Net + Threads + Wait + Clock + Sync>(
     rt: &R,
     alloc: Global,
-    config: Config,
     book: Book,
     sockets: Vec<Sockets>,
     crew: &Crew,
     pause: Pause,
-    recorder: Option<Recorder<W>>,
+    spool: Option<&Spool>,
     gate: &G,
 ) -> Result<(Vec<u64>, bool), RunFault>
-    requires { IfSome recorder (λ recorder. recorder.begun ≡ false) }
     ensures served { IfOk result (λ ended. vec_len ended.0 ≡ vec_len crew.now.served) }
     ensures fault { IfErr result (λ f. IsOfAddresses 0 f) }
 {
-    let sealing = Sealing::new(alloc, config, pause, recorder)?;
+    let sealing = Sealing::new(alloc, pause, spool)?;
     let blank = Blank::new(PARTS);
-    work::<Brand, G, W, R>(rt, alloc, blank, book, sockets, crew, sealing, gate)
-}
-
-/// What records into the spool, where that is asked for.
-fn recorder_into<'a, R: Wait>(
-    rt: &'a R,
-    spool: &'a Spool,
-    is_recorded: bool,
-) -> Option<Recorder<Writing<Inlet<'a, R>>>>
-    ensures { IfSome result (λ recorder. recorder.begun ≡ false) }
-{
-    if is_recorded {
-        Some(Recorder::new(Writing::new(Inlet::new(rt, spool))))
-    } else {
-        None
-    }
+    work::<Brand, G, R>(rt, alloc, blank, book, sockets, crew, sealing, gate)
 }

@@ -11,7 +11,6 @@ use crate::socket_source::SocketSource;
 use crate::sockets::Sockets;
 use crate::{Gate, serve};
 use portmap_book::{Book, Desk, Seat};
-use portmap_link::Output;
 use std::alloc::Global;
 use std::rt::Clock;
 use std::sync::Wait;
@@ -87,17 +86,12 @@ fn work_as<L: Ledger, G: Gate, R: Wait + Clock>(
 
 /// Has each worker serve in a thread of its own, as far as threads can be started, while this thread takes out the log. Whether
 /// all of the log was recorded; none where no thread could be started.
-fn work_all<
-    L: Ledger + Send + Sync,
-    G: Gate + Sync,
-    W: Output + Drop,
-    R: Threads + Wait + Clock + Sync,
->(
+fn work_all<L: Ledger + Send + Sync, G: Gate + Sync, R: Threads + Wait + Clock + Sync>(
     rt: &R,
     alloc: Global,
     shared: &Shared<'_, L, G>,
     jobs: Vec<Job<L>>,
-    sealing: Sealing<W>,
+    sealing: Sealing<'_>,
 ) -> Option<bool> {
     thread::scope(thread::scope_env(), rt, |scope| {
         let mut started = false;
@@ -135,19 +129,14 @@ fn ended(alloc: Global, crew: &Crew, is_whole: Option<bool>) -> Result<(Vec<u64>
 
 /// Has each worker serve at one desk over the book, in a thread of its own, while this thread takes out the log. How many acts
 /// each made, and whether all of the log was recorded.
-pub(crate) fn work<
-    L: Ledger + Send + Sync,
-    G: Gate + Sync,
-    W: Output + Drop,
-    R: Threads + Wait + Clock + Sync,
->(
+pub(crate) fn work<L: Ledger + Send + Sync, G: Gate + Sync, R: Threads + Wait + Clock + Sync>(
     rt: &R,
     alloc: Global,
     blank: Blank,
     book: Book,
     sockets: Vec<Sockets>,
     crew: &Crew,
-    sealing: Sealing<W>,
+    sealing: Sealing<'_>,
     gate: &G,
 ) -> Result<(Vec<u64>, bool), RunFault>
     requires name { blank.name ≡ L.name }
@@ -166,17 +155,12 @@ pub(crate) fn work<
 }
 
 /// The same, at a desk that is there.
-fn work_at<
-    L: Ledger + Send + Sync,
-    G: Gate + Sync,
-    W: Output + Drop,
-    R: Threads + Wait + Clock + Sync,
->(
+fn work_at<L: Ledger + Send + Sync, G: Gate + Sync, R: Threads + Wait + Clock + Sync>(
     rt: &R,
     alloc: Global,
     shared: &Shared<'_, L, G>,
     sockets: Vec<Sockets>,
-    sealing: Sealing<W>,
+    sealing: Sealing<'_>,
 ) -> Result<(Vec<u64>, bool), RunFault>
     ensures served { IfOk result (λ ended. vec_len ended.0 ≡ vec_len shared.now.crew.now.served) }
     ensures fault { IfErr result (λ f. IsOfAddresses 0 f) }
