@@ -6,10 +6,10 @@ ghost use Rattle.portmap_link.specs.Adapters.{writing_inner, writing_puts, writi
 ghost use Rattle.portmap_link.specs.Asking.{MakesTurns};
 ghost use Rattle.portmap_link.specs.Once.{Did};
 ghost use Rattle.portmap_link.specs.declared.single.OnceFault.{OnceFault};
-ghost use Rattle.portmap_record.specs.Playing.{local_record, Plays, TellsFound};
+ghost use Rattle.portmap_record.specs.Playing.{local_record, IsRemoteRun, Plays, TellsFound};
 ghost use Rattle.portmap_record.specs.declared.verdict.Verdict.{Verdict};
 ghost use Rattle.portmap_record.specs.declared.playing.PlayFault.{PlayFault};
-ghost use Rattle.epmd.specs.Actions.{once_config, status_of, line_of, Passes, EndsWith, failure_of_once, failure_of_play, status_of_fate, status_of_found, status_of_verdict, IsOfFile, IsSilent, IsToShow, tells};
+ghost use Rattle.epmd.specs.Actions.{once_config, status_of, line_of, Passes, EndsWith, failure_of_once, failure_of_play, status_of_fate, status_of_found, status_of_verdict, IsOfFile, IsSilent, IsToShow, Refuses, tells};
 
 use crate::words::Action;
 use portmap_core::{Config, Fate};
@@ -114,7 +114,7 @@ impl From<PlayFault> for Failure {
     fn from(fault: PlayFault) -> Failure {
         match fault {
             PlayFault::NoMemory => Failure::Memory,
-            PlayFault::Bad(_) => Failure::BadRecord,
+            PlayFault::Bad(_) | PlayFault::RemoteOpen => Failure::BadRecord,
             PlayFault::ReadFault
             | PlayFault::TooLong
             | PlayFault::WriteFault { .. }
@@ -236,7 +236,7 @@ fn show<R: Read, W: Write>(
 ) -> Result<bool, PlayFault>
     requires { IsToShow action.now }
     ensures did { let seen = streams R.remaining W.contents in
-        Plays (tells action.now) (seen input.old output.old) (seen input.new output.new) result }
+        Plays (tells action.now) (Refuses action.now) (seen input.old output.old) (seen input.new output.new) result }
     ensures turns { let seen = streams R.remaining W.contents in
         MakesTurns FILE_TURNS (seen input.old output.old) (seen input.new output.new) result (λ sent. Err (PlayFault.TooManyTurns sent)) }
 {
@@ -259,7 +259,7 @@ fn do_shown<R: Read, W: Write, E: Write>(
     ensures silent { (result ≡ DONE) ⊎ (result ≡ NOT_DONE) → errors.new ≡ errors.old }
     ensures shown { (ended : Result Bool PlayFault)
         × (let seen = streams R.remaining W.contents in
-        Plays (tells action.now) (seen input.old output.old) (seen input.new output.new) ended
+        Plays (tells action.now) (Refuses action.now) (seen input.old output.old) (seen input.new output.new) ended
         × MakesTurns FILE_TURNS (seen input.old output.old) (seen input.new output.new) ended (λ sent. Err (PlayFault.TooManyTurns sent)))
         × EndsWith status_of_verdict failure_of_play result ended (writing_broken output.new) }
 {
@@ -298,7 +298,7 @@ fn do_local<R: Read, W: Write, E: Write>(
     ensures silent { result ≡ DONE → errors.new ≡ errors.old }
     ensures written { (ended : Result Verdict PlayFault)
         × (let seen = streams R.remaining W.contents in
-        TellsFound local_record (seen input.old output.old) (seen input.new output.new) ended
+        TellsFound local_record IsRemoteRun (seen input.old output.old) (seen input.new output.new) ended
         × MakesTurns FILE_TURNS (seen input.old output.old) (seen input.new output.new) ended (λ sent. Err (PlayFault.TooManyTurns sent)))
         × EndsWith status_of_found failure_of_play result ended (writing_broken output.new) }
 {
@@ -311,7 +311,7 @@ fn do_local<R: Read, W: Write, E: Write>(
 /// Reads a recorded session from `input`, to its end, and writes to `output` what is found of it: for `Check` whether it is a
 /// run of the port mapper's machine, for `Play` every entry before that. For `Local` it writes the session without its remote
 /// peers where it is a run; where it is none, nothing, and `errors` gets the line that tells so. Status 0 for a run, 1 for
-/// none. Status 2 where the bytes are no record, status 3 where a device failed, `FILE_TURNS` pulls and puts were made and one
+/// none. Status 2 where the bytes are no record, or for `Local` one that begins with an open connection of a remote peer, status 3 where a device failed, `FILE_TURNS` pulls and puts were made and one
 /// more was due, the input has more bytes than a session may have, or memory ran out: `errors` then gets one line.
 ///
 /// The output is flushed at the end, as by `do_once`.
@@ -327,7 +327,7 @@ pub fn do_file<R: Read, W: Write, E: Write>(
     // What was read and written, in how many turns, and why the status is so.
     ensures shown { (ended : Result Bool PlayFault)
         × (let seen = streams R.remaining W.contents in
-        Plays (tells action.now) (seen input.old output.old) (seen input.new output.new) ended
+        Plays (tells action.now) (Refuses action.now) (seen input.old output.old) (seen input.new output.new) ended
         × MakesTurns FILE_TURNS (seen input.old output.old) (seen input.new output.new) ended (λ sent. Err (PlayFault.TooManyTurns sent)))
         × EndsWith status_of_verdict failure_of_play result ended (writing_broken output.new) }
 {
