@@ -27,6 +27,7 @@ mod segments;
 mod serving;
 mod settings;
 mod sources;
+mod starts;
 mod stream_links;
 mod streams;
 mod tape;

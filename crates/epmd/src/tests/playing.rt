@@ -6,7 +6,7 @@ use crate::tests::tape::{NEVER, Plan, SINGLE, STEADY, Tape};
 use crate::tests::transcript::{LOOK_UP_LINES, WRONG_LOOK_UP_LINES};
 use portmap_core::{Config, Entry, Fate};
 use portmap_record::{
-    PlayFault, Record, RecordFault, SESSION_MOST, play, tell_verdict, write_record,
+    PlayFault, Record, RecordFault, SESSION_MOST, Version, play, tell_verdict, write_record,
 };
 use std::alloc::Global;
 use std::test::Fail;
@@ -298,6 +298,7 @@ fn add_entries(alloc: Global, session: &mut Record) -> Result<(), Fail> {
 fn long_session(alloc: Global) -> Result<Vec<u8>, Fail> {
     let mut session = Record {
         config: Config::new(4369, false, 1, 1)?,
+        version: Version::One,
         entries: Vec::new(alloc),
     };
     add_entries(alloc, &mut session)?;

@@ -2,9 +2,9 @@
 use crate::tests::cases::{Case, all_hold};
 use portmap_core::{Config, Entry, Fate};
 use portmap_record::{
-    CheckFault, Record, RecordFault, WriteRecordFault, check, read_record, readings_agree,
-    records_are_read, records_are_unique, verdicts_agree, what_is_read_is_a_record, whole_entries,
-    write_record,
+    CheckFault, Form, Record, RecordFault, Version, WriteRecordFault, check, read_record,
+    readings_agree, records_are_read, records_are_unique, verdicts_agree, what_is_read_is_a_record,
+    whole_entries, write_record,
 };
 use std::alloc::Global;
 use std::test::Fail;
@@ -79,7 +79,9 @@ const CHANGED: &[(usize, &[u8], Result<usize, RecordFault>)] = &[
     (0, &[], Ok(4)),
     (0, &[0x44], Err(RecordFault::BadMagic)),
     (3, &[0x54, 2], Err(RecordFault::BadMagic)),
-    (4, &[2], Err(RecordFault::BadVersion(2))),
+    // In version 2 the bytes behind the header are a state, which has names here, and that is not whole.
+    (4, &[2], Err(RecordFault::Truncated(0))),
+    (4, &[3], Err(RecordFault::BadVersion(3))),
     (4, &[0, 2], Err(RecordFault::BadVersion(0))),
     (5, &[1], Ok(4)),
     (5, &[2], Err(RecordFault::BadConfig)),
@@ -133,6 +135,7 @@ const ALONE: &[(&[u8], Result<usize, RecordFault>)] = &[
         &[0x45, 0x50, 0x4D, 0x53, 1, 9],
         Err(RecordFault::Truncated(0)),
     ),
+    (&[0x45, 0x50, 0x4D, 0x53, 2], Err(RecordFault::Truncated(0))),
 ];
 
 fn is_kept(entry: &Entry, kept: &Kept) -> bool {
@@ -167,24 +170,25 @@ pub fn are_kept(entries: &[Entry], kept: &[Kept]) -> bool {
     entries.len() == kept.len()
 }
 
-fn is_config(config: &Config) -> bool {
+pub fn is_config(config: &Config) -> bool {
     config.port == 4369 && !config.relaxed && config.conn_max == 2 && config.known_max == 2
 }
 
 fn is_session(alloc: Global) -> Result<bool, Fail> {
     let session = read_record(alloc, &SESSION)?;
-    Ok(is_config(&session.config) && are_kept(&session.entries, ENTRIES))
+    let is_first = matches!(session.version, Version::One);
+    Ok(is_first && is_config(&session.config) && are_kept(&session.entries, ENTRIES))
 }
 
 /// Whether what is read is written as it was.
-fn is_written_back(alloc: Global, bytes: &[u8]) -> Result<bool, Fail> {
+pub fn is_written_back(alloc: Global, bytes: &[u8]) -> Result<bool, Fail> {
     let session = read_record(alloc, bytes)?;
     let written = write_record(alloc, &session)?;
     Ok(written.as_slice() == bytes)
 }
 
 /// How many entries these bytes are the record of.
-fn count_of(alloc: Global, bytes: &[u8]) -> Result<usize, RecordFault> {
+pub fn count_of(alloc: Global, bytes: &[u8]) -> Result<usize, RecordFault> {
     let session = read_record(alloc, bytes)?;
     Ok(session.entries.len())
 }
@@ -208,7 +212,7 @@ fn first_miscounted() -> Option<usize> {
     for (from, to, whole) in WHOLE {
         for length in *from..=*to {
             let (front, _) = entries.split_at(length.min(entries.len()));
-            if whole_entries(front) != *whole {
+            if whole_entries(Form::Plain, front) != *whole {
                 return Some(length);
             }
         }
@@ -218,8 +222,18 @@ fn first_miscounted() -> Option<usize> {
 
 /// `SESSION` with these bytes from this place on.
 pub fn changed(alloc: Global, at: usize, bytes: &[u8]) -> Result<Vec<u8>, Fail> {
-    let mut all = Vec::with_capacity(alloc, 109)?;
-    for (place, byte) in SESSION.iter().enumerate() {
+    changed_in(alloc, &SESSION, at, bytes)
+}
+
+/// The same of another session.
+pub fn changed_in(
+    alloc: Global,
+    session: &[u8],
+    at: usize,
+    bytes: &[u8],
+) -> Result<Vec<u8>, Fail> {
+    let mut all = Vec::with_capacity(alloc, session.len())?;
+    for (place, byte) in session.iter().enumerate() {
         let new = match place.checked_sub(at) {
             Some(index) => bytes.get(index).unwrap_or(byte),
             None => byte,
@@ -270,6 +284,7 @@ fn first_misread_entry(alloc: Global) -> Result<Option<usize>, Fail> {
 fn empty(alloc: Global) -> Result<Record, Fail> {
     Ok(Record {
         config: Config::new(4369, true, 65_535, 1)?,
+        version: Version::One,
         entries: Vec::new(alloc),
     })
 }
@@ -357,7 +372,7 @@ fn a_session_that_is_cut_is_faulted_at_its_last_entry(rt: HostRuntime) {
 #[test]
 fn a_session_that_is_cut_has_whole_entries_up_to_its_last_whole_one(rt: HostRuntime) {
     assert_eq!(rt; first_miscounted(), None);
-    assert_eq!(rt; whole_entries(&[6]), 0);
+    assert_eq!(rt; whole_entries(Form::Plain, &[6]), 0);
 }
 
 #[test]
@@ -478,11 +493,11 @@ fn is_judged(alloc: Global, bytes: &[u8]) -> bool {
     }
 }
 
-/// The first place at which some byte makes `SESSION` none of these.
-fn first_unjudged(alloc: Global) -> Result<Option<usize>, Fail> {
-    for at in 0..SESSION.len() {
+/// The first place at which some byte makes a session none of these.
+pub fn first_unjudged(alloc: Global, session: &[u8]) -> Result<Option<usize>, Fail> {
+    for at in 0..session.len() {
         for byte in 0..=255 {
-            let all = changed(alloc, at, &[byte])?;
+            let all = changed_in(alloc, session, at, &[byte])?;
             if !is_judged(alloc, &all) {
                 return Ok(Some(at));
             }
@@ -493,7 +508,7 @@ fn first_unjudged(alloc: Global) -> Result<Option<usize>, Fail> {
 
 #[test]
 fn whatever_a_byte_of_a_session_is_it_is_judged(rt: HostRuntime) -> Result<(), Fail> {
-    assert_eq!(rt; first_unjudged(rt.alloc())?, None);
+    assert_eq!(rt; first_unjudged(rt.alloc(), &SESSION)?, None);
     Ok(())
 }
 

@@ -8,7 +8,7 @@ use crate::tests::tape::{Plan, SINGLE, STEADY, Tape};
 use crate::tests::transcript::entries;
 use portmap_core::{Config, Entry, Fate};
 use portmap_record::{
-    PlayFault, Record, Verdict, local_parts_are_runs, local_records_are_runs,
+    PlayFault, Record, Verdict, Version, local_parts_are_runs, local_records_are_runs,
     remote_peers_change_nothing, without_remote, write_local, write_record,
 };
 use std::alloc::Global;
@@ -252,6 +252,7 @@ fn a_run_is_written_without_its_remote_peers(rt: HostRuntime) -> Result<(), Fail
 fn record_of(alloc: Global, table: &[Kept]) -> Result<Vec<u8>, Fail> {
     let session = Record {
         config: Config::new(4369, false, 2, 2)?,
+        version: Version::One,
         entries: entries(alloc, table)?,
     };
     Ok(write_record(alloc, &session)?)
@@ -287,6 +288,7 @@ fn add_connections(session: &mut Record, count: u64) -> Result<(), Fail> {
 fn many_connections(alloc: Global) -> Result<Vec<u8>, Fail> {
     let mut session = Record {
         config: Config::new(4369, false, 1, 1)?,
+        version: Version::One,
         entries: Vec::new(alloc),
     };
     add_connections(&mut session, 10_000)?;
