@@ -27,7 +27,6 @@ mod segments;
 mod serving;
 mod settings;
 mod sources;
-mod starts;
 mod stream_links;
 mod streams;
 mod tape;

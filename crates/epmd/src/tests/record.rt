@@ -226,12 +226,7 @@ pub fn changed(alloc: Global, at: usize, bytes: &[u8]) -> Result<Vec<u8>, Fail> 
 }
 
 /// The same of another session.
-pub fn changed_in(
-    alloc: Global,
-    session: &[u8],
-    at: usize,
-    bytes: &[u8],
-) -> Result<Vec<u8>, Fail> {
+pub fn changed_in(alloc: Global, session: &[u8], at: usize, bytes: &[u8]) -> Result<Vec<u8>, Fail> {
     let mut all = Vec::with_capacity(alloc, session.len())?;
     for (place, byte) in session.iter().enumerate() {
         let new = match place.checked_sub(at) {

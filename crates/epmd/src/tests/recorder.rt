@@ -3,14 +3,13 @@ ghost use Rattle.std.specs.Prelude.{◌≡◌, false, true, IfOk, IfSome};
 
 use crate::tests::cases::{Case, all_hold, is_so};
 use crate::tests::record::{SESSION, changed};
-use crate::tests::starts::UPGRADED;
 use crate::tests::tape::{Plan, STEADY, Tape};
 use portmap_core::{Config, Entry, Fate, State};
 use portmap_daemon::{Recorder, recordings_are_fronts, recordings_are_records};
 use portmap_link::Output;
 use portmap_record::{
-    Record, Version, WriteRecordFault, read_record, records_grow, records_have_parts, write_beginning,
-    write_entries, write_header,
+    Record, Version, WriteRecordFault, read_record, records_grow, records_have_parts,
+    write_beginning, write_entries, write_header,
 };
 use std::alloc::Global;
 use std::test::Fail;
@@ -19,6 +18,18 @@ use std::test::Fail;
 fn halves<T>(list: &[T]) -> (&[T], &[T]) {
     list.split_at(list.len().min(2))
 }
+
+/// `SESSION` with its entries behind the number of worker 0 each, from place 0 and nothing known on.
+const UPGRADED: [u8; 146] = [
+    0x45, 0x50, 0x4D, 0x53, 2, 0, 0x11, 0x11, 0, 0, 0, 2, 0, 0, 0, 2, //
+    0, 0, 0, 0, 0, 0, 0, 0, 0, 0, 0, 0, 0, 0, 0, 0, 0, 0, 0, 0, 0, //
+    0, 0, 0, 0, 1, 1, 0, 0, 0, 0, 0, 0, 0, 0, //
+    0, 0, 0, 0, 2, 0, 0, 0, 0, 0, 0, 0, 0, 0, 0x10, 0, 0x0E, 0x78, 0x13, 0x88, 0x4D, 0, 0, 6, 0, 5,
+    0, 1, 0x61, 0, 0, 0, 0, 0, 0, 6, 0x76, 0, 0, 0, 0, 4, //
+    0, 0, 0, 0, 1, 1, 0, 0, 0, 0, 0, 0, 0, 1, //
+    0, 0, 0, 0, 2, 0, 0, 0, 0, 0, 0, 0, 1, 0, 4, 0, 2, 0x7A, 0x61, 1, 0, 0, 0, 0x0F, 0x77, 0, 0x13,
+    0x88, 0x4D, 0, 0, 6, 0, 5, 0, 1, 0x61, 0, 0,
+];
 
 /// Worker 0 made each of so many entries.
 const NOBODY: &[u32] = &[0, 0, 0, 0];
@@ -41,8 +52,8 @@ fn are_parts(alloc: Global, session: &Record, bytes: &[u8]) -> Result<bool, Fail
     let (front, back) = halves(&session.entries);
     let mut all = write_header(alloc, &session.config)?;
     let is_header = all.len() == 16;
-    let are_long =
-        adds(alloc, &mut all, front, None, 48)? && adds(alloc, &mut all, back, None, 45)?;
+    let are_long = adds(alloc, &mut all, front, None, 48)?
+        && adds(alloc, &mut all, back, None, 45)?;
     Ok(is_header && are_long && all.as_slice() == bytes)
 }
 
@@ -63,8 +74,8 @@ fn are_numbered_parts(alloc: Global, session: &Record) -> Result<bool, Fail> {
     let (front, back) = halves(&session.entries);
     let (one, two) = halves(NOBODY);
     let is_header = all.len() == 37;
-    let are_long =
-        adds(alloc, &mut all, front, Some(one), 56)? && adds(alloc, &mut all, back, Some(two), 53)?;
+    let are_long = adds(alloc, &mut all, front, Some(one), 56)?
+        && adds(alloc, &mut all, back, Some(two), 53)?;
     Ok(is_header && are_long && all.as_slice() == UPGRADED.as_slice())
 }
 
