@@ -15,6 +15,7 @@ mod request;
 mod request_reading;
 mod request_writing;
 
+pub use fields_writing::put_fields;
 pub use list::{DumpLine, Line};
 pub use list_reading::{
     ListFault, lines_have_one_reading, lists_have_one_reading, names_are_read_back, read_dump,
