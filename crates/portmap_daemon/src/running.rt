@@ -95,6 +95,14 @@ impl<T: Drop> From<AllocFailed<T>> for RunFault {
     }
 }
 
+/// The files of a recording: none where there is no path.
+#[derive(Drop)]
+struct RecordingFiles {
+    path: Option<String>,
+    /// A file that has so many bytes is full.
+    file_most: u64,
+}
+
 /// Serves until the port mapper is told to end. It waits.
 pub fn run<R: Net + MakesFiles + Threads + Wait + Clock + Clone + Drop + Send + Sync + 'static>(
     rt: &R,
@@ -121,9 +129,41 @@ pub fn run_gated<
     ensures served { IfOk result (λ end. vec_len end.served ≡ settings.workers) }
     ensures fault { IfErr result (λ f. IsOfAddresses (vec_len settings.addresses) f) }
 {
+    run_in_files(rt, alloc, settings, gate, FILE_MOST)
+}
+
+/// The same, with files of a recording that are full once they have so many bytes.
+pub fn run_in_files<
+    G: Gate + Sync,
+    R: Net + MakesFiles + Threads + Wait + Clock + Clone + Drop + Send + Sync + 'static,
+>(
+    rt: &R,
+    alloc: Global,
+    settings: Settings,
+    gate: &G,
+    file_most: u64,
+) -> Result<RunEnd, RunFault>
+    requires addresses { 0 < vec_len settings.addresses }
+    requires timeout { (1 ≤ settings.timeout) × (settings.timeout ≤ TIMEOUT_MOST) }
+    requires workers { (1 ≤ settings.workers) × (settings.workers ≤ SEATS_MOST) }
+    ensures served { IfOk result (λ end. vec_len end.served ≡ settings.workers) }
+    ensures fault { IfErr result (λ f. IsOfAddresses (vec_len settings.addresses) f) }
+{
     let (sockets, crew, pause) = open(rt, alloc, &settings)?;
-    let book = Book::new(alloc, settings.config, settings.first)?;
-    serve_open(rt, alloc, settings, book, sockets, &crew, pause, gate)
+    let Settings {
+        config,
+        first,
+        addresses: _,
+        timeout: _,
+        workers: _,
+        recording,
+    } = settings;
+    let book = Book::new(alloc, config, first)?;
+    let files = RecordingFiles {
+        path: recording,
+        file_most,
+    };
+    serve_open(rt, alloc, files, book, sockets, &crew, pause, gate)
 }
 
 /// Serves over sockets that are open, and has it recorded where that is asked for.
@@ -133,7 +173,7 @@ fn serve_open<
 >(
     rt: &R,
     alloc: Global,
-    settings: Settings,
+    files: RecordingFiles,
     book: Book,
     sockets: Vec<Sockets>,
     crew: &Crew,
@@ -143,18 +183,11 @@ fn serve_open<
     ensures served { IfOk result (λ end. vec_len end.served ≡ vec_len crew.now.served) }
     ensures fault { IfErr result (λ f. IsOfAddresses 0 f) }
 {
-    let Settings {
-        config: _,
-        first: _,
-        addresses: _,
-        timeout: _,
-        workers: _,
-        recording,
-    } = settings;
-    let spool = Arc::new(alloc, Spool::new(alloc, FILE_MOST))?;
+    let RecordingFiles { path, file_most } = files;
+    let spool = Arc::new(alloc, Spool::new(alloc, file_most))?;
     // The file is made once the daemon listens: so one that can't leaves the file of another alone.
-    let is_recorded = recording.is_some();
-    if let Some(path) = recording {
+    let is_recorded = path.is_some();
+    if let Some(path) = path {
         start_recording(rt, alloc, &spool, path);
     }
     let records: Option<&Spool> = if is_recorded { Some(&spool) } else { None };
