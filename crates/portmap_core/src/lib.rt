@@ -6,6 +6,7 @@ mod connection;
 mod connections;
 mod directory;
 mod event;
+mod follow;
 mod held;
 mod held_slots;
 mod judge;
@@ -23,6 +24,7 @@ mod stepping;
 pub use config::{Config, ConfigFault, LIMIT_MOST, numbers_are_the_profiles};
 pub use connection::Phase;
 pub use event::{Answer, Entry, Event, Fate, Refusal};
+pub use follow::Follow;
 pub use held::Held;
 pub use laws::{
     entries_determine, malformed_changes_no_name, names_belong_to_connections, steps_keep_owned,
