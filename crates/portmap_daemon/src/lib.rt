@@ -36,9 +36,7 @@ pub use crate::numbers::numbers_are_the_profiles;
 pub use crate::peer::is_local_peer;
 pub use crate::recorder::{Recorder, recordings_are_fronts, recordings_are_records};
 pub use crate::recording::{MakesFiles, write_recording};
-pub use crate::running::{
-    RunEnd, RunFault, Settings, TIMEOUT_MOST, run, run_gated, run_in_files,
-};
+pub use crate::running::{RunEnd, RunFault, Settings, TIMEOUT_MOST, run, run_gated, run_in_files};
 pub use crate::serving::{Outcome, serve};
 pub use crate::source::{Source, Turn};
 pub use crate::spool::Spool;

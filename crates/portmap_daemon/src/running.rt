@@ -136,13 +136,7 @@ pub fn run_gated<
 pub fn run_in_files<
     G: Gate + Sync,
     R: Net + MakesFiles + Threads + Wait + Clock + Clone + Drop + Send + Sync + 'static,
->(
-    rt: &R,
-    alloc: Global,
-    settings: Settings,
-    gate: &G,
-    file_most: u64,
-) -> Result<RunEnd, RunFault>
+>(rt: &R, alloc: Global, settings: Settings, gate: &G, file_most: u64) -> Result<RunEnd, RunFault>
     requires addresses { 0 < vec_len settings.addresses }
     requires timeout { (1 ≤ settings.timeout) × (settings.timeout ≤ TIMEOUT_MOST) }
     requires workers { (1 ≤ settings.workers) × (settings.workers ≤ SEATS_MOST) }

@@ -4,7 +4,7 @@ ghost use Rattle.portmap_book.specs.declared.desk.TheConstants.{SEATS_MOST};
 ghost use Rattle.portmap_daemon.specs.declared.running.TheConstants.{TIMEOUT_MOST};
 
 use crate::actions::do_file;
-use crate::tests::bytes::{ALIVE_A, FOUND_A, KILL, NAMES, NOT_FOUND, PORT_A};
+use crate::tests::bytes::{ALIVE_A, DUMP, FOUND_A, KILL, NAMES, NOT_FOUND, PORT_A};
 use crate::tests::cases::is_so;
 use crate::tests::gates::Meet;
 use crate::words::Action;
@@ -29,7 +29,7 @@ enum Story {
     Resets,
     /// A connection says nothing, for longer than it may, and a node that is registered neither.
     Silent,
-    /// Names are long, and a peer that asks for their list doesn't read it.
+    /// A peer asks for a list that is longer than what the system holds of it, and reads it only when another one was answered.
     Stalls,
     /// Eight peers ask for the list of names, one after the other, and read nothing.
     Crowds,
@@ -151,37 +151,72 @@ fn is_silent<R: Net<Stream = TcpStream> + Clock>(rt: &R, port: u16) -> Option<bo
     Some(is_closed && is_answered(rt, port, PORT_A, FOUND_A)?)
 }
 
-/// A registration of a name of 1,020 (0x03FC) bytes, the first of which is this one. Its body has 1,033 (0x0409).
-fn long_registration(alloc: Global, first: u8) -> Option<Vec<u8>> {
+/// A registration of a name of 1,020 (0x03FC) bytes, which begins with these two. Its body has 1,033 (0x0409).
+fn long_registration(alloc: Global, first: [u8; 2]) -> Option<Vec<u8>> {
     let mut request = [
-        0x04, 0x09, 0x78, 0x13, 0x88, 0x4D, 0x00, 0x00, 0x06, 0x00, 0x05, 0x03, 0xFC, first,
+        0x04, 0x09, 0x78, 0x13, 0x88, 0x4D, 0x00, 0x00, 0x06, 0x00, 0x05, 0x03, 0xFC,
     ]
     .to_vec(alloc)
     .ok()?;
+    request.extend_from_slice(&first).ok()?;
     request.resize(1033, 0x6E).ok()?;
     request.resize(1035, 0).ok()?;
     Some(request)
 }
 
-/// The connections of 64 nodes whose names are as long as may be: their list has more than 65,000 bytes.
-fn long_nodes<R: Net<Stream = TcpStream> + Clock>(
+/// Whether a node with such a name registers. It leaves at once.
+fn passes<R: Net<Stream = TcpStream> + Clock>(
     rt: &R,
     alloc: Global,
     port: u16,
-) -> Option<Vec<TcpStream>> {
-    let mut nodes = Vec::new(alloc);
-    for first in 0x30..0x70u8 {
-        let request = long_registration(alloc, first)?;
-        nodes.push(sent(rt, port, &request)?).ok()?;
-    }
-    Some(nodes)
+    first: [u8; 2],
+) -> Option<bool> {
+    let request = long_registration(alloc, first)?;
+    let mut node = sent(rt, port, &request)?;
+    let mut reply = [0; 6];
+    node.read_exact(&mut reply).ok()?;
+    Some(reply.starts_with(&[0x76, 0]))
 }
 
+/// Whether 4,800 such nodes come and leave.
+fn pass<R: Net<Stream = TcpStream> + Clock>(rt: &R, alloc: Global, port: u16) -> Option<bool> {
+    for one in 0x30..0x60 {
+        for two in 0x80..0xE4 {
+            if !passes(rt, alloc, port, [one, two])? {
+                return Some(false);
+            }
+        }
+    }
+    Some(true)
+}
+
+/// How many bytes come until the peer closes.
+fn length_of(stream: &mut TcpStream) -> Option<usize> {
+    let mut buffer = [0; 4096];
+    let mut length = 0usize;
+    for _ in 0..u64::MAX {
+        let count = stream.read(&mut buffer).ok()?;
+        if count == 0 {
+            break;
+        }
+        length = length.saturating_add(count);
+    }
+    Some(length)
+}
+
+/// The list of names of the daemon at port 14,372, which is 0x3824, with none in it.
+const NONE_LISTED: &[u8] = &[0x00, 0x00, 0x38, 0x24];
+
+/// Each of the lines `old/unused name NAME at port 5000, fd = -1` has 1,059 bytes. All have more than loopback holds of what a peer
+/// doesn't read: 4 MB, and what the peer has room for.
+const DUMP_LENGTH: usize = 5_083_204;
+
 fn stalls<R: Net<Stream = TcpStream> + Clock>(rt: &R, alloc: Global, port: u16) -> Option<bool> {
-    let _nodes = long_nodes(rt, alloc, port)?;
-    let _stalled = sent(rt, port, NAMES)?;
+    let have_passed = pass(rt, alloc, port)? && comes_to(rt, port, NAMES, NONE_LISTED);
+    let mut stalled = sent(rt, port, DUMP)?;
     let _node = registered(rt, port)?;
-    is_answered(rt, port, PORT_A, FOUND_A)
+    let is_found = is_answered(rt, port, PORT_A, FOUND_A)?;
+    Some(have_passed && is_found && length_of(&mut stalled)? == DUMP_LENGTH)
 }
 
 fn crowds<R: Net<Stream = TcpStream> + Clock>(rt: &R, alloc: Global, port: u16) -> Option<bool> {
@@ -225,7 +260,7 @@ pub fn settings_at(
     let mut addresses = Vec::new(alloc);
     addresses.push([127, 0, 0, 1])?;
     Ok(Settings {
-        config: Config::new(port, true, 1024, 4096)?,
+        config: Config::new(port, true, 1024, 8192)?,
         first: 4,
         addresses,
         timeout,
@@ -296,7 +331,7 @@ fn a_silent_connection_is_closed_and_a_registered_one_is_not(rt: HostRuntime) ->
 }
 
 #[test]
-fn a_peer_that_reads_nothing_stops_no_other(rt: HostRuntime) -> Result<(), Fail> {
+fn a_peer_that_reads_late_stops_no_other_and_gets_all(rt: HostRuntime) -> Result<(), Fail> {
     let alloc = rt.alloc();
     let settings = settings(alloc, Story::Stalls, None)?;
     let (ended, told) = thread::join(

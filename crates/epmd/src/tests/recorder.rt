@@ -20,7 +20,7 @@ fn halves<T>(list: &[T]) -> (&[T], &[T]) {
 }
 
 /// `SESSION` with its entries behind the number of worker 0 each, from place 0 and nothing known on.
-const UPGRADED: [u8; 146] = [
+pub const UPGRADED: [u8; 146] = [
     0x45, 0x50, 0x4D, 0x53, 2, 0, 0x11, 0x11, 0, 0, 0, 2, 0, 0, 0, 2, //
     0, 0, 0, 0, 0, 0, 0, 0, 0, 0, 0, 0, 0, 0, 0, 0, 0, 0, 0, 0, 0, //
     0, 0, 0, 0, 1, 1, 0, 0, 0, 0, 0, 0, 0, 0, //

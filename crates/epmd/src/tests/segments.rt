@@ -1,13 +1,15 @@
 //! A log in segments, and the tickets of its entries.
 use crate::tests::bytes::{ALIVE_A, FIFTH, FOURTH};
-use crate::tests::cases::{Case, all_hold};
-use crate::tests::desk::{book, is_gone, is_part, ticket};
+use crate::tests::cases::{Case, all_hold, is_so};
+use crate::tests::desk::{book, is_gone, is_part, is_said, ticket};
 use crate::tests::record::Kept;
+use crate::tests::starts::CLOSES;
 use crate::tests::transcript::entry;
 use portmap_book::{
     Book, GatherFault, Segment, Ticket, gather, segments_are_one_run, tickets_agree,
 };
 use portmap_core::{Answer, Config, Entry, Event, Fate};
+use portmap_record::{Record, Version, WriteRecordFault, write_record};
 use std::alloc::Global;
 use std::test::Fail;
 
@@ -249,4 +251,80 @@ fn are_gathered(alloc: Global) -> Option<bool> {
 fn segments_are_sealed_while_connections_are_open(rt: HostRuntime) -> Result<(), Fail> {
     assert_eq!(rt; are_gathered(rt.alloc()), Some(true));
     Ok(())
+}
+
+// ---- as records
+
+/// The book of a port mapper of two connections and two names at most.
+pub fn small_book(alloc: Global) -> Option<Book> {
+    let config = Config::new(4369, false, 2, 2).ok()?;
+    Book::new(alloc, config, 4).ok()
+}
+
+/// Whether worker 1 has a node connect and register.
+fn registers(alloc: Global, book: &mut Book) -> Option<bool> {
+    let bytes = ALIVE_A.to_vec(alloc).ok()?;
+    book.act(alloc, 1, Event::Connect { local: true }).ok()?;
+    let (place, answer) = book.act(alloc, 1, Event::Piece { slot: 0, bytes }).ok()?;
+    Some(place == 1 && is_said(&answer, FOURTH, Fate::Stay))
+}
+
+/// Whether worker 2 has it leave.
+fn leaves(alloc: Global, book: &mut Book) -> Option<bool> {
+    let (place, answer) = book.act(alloc, 2, Event::Close { slot: 0 }).ok()?;
+    Some(place == 2 && is_gone(&answer))
+}
+
+/// The second segment, where all goes as it should.
+fn second_segment(alloc: Global, book: &mut Book) -> Option<Segment> {
+    let is_there = registers(alloc, book)?;
+    let sealed = book.seal(alloc).ok()?;
+    let is_gone = leaves(alloc, book)?;
+    if is_there && is_gone && sealed.workers.as_slice() == [1, 1].as_slice() {
+        book.seal(alloc).ok()
+    } else {
+        None
+    }
+}
+
+fn second_of_small_book(alloc: Global) -> Option<Segment> {
+    let mut book = small_book(alloc)?;
+    second_segment(alloc, &mut book)
+}
+
+/// A segment as the bytes of a record.
+fn segment_bytes(alloc: Global, segment: Segment) -> Result<Vec<u8>, WriteRecordFault> {
+    let Segment {
+        config,
+        first,
+        start,
+        entries,
+        workers,
+        after: _,
+    } = segment;
+    let version = Version::Two {
+        first,
+        start,
+        workers,
+    };
+    let session = Record {
+        config,
+        version,
+        entries,
+    };
+    write_record(alloc, &session)
+}
+
+fn is_sealed(alloc: Global) -> Result<bool, Fail> {
+    match second_of_small_book(alloc) {
+        Some(segment) => Ok(segment_bytes(alloc, segment)?.as_slice() == CLOSES.as_slice()),
+        None => Ok(false),
+    }
+}
+
+#[test]
+fn a_segment_is_a_record_that_begins_where_the_one_before_it_ended(
+    rt: HostRuntime,
+) -> Result<(), Fail> {
+    is_so(&rt, is_sealed(rt.alloc()))
 }

@@ -2,16 +2,21 @@
 use super::{begin, end};
 use crate::tests::bytes::NOTHING;
 use crate::tests::cases::is_so;
-use crate::tests::record::SESSION;
+use crate::tests::record::{ENTRIES, SESSION, are_kept};
+use crate::tests::recorder::UPGRADED;
+use crate::tests::starts::{CLOSES, LOCAL_LEFT, MIXED, is_closes};
 use crate::tests::tape::{STEADY, Tape};
 use crate::tests::transcript::LOOK_UP_LINES;
-use portmap_record::{CheckFault, PlayFault, check, play, read_record};
+use portmap_record::{
+    CheckFault, LocalFault, PlayFault, Record, RecordFault, Version, WriteRecordFault, check,
+    local_record, play, read_record, upgrade, write_record,
+};
 use std::alloc::Global;
 use std::test::Fail;
 
 /// Whether a run is found to be one, or memory is refused to that.
-fn is_found(alloc: Global) -> Result<bool, Fail> {
-    let session = read_record(alloc, &SESSION)?;
+fn is_found(alloc: Global, bytes: &[u8]) -> Result<bool, Fail> {
+    let session = read_record(alloc, bytes)?;
     begin(alloc);
     let found = check(alloc, &session);
     end(alloc);
@@ -20,7 +25,86 @@ fn is_found(alloc: Global) -> Result<bool, Fail> {
 
 #[test]
 fn a_verdict_that_is_refused_is_none(rt: HostRuntime) -> Result<(), Fail> {
-    is_so(&rt, is_found(rt.alloc()))
+    is_so(&rt, is_found(rt.alloc(), &SESSION))
+}
+
+#[test]
+fn a_verdict_from_a_start_on_that_is_refused_is_none(rt: HostRuntime) -> Result<(), Fail> {
+    is_so(&rt, is_found(rt.alloc(), &CLOSES))
+}
+
+/// Whether a session that begins with a name is read, or memory is refused to that.
+fn is_read(alloc: Global) -> bool {
+    begin(alloc);
+    let session = read_record(alloc, &CLOSES);
+    end(alloc);
+    match session {
+        Ok(session) => is_closes(&session),
+        Err(fault) => fault == RecordFault::NoMemory,
+    }
+}
+
+#[test]
+fn a_start_is_read_whole_or_not_at_all(rt: HostRuntime) -> Result<(), Fail> {
+    is_so(&rt, Ok(is_read(rt.alloc())))
+}
+
+/// Whether it is written, or memory is refused to that.
+fn is_written(alloc: Global) -> Result<bool, Fail> {
+    let session = read_record(alloc, &CLOSES)?;
+    begin(alloc);
+    let written = write_record(alloc, &session);
+    end(alloc);
+    Ok(match written {
+        Ok(bytes) => bytes.as_slice() == CLOSES.as_slice(),
+        Err(fault) => fault == WriteRecordFault::NoMemory,
+    })
+}
+
+#[test]
+fn a_start_is_written_whole_or_not_at_all(rt: HostRuntime) -> Result<(), Fail> {
+    is_so(&rt, is_written(rt.alloc()))
+}
+
+/// Whether a session is written as these bytes.
+fn is_record(alloc: Global, session: &Record, bytes: &[u8]) -> Result<bool, Fail> {
+    Ok(write_record(alloc, session)?.as_slice() == bytes)
+}
+
+/// Whether `SESSION` comes to be of version 2, or memory is refused to that and it comes back as it was.
+fn is_upgraded(alloc: Global) -> Result<bool, Fail> {
+    let session = read_record(alloc, &SESSION)?;
+    begin(alloc);
+    let upgraded = upgrade(alloc, session);
+    end(alloc);
+    match upgraded {
+        Ok(session) => is_record(alloc, &session, &UPGRADED),
+        Err((_, session)) => {
+            Ok(matches!(session.version, Version::One) && are_kept(&session.entries, ENTRIES))
+        }
+    }
+}
+
+#[test]
+fn a_session_is_upgraded_or_handed_back(rt: HostRuntime) -> Result<(), Fail> {
+    is_so(&rt, is_upgraded(rt.alloc()))
+}
+
+/// Whether a session is left without its remote peers, or memory is refused to that.
+fn is_left(alloc: Global) -> Result<bool, Fail> {
+    let session = read_record(alloc, MIXED)?;
+    begin(alloc);
+    let left = local_record(alloc, &session);
+    end(alloc);
+    match left {
+        Ok(left) => is_record(alloc, &left, LOCAL_LEFT),
+        Err(fault) => Ok(fault == LocalFault::NoMemory),
+    }
+}
+
+#[test]
+fn a_session_is_left_without_its_remote_peers_or_not_at_all(rt: HostRuntime) -> Result<(), Fail> {
+    is_so(&rt, is_left(rt.alloc()))
 }
 
 /// Whether a run is told whole, or memory is refused to that and nothing is told.
