@@ -115,7 +115,7 @@ fn is_one_record(rt: &HostRuntime, path: &str) -> Result<bool, Fail> {
 
 #[test]
 fn a_file_that_is_not_full_goes_on(rt: HostRuntime) -> Result<(), Fail> {
-    assert_eq!(rt; is_written(&rt, rt.alloc(), 94, "room"), Some(true));
+    assert_eq!(rt; is_written(&rt, rt.alloc(), 107, "room"), Some(true));
     assert!(rt; is_one_record(&rt, "room")? && !fs::exists(&rt, "room.1")?);
     Ok(())
 }
