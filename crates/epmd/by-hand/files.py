@@ -120,6 +120,7 @@ def follow(path, files, ended):
 
 
 def case(path, place, by_signal):
+    os.sync()  # What others left to be written would hold up the recording.
     file = os.path.join(place, "signal" if by_signal else "kill")
     following = file + ".1"
     with Daemon(path, "-relaxed_command_check", "-record", file) as daemon:
