@@ -2,6 +2,9 @@ pub mod Determined
 pub mod Fronts
 pub mod Judged
 pub mod Runs
+pub mod Ends
+pub mod Shown
+pub mod Taken
 pub mod Lines
 pub mod Owned
 pub mod Served

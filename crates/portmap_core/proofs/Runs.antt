@@ -38,7 +38,7 @@ runs_join cfg (e ∷ es) fs s mid s' run more = (run.0, run.1, runs_join cfg es 
 pub run_more : (cfg : Configuration) (es : List Entry) (e : Entry) (s mid s' : State) → Run cfg s es mid → Step cfg mid e s' → Run cfg s (es ++ e ∷ []) s'
 run_more cfg es e s mid s' run step = runs_join cfg es (e ∷ []) s mid s' run (s', step, refl)
 
-run_owned : (cfg : Configuration) (es : List Entry) (s s' : State) → IsOwned cfg s → Run cfg s es s' → IsOwned cfg s'
+pub run_owned : (cfg : Configuration) (es : List Entry) (s s' : State) → IsOwned cfg s → Run cfg s es s' → IsOwned cfg s'
 run_owned cfg [] s s' owned run = subst (λ (x : State). IsOwned cfg x) (sym run) owned
 run_owned cfg (e ∷ es) s s' owned run = run_owned cfg es run.0 s' (steps_keep cfg s run.0 e owned run.1) run.2
 
@@ -47,9 +47,14 @@ holding b local (Waiting received) e h = absurd (let other : b ≡ false = h.0 i
 holding b local Holding e h = refl
 holding b local Done e h = absurd (let other : b ≡ false = h in cc)
 
-holder : (b : Bool) (o : Option Connection) → b ≡ true → IsSlotFor b o → (connection : Connection) × (o ≡ Some connection) × (connection.stage ≡ Holding)
+local_of : (b local : Bool) (stage : Stage) → b ≡ true → IsStageFor b local stage → local ≡ true
+local_of b local (Waiting received) e h = absurd (let other : b ≡ false = h.0 in cc)
+local_of b local Holding e h = h.1
+local_of b local Done e h = absurd (let other : b ≡ false = h in cc)
+
+holder : (b : Bool) (o : Option Connection) → b ≡ true → IsSlotFor b o → (connection : Connection) × (o ≡ Some connection) × (connection.stage ≡ Holding) × (connection.local ≡ true)
 holder b None e h = absurd (let other : b ≡ false = h in cc)
-holder b (Some connection) e h = (connection, refl, holding b connection.local connection.stage e h)
+holder b (Some connection) e h = (connection, refl, holding b connection.local connection.stage e h, local_of b connection.local connection.stage e h)
 
 belongs : (cfg : Configuration) (s : State) → IsOwned cfg s → NamesBelong s
 belongs cfg s owned = record {

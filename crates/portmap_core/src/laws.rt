@@ -1,5 +1,5 @@
 //! What always holds of the machine, as laws of its definitions.
-ghost use Rattle.portmap_core.specs.Laws.{WrittenIsWhole, EntriesDetermine, StepsKeepOwned, NamesBelongToConnections, MalformedChangesNoName};
+ghost use Rattle.portmap_core.specs.Laws.{ActiveNamesAreFound, ActiveNamesAreListed, EndsAreFinal, EndsLeaveNoName, EntriesDetermine, HoldersOutlastTheirTime, MalformedChangesNoName, NamesBelongToConnections, OthersAreToldNothing, RunsKeepLimits, StepsKeepOwned, TakenCreationsAreNew, WrittenIsWhole};
 
 /// The first request of what was written, whatever follows it, is the request written.
 pub fn written_is_whole()
@@ -25,4 +25,41 @@ pub fn names_belong_to_connections()
 /// A malformed request, by its length or its body, changes no name.
 pub fn malformed_changes_no_name()
     ensures { MalformedChangesNoName }
+{}
+
+/// Nothing happens once the port mapper has ended.
+pub fn ends_are_final()
+    ensures { EndsAreFinal }
+{}
+
+/// A connection that holds its name outlasts its time: it stays, and nothing changes.
+pub fn holders_outlast_their_time()
+    ensures { HoldersOutlastTheirTime }
+{}
+
+/// Unless its checks are relaxed, the port mapper ends only where no name is active.
+pub fn ends_leave_no_name()
+    ensures { EndsLeaveNoName }
+{}
+
+/// After any run no more names are known and no more connections are open than may be, and one that waits has sent no whole
+/// request.
+pub fn runs_keep_limits()
+    ensures { RunsKeepLimits }
+{}
+
+/// A name that becomes active gets another creation than the one that was remembered for it.
+pub fn taken_creations_are_new()
+    ensures { TakenCreationsAreNew }
+{}
+
+/// Whoever asks for an active name is told all that it was registered with, and it has its line in the list of names.
+pub fn active_names_are_shown()
+    ensures found { ActiveNamesAreFound }
+    ensures listed { ActiveNamesAreListed }
+{}
+
+/// Peers of other hosts are told where names are and which there are, and nothing else.
+pub fn others_are_told_nothing()
+    ensures { OthersAreToldNothing }
 {}

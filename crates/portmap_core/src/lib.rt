@@ -27,7 +27,9 @@ pub use event::{Answer, Entry, Event, Fate, Refusal};
 pub use follow::Follow;
 pub use held::Held;
 pub use laws::{
-    entries_determine, malformed_changes_no_name, names_belong_to_connections, steps_keep_owned,
+    active_names_are_shown, ends_are_final, ends_leave_no_name, entries_determine,
+    holders_outlast_their_time, malformed_changes_no_name, names_belong_to_connections,
+    others_are_told_nothing, runs_keep_limits, steps_keep_owned, taken_creations_are_new,
     written_is_whole,
 };
 pub use locality::{Ip, is_local};

@@ -1,13 +1,15 @@
 -- What a worker does with a connection that it holds: profile.
-use Rattle.std.specs.Prelude.{◌≡◌, ◌≢◌, ℕ, ◌≤◌, List, [], ◌∷◌, ◌++◌, length, Bool, true, false, ◌⊎◌}
+use Rattle.std.specs.Prelude.{◌≡◌, ◌≢◌, ℕ, ◌≤◌, List, [], ◌∷◌, ◌++◌, length, Bool, true, false, Ok, Err, ◌⊎◌}
 use Rattle.std.specs.Io.KnownBytes.{Consumes}
 use Rattle.portmap_core.specs.declared.event.Answer.{Answer}
 use Rattle.portmap_core.specs.declared.event.Answer.TheVariants as answer
+use Rattle.portmap_core.specs.declared.event.Event.TheVariants as event
 use Rattle.portmap_core.specs.declared.event.Fate.{Fate}
 use Rattle.portmap_core.specs.declared.event.Fate.TheVariants as fate
 use Rattle.portmap_core.specs.declared.event.Refusal.TheVariants as refusal
 use Rattle.portmap_book.specs.declared.book.ActFault.{ActFault}
 use Rattle.portmap_book.specs.declared.book.ActFault.TheVariants.{Worn, Refused}
+use Rattle.portmap_book.specs.Seat.{SeatView, Counts}
 use Rattle.portmap_link.specs.Asking.{Devices}
 use Rattle.portmap_link.specs.Flush.{LastPut}
 use Rattle.portmap_link.specs.declared.device.Pull.{Pull}
@@ -117,6 +119,14 @@ FollowsNothing false old new waiting Close = OffersFirst old new waiting × (Pul
 FollowsNothing false old new waiting Fault = (PullsNothing old new × WritingEnds flush.Fault old.puts new.puts waiting) ⊎ (OffersFirst old new waiting × Pulls pull.Fault old new)
 FollowsNothing false old new waiting Halt = OffersFirst old new waiting × Refuses Halt old new
 FollowsNothing false old new waiting NoMemory = OffersFirst old new waiting × Refuses NoMemory old new
+
+-- ---- a time that is over
+
+-- the desk is told that the time of the connection in a slot is over, and what it says or refuses is what is next
+abbrev pub IsLate : ℕ → SeatView → SeatView → Next → Type 0
+IsLate slot old new next =
+    ((told : ℕ × Answer) × Counts (event.Late slot) old new (Ok told) × (next ≡ next_after (fate_of told.1) flush.Empty))
+    ⊎ ((fault : ActFault) × Counts (event.Late slot) old new (Err fault) × (next ≡ next_of fault))
 
 -- ---- what a worker holds
 

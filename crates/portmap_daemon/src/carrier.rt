@@ -5,7 +5,7 @@ ghost use Rattle.portmap_core.specs.declared.event.Event.TheVariants as event;
 ghost use Rattle.portmap_book.specs.Told.{AsksPiece, SaysTo};
 ghost use Rattle.portmap_link.specs.Asking.{devices};
 ghost use Rattle.portmap_link.specs.Flush.{Moves};
-ghost use Rattle.portmap_daemon.specs.Carrying.{IsRead, FollowsAnswer, FollowsNothing, added, bytes_of, fate_of, is_close, next_after, next_of};
+ghost use Rattle.portmap_daemon.specs.Carrying.{IsLate, IsRead, FollowsAnswer, FollowsNothing, added, bytes_of, fate_of, is_close, next_after, next_of};
 
 use crate::{Gate, Point};
 use portmap_book::{ActFault, Conn, Desk, Seat};
@@ -78,7 +78,8 @@ impl<L: Ledger> Carrier<L> {
         ensures due { IfSome result.0 (λ told. (self.old.due ≡ false) × (self.new.due ≡ is_close (fate_of told.1))) }
         ensures counted { IfSome result.0 (λ told. (seat.new.count ≡ seat.old.count + 1) × (seat.old.count ≤ told.0)) }
         ensures next { IfSome result.0 (λ told. FollowsAnswer told.1 (I.puts link.old) (I.puts link.new) self.new.out result.1) }
-        ensures same { IfNone result.0 ((seat.new.count ≡ seat.old.count) × (self.new.due ≡ self.old.due)) }
+        ensures same { IfNone result.0 ((seat.new ≡ seat.old) × (self.new.due ≡ self.old.due)) }
+        ensures worker { seat.new.worker ≡ seat.old.worker }
         ensures flushed { IfNone result.0 (Moves (I.held link.old) (I.held link.new) self.old.out self.new.out) }
         ensures quiet { IfNone result.0 (let seen = devices I.left I.held I.pulls I.puts in
             FollowsNothing self.old.due (seen link.old link.old) (seen link.new link.new) self.new.out result.1) }
@@ -134,7 +135,7 @@ impl<L: Ledger> Carrier<L> {
         desk: &Desk<L>,
         seat: &mut Seat<L>,
     ) -> Next
-        ensures { seat.old.count ≤ seat.new.count }
+        ensures tells { IsLate self.now.conn.slot seat.old seat.new result }
     {
         match desk.late(rt, alloc, seat, &self.conn) {
             Ok((_, answer)) => next_after(fate_of(&answer), Flush::Empty),

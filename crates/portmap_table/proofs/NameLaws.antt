@@ -12,8 +12,11 @@ use Rattle.std.proofs.lemmas.List.Sorted.{IsPermutation-append_left}
 use Rattle.std.proofs.lemmas.Map.Keys.{IsDistinct-IsPermutation, IsDistinct-head}
 use Rattle.std.proofs.lemmas.Option.{slice_get_within, slice_get-get_or, get_or_from_slice_get}
 use Rattle.portmap_table.specs.declared.row.Row.{Row}
-use Rattle.portmap_table.specs.Rows.{name_of, RetiredName, Names, same_name, is_active, active_row, retired_row, without_at, old_name, retired_of, retired_at, retired_last, is_known, known_len, without_oldest}
-use Rattle.portmap_table.specs.Laws.{row_of, ActiveNamesStay, KnownNamesCostNone, OldestMakesRoom, RegisteredNamesAreActive, NamesOutliveConnections, OthersStayAtRegistration, OthersStayAtRetirement, RegisteredNamesStandLast, RetiredNamesStandLast, RetiredNamesStay, RoomCostsNone}
+use Rattle.portmap_table.specs.Rows.{name_of, RetiredName, Names, same_name, is_active, active_row, retired_row, without_at, old_name, retired_of, retired_at, retired_last, is_full_for, is_known, known_len, remembered, without_oldest}
+use Rattle.std.proofs.lemmas.List.{nil_from_length}
+use Rattle.std.specs.Prelude.{option_map}
+use Rattle.portmap_table.specs.Creation.{IsLegalCreation}
+use Rattle.portmap_table.specs.Laws.{row_of, ActiveNamesStay, KnownNamesCostNone, LastCreationsAreRemembered, NoneIsRefusedForRetiredNames, ReturningNamesGetAnother, OldestMakesRoom, RegisteredNamesAreActive, NamesOutliveConnections, OthersStayAtRegistration, OthersStayAtRetirement, RegisteredNamesStandLast, RetiredNamesStandLast, RetiredNamesStay, RoomCostsNone}
 use Rattle.portmap_table.proofs.Distinct.{keys_moved}
 use Rattle.portmap_table.proofs.Finding.{is_none, find-push, find-push_other, find-remove, find-differs, position-find, first_part, second_part}
 use Rattle.portmap_table.proofs.Kept.{has_name, had_name, old_name_of}
@@ -129,3 +132,21 @@ room_costs_none known_max names name lt = room_by _ false names (few_known known
 
 pub oldest_makes_room : OldestMakesRoom
 oldest_makes_room known_max names name le e = ap (λ (after : Names). after.retired) (room_by _ true names (many_known known_max (known_len names) (is_known name names) le e))
+
+-- ---- names that are refused, and names that return
+
+full_active : (m n : ℕ) (known : Bool) → (nat_le m n && not known) ≡ true → m ≤ n
+full_active m n known e = grind (arith, nat_tests)
+
+pub none_is_refused_for_retired_names : NoneIsRefusedForRetiredNames
+none_is_refused_for_retired_names known_max names name k e =
+    let most : known_max ≤ length names.active = full_active known_max (length names.active) (is_known name names) e in
+    nil_from_length names.retired (omega (arith, k.few, most))
+
+pub last_creations_are_remembered : LastCreationsAreRemembered
+last_creations_are_remembered known_max names slot row k e =
+    let old = (names_outlive_connections known_max names slot row k e).1 in
+    (old, ap (option_map (λ (x : RetiredName). x.creation)) old)
+
+pub returning_names_get_another : ReturningNamesGetAnother
+returning_names_get_another high last c legal e = legal.fresh (ap Some (sym e))

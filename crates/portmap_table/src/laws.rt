@@ -1,5 +1,5 @@
 //! What registering and retiring do to each name.
-ghost use Rattle.portmap_table.specs.Laws.{ActiveNamesStay, KnownNamesCostNone, NamesOutliveConnections, OldestMakesRoom, OthersStayAtRegistration, OthersStayAtRetirement, RegisteredNamesAreActive, RegisteredNamesStandLast, RetiredNamesStandLast, RetiredNamesStay, RoomCostsNone};
+ghost use Rattle.portmap_table.specs.Laws.{ActiveNamesStay, KnownNamesCostNone, LastCreationsAreRemembered, NamesOutliveConnections, NoneIsRefusedForRetiredNames, OldestMakesRoom, OthersStayAtRegistration, OthersStayAtRetirement, RegisteredNamesAreActive, RegisteredNamesStandLast, RetiredNamesStandLast, RetiredNamesStay, ReturningNamesGetAnother, RoomCostsNone};
 
 /// A name that registers is active. When its connection is lost it is so no more, and its port and its creation are
 /// remembered.
@@ -27,4 +27,16 @@ pub fn oldest_names_are_forgotten()
     ensures known { KnownNamesCostNone }
     ensures few { RoomCostsNone }
     ensures oldest { OldestMakesRoom }
+{}
+
+/// No name is refused where one that is retired may be forgotten for it: all that may be known are active then.
+pub fn none_is_refused_for_retired_names()
+    ensures { NoneIsRefusedForRetiredNames }
+{}
+
+/// What is remembered of a name that outlives its connection is its port and the creation that it had, and it gets another one
+/// when it returns.
+pub fn returning_names_get_another_creation()
+    ensures remembered { LastCreationsAreRemembered }
+    ensures another { ReturningNamesGetAnother }
 {}

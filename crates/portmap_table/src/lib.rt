@@ -18,8 +18,8 @@ mod table;
 pub use creation::{choice_is_legal, is_legal, numbers_are_the_profiles};
 pub use known::{Known, NameStore};
 pub use laws::{
-    names_outlive_connections, newest_names_stand_last, oldest_names_are_forgotten,
-    other_names_stay,
+    names_outlive_connections, newest_names_stand_last, none_is_refused_for_retired_names,
+    oldest_names_are_forgotten, other_names_stay, returning_names_get_another_creation,
 };
 pub use name_lists::NameLists;
 pub use name_map::NameMap;
