@@ -2,16 +2,17 @@
 ghost use Rattle.epmd.specs.Actions.{IsOfFile};
 
 use crate::actions::{Failure, do_file, do_once, fail};
-use crate::tests::bytes::{
-    ALIVE_A, Bytes, DUMP, FOURTH, KILL, NAMES, NONE_LISTED, NOT_FOUND, NOTHING, PORT_A, STOP_A,
-};
-use crate::tests::cases::{Case, all_hold};
-use crate::tests::record::{SESSION, changed};
-use crate::tests::remote::{HEADER, REMOTE_NAMES};
-use crate::tests::streams::{Broken, Interrupted};
-use crate::tests::transcript::{LOOK_UP_LINES, WRONG_LOOK_UP_LINES};
 use crate::words::Action;
 use portmap_link::{Reading, Writing};
+use portmap_testing::bytes::{
+    ALIVE_A, Bytes, DUMP, FOURTH, KILL, NAMES, NONE_LISTED, NOT_FOUND, NOTHING, PORT_A, STOP_A,
+};
+use portmap_testing::cases::{Case, all_hold};
+use portmap_testing::sessions::{
+    CLOSES, HEADER, LOCAL_LEFT, LOOK_UP_LINES, MIXED, REMOTE_NAMES, REMOTE_OPEN, SESSION,
+    WRONG_LOOK_UP_LINES, changed,
+};
+use portmap_testing::streams::{Broken, Interrupted};
 use std::alloc::Global;
 use std::io::{Read, Write};
 use std::test::Fail;
@@ -348,4 +349,38 @@ impl Case for Interruptions {
 #[test]
 fn a_million_turns_are_made(rt: HostRuntime) -> Result<(), Fail> {
     all_hold(&rt, INTERRUPTIONS)
+}
+
+/// A session that the program is to write without its remote peers: the status, what is written, and the line of the errors.
+struct Told(Bytes, u8, Bytes, Bytes);
+
+const TOLD: &[Told] = &[
+    Told(&CLOSES, 0, &CLOSES, NOTHING),
+    Told(MIXED, 0, LOCAL_LEFT, NOTHING),
+    Told(REMOTE_OPEN, 2, NOTHING, b"epmd: bad record\n"),
+];
+
+impl Told {
+    fn ends_so(&self, alloc: Global, output: &mut Writing<Vec<u8>>) -> bool {
+        let local = Action::Local(String::new(alloc));
+        let mut input = Reading::new(self.0);
+        let mut errors = Vec::new(alloc);
+        do_file(alloc, &local, &mut input, output, &mut errors) == self.1
+            && errors.as_slice() == self.3
+    }
+}
+
+impl Case for Told {
+    fn holds(&self, alloc: Global) -> Result<bool, Fail> {
+        let mut output = Writing::new(Vec::new(alloc));
+        let is_right = self.ends_so(alloc, &mut output);
+        Ok(is_right && output.into_inner().as_slice() == self.2)
+    }
+}
+
+#[test]
+fn a_session_that_begins_with_a_remote_peer_is_not_written_without_it(
+    rt: HostRuntime,
+) -> Result<(), Fail> {
+    all_hold(&rt, TOLD)
 }

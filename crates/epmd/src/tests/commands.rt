@@ -4,16 +4,16 @@ ghost use Rattle.epmd.specs.Commands.{IsOfClient};
 
 use crate::actions::{Failure, fail};
 use crate::commands::do_client;
-use crate::tests::bytes::{
-    A_ACTIVE, A_LISTED, A_RETIRED, Bytes, DUMP, KILL, NAMES, NONE_LISTED, NOTHING, STOP_A,
-};
-use crate::tests::cases::{Case, all_hold};
-use crate::tests::nodes::name_a;
-use crate::tests::streams;
-use crate::tests::streams::{Broken, scripted};
-use crate::tests::tape::{PAIRS, Plan, SINGLE, STEADY, Tape};
 use crate::words::Action;
 use portmap_link::Writing;
+use portmap_testing::bytes::{
+    A_ACTIVE, A_LISTED, A_RETIRED, Bytes, DUMP, KILL, NAMES, NONE_LISTED, NOTHING, STOP_A,
+};
+use portmap_testing::cases::{Case, all_hold};
+use portmap_testing::nodes::name_a;
+use portmap_testing::streams;
+use portmap_testing::streams::{Broken, scripted};
+use portmap_testing::tape::{PAIRS, Plan, SINGLE, STEADY, Tape};
 use std::alloc::Global;
 use std::io::{ErrorKind, Write};
 use std::test::Fail;

@@ -2,11 +2,11 @@
 ghost use Rattle.std.specs.Prelude.{◌≤◌, IfOk, length};
 ghost use Rattle.epmd.specs.Meaning.{CanServe};
 
-use crate::tests::cases::{Case, all_hold};
-use crate::tests::daemon::sent;
 use crate::words::{Action, Command, WordFault};
 use crate::{asked, connect, perform, since_1970};
 use portmap_daemon::MakesFiles;
+use portmap_testing::cases::{Case, all_hold};
+use portmap_testing::peers::sent;
 use std::alloc::Global;
 use std::env::{Env, FillError};
 use std::io::Read;

@@ -1,10 +1,10 @@
 //! What the daemon of a command is set to, and what is told when it has ended.
 use crate::daemon::{end_daemon, settings};
-use crate::tests::bytes::Bytes;
-use crate::tests::cases::{Case, all_hold};
 use crate::tests::words::is_path;
 use crate::words::{Action, Command};
 use portmap_daemon::{RunEnd, RunFault, Settings};
+use portmap_testing::bytes::Bytes;
+use portmap_testing::cases::{Case, all_hold};
 use std::alloc::Global;
 use std::test::Fail;
 use std::time::Duration;

@@ -1,9 +1,9 @@
 //! The words of the command: each word, and what it takes.
 mod faults;
 
-use crate::tests::bytes::Bytes;
-use crate::tests::cases::{Case, all_hold};
 use crate::words::{Action, Command, Env, WordFault, read_words};
+use portmap_testing::bytes::Bytes;
+use portmap_testing::cases::{Case, all_hold};
 use std::alloc::Global;
 use std::test::Fail;
 

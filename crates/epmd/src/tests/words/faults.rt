@@ -1,8 +1,8 @@
 //! Words that are no command: which fault they have, and how it is told.
 use super::{Texts, env_of, read, words_of};
-use crate::tests::bytes::Bytes;
-use crate::tests::cases::{Case, all_hold};
 use crate::words::{Command, WordFault, read_words, refuse};
+use portmap_testing::bytes::Bytes;
+use portmap_testing::cases::{Case, all_hold};
 use std::alloc::Global;
 use std::test::Fail;
 

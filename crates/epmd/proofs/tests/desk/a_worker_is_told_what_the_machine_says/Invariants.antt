@@ -1,4 +1,0 @@
-use Rattle.epmd.proofs.tests.desk.a_worker_is_told_what_the_machine_says.Given as goal
-
-abbrev pub ghosts-one_worker : goal.ghosts-one_worker
-ghosts-one_worker g a = record { name = a.blank.name; parts = a.blank.parts }

@@ -1,4 +1,0 @@
-use Rattle.epmd.proofs.tests.workers.two_workers_hold_an_answer_at_once.Given as goal
-
-abbrev pub ghosts-two_lists : goal.ghosts-two_lists
-ghosts-two_lists g a = record { name = a.blank.name; parts = a.blank.parts }

@@ -1,0 +1,13 @@
+//! What the tests of several crates use, and no program does.
+#![tactic(auto)]
+
+pub mod books;
+pub mod bytes;
+pub mod cases;
+pub mod entries;
+pub mod marks;
+pub mod nodes;
+pub mod peers;
+pub mod sessions;
+pub mod streams;
+pub mod tape;

@@ -1,0 +1,17 @@
+//! Between which two moments of a test a request for memory may be refused.
+use std::alloc::Global;
+
+/// Requests for so many bytes are the marks. There are no others of these sizes, and `faults/faults.c` knows them.
+const BEGIN: usize = 1_000_003;
+
+const END: usize = 1_000_033;
+
+/// From here on a request may be refused.
+pub fn begin(alloc: Global) {
+    drop(Vec::<u8>::with_capacity(alloc, BEGIN));
+}
+
+/// From here on none is.
+pub fn end(alloc: Global) {
+    drop(Vec::<u8>::with_capacity(alloc, END));
+}

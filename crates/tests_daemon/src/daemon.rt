@@ -1,0 +1,398 @@
+//! The daemon over sockets of this host: each story at a port of its own, with a client that ends it.
+ghost use Rattle.std.specs.Prelude.{◌<◌, ◌≤◌, vec_len, IfOk};
+ghost use Rattle.portmap_book.specs.declared.desk.TheConstants.{SEATS_MOST};
+ghost use Rattle.portmap_daemon.specs.declared.running.TheConstants.{TIMEOUT_MOST};
+
+use crate::gates::Meet;
+use portmap_core::Config;
+use portmap_daemon::{RunEnd, RunFault, Settings, run, run_gated};
+use portmap_link::{Reading, Writing};
+use portmap_record::tell_verdict;
+use portmap_testing::bytes::{ALIVE_A, DUMP, FOUND_A, KILL, NAMES, NOT_FOUND, PORT_A};
+use portmap_testing::cases::is_so;
+use portmap_testing::peers::{connect, sent};
+use std::alloc::Global;
+use std::fs::File;
+use std::io::{Read, Write};
+use std::net::{Net, TcpStream};
+use std::rt::Clock;
+use std::test::Fail;
+use std::time::Duration;
+use std::{fs, thread};
+
+/// What a client does with the daemon.
+#[derive(Clone, Copy, PartialEq, Eq)]
+enum Story {
+    /// A node registers, is listed, and leaves.
+    Leaves,
+    /// A node registers, and its connection is reset.
+    Resets,
+    /// A connection says nothing, for longer than it may, and a node that is registered neither.
+    Silent,
+    /// A peer asks for a list that is longer than what the system holds of it, and reads it only when another one was answered.
+    Stalls,
+    /// Eight peers ask for the list of names, one after the other, and read nothing.
+    Crowds,
+    /// That a node registers, is listed, and leaves is recorded.
+    Records,
+    /// It was to be recorded, and can't be.
+    Nowhere,
+}
+
+impl Story {
+    /// A port of its own.
+    fn port(self) -> u16 {
+        match self {
+            Story::Leaves => 14_369,
+            Story::Resets => 14_370,
+            Story::Silent => 14_371,
+            Story::Stalls => 14_372,
+            Story::Crowds => 14_373,
+            Story::Records => 14_374,
+            Story::Nowhere => 14_375,
+        }
+    }
+}
+
+/// Whether the request is answered so, and the connection closed behind it. A reply has at most 64 bytes.
+pub fn is_answered<R: Net<Stream = TcpStream> + Clock>(
+    rt: &R,
+    port: u16,
+    request: &[u8],
+    reply: &[u8],
+) -> Option<bool> {
+    let mut stream = sent(rt, port, request)?;
+    let mut whole = [0; 64];
+    let got = whole.get_mut(..reply.len())?;
+    stream.read_exact(got).ok()?;
+    let is_same = *got == *reply;
+    let behind = stream.read(&mut [0; 1]).ok()?;
+    Some(is_same && behind == 0)
+}
+
+/// Whether the request comes to be answered so, within ten seconds.
+fn comes_to<R: Net<Stream = TcpStream> + Clock>(
+    rt: &R,
+    port: u16,
+    request: &[u8],
+    reply: &[u8],
+) -> bool {
+    for _ in 0..1000u32 {
+        if is_answered(rt, port, request, reply) == Some(true) {
+            return true;
+        }
+        thread::sleep(rt, Duration::from_millis(10));
+    }
+    false
+}
+
+/// The connection of a node that is registered as `a`.
+pub fn registered<R: Net<Stream = TcpStream> + Clock>(rt: &R, port: u16) -> Option<TcpStream> {
+    let mut stream = sent(rt, port, ALIVE_A)?;
+    let mut reply = [0; 6];
+    stream.read_exact(&mut reply).ok()?;
+    if reply.starts_with(&[0x76, 0]) {
+        Some(stream)
+    } else {
+        None
+    }
+}
+
+/// The list of names of the daemon at port 14,369, which is 0x3821, with `a` in it.
+const LISTED: &[u8] = b"\x00\x00\x38\x21name a at port 5000\n";
+
+/// The same at port 14,374, which is 0x3826.
+const LISTED_AS_RECORDED: &[u8] = b"\x00\x00\x38\x26name a at port 5000\n";
+
+fn leaves<R: Net<Stream = TcpStream> + Clock>(rt: &R, port: u16, listed: &[u8]) -> Option<bool> {
+    let node = registered(rt, port)?;
+    let is_listed = is_answered(rt, port, NAMES, listed)?;
+    let is_found = is_answered(rt, port, PORT_A, FOUND_A)?;
+    drop(node);
+    Some(is_listed && is_found && comes_to(rt, port, PORT_A, NOT_FOUND))
+}
+
+/// A connection that is closed with bytes unread is reset.
+fn resets<R: Net<Stream = TcpStream> + Clock>(rt: &R, port: u16) -> Option<bool> {
+    let node = sent(rt, port, ALIVE_A)?;
+    let is_found = comes_to(rt, port, PORT_A, FOUND_A);
+    drop(node);
+    Some(is_found && comes_to(rt, port, PORT_A, NOT_FOUND))
+}
+
+fn is_silent<R: Net<Stream = TcpStream> + Clock>(rt: &R, port: u16) -> Option<bool> {
+    let _node = registered(rt, port)?;
+    let mut silent = connect(rt, port)?;
+    let is_closed = silent.read(&mut [0; 1]).ok()? == 0;
+    Some(is_closed && is_answered(rt, port, PORT_A, FOUND_A)?)
+}
+
+/// A registration of a name of 1,020 (0x03FC) bytes, which begins with these two. Its body has 1,033 (0x0409).
+fn long_registration(alloc: Global, first: [u8; 2]) -> Option<Vec<u8>> {
+    let mut request = [
+        0x04, 0x09, 0x78, 0x13, 0x88, 0x4D, 0x00, 0x00, 0x06, 0x00, 0x05, 0x03, 0xFC,
+    ]
+    .to_vec(alloc)
+    .ok()?;
+    request.extend_from_slice(&first).ok()?;
+    request.resize(1033, 0x6E).ok()?;
+    request.resize(1035, 0).ok()?;
+    Some(request)
+}
+
+/// Whether a node with such a name registers. It leaves at once.
+fn passes<R: Net<Stream = TcpStream> + Clock>(
+    rt: &R,
+    alloc: Global,
+    port: u16,
+    first: [u8; 2],
+) -> Option<bool> {
+    let request = long_registration(alloc, first)?;
+    let mut node = sent(rt, port, &request)?;
+    let mut reply = [0; 6];
+    node.read_exact(&mut reply).ok()?;
+    Some(reply.starts_with(&[0x76, 0]))
+}
+
+/// Whether 4,800 such nodes come and leave.
+fn pass<R: Net<Stream = TcpStream> + Clock>(rt: &R, alloc: Global, port: u16) -> Option<bool> {
+    for one in 0x30..0x60 {
+        for two in 0x80..0xE4 {
+            if !passes(rt, alloc, port, [one, two])? {
+                return Some(false);
+            }
+        }
+    }
+    Some(true)
+}
+
+/// How many bytes come until the peer closes.
+fn length_of(stream: &mut TcpStream) -> Option<usize> {
+    let mut buffer = [0; 4096];
+    let mut length = 0usize;
+    for _ in 0..u64::MAX {
+        let count = stream.read(&mut buffer).ok()?;
+        if count == 0 {
+            break;
+        }
+        length = length.saturating_add(count);
+    }
+    Some(length)
+}
+
+/// The list of names of the daemon at port 14,372, which is 0x3824, with none in it.
+const NONE_LISTED: &[u8] = &[0x00, 0x00, 0x38, 0x24];
+
+/// Each of the lines `old/unused name NAME at port 5000, fd = -1` has 1,059 bytes. All have more than loopback holds of what a peer
+/// doesn't read: 4 MB, and what the peer has room for.
+const DUMP_LENGTH: usize = 5_083_204;
+
+fn stalls<R: Net<Stream = TcpStream> + Clock>(rt: &R, alloc: Global, port: u16) -> Option<bool> {
+    let have_passed = pass(rt, alloc, port)? && comes_to(rt, port, NAMES, NONE_LISTED);
+    let mut stalled = sent(rt, port, DUMP)?;
+    let _node = registered(rt, port)?;
+    let is_found = is_answered(rt, port, PORT_A, FOUND_A)?;
+    Some(have_passed && is_found && length_of(&mut stalled)? == DUMP_LENGTH)
+}
+
+fn crowds<R: Net<Stream = TcpStream> + Clock>(rt: &R, alloc: Global, port: u16) -> Option<bool> {
+    let mut peers = Vec::new(alloc);
+    for _ in 0..8u32 {
+        peers.push(sent(rt, port, NAMES)?).ok()?;
+        thread::sleep(rt, Duration::from_millis(20));
+    }
+    Some(peers.len() == 8)
+}
+
+/// Whether the story goes as it should. The daemon is told to end in any case.
+fn goes_well<R: Net<Stream = TcpStream> + Clock>(rt: &R, alloc: Global, story: Story) -> bool {
+    let port = story.port();
+    let told = match story {
+        Story::Leaves => leaves(rt, port, LISTED),
+        Story::Records => leaves(rt, port, LISTED_AS_RECORDED),
+        Story::Resets | Story::Nowhere => resets(rt, port),
+        Story::Silent => is_silent(rt, port),
+        Story::Stalls => stalls(rt, alloc, port),
+        Story::Crowds => crowds(rt, alloc, port),
+    };
+    let has_ended = is_answered(rt, port, KILL, b"OK");
+    told == Some(true) && has_ended == Some(true)
+}
+
+/// What a daemon at this port is set to, which listens on the host and may be told to end with names active.
+pub fn settings_at(
+    alloc: Global,
+    port: u16,
+    timeout: u32,
+    workers: u32,
+    recording: Option<String>,
+) -> Result<Settings, Fail>
+    requires timeout { (1 ≤ timeout) × (timeout ≤ TIMEOUT_MOST) }
+    requires workers { (1 ≤ workers) × (workers ≤ SEATS_MOST) }
+    ensures addresses { IfOk result (λ settings. 0 < vec_len settings.addresses) }
+    ensures timeout { IfOk result (λ settings. (1 ≤ settings.timeout) × (settings.timeout ≤ TIMEOUT_MOST)) }
+    ensures workers { IfOk result (λ settings. (1 ≤ settings.workers) × (settings.workers ≤ SEATS_MOST)) }
+{
+    let mut addresses = Vec::new(alloc);
+    addresses.push([127, 0, 0, 1])?;
+    Ok(Settings {
+        config: Config::new(port, true, 1024, 8192)?,
+        first: 4,
+        addresses,
+        timeout,
+        workers,
+        recording,
+    })
+}
+
+/// What the daemon of a story is set to.
+fn settings(alloc: Global, story: Story, recording: Option<String>) -> Result<Settings, Fail>
+    ensures addresses { IfOk result (λ settings. 0 < vec_len settings.addresses) }
+    ensures timeout { IfOk result (λ settings. (1 ≤ settings.timeout) × (settings.timeout ≤ TIMEOUT_MOST)) }
+    ensures workers { IfOk result (λ settings. (1 ≤ settings.workers) × (settings.workers ≤ SEATS_MOST)) }
+{
+    let timeout = if story == Story::Silent { 1 } else { 60 };
+    settings_at(alloc, story.port(), timeout, 2, recording)
+}
+
+/// Whether each of two workers has told what it served, together one act at least, and whether all was recorded is told so.
+fn have_served(ended: &Result<RunEnd, RunFault>, recorded: bool) -> bool {
+    match ended {
+        Ok(end) => {
+            end.served.len() == 2
+                && end.served.iter().any(|served| *served > 0)
+                && end.recorded == recorded
+        }
+        Err(_) => false,
+    }
+}
+
+#[test]
+fn a_node_registers_and_leaves(rt: HostRuntime) -> Result<(), Fail> {
+    let alloc = rt.alloc();
+    let settings = settings(alloc, Story::Leaves, None)?;
+    let (ended, told) = thread::join(
+        &rt,
+        || run(&rt, alloc, settings),
+        || goes_well(&rt, alloc, Story::Leaves),
+    );
+    assert!(rt; told && have_served(&ended, true));
+    Ok(())
+}
+
+#[test]
+fn a_name_is_free_once_its_connection_is_reset(rt: HostRuntime) -> Result<(), Fail> {
+    let alloc = rt.alloc();
+    let settings = settings(alloc, Story::Resets, None)?;
+    let (ended, told) = thread::join(
+        &rt,
+        || run(&rt, alloc, settings),
+        || goes_well(&rt, alloc, Story::Resets),
+    );
+    assert!(rt; told && have_served(&ended, true));
+    Ok(())
+}
+
+#[test]
+fn a_silent_connection_is_closed_and_a_registered_one_is_not(rt: HostRuntime) -> Result<(), Fail> {
+    let alloc = rt.alloc();
+    let settings = settings(alloc, Story::Silent, None)?;
+    let (ended, told) = thread::join(
+        &rt,
+        || run(&rt, alloc, settings),
+        || goes_well(&rt, alloc, Story::Silent),
+    );
+    assert!(rt; told && have_served(&ended, true));
+    Ok(())
+}
+
+#[test]
+fn a_peer_that_reads_late_stops_no_other_and_gets_all(rt: HostRuntime) -> Result<(), Fail> {
+    let alloc = rt.alloc();
+    let settings = settings(alloc, Story::Stalls, None)?;
+    let (ended, told) = thread::join(
+        &rt,
+        || run(&rt, alloc, settings),
+        || goes_well(&rt, alloc, Story::Stalls),
+    );
+    assert!(rt; told && have_served(&ended, true));
+    Ok(())
+}
+
+#[test]
+fn a_worker_that_is_held_stops_no_other(rt: HostRuntime) -> Result<(), Fail> {
+    let alloc = rt.alloc();
+    let gate = Meet::new(&rt);
+    let settings = settings(alloc, Story::Crowds, None)?;
+    let (ended, told) = thread::join(
+        &rt,
+        || run_gated(&rt, alloc, settings, &gate),
+        || goes_well(&rt, alloc, Story::Crowds),
+    );
+    assert!(rt; told && have_served(&ended, true) && gate.have_met());
+    Ok(())
+}
+
+/// How many acts the workers made together.
+pub fn acts_of(ended: &Result<RunEnd, RunFault>) -> u64 {
+    let mut acts = 0u64;
+    if let Ok(end) = ended {
+        for served in &end.served {
+            acts = acts.saturating_add(*served);
+        }
+    }
+    acts
+}
+
+/// The verdict on so many entries that are a run.
+fn verdict(alloc: Global, entries: u64) -> Result<String, Fail> {
+    Ok(format!(in alloc; "run of {} entries\n", entries)?)
+}
+
+/// Whether a recorded session is found to be a run of so many entries.
+fn is_run_of<F: Read + Drop>(alloc: Global, file: F, entries: u64) -> Result<bool, Fail> {
+    let mut input = Reading::new(file);
+    let mut output = Writing::new(Vec::new(alloc));
+    let told = tell_verdict(alloc, &mut input, &mut output, u64::MAX);
+    let verdict = verdict(alloc, entries)?;
+    Ok(told == Ok(true) && output.into_inner().as_slice() == verdict.as_bytes())
+}
+
+/// A file of this test alone, in the folder that tests run in.
+const RECORDING: &str = "recording-14374";
+
+#[test]
+fn what_is_answered_is_recorded(rt: HostRuntime) -> Result<(), Fail> {
+    let alloc = rt.alloc();
+    let settings = settings(
+        alloc,
+        Story::Records,
+        Some(String::from_str(alloc, RECORDING)?),
+    )?;
+    let (ended, told) = thread::join(
+        &rt,
+        || run(&rt, alloc, settings),
+        || goes_well(&rt, alloc, Story::Records),
+    );
+    assert!(rt; told && have_served(&ended, true));
+    let file = File::open(&rt, RECORDING)?;
+    fs::remove_file(&rt, RECORDING)?;
+    is_so(&rt, is_run_of(alloc, file, acts_of(&ended)))
+}
+
+#[test]
+fn a_recording_that_cannot_be_made_is_told(rt: HostRuntime) -> Result<(), Fail> {
+    let alloc = rt.alloc();
+    let settings = settings(
+        alloc,
+        Story::Nowhere,
+        Some(String::from_str(alloc, "/none/there")?),
+    )?;
+    let (ended, told) = thread::join(
+        &rt,
+        || run(&rt, alloc, settings),
+        || goes_well(&rt, alloc, Story::Nowhere),
+    );
+    assert!(rt; told && have_served(&ended, false));
+    Ok(())
+}

@@ -1,0 +1,124 @@
+//! Gates that hold a worker until another one has come as far, for a bounded time.
+use portmap_daemon::{Gate, Point};
+use portmap_testing::books::is_raised;
+use std::rt::Clock;
+use std::sync::atomic::{AtomicU64, Ordering};
+use std::thread;
+use std::time::Duration;
+
+/// A gate at which two workers meet with no lock held: the one that comes first at `Answered` is held there until one with
+/// another number has passed. After a million looks it lets go, and notes it.
+#[derive(Drop)]
+pub struct Meet<'a, R: Clock> {
+    rt: &'a R,
+    /// The number of the worker that came first, and 1; or 0.
+    first: AtomicU64,
+    others: AtomicU64,
+    noted: AtomicU64,
+}
+
+impl<'a, R: Clock> Meet<'a, R> {
+    pub fn new(rt: &'a R) -> Meet<'a, R> {
+        Meet {
+            rt,
+            first: AtomicU64::new(0),
+            others: AtomicU64::new(0),
+            noted: AtomicU64::new(0),
+        }
+    }
+
+    /// Whether two workers have met, and it let go of none before.
+    pub fn have_met(&self) -> bool {
+        self.others.load(Ordering::SeqCst) > 0 && self.noted.load(Ordering::SeqCst) == 0
+    }
+
+    /// Whether no worker with another number came first.
+    fn is_first(&self, worker: u32) -> bool {
+        let own = u64::from(worker) + 1;
+        match self
+            .first
+            .compare_exchange(0, own, Ordering::SeqCst, Ordering::SeqCst)
+        {
+            Ok(_) => true,
+            Err(first) => first == own,
+        }
+    }
+
+    /// Waits for a worker with another number. Whether one has passed.
+    fn is_met(&self) -> bool {
+        for look in 0..1_000_000u32 {
+            if self.others.load(Ordering::SeqCst) > 0 {
+                return true;
+            }
+            if look % 100 == 99 {
+                thread::sleep(self.rt, Duration::from_millis(1));
+            } else {
+                thread::yield_now();
+            }
+        }
+        false
+    }
+}
+
+impl<R: Clock> Gate for Meet<'_, R> {
+    fn pass(&self, worker: u32, point: Point) {
+        if point == Point::Sent {
+            return;
+        }
+        if !self.is_first(worker) {
+            self.others.fetch_add(1, Ordering::SeqCst);
+        } else if !self.is_met() {
+            self.noted.fetch_add(1, Ordering::SeqCst);
+        }
+    }
+}
+
+/// A gate for a worker 0 and one that comes behind it: it holds worker 0 at `Sent` until the other one is there too. After ten
+/// seconds it lets go, and notes it.
+#[derive(Drop)]
+pub struct Relay<'a, R: Clock> {
+    rt: &'a R,
+    ahead: AtomicU64,
+    behind: AtomicU64,
+    noted: AtomicU64,
+}
+
+impl<'a, R: Clock> Relay<'a, R> {
+    pub fn new(rt: &'a R) -> Relay<'a, R> {
+        Relay {
+            rt,
+            ahead: AtomicU64::new(0),
+            behind: AtomicU64::new(0),
+            noted: AtomicU64::new(0),
+        }
+    }
+
+    /// How often a wait took too long.
+    pub fn noted(&self) -> u64 {
+        self.noted.load(Ordering::SeqCst)
+    }
+
+    /// Returns once worker 0 is at `Sent`.
+    pub fn follow(&self) {
+        self.wait(&self.ahead);
+    }
+
+    fn wait(&self, flag: &AtomicU64) {
+        if !is_raised(self.rt, flag) {
+            self.noted.fetch_add(1, Ordering::SeqCst);
+        }
+    }
+}
+
+impl<R: Clock> Gate for Relay<'_, R> {
+    fn pass(&self, worker: u32, point: Point) {
+        match (worker, point) {
+            (_, Point::Answered) => {}
+            (0, Point::Sent) => {
+                self.ahead.store(1, Ordering::SeqCst);
+                self.wait(&self.behind);
+            }
+            (_, Point::Sent) => self.behind.store(1, Ordering::SeqCst),
+        }
+    }
+}

@@ -1,0 +1,91 @@
+//! Places for connections, over sockets of this host, with a clock that is pushed forward.
+ghost use Rattle.std.specs.Prelude.{◌<◌, ◌≤◌, vec_len, IfOk};
+ghost use Rattle.portmap_book.specs.declared.desk.TheConstants.{SEATS_MOST};
+ghost use Rattle.portmap_daemon.specs.declared.running.TheConstants.{TIMEOUT_MOST};
+
+use crate::clocks::{Pushed, Pushing};
+use crate::daemon::{is_answered, registered, settings_at};
+use portmap_core::Config;
+use portmap_daemon::{MakesFiles, Settings, run};
+use portmap_testing::bytes::{FOUND_A, KILL, PORT_A};
+use portmap_testing::peers::connect;
+use std::alloc::Global;
+use std::io::Read;
+use std::net::{Net, TcpStream};
+use std::rt::Clock;
+use std::sync::Wait;
+use std::test::Fail;
+use std::thread;
+use std::thread::Threads;
+
+/// By how many seconds the clock is pushed forward at once: by more than a connection is left alone for.
+const PUSH: u64 = 2;
+
+/// How often. The time that a connection has for its request is longer than all these.
+const PUSHES: u32 = 20;
+
+/// What a daemon at this port is set to, which has places for two connections.
+fn settings_of_two(alloc: Global, port: u16) -> Result<Settings, Fail>
+    ensures addresses { IfOk result (λ settings. 0 < vec_len settings.addresses) }
+    ensures timeout { IfOk result (λ settings. (1 ≤ settings.timeout) × (settings.timeout ≤ TIMEOUT_MOST)) }
+    ensures workers { IfOk result (λ settings. (1 ≤ settings.workers) × (settings.workers ≤ SEATS_MOST)) }
+{
+    let mut settings = settings_at(alloc, port, 60, 1, None)?;
+    settings.config = Config::new(port, true, 2, 4096)?;
+    Ok(settings)
+}
+
+/// Whether a daemon at this port that has places for two connections ends well.
+fn serves<R: Net + MakesFiles + Threads + Wait + Clock + Clone + Drop + Send + Sync + 'static>(
+    rt: &R,
+    alloc: Global,
+    port: u16,
+) -> Result<bool, Fail> {
+    let settings = settings_of_two(alloc, port)?;
+    Ok(run(rt, alloc, settings).is_ok())
+}
+
+/// Whether the name is found once the clock was pushed often enough.
+fn comes_to_be_found<R: Net<Stream = TcpStream> + Clock>(
+    rt: &R,
+    port: u16,
+    clock: &Pushing<R>,
+) -> bool {
+    for _ in 0..PUSHES {
+        if is_answered(rt, port, PORT_A, FOUND_A) == Some(true) {
+            return true;
+        }
+        clock.push(PUSH);
+    }
+    false
+}
+
+/// A node is registered, and a connection says nothing: there is no place for others. Whether one who asks for the node comes to have
+/// that of the silent one.
+fn makes_room<R: Net<Stream = TcpStream> + Clock>(
+    rt: &R,
+    port: u16,
+    clock: &Pushing<R>,
+) -> Option<bool> {
+    let _node = registered(rt, port)?;
+    let mut silent = connect(rt, port)?;
+    let is_found = comes_to_be_found(rt, port, clock);
+    let is_given_up = silent.read(&mut [0; 1]).ok()? == 0;
+    Some(is_found && is_given_up)
+}
+
+#[test]
+fn a_connection_that_says_nothing_makes_room_for_others(rt: HostRuntime) -> Result<(), Fail> {
+    let clock = Pushed::new(rt, rt.alloc())?;
+    let (ended, told) = thread::join(
+        &rt,
+        || serves(&clock, rt.alloc(), 14_440),
+        || {
+            let makes_room = makes_room(&rt, 14_440, clock.pushing());
+            (makes_room, is_answered(&rt, 14_440, KILL, b"OK"))
+        },
+    );
+    assert_eq!(rt; told, (Some(true), Some(true)));
+    assert!(rt; ended?);
+    Ok(())
+}

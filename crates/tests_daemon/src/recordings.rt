@@ -1,0 +1,147 @@
+//! Recordings of a daemon: where the file stalls it serves on, and ends when it is told to; where the file is full it goes on in a
+//! further one.
+use crate::daemon::{acts_of, is_answered, registered, settings_at};
+use portmap_daemon::{Open, run, run_in_files};
+use portmap_record::{Version, check, read_record};
+use portmap_testing::bytes::{FOUND_A, KILL, NOT_FOUND, PORT_A};
+use std::alloc::{AllocError, Global};
+use std::fs::{File, Files};
+use std::io::{PipeWriter, pipe};
+use std::net::{Net, TcpStream};
+use std::os::fd::AsRawFd;
+use std::rt::Clock;
+use std::test::Fail;
+use std::time::Duration;
+use std::{fs, thread};
+
+/// A port of this test alone.
+const PORT: u16 = 14_420;
+
+/// So many look-ups are more than a pipe takes that nobody reads: each is 41 bytes of a recording, and a pipe has room for 65,536.
+const LOOK_UPS: u32 = 2000;
+
+/// The path by which the system opens a pipe once more.
+fn path_of(alloc: Global, pipe: &PipeWriter) -> Result<String, Fail> {
+    Ok(format!(in alloc; "/proc/self/fd/{}", pipe.as_raw_fd())?)
+}
+
+/// Whether so many look-ups are answered, and the daemon says that it ends.
+fn are_answered<R: Net<Stream = TcpStream> + Clock>(rt: &R) -> bool {
+    let mut answered = 0u32;
+    for _ in 0..LOOK_UPS {
+        if is_answered(rt, PORT, PORT_A, NOT_FOUND) == Some(true) {
+            answered = answered.saturating_add(1);
+        }
+    }
+    is_answered(rt, PORT, KILL, b"OK") == Some(true) && answered == LOOK_UPS
+}
+
+#[test]
+fn a_recording_that_stalls_holds_nobody(rt: HostRuntime) -> Result<(), Fail> {
+    let alloc = rt.alloc();
+    let (_unread, full) = pipe(&rt)?;
+    let path = path_of(alloc, &full)?;
+    let settings = settings_at(alloc, PORT, 60, 2, Some(path))?;
+    let (ended, told) = thread::join(&rt, || run(&rt, alloc, settings), || are_answered(&rt));
+    assert!(rt; told && acts_of(&ended) > u64::from(LOOK_UPS));
+    assert!(rt; ended.is_ok_and(|end| !end.recorded));
+    Ok(())
+}
+
+/// A port of the next test alone, and files in the folder that tests run in.
+const NEXT_PORT: u16 = 14_421;
+
+const FIRST: &str = "recording-14421";
+
+const SECOND: &str = "recording-14421.1";
+
+const THIRD: &str = "recording-14421.2";
+
+/// So many bytes a header has with which nothing is known: each file is full at once.
+const FULL: u64 = 37;
+
+/// Whether a node is looked up and found until a file is there, which is within ten seconds.
+fn is_found_until<R: Net<Stream = TcpStream> + Clock + Files<File = File>>(
+    rt: &R,
+    path: &str,
+) -> Option<bool> {
+    for _ in 0..1000u32 {
+        if !is_answered(rt, NEXT_PORT, PORT_A, FOUND_A)? {
+            return Some(false);
+        }
+        if fs::exists(rt, path).ok()? {
+            return Some(true);
+        }
+        thread::sleep(rt, Duration::from_millis(10));
+    }
+    Some(false)
+}
+
+/// Whether a node registers and is looked up until there is a third file, and the daemon says that it ends.
+fn goes_on<R: Net<Stream = TcpStream> + Clock + Files<File = File>>(rt: &R) -> Option<bool> {
+    let _node = registered(rt, NEXT_PORT)?;
+    let goes_on = is_found_until(rt, SECOND)? && is_found_until(rt, THIRD)?;
+    Some(is_answered(rt, NEXT_PORT, KILL, b"OK")? && goes_on)
+}
+
+/// The path of a file of that recording.
+fn numbered(alloc: Global, number: u32) -> Result<String, AllocError> {
+    if number == 0 {
+        String::from_str(alloc, FIRST)
+    } else {
+        format!(in alloc; "{FIRST}.{number}")
+    }
+}
+
+/// How many entries a recording has that begins at this place, where it is a run.
+fn entries_from(alloc: Global, bytes: &[u8], place: u64) -> Option<u64> {
+    let session = read_record(alloc, bytes).ok()?;
+    let begins_there = match &session.version {
+        Version::Two { first, .. } => *first == place,
+        Version::One => false,
+    };
+    if begins_there && check(alloc, &session) == Ok(()) {
+        Some(session.entries.len() as u64)
+    } else {
+        None
+    }
+}
+
+/// The same of a file, which is removed.
+fn held_from(rt: &HostRuntime, path: &str, place: u64) -> Result<Option<u64>, Fail> {
+    let bytes = fs::read(rt, path)?;
+    fs::remove_file(rt, path)?;
+    Ok(entries_from(rt.alloc(), &bytes, place))
+}
+
+/// How many entries the files have together, where each one begins at the place at which the one before it ended.
+fn recorded(rt: &HostRuntime) -> Result<Option<u64>, Fail> {
+    let mut place = 0u64;
+    for number in 0..1000 {
+        let path = numbered(rt.alloc(), number)?;
+        if !fs::exists(rt, path.as_str())? {
+            break;
+        }
+        match held_from(rt, path.as_str(), place)? {
+            Some(count) => place = place.saturating_add(count),
+            None => return Ok(None),
+        }
+    }
+    Ok(Some(place))
+}
+
+#[test]
+fn a_recording_goes_on_in_files_that_follow_one_another(rt: HostRuntime) -> Result<(), Fail> {
+    let alloc = rt.alloc();
+    let path = String::from_str(alloc, FIRST)?;
+    let settings = settings_at(alloc, NEXT_PORT, 60, 2, Some(path))?;
+    let (ended, told) = thread::join(
+        &rt,
+        || run_in_files(&rt, alloc, settings, &Open, FULL),
+        || goes_on(&rt),
+    );
+    let acts = acts_of(&ended);
+    assert!(rt; told == Some(true) && ended.is_ok_and(|end| end.recorded));
+    assert_eq!(rt; recorded(&rt)?, Some(acts));
+    Ok(())
+}
