@@ -38,7 +38,8 @@ bench: build/epmd
 	cc -O2 -Wall -Wextra -pthread -o build/bench bench/bench.c
 	./build/bench $(OTHER) build/epmd
 
-# A first look, in minutes: compiles and runs the tests with nothing proved, all but those of the daemon, which want its speed.
+# A first look, in minutes: compiles and runs the tests with nothing proved. Not those of the daemon: unproved, a byte costs a hundred
+# times as much, and a client of theirs runs into its timeout.
 quick:
 	@for crate in tests_wire tests_machine tests_book tests_client tests_record epmd; do \
 	    echo "$$crate, with nothing proved:"; (cd crates/$$crate && rt try --test) || exit 1; done
