@@ -52,7 +52,11 @@ Case = namedtuple("Case", "path call error nth run is_slow")
 
 
 def is_end(ended, wanted):
-    return ended is not None and any(ended[0] == status and ended[1].startswith(text) for status, text in wanted)
+    if ended is None:
+        return False
+    # What ends it may have ended the recording before.
+    told = ended[1].removeprefix(RECORD[1] + " / ")
+    return any(ended[0] == status and told.startswith(text) for status, text in wanted)
 
 
 def is_run(path, file):

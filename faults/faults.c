@@ -118,13 +118,13 @@ int pthread_create(pthread_t *at, const pthread_attr_t *how, void *(*what)(void 
     return fails(THREAD) ? page->error : REAL(pthread_create)(at, how, what, with);
 }
 
-// The recording is what is opened to be made anew.
+// The recording is what is made, and was not there before.
 int open(const char *path, int flags, ...) {
     va_list rest;
     va_start(rest, flags);
     mode_t mode = flags & (O_CREAT | O_TMPFILE) ? va_arg(rest, mode_t) : 0;
     va_end(rest);
-    int is_recording = (flags & O_TRUNC) != 0;
+    int is_recording = (flags & O_EXCL) != 0;
     if (is_recording && fails(OPEN)) return -1;
     int fd = REAL(open)(path, flags, mode);
     if (is_recording) note(records, fd);

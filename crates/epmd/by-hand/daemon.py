@@ -5,6 +5,7 @@ HERE = os.path.dirname(os.path.abspath(__file__))
 PRODUCTS = os.path.join(tempfile.gettempdir(), f"epmd-by-hand-{os.getuid()}")  # What gcc makes.
 SILENCE = 6.0  # A daemon may be silent for 5 seconds before it ends; one more for a machine that is shared.
 OUT_OF_MEMORY = (3, "epmd: out of memory")
+CANNOT_ACCEPT = "epmd: cannot accept connections"
 bad = 0
 sys.path.append(os.path.join(HERE, "..", "..", "..", "faults"))  # Where the shim is that has calls fail.
 
@@ -104,9 +105,14 @@ class Daemon:
         if self.runs():
             resource.prlimit(self.pid, getattr(resource, name), (most, resource.RLIM_INFINITY))
 
-    def text(self):
+    def lines(self):
+        """What it has told."""
         self.text_file.seek(0)
-        return self.text_file.read().decode(errors="replace").strip().replace("\n", " / ")
+        return self.text_file.read().decode(errors="replace").splitlines()
+
+    def text(self):
+        """The same, but for that it could not accept connections for a while."""
+        return " / ".join(line for line in self.lines() if line != CANNOT_ACCEPT)
 
     def ended(self, patience=0.0):
         """How it ended, as (status, text); None where it runs on. A signal is a negative status."""

@@ -2,10 +2,10 @@
 use Rattle.std.specs.Prelude.{◌≡◌, ℕ, ◌%◌, ◌/◌, ◌^◌, Bool, true, false, string_bytes, Option, Some, None, option_map, Result, Ok, Err}
 use Rattle.std.specs.Duration.{as_nanos}
 use Rattle.std.specs.declared.time.Duration.{Duration}
-use Rattle.portmap_daemon.specs.declared.running.RunEnd.{RunEnd}
-use Rattle.portmap_daemon.specs.declared.running.RunFault.{RunFault}
-use Rattle.portmap_daemon.specs.declared.running.RunFault.TheVariants.{Listen, Poll, NoMemory}
-use Rattle.portmap_daemon.specs.declared.running.Settings.{Settings}
+use Rattle.portmap_daemon.specs.declared.daemon.RunEnd.{RunEnd}
+use Rattle.portmap_daemon.specs.declared.daemon.RunFault.{RunFault}
+use Rattle.portmap_daemon.specs.declared.daemon.RunFault.TheVariants.{Listen, Poll, NoMemory}
+use Rattle.portmap_daemon.specs.declared.daemon.Settings.{Settings}
 use Rattle.portmap_core.specs.Config.{Configuration}
 use Rattle.epmd.specs.declared.actions.TheConstants as actions
 use Rattle.epmd.specs.declared.words.Command.{Command}

@@ -55,8 +55,6 @@ const DEVICE_FAILED: &[u8] = b"epmd: input or output failed\n";
 
 const POLLING_FAILED: &[u8] = b"epmd: polling failed\n";
 
-const RECORDING_FAILED: &[u8] = b"epmd: recording failed\n";
-
 const MEMORY_RAN_OUT: &[u8] = b"epmd: out of memory\n";
 
 const NO_CONNECTION: &[u8] = b"epmd: Cannot connect to local epmd\n";
@@ -76,8 +74,6 @@ pub enum Failure {
     Device,
     /// Readiness of sockets can't be had.
     Polling,
-    /// Not all that was answered was recorded.
-    Recording,
     /// Memory ran out.
     Memory,
     /// The port mapper of this host can't be reached.
@@ -129,7 +125,7 @@ fn status_of(failure: Failure) -> u8
 {
     match failure {
         Failure::BadRecord => REFUSED,
-        Failure::Device | Failure::Polling | Failure::Recording | Failure::Memory => FAILED,
+        Failure::Device | Failure::Polling | Failure::Memory => FAILED,
         Failure::NoConnection
         | Failure::StrangeAnswer
         | Failure::KillRefused
@@ -145,7 +141,6 @@ fn line_of(failure: Failure) -> &'static [u8]
         Failure::BadRecord => BAD_RECORD,
         Failure::Device => DEVICE_FAILED,
         Failure::Polling => POLLING_FAILED,
-        Failure::Recording => RECORDING_FAILED,
         Failure::Memory => MEMORY_RAN_OUT,
         Failure::NoConnection => NO_CONNECTION,
         Failure::StrangeAnswer => STRANGE_ANSWER,

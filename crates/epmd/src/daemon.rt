@@ -2,7 +2,7 @@
 ghost use Rattle.std.specs.Prelude.{◌≡◌, false, IfOk};
 ghost use Rattle.epmd.specs.Daemon.{SetsAs, first_by, status_of_end};
 
-use crate::actions::{CONNECTIONS_MOST, DONE, Failure, NAMES_MOST, NOT_DONE, fail};
+use crate::actions::{CONNECTIONS_MOST, DONE, FAILED, Failure, NAMES_MOST, NOT_DONE, fail};
 use crate::words::Command;
 use portmap_core::Config;
 use portmap_daemon::{RunEnd, RunFault, Settings};
@@ -63,25 +63,22 @@ fn tell_unheard<E: Write>(errors: &mut E, command: &Command, place: usize) {
 
 /// Tells how the daemon of this command has ended, and gives the status that does: `DONE` where the port mapper was told to end,
 /// `NOT_DONE` where it can't listen, `FAILED` where readiness of sockets can't be had or memory ran out, or where it was told to
-/// end and its recording failed. With debug output a daemon that was told to end first tells how many acts each worker made, by
-/// rising number from 1.
+/// end and its recording failed, which the daemon has told itself. With debug output a daemon that was told to end tells how many
+/// acts each worker made, by rising number from 1.
 pub fn end_daemon<E: Write>(
     errors: &mut E,
     command: &Command,
     ended: &Result<RunEnd, RunFault>,
 ) -> u8
     ensures status { result ≡ status_of_end ended.now }
-    ensures silent { result ≡ DONE → command.now.debug ≡ false → errors.new ≡ errors.old }
+    ensures silent { IfOk ended.now (λ _. command.now.debug ≡ false → errors.new ≡ errors.old) }
 {
     match ended {
         Ok(end) => {
             if command.debug {
                 tell_served(errors, end.served.as_slice());
             }
-            if !end.recorded {
-                return fail(errors, Failure::Recording);
-            }
-            DONE
+            if end.recorded { DONE } else { FAILED }
         }
         Err(RunFault::Listen(place)) => {
             tell_unheard(errors, command, *place);

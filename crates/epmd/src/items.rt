@@ -9,7 +9,7 @@ use crate::addresses::read_listening;
 use crate::numbers::read_within;
 use crate::words::{Action, WordFault};
 use portmap_book::SEATS_MOST;
-use portmap_daemon::TIMEOUT_MOST;
+use portmap_daemon::TIMEOUT_SECONDS_MOST;
 use portmap_link::NoMemory;
 use portmap_wire::{Name, NameFault};
 use std::alloc::Global;
@@ -101,7 +101,9 @@ fn with_value(alloc: Global, asks: Valued, value: &str) -> Result<Option<Word>, 
     let said = match asks {
         Valued::Port => read_within(text, 1, 65_535).map(|number| Word::Port(number as u16)),
         Valued::Address => read_listening(alloc, text)?.map(|addresses| Word::Addresses(addresses)),
-        Valued::Timeout => read_within(text, 1, TIMEOUT_MOST).map(|seconds| Word::Timeout(seconds)),
+        Valued::Timeout => read_within(text, 1, TIMEOUT_SECONDS_MOST).map(|seconds| Word::Timeout(
+            seconds,
+        )),
         Valued::Workers => read_within(text, 1, SEATS_MOST as u32).map(|number| Word::Workers(
             number,
         )),

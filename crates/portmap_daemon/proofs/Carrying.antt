@@ -14,7 +14,7 @@ use Rattle.portmap_link.specs.declared.outbox.Flush.{Flush}
 use Rattle.portmap_link.specs.declared.outbox.Flush.TheVariants as flush
 use Rattle.portmap_daemon.specs.Carrying.{IsRead, WritingEnds, FollowsAnswer}
 use Rattle.portmap_daemon.specs.declared.carrier.Next.{Next}
-use Rattle.portmap_daemon.specs.declared.carrier.TheConstants.{PULL_MOST}
+use Rattle.portmap_daemon.specs.declared.limits.TheConstants.{PULL_BYTES_MOST}
 
 -- bytes are read between two calls that read none
 pub read_between : (a b c d : Option (List ℕ)) (bs : List ℕ) → Keeps a b → Consumes b c bs → Keeps c d → Consumes a d bs
@@ -25,7 +25,7 @@ read_between (Some x) (Some y) (Some z) None bs one two three = absurd three
 read_between (Some x) (Some y) (Some z) (Some w) bs one two three = sym one ∙ two ∙ ap (λ (t : List ℕ). bs ++ t) (sym three)
 
 -- the front of the buffer was read
-pub is_read : (old new : Devices) (n : ℕ) (buffer : List ℕ) → n ≤ length buffer → length buffer ≡ PULL_MOST → Consumes old.left new.left (take n buffer) → new.pulls ≡ old.pulls ++ pull.Piece n ∷ [] → IsRead old new (take n buffer)
+pub is_read : (old new : Devices) (n : ℕ) (buffer : List ℕ) → n ≤ length buffer → length buffer ≡ PULL_BYTES_MOST → Consumes old.left new.left (take n buffer) → new.pulls ≡ old.pulls ++ pull.Piece n ∷ [] → IsRead old new (take n buffer)
 is_read old new n buffer within room consumed pulled =
     let len : length (take n buffer) ≡ n = omega (arith, length-take n buffer, within) in
     record {

@@ -20,7 +20,7 @@ use Rattle.portmap_link.specs.declared.outbox.Flush.{Flush}
 use Rattle.portmap_link.specs.declared.outbox.Flush.TheVariants as flush
 use Rattle.portmap_daemon.specs.declared.carrier.Next.{Next}
 use Rattle.portmap_daemon.specs.declared.carrier.Next.TheVariants.{Keep, Close, Halt, Fault, NoMemory}
-use Rattle.portmap_daemon.specs.declared.carrier.TheConstants.{PULL_MOST}
+use Rattle.portmap_daemon.specs.declared.limits.TheConstants.{PULL_BYTES_MOST}
 
 -- ---- one pull
 
@@ -28,7 +28,7 @@ use Rattle.portmap_daemon.specs.declared.carrier.TheConstants.{PULL_MOST}
 pub record IsRead (old new : Devices) (piece : List ℕ) : Type 0 where
   pub consumed : Consumes old.left new.left piece
   pub pulled : new.pulls ≡ old.pulls ++ pull.Piece (length piece) ∷ []
-  pub few : length piece ≤ PULL_MOST
+  pub few : length piece ≤ PULL_BYTES_MOST
 
 -- the one pull of a call answered so
 abbrev pub Pulls : Pull → Devices → Devices → Type 0

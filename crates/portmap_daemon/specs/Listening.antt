@@ -1,9 +1,9 @@
 -- Connections that come, and a listening socket at which none could be taken.
 use Rattle.std.specs.Prelude.{◌≡◌, Bool}
 use Rattle.std.specs.declared.io.ErrorKind.{ErrorKind}
-use Rattle.std.specs.declared.io.ErrorKind.TheVariants.{ConnectionAborted, Interrupted, WouldBlock}
-use Rattle.portmap_daemon.specs.declared.listener.Lack.{Lack}
-use Rattle.portmap_daemon.specs.declared.listener.Lack.TheVariants.{Gone, Empty, Barred}
+use Rattle.std.specs.declared.io.ErrorKind.TheVariants as kind
+use Rattle.portmap_daemon.specs.declared.listener.AcceptError.{AcceptError}
+use Rattle.portmap_daemon.specs.declared.listener.AcceptError.TheVariants.{Aborted, WouldBlock, Exhausted}
 use Rattle.portmap_daemon.specs.declared.source.Turn.{Turn}
 use Rattle.portmap_daemon.specs.declared.source.Turn.TheVariants.{Fresh, Ready, Late, Idle, Stop}
 
@@ -15,9 +15,9 @@ IsFreshFrom is_local (Late key) = ⊥
 IsFreshFrom is_local Idle = ⊥
 IsFreshFrom is_local Stop = ⊥
 
--- why none could be, by the kind of the error
-abbrev pub lack_of : ErrorKind → Lack
-lack_of ConnectionAborted = Gone
-lack_of Interrupted = Gone
-lack_of WouldBlock = Empty
-lack_of kind = Barred
+-- why none could be accepted, by the kind of the error
+abbrev pub accept_error : ErrorKind → AcceptError
+accept_error kind.ConnectionAborted = Aborted
+accept_error kind.Interrupted = Aborted
+accept_error kind.WouldBlock = WouldBlock
+accept_error _ = Exhausted

@@ -1,7 +1,7 @@
 -- How a daemon fails: profile.
 use Rattle.std.specs.Prelude.{ℕ, ◌<◌}
-use Rattle.portmap_daemon.specs.declared.running.RunFault.{RunFault}
-use Rattle.portmap_daemon.specs.declared.running.RunFault.TheVariants.{Listen, Poll, NoMemory}
+use Rattle.portmap_daemon.specs.declared.daemon.RunFault.{RunFault}
+use Rattle.portmap_daemon.specs.declared.daemon.RunFault.TheVariants.{Listen, Poll, NoMemory}
 
 -- where an address can't be listened on, it is one of so many
 abbrev pub IsOfAddresses : ℕ → RunFault → Type 0

@@ -12,8 +12,8 @@ use std::os::fd::AsRawFd;
 /// How many bytes of an address the system may write.
 const ADDRESS_MOST: u32 = 128;
 
-/// The next connection, with the address of its peer, or `WouldBlock` where none waits. Calls on the connection don't wait: the
-/// system is told so as it gives the connection, where the kit's own `accept` takes one call more.
+/// The next connection, with the address of its peer, or `WouldBlock` if none waits. Calls on the connection don't wait: the
+/// system is told so as it gives the connection. The kit's own `accept` takes one call more.
 pub(crate) fn accept(listener: &TcpListener) -> io::Result<(TcpStream, IpAddr)> {
     let mut address = [0; _SS_SIZE];
     let mut length = ADDRESS_MOST;

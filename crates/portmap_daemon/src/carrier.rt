@@ -7,6 +7,7 @@ ghost use Rattle.portmap_link.specs.Asking.{devices};
 ghost use Rattle.portmap_link.specs.Flush.{Moves};
 ghost use Rattle.portmap_daemon.specs.Carrying.{IsLate, IsRead, FollowsAnswer, FollowsNothing, added, bytes_of, fate_of, is_close, next_after, next_of};
 
+use crate::limits::PULL_BYTES_MOST;
 use crate::{Gate, Point};
 use portmap_book::{ActFault, Conn, Desk, Seat};
 use portmap_core::{Answer, Fate, Phase, Refusal};
@@ -14,9 +15,6 @@ use portmap_link::{Flush, Input, Outbox, Output, Pull};
 use std::alloc::Global;
 use std::sync::Wait;
 use std::sync::ledger::Ledger;
-
-/// The most bytes that one pull of a link asks for.
-pub const PULL_MOST: usize = 4096;
 
 /// What is to be done with a connection.
 #[derive(Clone, Copy, Debug, PartialEq, Eq)]
@@ -57,7 +55,7 @@ impl<L: Ledger> Carrier<L> {
         }
     }
 
-    /// Goes on with the connection: writes what waits, and, unless a close is due, pulls once for a piece of `PULL_MOST` bytes at
+    /// Goes on with the connection: writes what waits, and, unless a close is due, pulls once for a piece of `PULL_BYTES_MOST` bytes at
     /// most, has the desk answer it, and writes the answer as far as the link takes it. The gate is passed before the answer is
     /// written and after. Gives the place and the answer that the desk told, if it did, and what is to be done next.
     pub fn ready<I: Input + Output, G: Gate, R: Wait>(
@@ -91,7 +89,7 @@ impl<L: Ledger> Carrier<L> {
             Flush::Later if self.due => return (None, Next::Keep),
             Flush::Empty | Flush::Later => {}
         }
-        let mut buffer = [0; PULL_MOST];
+        let mut buffer = [0; PULL_BYTES_MOST];
         match link.pull(&mut buffer) {
             Pull::Fault => (None, Next::Fault),
             Pull::End => (None, Next::Close),
@@ -187,7 +185,7 @@ fn fate_of(answer: &Answer) -> Fate
     }
 }
 
-/// What is next where there was room for the answer, by what becomes of the connection and how the writing ended.
+/// What is next if there was room for the answer, by what becomes of the connection and how the writing ended.
 fn next_after(fate: Fate, flush: Flush) -> Next
     ensures { result ≡ next_after fate flush }
 {
@@ -199,7 +197,7 @@ fn next_after(fate: Fate, flush: Flush) -> Next
     }
 }
 
-/// What is next where the desk has refused.
+/// What is next if the desk has refused.
 pub(crate) fn next_of(fault: ActFault) -> Next
     ensures { result ≡ next_of fault }
 {

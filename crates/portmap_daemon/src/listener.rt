@@ -1,23 +1,24 @@
-//! A listening socket that several workers share.
-ghost use Rattle.std.specs.Prelude.{◌≡◌, ◌+◌, ◌-◌, ◌^◌, min, false, if◌then◌else◌};
-ghost use Rattle.portmap_daemon.specs.Listening.{lack_of};
-ghost use Rattle.portmap_daemon.specs.declared.listener.TheConstants.{BACKOFF};
+//! A worker's shares of the listening sockets.
+ghost use Rattle.std.specs.Prelude.{◌≡◌, ◌+◌, ◌-◌, ◌<◌, ◌≤◌, ◌^◌, min, false, IfOk, IfErr};
+ghost use Rattle.portmap_daemon.specs.Listening.{accept_error};
+ghost use Rattle.portmap_daemon.specs.Running.{IsOfAddresses};
+ghost use Rattle.portmap_daemon.specs.declared.limits.TheConstants.{ACCEPT_BACKOFF_MS};
 
 use crate::accepting::accept;
+use crate::daemon::RunFault;
+use crate::limits::{ACCEPT_BACKOFF_MS, IDLE_REPORTS_MOST};
+use crate::poller::FIRST_LISTENER;
 use mio::net::{TcpListener, TcpStream};
 use mio::{Interest, Registry, Token};
-use std::io;
+use std::alloc::Global;
 use std::io::ErrorKind;
 use std::net::IpAddr;
-
-/// For so many milliseconds a worker leaves a listener alone at which nothing can be taken, as when the process has no
-/// descriptor left.
-const BACKOFF: u64 = 20;
+use std::{io, net};
 
 /// How a worker stands to a listening socket.
 #[derive(Clone, Copy, Debug, PartialEq, Eq)]
 enum Watch {
-    /// Others take its connections.
+    /// Others accept its connections.
     Off,
     /// The poll reports it.
     On,
@@ -25,144 +26,76 @@ enum Watch {
     From(u64),
 }
 
-/// What an asking for a connection comes to.
-#[derive(Drop)]
-pub(crate) enum Accepted {
-    /// A connection, with the address of its peer.
-    Taken(TcpStream, IpAddr),
-    /// None: none waits, or none can be taken.
-    Nothing,
-    /// None since the listener was last reported: others took what waited.
-    InVain,
-}
-
-/// Why no connection could be taken.
+/// Why no connection could be accepted.
 #[derive(Clone, Copy, Debug, PartialEq, Eq)]
-enum Lack {
+enum AcceptError {
     /// The one that waited has gone: another one may wait.
-    Gone,
+    Aborted,
     /// None waits.
-    Empty,
-    /// None can be taken, for a while.
-    Barred,
+    WouldBlock,
+    /// None can be accepted for a while, for want of descriptors or of memory.
+    Exhausted,
 }
 
 /// Why none could be, by the kind of the error.
-fn lack_of(kind: ErrorKind) -> Lack
-    ensures { result ≡ lack_of kind }
+fn accept_error(kind: ErrorKind) -> AcceptError
+    ensures { result ≡ accept_error kind }
 {
     match kind {
-        ErrorKind::ConnectionAborted | ErrorKind::Interrupted => Lack::Gone,
-        ErrorKind::WouldBlock => Lack::Empty,
-        _ => Lack::Barred,
+        ErrorKind::ConnectionAborted | ErrorKind::Interrupted => AcceptError::Aborted,
+        ErrorKind::WouldBlock => AcceptError::WouldBlock,
+        _ => AcceptError::Exhausted,
     }
 }
 
 /// One worker's share of a listening socket. The system reports it to every worker that watches it, and one of them gets the
 /// connection.
 #[derive(Drop)]
-pub(crate) struct Listener {
+struct Listener {
     socket: TcpListener,
     token: Token,
     watch: Watch,
     /// Connections may wait at it.
     waiting: bool,
-    /// One was taken since it was last reported.
+    /// One was accepted since it was last reported.
     took: bool,
 }
 
 impl Listener {
-    /// A listener that is not watched.
-    pub(crate) fn new(socket: TcpListener, token: Token) -> Listener {
-        Listener {
-            socket,
-            token,
-            watch: Watch::Off,
-            waiting: false,
-            took: false,
-        }
-    }
-
-    /// Has the poll report it, and what waits already too. Whether it does so.
-    pub(crate) fn watch(&mut self, registry: &Registry) -> bool {
-        let is_watched = self.register(registry).is_ok();
-        if is_watched {
-            self.watch = Watch::On;
-        }
-        is_watched
-    }
-
+    /// Has the poll report it, and what waits already too.
     fn register(&mut self, registry: &Registry) -> io::Result<()> {
         let socket = &mut self.socket;
         registry.register(socket, self.token, Interest::READABLE)
     }
 
-    pub(crate) fn has_token(&self, token: Token) -> bool {
-        self.token == token
-    }
-
     /// The poll has reported it. A report that comes before the last one has come to nothing is one with it.
-    pub(crate) fn note_report(&mut self) {
-        if !self.waiting {
-            self.took = false;
-        }
+    fn note_report(&mut self) {
+        self.took = self.took && self.waiting;
         self.waiting = true;
     }
 
-    /// Whether connections may wait at it.
-    pub(crate) fn is_waiting(&self) -> bool {
-        self.waiting
-    }
-
-    /// From when on it is to be watched, if it isn't yet.
-    pub(crate) fn watch_from(&self) -> Option<u64> {
-        match self.watch {
-            Watch::From(time) => Some(time),
-            Watch::Off | Watch::On => None,
-        }
-    }
-
-    /// Takes a connection that waits.
-    pub(crate) fn accept(&mut self, registry: &Registry, now: u64) -> Accepted {
-        if !self.waiting {
-            return Accepted::Nothing;
-        }
-        match accept(&self.socket) {
-            Ok((stream, peer)) => {
-                self.took = true;
-                Accepted::Taken(stream, peer)
-            }
-            Err(error) => self.give_up(registry, now, error.kind()),
-        }
-    }
-
-    /// None could be taken.
-    fn give_up(&mut self, registry: &Registry, now: u64, kind: ErrorKind) -> Accepted
-        ensures gone { lack_of kind ≡ Lack.Gone → (self.new ≡ self.old) × (result ≡ Accepted.Nothing) }
-        ensures empty { lack_of kind ≡ Lack.Empty → (self.new.waiting ≡ false) × (self.new.watch ≡ self.old.watch) × (result ≡ if self.old.took then Accepted.Nothing else Accepted.InVain) }
-        ensures barred { lack_of kind ≡ Lack.Barred → (self.new.waiting ≡ false) × (self.new.watch ≡ Watch.From (min (now + BACKOFF) (2 ^ 64 - 1))) × (result ≡ Accepted.Nothing) }
+    /// None could be accepted.
+    fn fail(&mut self, registry: &Registry, now: u64, kind: ErrorKind) -> AcceptError
+        ensures error { result ≡ accept_error kind }
+        ensures aborted { result ≡ AcceptError.Aborted → self.new ≡ self.old }
+        ensures would_block { result ≡ AcceptError.WouldBlock → (self.new.waiting ≡ false) × (self.new.watch ≡ self.old.watch) × (self.new.took ≡ self.old.took) }
+        ensures exhausted { result ≡ AcceptError.Exhausted → (self.new.waiting ≡ false) × (self.new.watch ≡ Watch.From (min (now + ACCEPT_BACKOFF_MS) (2 ^ 64 - 1))) }
     {
-        match lack_of(kind) {
-            Lack::Gone => Accepted::Nothing,
-            Lack::Empty => {
-                self.waiting = false;
-                if self.took {
-                    Accepted::Nothing
-                } else {
-                    Accepted::InVain
-                }
-            }
+        let error = accept_error(kind);
+        match error {
+            AcceptError::Aborted => {}
+            AcceptError::WouldBlock => self.waiting = false,
             // What waits is not reported again, so the poll is to look anew after a while.
-            Lack::Barred => {
+            AcceptError::Exhausted => {
                 self.leave(registry);
-                self.watch = Watch::From(now.saturating_add(BACKOFF));
-                Accepted::Nothing
+                self.watch = Watch::From(now.saturating_add(ACCEPT_BACKOFF_MS));
             }
         }
+        error
     }
 
     /// Leaves it to others.
-    pub(crate) fn leave(&mut self, registry: &Registry)
+    fn leave(&mut self, registry: &Registry)
         ensures { self.new.waiting ≡ false }
     {
         if self.watch == Watch::On {
@@ -172,20 +105,13 @@ impl Listener {
         self.waiting = false;
     }
 
-    /// It is to be watched from this time on.
-    pub(crate) fn join(&mut self, now: u64) {
-        if self.watch == Watch::Off {
-            self.watch = Watch::From(now);
-        }
-    }
-
-    /// Watches it, where it is time.
-    pub(crate) fn come_back(&mut self, registry: &Registry, now: u64) {
-        let Some(from) = self.watch_from() else {
-            return;
+    /// Watches it, if it is time. Whether it can't be watched.
+    fn come_back(&mut self, registry: &Registry, now: u64) -> bool {
+        let Watch::From(time) = self.watch else {
+            return false;
         };
-        if now < from {
-            return;
+        if now < time {
+            return false;
         }
         self.watch = match self.register(registry) {
             Ok(()) => Watch::On,
@@ -194,7 +120,176 @@ impl Listener {
                 self.note_report();
                 Watch::On
             }
-            Err(_) => Watch::From(now.saturating_add(BACKOFF)),
+            Err(_) => Watch::From(now.saturating_add(ACCEPT_BACKOFF_MS)),
         };
+        self.watch != Watch::On
     }
+}
+
+/// The listeners of a worker, which are asked in turn.
+#[derive(Drop)]
+pub(crate) struct Listeners {
+    listeners: Vec<Listener>,
+    /// The place of the listener that is asked first: behind the one that gave last, so that none is served before the others.
+    first: usize,
+    /// The worker accepts.
+    is_on: bool,
+    /// How many reports in a row came to nothing.
+    idle_reports: u32,
+    /// A connection could not be accepted since that was last asked.
+    exhausted: bool,
+}
+
+impl Listeners {
+    /// One worker's shares of these sockets, which its poll reports if it accepts.
+    pub(crate) fn share(
+        alloc: Global,
+        registry: &Registry,
+        sockets: &[net::TcpListener],
+        is_on: bool,
+    ) -> Result<Listeners, RunFault>
+        ensures is_on { IfOk result (λ listeners. listeners.is_on ≡ is_on) }
+        ensures fault { IfErr result (λ f. IsOfAddresses 0 f) }
+    {
+        let mut listeners = Vec::new(alloc);
+        for (place, socket) in sockets.iter().enumerate() {
+            let mut listener = Listener {
+                socket: TcpListener::from_std(socket.try_clone()?),
+                token: Token(FIRST_LISTENER.saturating_add(place)),
+                watch: Watch::Off,
+                waiting: false,
+                took: false,
+            };
+            if is_on {
+                listener.register(registry)?;
+                listener.watch = Watch::On;
+            }
+            listeners.push(listener)?;
+        }
+        Ok(Listeners {
+            listeners,
+            first: 0,
+            is_on,
+            idle_reports: 0,
+            exhausted: false,
+        })
+    }
+
+    /// Whether connections may wait.
+    pub(crate) fn is_waiting(&self) -> bool {
+        self.listeners.iter().any(|listener| listener.waiting)
+    }
+
+    /// How many are watched at most.
+    pub(crate) fn len(&self) -> usize {
+        self.listeners.len()
+    }
+
+    /// The earliest time from which on one is to be watched, or this one if it comes before.
+    pub(crate) fn until(&self, time: u64) -> u64 {
+        let mut until = time;
+        for listener in &self.listeners {
+            if let Watch::From(from) = listener.watch {
+                until = until.min(from);
+            }
+        }
+        until
+    }
+
+    /// The poll has reported the one with this token.
+    pub(crate) fn report(&mut self, token: Token) {
+        for listener in &mut self.listeners {
+            if listener.token == token {
+                listener.note_report();
+            }
+        }
+    }
+
+    /// The next connection that waits, with the address of its peer. The listeners are asked in turn.
+    pub(crate) fn accept(&mut self, registry: &Registry, now: u64) -> Option<(TcpStream, IpAddr)> {
+        for _ in 0..self.listeners.len() {
+            let place = self.first;
+            self.first = next_place(place, self.listeners.len());
+            let accepted = self.accept_at(place, registry, now);
+            if accepted.is_some() {
+                return accepted;
+            }
+        }
+        None
+    }
+
+    /// The next one that waits at the listener at this place.
+    fn accept_at(
+        &mut self,
+        place: usize,
+        registry: &Registry,
+        now: u64,
+    ) -> Option<(TcpStream, IpAddr)> {
+        let listener = self.listeners.get_mut(place)?;
+        if !listener.waiting {
+            return None;
+        }
+        match accept(&listener.socket) {
+            Ok(accepted) => {
+                listener.took = true;
+                self.idle_reports = 0;
+                return Some(accepted);
+            }
+            Err(error) => match listener.fail(registry, now, error.kind()) {
+                AcceptError::Aborted => {}
+                AcceptError::WouldBlock if listener.took => {}
+                AcceptError::WouldBlock => self.idle_reports = self.idle_reports.saturating_add(1),
+                AcceptError::Exhausted => self.exhausted = true,
+            },
+        }
+        None
+    }
+
+    /// Whether so many reports came to nothing that the worker may leave the listeners to others. It is asked once.
+    pub(crate) fn take_idle(&mut self) -> bool {
+        let is_idle = self.idle_reports >= IDLE_REPORTS_MOST;
+        if is_idle {
+            self.idle_reports = 0;
+        }
+        is_idle
+    }
+
+    /// Whether connections could not be accepted since this was last asked.
+    pub(crate) fn take_exhausted(&mut self) -> bool
+        ensures taken { result ≡ self.old.exhausted }
+        ensures asked { self.new.exhausted ≡ false }
+    {
+        let is_exhausted = self.exhausted;
+        self.exhausted = false;
+        is_exhausted
+    }
+
+    /// Watches the listeners from now on, or leaves them, as the worker accepts or not. Those that are to be watched again are, if it
+    /// is time.
+    pub(crate) fn pass(&mut self, registry: &Registry, now: u64, is_on: bool) {
+        let turns = is_on != self.is_on;
+        if turns {
+            self.is_on = is_on;
+            self.idle_reports = 0;
+        }
+        for listener in &mut self.listeners {
+            if turns && !is_on {
+                listener.leave(registry);
+            } else if turns && listener.watch == Watch::Off {
+                listener.watch = Watch::From(now);
+            }
+            if listener.come_back(registry, now) {
+                self.exhausted = true;
+            }
+        }
+    }
+}
+
+/// The place behind this one of so many: the first one behind the last one.
+fn next_place(place: usize, count: usize) -> usize
+    ensures next { place + 1 < count → result ≡ place + 1 }
+    ensures first { count ≤ place + 1 → result ≡ 0 }
+{
+    let next = place.saturating_add(1);
+    if next < count { next } else { 0 }
 }

@@ -1,6 +1,5 @@
 //! Whether the peer of a stream is on this host.
-ghost use Rattle.std.specs.Prelude.{◌≡◌, true, Option, None};
-ghost use Rattle.std.specs.declared.net.ip_addr.IpAddr.{IpAddr};
+ghost use Rattle.std.specs.Prelude.{◌≡◌};
 ghost use Rattle.portmap_core.specs.Locality.{is_local_to};
 ghost use Rattle.portmap_daemon.specs.Peers.{ip_of, is_local_by};
 
@@ -28,26 +27,17 @@ pub fn is_local_peer(peer: IpAddr, own: IpAddr) -> bool
     is_local(ip_of(peer), ip_of(own))
 }
 
-/// The same, where the own address is perhaps not known.
-fn is_local_by(peer: IpAddr, own: Option<IpAddr>) -> bool
+/// The same, if the own address is perhaps not known.
+pub(crate) fn is_local_by(peer: IpAddr, own: Option<IpAddr>) -> bool
     ensures { result ≡ is_local_by peer own }
 {
     is_local_peer(peer, own.unwrap_or(NO_PEER))
 }
 
-/// The same of a stream. Its own address is asked for only where the peer's doesn't decide, since that takes a call of the
-/// system.
-pub(crate) fn is_local_stream(stream: &TcpStream, peer: IpAddr) -> bool
-    ensures alone { is_local_by peer None ≡ true → result ≡ true }
-    ensures some { (own : Option IpAddr) × (result ≡ is_local_by peer own) }
-{
-    is_local_by(peer, None) || is_local_by(peer, own_ip(stream))
-}
-
-/// The stream's own address, where the system tells it.
-fn own_ip(stream: &TcpStream) -> Option<IpAddr> {
-    match stream.local_addr() {
-        Ok(own) => Some(own.ip()),
-        Err(_) => None,
+/// A connection's own address. It is asked for only if the peer's doesn't decide, since that takes a call of the system.
+pub(crate) fn own_ip(stream: &TcpStream, peer: IpAddr) -> Option<IpAddr> {
+    if is_local_by(peer, None) {
+        return None;
     }
+    Some(stream.local_addr().ok()?.ip())
 }

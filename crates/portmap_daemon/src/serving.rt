@@ -5,6 +5,7 @@ ghost use Rattle.std.specs.BTreeMap.{get};
 ghost use Rattle.portmap_daemon.specs.Carrying.{LetsGo};
 
 use crate::carrier::next_of;
+use crate::limits::LAST_TRIES_MOST;
 use crate::{Carrier, Gate, Next, Source, Turn};
 use portmap_book::{Desk, Seat};
 use std::alloc::Global;
@@ -12,10 +13,6 @@ use std::collections::BTreeMap;
 use std::collections::btree_map::Entry;
 use std::sync::Wait;
 use std::sync::ledger::Ledger;
-
-/// How often the last reply is tried again where its link says Later, before the worker ends. With the Later that its first try
-/// ended with, a link has said so a thousand times when it is given up.
-const LAST_TRIES: u32 = 999;
 
 /// What a worker ends with.
 #[derive(Drop)]
@@ -182,7 +179,7 @@ impl<L: Ledger, S: Source + Drop, G: Gate, R: Wait> Worker<'_, L, S, G, R> {
         }
     }
 
-    /// Writes what waits for a link, the last reply among it, with at most `LAST_TRIES` tries.
+    /// Writes what waits for a link, the last reply among it, with at most `LAST_TRIES_MOST` tries.
     fn send_last(&mut self, key: u64)
         ensures { self.new.seat ≡ self.old.seat }
     {
@@ -192,7 +189,7 @@ impl<L: Ledger, S: Source + Drop, G: Gate, R: Wait> Worker<'_, L, S, G, R> {
         let Some(link) = self.source.link(key) else {
             return;
         };
-        for _ in 0..LAST_TRIES {
+        for _ in 0..LAST_TRIES_MOST {
             if !carrier.flush(link) {
                 break;
             }

@@ -1,156 +1,404 @@
 //! The source of a worker over sockets.
-use crate::crew::Crew;
-use crate::shifts::Unrest;
-use crate::sockets::Sockets;
-use crate::stream_link::StreamLink;
+ghost use Rattle.std.specs.Prelude.{◌≡◌, ◌-◌, ◌≤◌, true, false, max};
+ghost use Rattle.portmap_daemon.specs.declared.limits.TheConstants.{SHORT_TIMEOUT_MS};
+
+use crate::accept_scheduler::LoadMeter;
+use crate::admission::Newcomer;
+use crate::limits::{
+    BACKLOG_MOST, EVENTS_MOST, IDLE_TIMEOUT_MS, LOG_BYTES_HEAVY, LOOK_INTERVAL_MS, POLLS_MOST,
+    RESTS_MOST, SHORT_TIMEOUT_MS, TURNS_MOST, WEIGH_BYTES,
+};
+use crate::link::{Held, Link};
+use crate::listener::Listeners;
+use crate::pending::Pending;
+use crate::poller::Poller;
+use crate::shared::{IDLE, NO_CONNECTIONS, NO_NEWS, News, Shared, WorkerState};
 use crate::{Source, Turn};
 use mio::net::TcpStream;
 use portmap_book::Desk;
+use slab::Slab;
+use std::alloc::Global;
+use std::collections::VecDeque;
 use std::rt::Clock;
 use std::sync::Wait;
+use std::sync::atomic::Ordering;
 use std::sync::ledger::Ledger;
 
-/// How often the poll is asked within one turn, where what it reports comes to nothing: other workers took it.
-const ROUNDS: u32 = 64;
+/// The sockets of one worker.
+#[derive(Drop)]
+pub(crate) struct Sockets {
+    /// Which worker it is, from 0.
+    pub(crate) worker: usize,
+    pub(crate) poller: Poller,
+    pub(crate) listeners: Listeners,
+    /// How many milliseconds a link may move no byte.
+    pub(crate) timeout: u64,
+}
 
-/// After how many turns the thread is woken that looks at the log.
-const LOG_TURNS: u32 = 128;
-
-/// A worker's sockets with a clock, the desk and the other workers.
+/// A worker's sockets and links, with the desk and what it shares with the other workers. Times are in milliseconds since the daemon
+/// began.
 #[derive(Drop)]
 pub(crate) struct SocketSource<'a, L: Ledger, R: Wait + Clock> {
-    rt: &'a R,
-    desk: &'a Desk<L>,
-    /// What the worker and the others tell each other.
-    crew: &'a Crew,
-    sockets: Sockets,
-    unrest: Unrest,
-    /// How many turns there were since the log was looked at.
+    pub(crate) rt: &'a R,
+    pub(crate) alloc: Global,
+    pub(crate) desk: &'a Desk<L>,
+    pub(crate) shared: &'a Shared,
+    /// What the others know of this worker.
+    pub(crate) state: &'a WorkerState,
+    pub(crate) sockets: Sockets,
+    pub(crate) links: Slab<Held>,
+    /// The links of which there is something to tell, in the order in which it came.
+    pub(crate) queue: VecDeque<usize>,
+    /// The links that rest, in the order in which they began to.
+    resting: VecDeque<usize>,
+    /// The link that was told last.
+    pub(crate) last: Option<usize>,
+    /// The last turn accepted a connection, so the next one goes on with another.
+    has_accepted: bool,
+    /// How many more connections are accepted in a row, to learn whether so many wait.
+    backlog: u32,
+    /// The connection that waits for a place. While it does none is accepted.
+    pub(crate) newcomer: Option<Newcomer>,
+    /// No link is looked for before this time that may be given up for another one.
+    pub(crate) room_backoff: u64,
+    /// The registrations that wait for their names, in the order in which they came.
+    pub(crate) pending: VecDeque<Pending>,
+    /// The epoch that is passed once all is told that was to be told when the poll had answered, and how much of that is left.
+    epoch: u64,
+    left: usize,
+    /// How many turns since the poll was asked.
     turns: u32,
+    load: LoadMeter,
+    /// The time when the poll answered last.
+    pub(crate) now: u64,
+    /// When the next look is due, and the time of the last one.
+    look_due: u64,
+    looked: u64,
+    /// How many bytes the links have moved since the log was weighed.
+    unweighed_bytes: usize,
+    pub(crate) news: News,
+}
+
+/// How many milliseconds a poll may wait: not at all while there is something to do; else until this time, but at least a moment.
+fn poll_timeout(is_busy: bool, now: u64, until: u64) -> u64
+    ensures busy { is_busy ≡ true → result ≡ 0 }
+    ensures waits { is_busy ≡ false → result ≡ max (until - now) SHORT_TIMEOUT_MS }
+{
+    if is_busy {
+        0
+    } else {
+        until.saturating_sub(now).max(SHORT_TIMEOUT_MS)
+    }
 }
 
 impl<'a, L: Ledger, R: Wait + Clock> SocketSource<'a, L, R> {
+    /// The source of a worker that has no link yet.
     pub(crate) fn new(
         rt: &'a R,
+        alloc: Global,
         desk: &'a Desk<L>,
-        crew: &'a Crew,
+        shared: &'a Shared,
+        state: &'a WorkerState,
         sockets: Sockets,
     ) -> SocketSource<'a, L, R> {
         SocketSource {
             rt,
+            alloc,
             desk,
-            crew,
+            shared,
+            state,
             sockets,
-            unrest: Unrest::new(),
+            links: Slab::new(alloc),
+            queue: VecDeque::new(alloc),
+            resting: VecDeque::new(alloc),
+            last: None,
+            has_accepted: false,
+            backlog: 0,
+            newcomer: None,
+            room_backoff: 0,
+            pending: VecDeque::new(alloc),
+            epoch: 0,
+            left: 0,
             turns: 0,
+            load: LoadMeter::new(),
+            now: 0,
+            look_due: LOOK_INTERVAL_MS,
+            looked: 0,
+            unweighed_bytes: 0,
+            news: NO_NEWS,
         }
     }
 
-    /// Counts a turn.
-    fn count(&mut self) {
-        if self.turns < LOG_TURNS {
-            self.turns += 1;
-            return;
-        }
-        self.turns = 0;
-        self.crew.wake_sealer();
-    }
-
-    /// What was told last may keep a registration back. It is told again at once, unless the name is active: perhaps its connection
-    /// has ended, of which its worker knows soon.
-    fn weigh(&mut self) -> Option<Turn> {
-        let name = self.sockets.asked()?;
-        let is_active = self.desk.is_active(self.rt, name);
-        self.sockets.weigh(self.crew, is_active)
-    }
-
-    /// The microseconds since the daemon began. Where the clock can't be read, a millisecond passes with each answer of the poll.
-    fn time(&self) -> u64 {
-        match self.crew.time(self.rt) {
+    /// The microseconds since the daemon began. If the clock can't be read, a millisecond passes with each answer of the poll.
+    fn time_us(&self) -> u64 {
+        match self.shared.time_us(self.rt) {
             Some(time) => time,
-            None => self.sockets.now().saturating_add(1).saturating_mul(1000),
+            None => self.now.saturating_add(1).saturating_mul(1000),
         }
     }
 
-    /// Has the registrations told that wait for their names, where those are free by now or they have waited for long enough.
-    fn unpark(&mut self) {
-        let parked = self.sockets.parked();
-        if parked == 0 {
+    /// Notes how many bytes a link has moved. Has the log taken out once it has become heavy by what links move.
+    fn note_moved(&mut self, bytes: usize) {
+        self.news.answered = self.news.answered || bytes > 0;
+        self.unweighed_bytes = self.unweighed_bytes.saturating_add(bytes);
+        if self.unweighed_bytes >= WEIGH_BYTES {
+            self.unweighed_bytes = 0;
+            if self.desk.weight(self.rt) >= LOG_BYTES_HEAVY {
+                self.shared.wake_drain();
+            }
+        }
+    }
+
+    /// What was told last is told again, unless a call on it would have waited: then the poll is to report it.
+    fn put_back(&mut self) {
+        let Some(key) = self.last.take() else {
             return;
-        }
-        for _ in 0..parked {
-            let is_active = match self.sockets.parked_name() {
-                Some(name) => self.desk.is_active(self.rt, name),
-                None => false,
-            };
-            self.sockets.unpark(self.crew, is_active);
-        }
-        self.crew
-            .note_parked(self.sockets.worker(), self.sockets.parked());
+        };
+        let Some(held) = self.links.get_mut(key) else {
+            return;
+        };
+        let bytes = held.link.take_moved_bytes();
+        let registry = self.sockets.poller.registry();
+        let resting = &mut self.resting;
+        held.link.put_back(&mut self.queue, resting, registry, key);
+        self.note_moved(bytes);
     }
 
-    /// Asks the poll. What is to be told by the time alone, or where it has failed.
-    fn ask(&mut self) -> Option<Turn> {
-        self.unpark();
-        let worker = self.sockets.worker();
-        let before = self.time();
-        self.crew.shifts.rest(worker);
-        let is_well = self.sockets.wait(self.crew);
-        let after = self.time();
-        self.crew.shifts.work(worker, after / 1000);
+    /// What is to be told without a poll. A connection that comes and a link that is held are told by turns.
+    fn next(&mut self) -> Option<Turn> {
+        if self.turns >= TURNS_MOST {
+            return None;
+        }
+        self.turns = self.turns.saturating_add(1);
+        if !self.has_accepted || self.backlog > 0 {
+            if let Some(turn) = self.admit() {
+                self.has_accepted = true;
+                self.count_one();
+                return Some(turn);
+            }
+            self.backlog = 0;
+        }
+        self.has_accepted = false;
+        self.pop()
+    }
+
+    /// One was accepted. If so many waited, a further worker is to accept too.
+    fn count_one(&mut self) {
+        if self.backlog == 1 {
+            self.shared.add_acceptor(self.sockets.worker);
+        }
+        self.backlog = self.backlog.saturating_sub(1);
+    }
+
+    /// The next link of which there is something to tell.
+    fn pop(&mut self) -> Option<Turn> {
+        while let Some(key) = self.queue.pop_front() {
+            self.left = self.left.saturating_sub(1);
+            if let Some(held) = self.links.get_mut(key) {
+                self.last = Some(key);
+                return Some(held.link.tell(key));
+            }
+        }
+        None
+    }
+
+    /// Polls. What is to be told by the time alone, or if the poll has failed.
+    fn poll(&mut self) -> Option<Turn> {
+        self.retry_pending();
+        let before = self.time_us();
+        self.state.busy_since.store(IDLE, Ordering::SeqCst);
+        let is_well = self.wait();
+        let after = self.time_us();
+        if after / 1000 > self.now {
+            self.end_rests();
+        }
+        self.now = after / 1000;
+        self.state.busy_since.store(self.now, Ordering::SeqCst);
         if !is_well {
             return Some(self.fail());
         }
-        if self.crew.ends() {
+        if self.shared.stopping.load(Ordering::SeqCst) {
             return Some(Turn::Stop);
         }
-        if self.unrest.note_look(before, after) && self.crew.shifts.may_call_behind(worker) {
-            self.sockets.count_waiting();
+        let worker = self.sockets.worker;
+        if self.load.note_poll(before, after) && self.shared.may_add_acceptor(worker) {
+            self.backlog = BACKLOG_MOST;
         }
-        if !self.sockets.pass(self.crew, after / 1000) {
-            return self.sockets.make_way(self.crew);
-        }
-        // The links are judged by a time that was read before the poll is asked once more: however long this thread was stopped
-        // in between, what came meanwhile is noted before any of them is told late.
-        if !self.sockets.look_round() {
+        self.pass_listeners();
+        let is_due = self.now >= self.look_due;
+        if is_due && !self.look_round() {
             return Some(self.fail());
         }
-        self.crew.note(self.sockets.take_news());
-        Some(Turn::Idle)
+        match self.make_way() {
+            None if is_due => Some(Turn::Idle),
+            turn => turn,
+        }
+    }
+
+    /// A millisecond is over: the links that have rested longest are told again, a few of them.
+    fn end_rests(&mut self) {
+        for _ in 0..RESTS_MOST {
+            if let Some(key) = self.resting.pop_front() {
+                if let Some(held) = self.links.get_mut(key) {
+                    held.link.end_rest(&mut self.queue, key);
+                }
+            }
+        }
+    }
+
+    /// Watches the listeners or leaves them, as the worker accepts or not.
+    fn pass_listeners(&mut self) {
+        let is_on = self.shared.accepts(self.sockets.worker);
+        let listeners = &mut self.sockets.listeners;
+        listeners.pass(self.sockets.poller.registry(), self.now, is_on);
+        if listeners.take_exhausted() {
+            self.news.exhausted = true;
+        }
     }
 
     /// The poll has failed: the worker ends, and with it the others.
     fn fail(&mut self) -> Turn {
-        self.crew.fail();
+        self.shared.poll_failed.store(true, Ordering::SeqCst);
         Turn::Stop
+    }
+
+    /// Until when a poll may wait if there is nothing to do.
+    fn until(&self) -> u64 {
+        if self.newcomer.is_some() || !self.resting.is_empty() {
+            return self.now;
+        }
+        let look = if self.links.is_empty() && self.news == NO_NEWS {
+            self.now.saturating_add(IDLE_TIMEOUT_MS)
+        } else {
+            self.look_due
+        };
+        self.sockets.listeners.until(self.pending_until(look))
+    }
+
+    /// Polls, and waits if there is nothing else to do. False if the poll has failed.
+    fn wait(&mut self) -> bool {
+        self.turns = 0;
+        let begins = self.left == 0;
+        if begins {
+            // All is told that the poll knew of when it answered: so of the epoch that had begun before.
+            if !self.links.is_empty() {
+                self.state.epoch.fetch_max(self.epoch, Ordering::SeqCst);
+            }
+            self.epoch = self.shared.last_epoch();
+        }
+        let has_passed = self.state.epoch.load(Ordering::SeqCst) >= self.epoch;
+        let is_waiting = self.sockets.listeners.is_waiting();
+        let is_busy = !has_passed || !self.queue.is_empty() || is_waiting;
+        if !self.ask(poll_timeout(is_busy, self.now, self.until())) {
+            return false;
+        }
+        if begins {
+            let is_all = !self.sockets.poller.is_full() || self.ask_for_all();
+            self.left = self.queue.len();
+            return is_all;
+        }
+        true
+    }
+
+    /// Asks the poll, which may wait for so many milliseconds, and notes what it reports. False if it has failed.
+    fn ask(&mut self, timeout: u64) -> bool {
+        let is_well = self.sockets.poller.wait(timeout);
+        if is_well {
+            self.take_events();
+        }
+        is_well
+    }
+
+    /// Notes what the poll has reported.
+    fn take_events(&mut self) {
+        for event in &self.sockets.poller.events {
+            let token = event.token();
+            let is_closed = event.is_read_closed() && !event.is_error();
+            if let Some(held) = self.links.get_mut(token.0) {
+                held.link.report(&mut self.queue, token.0, is_closed);
+            } else {
+                self.sockets.listeners.report(token);
+            }
+        }
+    }
+
+    /// Looks at every link: whether its time is over, and whether the poll has refused to report it. The time was read before, and
+    /// however long this thread was stopped since, all that came meanwhile is noted first. False if the poll has failed.
+    fn look_round(&mut self) -> bool {
+        self.look_due = self.now.saturating_add(LOOK_INTERVAL_MS);
+        if !self.ask_for_all() {
+            return false;
+        }
+        for key in 0..self.links.capacity() {
+            if let Some(held) = self.links.get_mut(key) {
+                let queue = &mut self.queue;
+                held.link
+                    .look(queue, key, self.now, self.looked, self.sockets.timeout);
+            }
+        }
+        self.looked = self.now;
+        self.shared.note(self.news);
+        self.news = NO_NEWS;
+        true
+    }
+
+    /// Has the poll report all that there is, without waiting. It tells what came first before what came later, so as many answers
+    /// as hold one report of each that is watched are enough. False if it has failed.
+    fn ask_for_all(&mut self) -> bool {
+        let watched = self
+            .links
+            .len()
+            .saturating_add(self.sockets.listeners.len());
+        for _ in 0..watched / EVENTS_MOST + 1 {
+            if !self.ask(0) {
+                return false;
+            }
+            if !self.sockets.poller.is_full() {
+                break;
+            }
+        }
+        true
     }
 }
 
 impl<L: Ledger, R: Wait + Clock> Source for SocketSource<'_, L, R> {
-    type Link = StreamLink<TcpStream>;
+    type Link = Link<TcpStream>;
 
     fn turn(&mut self) -> Turn {
-        self.count();
-        if let Some(turn) = self.weigh() {
+        if let Some(turn) = self.hold_back() {
             return turn;
         }
-        self.sockets.put_back();
-        for _ in 0..ROUNDS {
-            if let Some(turn) = self.sockets.next(self.crew) {
+        self.put_back();
+        for _ in 0..POLLS_MOST {
+            if let Some(turn) = self.next() {
                 return turn;
             }
-            if let Some(turn) = self.ask() {
+            if let Some(turn) = self.poll() {
                 return turn;
             }
         }
         Turn::Idle
     }
 
-    fn link(&mut self, key: u64) -> Option<&mut StreamLink<TcpStream>> {
-        self.sockets.link(key)
+    fn link(&mut self, key: u64) -> Option<&mut Link<TcpStream>> {
+        match self.links.get_mut(key as usize) {
+            Some(held) => Some(&mut held.link),
+            None => None,
+        }
     }
 
     fn end(&mut self, key: u64) {
-        self.sockets.end(self.crew, key)
+        let Some(mut held) = self.links.try_remove(key as usize) else {
+            return;
+        };
+        self.note_moved(held.link.take_moved_bytes());
+        if !held.link.is_answered() {
+            self.note_unanswered();
+        }
+        self.shared.quota.give_back(held.link.is_local());
+        self.shared.wake_pending(self.sockets.worker);
+        if self.links.is_empty() {
+            self.state.epoch.store(NO_CONNECTIONS, Ordering::SeqCst);
+        }
     }
 }

@@ -47,8 +47,8 @@ fn write_once<W: Write>(inner: &mut W, failed: &mut bool, bytes: &[u8]) -> Put
     answer
 }
 
-// A read into a buffer with room that gives nothing has found the end.
-fn pull_from(told: io::Result<usize>) -> Pull
+/// What a device answers to a pull, by what a read into a buffer with room told: one that gave nothing has found the end.
+pub fn pull_from(told: io::Result<usize>) -> Pull
     ensures { result ≡ pull_of told }
 {
     match told {
@@ -59,8 +59,8 @@ fn pull_from(told: io::Result<usize>) -> Pull
     }
 }
 
-// A write of some bytes that takes none will never take any.
-fn put_from(told: io::Result<usize>) -> Put
+/// What a device answers to a put, by what a write of some bytes told: one that took none will never take any.
+pub fn put_from(told: io::Result<usize>) -> Put
     ensures { result ≡ put_of told }
 {
     match told {

@@ -7,7 +7,7 @@ mod outbox;
 mod putting;
 mod single;
 
-pub use crate::adapters::{Both, Reading, Writing};
+pub use crate::adapters::{Both, Reading, Writing, pull_from, put_from};
 pub use crate::device::{Device, Input, Output, Pull, Put};
 pub use crate::outbox::{Flush, Outbox, send};
 pub use crate::putting::{Limit, Sent, send_all};

@@ -1,7 +1,7 @@
 //! A clock that a test pushes forward, and a door at which it holds threads.
-use portmap_daemon::MakesFiles;
+use portmap_daemon::{Host, Notice};
 use std::alloc::{AllocError, Global};
-use std::fs::File;
+use std::fs::{File, Files};
 use std::net::{Net, SocketAddr};
 use std::rt::Clock;
 use std::sync::atomic::{AtomicU64, Ordering};
@@ -64,7 +64,8 @@ pub fn comes_to<R: Clock>(rt: &R, number: &AtomicU64, wanted: u64) -> bool {
     false
 }
 
-/// A runtime whose clock can be pushed forward and can stand, and that has a door before each reading of it. It makes no files.
+/// A runtime whose clock can be pushed forward and can stand, and that has a door before each reading of it. It counts what the
+/// operator is told, and records also to a file that a link leads to.
 #[derive(Drop)]
 pub struct Pushed<R: Clock> {
     rt: R,
@@ -79,6 +80,8 @@ pub struct Pushing<R: Clock> {
     seconds: AtomicU64,
     /// 1 while it stands: it shows only by how much it was pushed.
     stands: AtomicU64,
+    /// How often the operator was told that the recording has failed.
+    pub told: AtomicU64,
 }
 
 impl<R: Clock + Copy> Pushed<R> {
@@ -87,6 +90,7 @@ impl<R: Clock + Copy> Pushed<R> {
             door: Door::new(rt),
             seconds: AtomicU64::new(0),
             stands: AtomicU64::new(0),
+            told: AtomicU64::new(0),
         };
         let shared = Arc::new(alloc, pushing)?;
         Ok(Pushed { rt, shared })
@@ -156,8 +160,14 @@ impl<R: Net + Clock> Net for Pushed<R> {
     }
 }
 
-impl<R: Clock> MakesFiles for Pushed<R> {
-    fn make(&self, _path: &str) -> io::Result<File> {
-        Err(io::Error::from(io::ErrorKind::Unsupported))
+impl<R: Clock + Files<File = File>> Host for Pushed<R> {
+    fn make(&self, path: &str) -> io::Result<File> {
+        File::create(&self.rt, path)
+    }
+
+    fn tell(&self, notice: Notice) {
+        if notice == Notice::RecordingFailed {
+            self.shared.told.fetch_add(1, Ordering::SeqCst);
+        }
     }
 }

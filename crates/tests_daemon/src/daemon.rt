@@ -1,7 +1,7 @@
 //! The daemon over sockets of this host: each story at a port of its own, with a client that ends it.
 ghost use Rattle.std.specs.Prelude.{◌<◌, ◌≤◌, vec_len, IfOk};
 ghost use Rattle.portmap_book.specs.declared.desk.TheConstants.{SEATS_MOST};
-ghost use Rattle.portmap_daemon.specs.declared.running.TheConstants.{TIMEOUT_MOST};
+ghost use Rattle.portmap_daemon.specs.declared.limits.TheConstants.{TIMEOUT_SECONDS_MOST};
 
 use crate::gates::Meet;
 use portmap_core::Config;
@@ -227,10 +227,10 @@ pub fn settings_at(
     workers: u32,
     recording: Option<String>,
 ) -> Result<Settings, Fail>
-    requires timeout { (1 ≤ timeout) × (timeout ≤ TIMEOUT_MOST) }
+    requires timeout { (1 ≤ timeout) × (timeout ≤ TIMEOUT_SECONDS_MOST) }
     requires workers { (1 ≤ workers) × (workers ≤ SEATS_MOST) }
     ensures addresses { IfOk result (λ settings. 0 < vec_len settings.addresses) }
-    ensures timeout { IfOk result (λ settings. (1 ≤ settings.timeout) × (settings.timeout ≤ TIMEOUT_MOST)) }
+    ensures timeout { IfOk result (λ settings. (1 ≤ settings.timeout) × (settings.timeout ≤ TIMEOUT_SECONDS_MOST)) }
     ensures workers { IfOk result (λ settings. (1 ≤ settings.workers) × (settings.workers ≤ SEATS_MOST)) }
 {
     let mut addresses = Vec::new(alloc);
@@ -248,7 +248,7 @@ pub fn settings_at(
 /// What the daemon of a story is set to.
 fn settings(alloc: Global, story: Story, recording: Option<String>) -> Result<Settings, Fail>
     ensures addresses { IfOk result (λ settings. 0 < vec_len settings.addresses) }
-    ensures timeout { IfOk result (λ settings. (1 ≤ settings.timeout) × (settings.timeout ≤ TIMEOUT_MOST)) }
+    ensures timeout { IfOk result (λ settings. (1 ≤ settings.timeout) × (settings.timeout ≤ TIMEOUT_SECONDS_MOST)) }
     ensures workers { IfOk result (λ settings. (1 ≤ settings.workers) × (settings.workers ≤ SEATS_MOST)) }
 {
     let timeout = if story == Story::Silent { 1 } else { 60 };

@@ -8,7 +8,13 @@ mod clocks;
 #[cfg(test)]
 mod daemon;
 #[cfg(test)]
+mod files;
+#[cfg(test)]
 mod gates;
+#[cfg(test)]
+mod host;
+#[cfg(test)]
+mod links;
 #[cfg(test)]
 mod pauses;
 #[cfg(test)]
@@ -23,9 +29,5 @@ mod restarts;
 mod serving;
 #[cfg(test)]
 mod sources;
-#[cfg(test)]
-mod stream_links;
-#[cfg(test)]
-mod volumes;
 #[cfg(test)]
 mod workers;

@@ -2,7 +2,7 @@
 //! is news.
 use crate::clocks::{Door, Pushed, Pushing, comes_to};
 use crate::daemon::settings_at;
-use portmap_daemon::{Gate, MakesFiles, Point, run_gated};
+use portmap_daemon::{Gate, Host, Point, run_gated};
 use portmap_testing::bytes::{ALIVE_A, KILL, NAMES, NOT_FOUND, PORT_A};
 use portmap_testing::peers::connect;
 use std::alloc::Global;
@@ -175,7 +175,7 @@ fn starts_with(stream: &mut TcpStream, bytes: &[u8]) -> bool {
 /// How many acts the one worker of a daemon on this port made, which passes the gate.
 fn served<
     G: Gate + Sync,
-    R: Net + MakesFiles + Threads + Wait + Clock + Clone + Drop + Send + Sync + 'static,
+    R: Net + Host + Threads + Wait + Clock + Clone + Drop + Send + Sync + 'static,
 >(rt: &R, alloc: Global, port: u16, gate: &G) -> Result<Option<u64>, Fail> {
     let settings = settings_at(alloc, port, TIMEOUT, 1, None)?;
     match run_gated(rt, alloc, settings, gate) {

@@ -1,12 +1,12 @@
 //! Places for connections, over sockets of this host, with a clock that is pushed forward.
 ghost use Rattle.std.specs.Prelude.{◌<◌, ◌≤◌, vec_len, IfOk};
 ghost use Rattle.portmap_book.specs.declared.desk.TheConstants.{SEATS_MOST};
-ghost use Rattle.portmap_daemon.specs.declared.running.TheConstants.{TIMEOUT_MOST};
+ghost use Rattle.portmap_daemon.specs.declared.limits.TheConstants.{TIMEOUT_SECONDS_MOST};
 
 use crate::clocks::{Pushed, Pushing};
 use crate::daemon::{is_answered, registered, settings_at};
 use portmap_core::Config;
-use portmap_daemon::{MakesFiles, Settings, run};
+use portmap_daemon::{Host, RunFault, Settings, run};
 use portmap_testing::bytes::{FOUND_A, KILL, PORT_A};
 use portmap_testing::peers::connect;
 use std::alloc::Global;
@@ -17,6 +17,7 @@ use std::sync::Wait;
 use std::test::Fail;
 use std::thread;
 use std::thread::Threads;
+use std::time::Duration;
 
 /// By how many seconds the clock is pushed forward at once: by more than a connection is left alone for.
 const PUSH: u64 = 2;
@@ -24,10 +25,13 @@ const PUSH: u64 = 2;
 /// How often. The time that a connection has for its request is longer than all these.
 const PUSHES: u32 = 20;
 
+/// For so many milliseconds a connection is looked at that is to stay.
+const PATIENCE: u64 = 1500;
+
 /// What a daemon at this port is set to, which has places for two connections.
 fn settings_of_two(alloc: Global, port: u16) -> Result<Settings, Fail>
     ensures addresses { IfOk result (λ settings. 0 < vec_len settings.addresses) }
-    ensures timeout { IfOk result (λ settings. (1 ≤ settings.timeout) × (settings.timeout ≤ TIMEOUT_MOST)) }
+    ensures timeout { IfOk result (λ settings. (1 ≤ settings.timeout) × (settings.timeout ≤ TIMEOUT_SECONDS_MOST)) }
     ensures workers { IfOk result (λ settings. (1 ≤ settings.workers) × (settings.workers ≤ SEATS_MOST)) }
 {
     let mut settings = settings_at(alloc, port, 60, 1, None)?;
@@ -36,7 +40,7 @@ fn settings_of_two(alloc: Global, port: u16) -> Result<Settings, Fail>
 }
 
 /// Whether a daemon at this port that has places for two connections ends well.
-fn serves<R: Net + MakesFiles + Threads + Wait + Clock + Clone + Drop + Send + Sync + 'static>(
+fn serves<R: Net + Host + Threads + Wait + Clock + Clone + Drop + Send + Sync + 'static>(
     rt: &R,
     alloc: Global,
     port: u16,
@@ -61,7 +65,7 @@ fn comes_to_be_found<R: Net<Stream = TcpStream> + Clock>(
 }
 
 /// A node is registered, and a connection says nothing: there is no place for others. Whether one who asks for the node comes to have
-/// that of the silent one.
+/// that of the silent one, and a silent one that comes after that keeps it.
 fn makes_room<R: Net<Stream = TcpStream> + Clock>(
     rt: &R,
     port: u16,
@@ -71,7 +75,21 @@ fn makes_room<R: Net<Stream = TcpStream> + Clock>(
     let mut silent = connect(rt, port)?;
     let is_found = comes_to_be_found(rt, port, clock);
     let is_given_up = silent.read(&mut [0; 1]).ok()? == 0;
-    Some(is_found && is_given_up)
+    Some(is_found && is_given_up && is_kept(rt, port, clock)?)
+}
+
+/// Whether a connection that says nothing stays while nobody waits for its place.
+fn is_kept<R: Net<Stream = TcpStream> + Clock>(
+    rt: &R,
+    port: u16,
+    clock: &Pushing<R>,
+) -> Option<bool> {
+    let mut silent = connect(rt, port)?;
+    clock.push(PUSH);
+    silent
+        .set_read_timeout(Some(Duration::from_millis(PATIENCE)))
+        .ok()?;
+    Some(silent.read(&mut [0; 1]).is_err())
 }
 
 #[test]
@@ -87,5 +105,24 @@ fn a_connection_that_says_nothing_makes_room_for_others(rt: HostRuntime) -> Resu
     );
     assert_eq!(rt; told, (Some(true), Some(true)));
     assert!(rt; ended?);
+    Ok(())
+}
+
+/// What a daemon at this port is set to, which is to listen on one address twice.
+fn settings_of_one_twice(alloc: Global, port: u16) -> Result<Settings, Fail>
+    ensures addresses { IfOk result (λ settings. 0 < vec_len settings.addresses) }
+    ensures timeout { IfOk result (λ settings. (1 ≤ settings.timeout) × (settings.timeout ≤ TIMEOUT_SECONDS_MOST)) }
+    ensures workers { IfOk result (λ settings. (1 ≤ settings.workers) × (settings.workers ≤ SEATS_MOST)) }
+{
+    let mut settings = settings_at(alloc, port, 60, 1, None)?;
+    settings.addresses.push([127, 0, 0, 1])?;
+    Ok(settings)
+}
+
+#[test]
+fn the_address_that_is_taken_is_told(rt: HostRuntime) -> Result<(), Fail> {
+    let settings = settings_of_one_twice(rt.alloc(), 14_441)?;
+    let ended = run(&rt, rt.alloc(), settings);
+    assert!(rt; matches!(ended, Err(RunFault::Listen(1))));
     Ok(())
 }

@@ -1,7 +1,8 @@
 //! Recordings of a daemon: where the file stalls it serves on, and ends when it is told to; where the file is full it goes on in a
 //! further one.
+use crate::clocks::{Pushed, comes_to};
 use crate::daemon::{acts_of, is_answered, registered, settings_at};
-use portmap_daemon::{Open, run, run_in_files};
+use portmap_daemon::{Open, RunEnd, RunFault, run, run_in_files};
 use portmap_record::{Version, check, read_record};
 use portmap_testing::bytes::{FOUND_A, KILL, NOT_FOUND, PORT_A};
 use std::alloc::{AllocError, Global};
@@ -10,12 +11,15 @@ use std::io::{PipeWriter, pipe};
 use std::net::{Net, TcpStream};
 use std::os::fd::AsRawFd;
 use std::rt::Clock;
+use std::sync::atomic::Ordering;
 use std::test::Fail;
 use std::time::Duration;
 use std::{fs, thread};
 
-/// A port of this test alone.
+/// Ports of these tests alone.
 const PORT: u16 = 14_420;
+
+const MUTE_PORT: u16 = 14_422;
 
 /// So many look-ups are more than a pipe takes that nobody reads: each is 41 bytes of a recording, and a pipe has room for 65,536.
 const LOOK_UPS: u32 = 2000;
@@ -42,9 +46,44 @@ fn a_recording_that_stalls_holds_nobody(rt: HostRuntime) -> Result<(), Fail> {
     let (_unread, full) = pipe(&rt)?;
     let path = path_of(alloc, &full)?;
     let settings = settings_at(alloc, PORT, 60, 2, Some(path))?;
-    let (ended, told) = thread::join(&rt, || run(&rt, alloc, settings), || are_answered(&rt));
+    let host = Pushed::new(rt, alloc)?;
+    let (ended, told) = thread::join(&rt, || run(&host, alloc, settings), || are_answered(&rt));
     assert!(rt; told && acts_of(&ended) > u64::from(LOOK_UPS));
-    assert!(rt; ended.is_ok_and(|end| !end.recorded));
+    assert!(rt; is_told_once(&host, &ended));
+    Ok(())
+}
+
+/// Whether the daemon has told once that its recording failed, and ends so.
+fn is_told_once<R: Clock + Copy>(host: &Pushed<R>, ended: &Result<RunEnd, RunFault>) -> bool {
+    let is_told_so = ended.as_ref().is_ok_and(|end| !end.recorded);
+    is_told_so && host.pushing().told.load(Ordering::SeqCst) == 1
+}
+
+/// A file in a folder that is not there.
+const NOWHERE: &str = "nowhere/recording";
+
+/// Whether the operator is told while the daemon serves.
+fn is_told_at_once<R: Net<Stream = TcpStream> + Clock + Copy>(
+    rt: &R,
+    host: &Pushed<R>,
+) -> Option<bool> {
+    let is_told = comes_to(rt, &host.pushing().told, 1);
+    let serves = is_answered(rt, MUTE_PORT, PORT_A, NOT_FOUND)?;
+    Some(is_answered(rt, MUTE_PORT, KILL, b"OK")? && is_told && serves)
+}
+
+#[test]
+fn a_recording_that_fails_is_told_at_once_and_once(rt: HostRuntime) -> Result<(), Fail> {
+    let alloc = rt.alloc();
+    let path = String::from_str(alloc, NOWHERE)?;
+    let settings = settings_at(alloc, MUTE_PORT, 60, 1, Some(path))?;
+    let host = Pushed::new(rt, alloc)?;
+    let (ended, told) = thread::join(
+        &rt,
+        || run(&host, alloc, settings),
+        || is_told_at_once(&rt, &host),
+    );
+    assert!(rt; told == Some(true) && is_told_once(&host, &ended));
     Ok(())
 }
 
@@ -134,7 +173,7 @@ fn recorded(rt: &HostRuntime) -> Result<Option<u64>, Fail> {
 fn a_recording_goes_on_in_files_that_follow_one_another(rt: HostRuntime) -> Result<(), Fail> {
     let alloc = rt.alloc();
     let path = String::from_str(alloc, FIRST)?;
-    let settings = settings_at(alloc, NEXT_PORT, 60, 2, Some(path))?;
+    let settings = settings_at(alloc, NEXT_PORT, 60, 1, Some(path))?;
     let (ended, told) = thread::join(
         &rt,
         || run_in_files(&rt, alloc, settings, &Open, FULL),

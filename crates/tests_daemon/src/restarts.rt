@@ -4,7 +4,7 @@ ghost use Rattle.portmap_book.specs.declared.desk.TheConstants.{SEATS_MOST};
 
 use crate::clocks::{Door, Pushed, Pushing};
 use crate::daemon::{is_answered, registered, settings_at};
-use portmap_daemon::{Gate, MakesFiles, Open, Point, run_gated};
+use portmap_daemon::{Gate, Host, Open, Point, run_gated};
 use portmap_testing::bytes::{ALIVE_A, FOUND_A, KILL, NAMES, PORT_A, TAKEN};
 use portmap_testing::peers::sent;
 use std::alloc::Global;
@@ -74,7 +74,7 @@ fn ends<R: Net<Stream = TcpStream> + Clock>(rt: &R, port: u16) -> bool {
 /// Whether a daemon at this port, whose workers pass the gate, ends well.
 fn serves<
     G: Gate + Sync,
-    R: Net + MakesFiles + Threads + Wait + Clock + Clone + Drop + Send + Sync + 'static,
+    R: Net + Host + Threads + Wait + Clock + Clone + Drop + Send + Sync + 'static,
 >(rt: &R, alloc: Global, port: u16, workers: u32, gate: &G) -> Result<bool, Fail>
     requires { (1 ≤ workers) × (workers ≤ SEATS_MOST) }
 {

@@ -3,10 +3,11 @@ ghost use Rattle.std.specs.Prelude.{◌≤◌, IfOk, length};
 ghost use Rattle.epmd.specs.Meaning.{CanServe};
 
 use crate::words::{Action, Command, WordFault};
-use crate::{asked, connect, perform, since_1970};
-use portmap_daemon::MakesFiles;
+use crate::{asked, connect, perform, since_1970, stand_in};
+use portmap_daemon::Host;
 use portmap_testing::cases::{Case, all_hold};
 use portmap_testing::peers::sent;
+use portmap_testing::sessions::{SESSION, changed};
 use std::alloc::Global;
 use std::env::{Env, FillError};
 use std::io::Read;
@@ -16,7 +17,7 @@ use std::sync::Wait;
 use std::test::Fail;
 use std::thread::Threads;
 use std::time::Duration;
-use std::{io, thread};
+use std::{fs, io, thread};
 
 /// Arguments, the program's name among them, and variables.
 #[derive(Clone, Copy)]
@@ -241,7 +242,7 @@ const LISTS: &[&[u8]] = &[b"epmd", b"-port", b"14451", b"-names"];
 const ENDS: &[&[u8]] = &[b"epmd", b"-kill", b"-port", b"14451"];
 
 /// What commands tell at the port of a daemon: the statuses of a list and of a kill.
-fn statuses<R: Net + MakesFiles + Threads + Wait + Clock + Clone + Drop + Send + Sync + 'static>(
+fn statuses<R: Net + Host + Threads + Wait + Clock + Clone + Drop + Send + Sync + 'static>(
     rt: &HostRuntime,
     host: &R,
 ) -> Result<(u8, u8), WordFault> {
@@ -269,4 +270,58 @@ fn is_done(told: &Result<(u8, u8), WordFault>) -> bool {
         Ok((0, 0)) => true,
         Ok(_) | Err(_) => false,
     }
+}
+
+/// The status of a command of these words.
+fn status_of<R: Net + Host + Threads + Wait + Clock + Clone + Drop + Send + Sync + 'static>(
+    rt: &HostRuntime,
+    host: &R,
+    words: &'static [&'static [u8]],
+) -> Result<u8, Fail> {
+    let command = command_of(rt.alloc(), words)?;
+    Ok(perform(rt, host, &command))
+}
+
+const CHECK: &[&[u8]] = &[b"epmd", b"-check", b"judged"];
+
+/// The status of a check of a file that has these bytes.
+fn check_of<R: Net + Host + Threads + Wait + Clock + Clone + Drop + Send + Sync + 'static>(
+    rt: &HostRuntime,
+    host: &R,
+    bytes: &[u8],
+) -> Result<u8, Fail> {
+    fs::write(rt, "judged", bytes)?;
+    status_of(rt, host, CHECK)
+}
+
+/// Whether a run, a session that is none, bytes that are no session, and a file that is not there have their statuses.
+fn are_judged<R: Net + Host + Threads + Wait + Clock + Clone + Drop + Send + Sync + 'static>(
+    rt: &HostRuntime,
+    host: &R,
+) -> Result<bool, Fail> {
+    let broken = changed(rt.alloc(), 108, &[1])?;
+    let are_told = check_of(rt, host, &SESSION)? == 0 && check_of(rt, host, &broken)? == 1;
+    let is_refused = check_of(rt, host, b"EPMX")? == 2;
+    fs::remove_file(rt, "judged")?;
+    Ok(are_told && is_refused && status_of(rt, host, CHECK)? == 3)
+}
+
+#[test]
+fn a_file_is_judged_at_its_path(rt: HostRuntime) -> Result<(), Fail> {
+    assert!(rt; are_judged(&rt, &rt)?);
+    Ok(())
+}
+
+const ASKS_NOBODY: &[&[u8]] = &[b"epmd", b"-port", b"14452", b"-names"];
+
+#[test]
+fn where_nobody_listens_the_status_is_1(rt: HostRuntime) -> Result<(), Fail> {
+    assert_eq!(rt; status_of(&rt, &rt, ASKS_NOBODY)?, 1);
+    Ok(())
+}
+
+#[test]
+fn what_is_open_needs_no_stand_in(rt: HostRuntime) -> Result<(), Fail> {
+    assert!(rt; stand_in(&rt).is_none());
+    Ok(())
 }

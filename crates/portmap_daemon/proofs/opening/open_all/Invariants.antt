@@ -1,6 +1,0 @@
-use Rattle.std.proofs.Common.{◌≡◌, vec_len}
-use Rattle.portmap_daemon.proofs.opening.open_all.Given as goal
-
--- one for each so far
-abbrev pub invariant-loop-worker : goal.invariant-loop-worker
-invariant-loop-worker g l = vec_len l.wakers ≡ l.worker

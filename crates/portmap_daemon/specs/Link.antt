@@ -1,0 +1,26 @@
+-- What a worker's source knows of a connection: profile.
+use Rattle.std.specs.Prelude.{ℕ, ◌-◌, ◌≤◌, Bool, true, false, Option, Some, None, Result, Ok, Err, ◌≡◌}
+use Rattle.std.specs.IoError.{error_kind}
+use Rattle.std.specs.declared.io.Error.{Error}
+use Rattle.std.specs.declared.io.ErrorKind.TheVariants as kind
+use Rattle.portmap_daemon.specs.declared.link.Reading.{Reading}
+use Rattle.portmap_daemon.specs.declared.link.Reading.TheVariants.{Open, Dry}
+use Rattle.portmap_daemon.specs.declared.link.Writing.{Writing}
+use Rattle.portmap_daemon.specs.declared.link.Writing.TheVariants.{Free, CutShort, Waits}
+
+-- whether a call may do more than answer Later: bytes that wait to be written go first
+abbrev pub may_move : Reading → Writing → Bool
+may_move reading CutShort = true
+may_move reading Waits = false
+may_move Open Free = true
+may_move Dry Free = false
+
+-- the time of a connection that goes on since then was over at this time
+abbrev pub IsOver : Option ℕ → ℕ → ℕ → Type 0
+IsOver (Some since) then_ timeout = timeout ≤ then_ - since
+IsOver None then_ timeout = ⊥
+
+-- a call that has failed for good
+abbrev pub IsBroken : Result ℕ Error → Type 0
+IsBroken (Ok n) = ⊥
+IsBroken (Err e) = error_kind e ≡ kind.BrokenPipe

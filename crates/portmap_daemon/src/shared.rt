@@ -1,0 +1,211 @@
+//! What the threads of a daemon share.
+ghost use Rattle.std.specs.Prelude.{◌≡◌, vec_len, IfOk};
+
+use crate::quota::Quota;
+use mio::Waker;
+use portmap_link::NoMemory;
+use std::alloc::Global;
+use std::rt::Clock;
+use std::sync::atomic::{AtomicBool, AtomicU64, Ordering};
+use std::time::Instant;
+
+/// A worker that waits at its poll is busy since then.
+pub(crate) const IDLE: u64 = u64::MAX;
+
+/// The last epoch that a worker without a connection has passed: there is no connection of whose end it could not know.
+pub(crate) const NO_CONNECTIONS: u64 = u64::MAX;
+
+/// What the other threads know of a worker.
+#[derive(Drop)]
+pub(crate) struct WorkerState {
+    waker: Waker,
+    /// How many registrations are pending at it.
+    pub(crate) pending: AtomicU64,
+    /// The last poll epoch that it has passed.
+    pub(crate) epoch: AtomicU64,
+    /// Since when it has been busy, in milliseconds.
+    pub(crate) busy_since: AtomicU64,
+    /// How many acts it made, once it has ended.
+    pub(crate) served: AtomicU64,
+}
+
+impl WorkerState {
+    /// A worker that has not begun, whose poll this waker ends.
+    pub(crate) fn new(waker: Waker) -> WorkerState {
+        WorkerState {
+            waker,
+            pending: AtomicU64::new(0),
+            epoch: AtomicU64::new(NO_CONNECTIONS),
+            busy_since: AtomicU64::new(IDLE),
+            served: AtomicU64::new(0),
+        }
+    }
+
+    /// Ends its wait.
+    pub(crate) fn wake(&self) {
+        let _ = self.waker.wake();
+    }
+}
+
+/// What has become of connections since that was last asked.
+#[derive(Clone, Copy, Debug, PartialEq, Eq)]
+pub(crate) struct News {
+    /// Bytes were written to one.
+    pub(crate) answered: bool,
+    /// One has ended to which none ever were.
+    pub(crate) unanswered: bool,
+    /// One waits that can't be accepted, for want of descriptors or of memory.
+    pub(crate) exhausted: bool,
+}
+
+/// No news.
+pub(crate) const NO_NEWS: News = News {
+    answered: false,
+    unanswered: false,
+    exhausted: false,
+};
+
+/// What threads share. Workers have numbers from 0.
+#[derive(Drop)]
+pub(crate) struct Shared {
+    pub(crate) workers: Vec<WorkerState>,
+    /// Ends the wait of the thread that takes out the log.
+    drain: Waker,
+    /// When the daemon began, if the clock can be read.
+    begun: Option<Instant>,
+    pub(crate) quota: Quota,
+    /// How many workers accept connections: the first ones, at least one.
+    pub(crate) acceptors: AtomicU64,
+    /// The last poll epoch that has begun.
+    pub(crate) epoch: AtomicU64,
+    /// How many workers have not ended.
+    running: AtomicU64,
+    /// Every worker is to end.
+    pub(crate) stopping: AtomicBool,
+    /// Readiness of sockets can no longer be had.
+    pub(crate) poll_failed: AtomicBool,
+    /// Nothing gets through any more for want of memory.
+    pub(crate) starved: AtomicBool,
+    answered: AtomicBool,
+    unanswered: AtomicBool,
+    exhausted: AtomicBool,
+}
+
+impl Shared {
+    /// What the threads of a daemon share that begins, with so many places for connections.
+    pub(crate) fn new<R: Clock>(
+        rt: &R,
+        workers: Vec<WorkerState>,
+        drain: Waker,
+        places: u32,
+    ) -> Shared
+        ensures { vec_len result.workers ≡ vec_len workers }
+    {
+        Shared {
+            workers,
+            drain,
+            begun: Instant::now(rt).ok(),
+            quota: Quota::new(places),
+            acceptors: AtomicU64::new(1),
+            epoch: AtomicU64::new(0),
+            running: AtomicU64::new(0),
+            stopping: AtomicBool::new(false),
+            poll_failed: AtomicBool::new(false),
+            starved: AtomicBool::new(false),
+            answered: AtomicBool::new(false),
+            unanswered: AtomicBool::new(false),
+            exhausted: AtomicBool::new(false),
+        }
+    }
+
+    /// The microseconds since the daemon began; none if the clock can't be read.
+    pub(crate) fn time_us<R: Clock>(&self, rt: &R) -> Option<u64> {
+        let time = self.begun.as_ref()?.elapsed(rt).ok()?;
+        u64::try_from(time.as_micros()).ok()
+    }
+
+    /// Ends the wait of every worker but this one.
+    pub(crate) fn wake_others(&self, worker: usize) {
+        for (other, state) in self.workers.iter().enumerate() {
+            if other != worker {
+                state.wake();
+            }
+        }
+    }
+
+    /// A connection of a worker has ended: perhaps it had a name for which a registration is pending at another one.
+    pub(crate) fn wake_pending(&self, worker: usize) {
+        for (other, state) in self.workers.iter().enumerate() {
+            if other != worker && state.pending.load(Ordering::SeqCst) > 0 {
+                state.wake();
+            }
+        }
+    }
+
+    /// Ends the wait of the thread that takes out the log.
+    pub(crate) fn wake_drain(&self) {
+        let _ = self.drain.wake();
+    }
+
+    /// One more worker begins.
+    pub(crate) fn begin_one(&self) {
+        self.running.fetch_add(1, Ordering::SeqCst);
+    }
+
+    /// One could not begin, or has ended.
+    pub(crate) fn end_one(&self) {
+        self.running.fetch_sub(1, Ordering::SeqCst);
+    }
+
+    /// Whether every worker has ended.
+    pub(crate) fn are_done(&self) -> bool {
+        self.running.load(Ordering::SeqCst) == 0
+    }
+
+    /// Has every worker end, and the thread that takes out the log look for that.
+    pub(crate) fn stop_all(&self) {
+        self.stopping.store(true, Ordering::SeqCst);
+        for state in &self.workers {
+            state.wake();
+        }
+        self.wake_drain();
+    }
+
+    /// How many acts each worker made.
+    pub(crate) fn counts(&self, alloc: Global) -> Result<Vec<u64>, NoMemory>
+        ensures { IfOk result (λ counts. vec_len counts ≡ vec_len self.now.workers) }
+    {
+        self.workers
+            .iter()
+            .map(|state| state.served.load(Ordering::SeqCst))
+            .collect(alloc)
+    }
+
+    /// Notes what a worker knows of its connections. If one has ended unanswered, perhaps for want of memory, that is looked into
+    /// soon.
+    pub(crate) fn note(&self, news: News) {
+        if news.answered {
+            self.answered.store(true, Ordering::SeqCst);
+        }
+        if news.exhausted {
+            self.exhausted.store(true, Ordering::SeqCst);
+        }
+        if news.unanswered && !self.unanswered.swap(true, Ordering::SeqCst) {
+            self.wake_drain();
+        }
+    }
+
+    /// Whether a connection has ended unanswered since that was last taken.
+    pub(crate) fn is_unanswered(&self) -> bool {
+        self.unanswered.load(Ordering::SeqCst)
+    }
+
+    /// What was noted since this was last asked.
+    pub(crate) fn take_news(&self) -> News {
+        News {
+            answered: self.answered.swap(false, Ordering::SeqCst),
+            unanswered: self.unanswered.swap(false, Ordering::SeqCst),
+            exhausted: self.exhausted.swap(false, Ordering::SeqCst),
+        }
+    }
+}

@@ -1,0 +1,186 @@
+//! A recording that goes on in a further file once one is full.
+ghost use Rattle.std.specs.Prelude.{◌≡◌};
+
+use portmap_book::{Desk, PARTS};
+use portmap_daemon::{Part, RecordQueue, begin_file, write_recording};
+use portmap_testing::books::small_book;
+use portmap_testing::bytes::ALIVE_A;
+use portmap_testing::sessions::CLOSES;
+use std::alloc::Global;
+use std::fs::{File, Files};
+use std::marker::Brand;
+use std::rt::Clock;
+use std::sync::Wait;
+use std::sync::ledger::{Blank, Ledger};
+use std::test::Fail;
+use std::time::Duration;
+use std::{fs, thread};
+
+/// Two connections and two names at most, from place 0 and nothing known on: worker 1 has a node connect and register.
+const REGISTERS: [u8; 93] = [
+    0x45, 0x50, 0x4D, 0x53, 2, 0, 0x11, 0x11, 0, 0, 0, 2, 0, 0, 0, 2, //
+    0, 0, 0, 0, 0, 0, 0, 0, 0, 0, 0, 0, 0, 0, 0, 0, 0, 0, 0, 0, 0, //
+    0, 0, 0, 1, 1, 1, 0, 0, 0, 0, 0, 0, 0, 0, //
+    0, 0, 0, 1, 2, 0, 0, 0, 0, 0, 0, 0, 0, 0, 0x10, 0, 0x0E, 0x78, 0x13, 0x88, 0x4D, 0, 0, 6, 0, 5,
+    0, 1, 0x61, 0, 0, 0, 0, 0, 0, 6, 0x76, 0, 0, 0, 0, 4,
+];
+
+/// For so many milliseconds a file is waited for that is full.
+const PATIENCE: u32 = 500;
+
+/// When the next file is begun.
+#[derive(Clone, Copy, PartialEq, Eq)]
+enum Turn {
+    /// Once the one that is being written is full, if it ever is.
+    Full,
+    /// Before any of it is written.
+    AtOnce,
+}
+
+/// Takes the log out and has it recorded, as the daemon does.
+fn record_log<L: Ledger, R: Wait>(rt: &R, alloc: Global, desk: &Desk<L>, queue: &RecordQueue) {
+    let mut entries = Vec::new(alloc);
+    let mut makers = Vec::new(alloc);
+    desk.advance(rt, alloc, &mut entries, &mut makers);
+    queue.put(rt, Part::Entries(entries, makers));
+}
+
+/// Begins the next file.
+fn turn_over<L: Ledger, R: Wait + Clock>(
+    rt: &R,
+    alloc: Global,
+    desk: &Desk<L>,
+    queue: &RecordQueue,
+    turn: Turn,
+) -> bool {
+    for _ in 0..PATIENCE {
+        if turn == Turn::AtOnce || queue.is_full(rt) {
+            return begin_file(rt, alloc, queue, desk);
+        }
+        thread::sleep(rt, Duration::from_millis(1));
+    }
+    true
+}
+
+/// A node comes by worker 1 and registers, and leaves by worker 2. The log is recorded after either.
+fn comes_and_leaves<L: Ledger, R: Wait + Clock>(
+    rt: &R,
+    alloc: Global,
+    desk: &Desk<L>,
+    queue: &RecordQueue,
+    turn: Turn,
+) -> Option<bool> {
+    let mut one = desk.seat(rt, 1)?;
+    let mut two = desk.seat(rt, 2)?;
+    let (_, conn) = desk.connect(rt, alloc, &mut one, true).ok()?;
+    desk.piece(rt, alloc, &mut one, &conn, ALIVE_A).ok()?;
+    record_log(rt, alloc, desk, queue);
+    let turns = turn_over(rt, alloc, desk, queue, turn);
+    desk.close(rt, alloc, &mut two, conn).ok()?;
+    record_log(rt, alloc, desk, queue);
+    // There is nothing more in the log.
+    record_log(rt, alloc, desk, queue);
+    Some(turns)
+}
+
+/// Whether all of that is handed on to be recorded.
+fn is_handed_on<L: Ledger, R: Wait + Clock>(
+    rt: &R,
+    alloc: Global,
+    blank: Blank,
+    queue: &RecordQueue,
+    turn: Turn,
+) -> Option<bool>
+    requires name { blank.name ≡ L.name }
+    requires parts { blank.parts ≡ L.parts }
+    requires enough { blank.parts ≡ PARTS }
+{
+    let desk: Desk<L> = Desk::new(blank, small_book(alloc)?);
+    let begins = begin_file(rt, alloc, queue, &desk);
+    let turns = comes_and_leaves(rt, alloc, &desk, queue, turn);
+    queue.close(rt);
+    Some(begins && turns?)
+}
+
+/// The same, at a desk of its own.
+fn hand_on<R: Wait + Clock>(
+    rt: &R,
+    alloc: Global,
+    queue: &RecordQueue,
+    turn: Turn,
+) -> Option<bool> {
+    is_handed_on::<Brand, R>(rt, alloc, Blank::new(PARTS), queue, turn)
+}
+
+/// Whether all of that, which is handed on before any of it is written, is written to a file that is full once it has so many bytes.
+fn is_written<R: Files<File = File> + Wait + Clock>(
+    rt: &R,
+    alloc: Global,
+    file_most: u64,
+    path: &str,
+) -> Option<bool> {
+    let queue = RecordQueue::new(alloc);
+    let is_handed_on = hand_on(rt, alloc, &queue, Turn::Full)?;
+    write_recording(rt, alloc, &queue, path, file_most);
+    Some(is_handed_on && queue.is_written(rt, Duration::ZERO))
+}
+
+/// Whether a file has these bytes. It is removed.
+fn has_had(rt: &HostRuntime, path: &str, bytes: &[u8]) -> Result<bool, Fail> {
+    let held = fs::read(rt, path)?;
+    fs::remove_file(rt, path)?;
+    Ok(held.as_slice() == bytes)
+}
+
+#[test]
+fn a_file_that_is_full_is_followed_by_one_that_begins_where_it_ended(
+    rt: HostRuntime,
+) -> Result<(), Fail> {
+    let queue = RecordQueue::new(rt.alloc());
+    let (_, is_handed_on) = thread::join(
+        &rt,
+        || write_recording(&rt, rt.alloc(), &queue, "full", 93),
+        || hand_on(&rt, rt.alloc(), &queue, Turn::Full),
+    );
+    assert!(rt; is_handed_on == Some(true) && queue.is_written(&rt, Duration::ZERO));
+    assert!(rt; has_had(&rt, "full", &REGISTERS)? && has_had(&rt, "full.1", &CLOSES)?);
+    Ok(())
+}
+
+/// Both as one record.
+fn is_one_record(rt: &HostRuntime, path: &str) -> Result<bool, Fail> {
+    let mut all = REGISTERS.to_vec(rt.alloc())?;
+    let (_, close) = CLOSES.split_at(72);
+    all.extend_from_slice(close)?;
+    has_had(rt, path, &all)
+}
+
+#[test]
+fn a_file_that_is_not_full_goes_on(rt: HostRuntime) -> Result<(), Fail> {
+    assert_eq!(rt; is_written(&rt, rt.alloc(), 107, "room"), Some(true));
+    assert!(rt; is_one_record(&rt, "room")? && !fs::exists(&rt, "room.1")?);
+    Ok(())
+}
+
+/// Whether the queue says of no file that it is full, where the first one is, of 93 bytes, and the second one, of 86, waits for it.
+fn waits_behind<R: Files<File = File> + Wait + Clock>(rt: &R, alloc: Global) -> Option<bool> {
+    let queue = RecordQueue::new(alloc);
+    let is_handed_on = hand_on(rt, alloc, &queue, Turn::AtOnce)?;
+    write_recording(rt, alloc, &queue, "behind", 90);
+    let is_written = queue.is_written(rt, Duration::ZERO);
+    Some(is_handed_on && is_written && !queue.is_full(rt))
+}
+
+#[test]
+fn a_file_that_waits_for_the_one_before_it_is_not_full(rt: HostRuntime) -> Result<(), Fail> {
+    assert_eq!(rt; waits_behind(&rt, rt.alloc()), Some(true));
+    assert!(rt; has_had(&rt, "behind", &REGISTERS)? && has_had(&rt, "behind.1", &CLOSES)?);
+    Ok(())
+}
+
+/// A device that takes no byte.
+#[test]
+fn a_file_that_takes_nothing_is_told(rt: HostRuntime) -> Result<(), Fail> {
+    assert_eq!(rt; is_written(&rt, rt.alloc(), 94, "/dev/full"), Some(false));
+    Ok(())
+}

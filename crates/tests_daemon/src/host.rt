@@ -1,0 +1,99 @@
+//! The file of a recording as the host makes it, and what an operator reads.
+use portmap_daemon::{Host, Notice};
+use portmap_testing::bytes::Bytes;
+use portmap_testing::cases::{Case, all_hold};
+use std::alloc::Global;
+use std::fs;
+use std::fs::{File, Permissions};
+use std::io::Write;
+use std::os::unix::fs::{MetadataExt, PermissionsExt, symlink};
+use std::test::Fail;
+
+/// Whether the file at the path has these bytes, and its owner alone may read and write it.
+fn is_private(rt: &HostRuntime, path: &str, bytes: &[u8]) -> Result<bool, Fail> {
+    let mode = fs::metadata(rt, path)?.mode() % 0o1000;
+    Ok(mode == 0o600 && fs::read(rt, path)?.as_slice() == bytes)
+}
+
+/// Makes a file with these bytes that everybody may read.
+fn write_public(rt: &HostRuntime, path: &str, bytes: &[u8]) -> Result<(), Fail> {
+    fs::write(rt, path, bytes)?;
+    fs::set_permissions(rt, path, Permissions::from_mode(0o644))?;
+    Ok(())
+}
+
+/// Makes the file at the path by the host and writes to it. Whether it has that alone, and is its owner's. It is removed then.
+fn records_to(rt: &HostRuntime, path: &str) -> Result<bool, Fail> {
+    let mut file: File = rt.make(path)?;
+    file.write_all(b"new")?;
+    let is_so = is_private(rt, path, b"new")?;
+    fs::remove_file(rt, path)?;
+    Ok(is_so)
+}
+
+#[test]
+fn a_file_that_is_made_is_its_owners(rt: HostRuntime) -> Result<(), Fail> {
+    assert!(rt; records_to(&rt, "made")?);
+    Ok(())
+}
+
+#[test]
+fn a_file_that_is_there_is_emptied_and_is_its_owners(rt: HostRuntime) -> Result<(), Fail> {
+    write_public(&rt, "public", b"what it held")?;
+    assert!(rt; records_to(&rt, "public")?);
+    Ok(())
+}
+
+/// Whether the host refuses a link to a file, and one to no file, and leaves the file as it was.
+fn refuses_links(rt: &HostRuntime) -> Result<bool, Fail> {
+    fs::write(rt, "target", b"kept")?;
+    symlink(rt, "target", "link")?;
+    symlink(rt, "none", "dangling")?;
+    let are_refused = rt.make("link").is_err() && rt.make("dangling").is_err();
+    let is_kept = fs::read(rt, "target")?.as_slice() == b"kept".as_slice();
+    let is_so = are_refused && is_kept && !fs::exists(rt, "none")?;
+    remove_all(rt, &["target", "link", "dangling"])?;
+    Ok(is_so)
+}
+
+/// Removes these files, and links.
+fn remove_all(rt: &HostRuntime, paths: &[&str]) -> Result<(), Fail> {
+    for path in paths {
+        fs::remove_file(rt, *path)?;
+    }
+    Ok(())
+}
+
+#[test]
+fn a_link_is_not_followed(rt: HostRuntime) -> Result<(), Fail> {
+    assert!(rt; refuses_links(&rt)?);
+    Ok(())
+}
+
+/// A device is written to, and stays everybody's.
+#[test]
+fn a_device_is_taken_as_it_is(rt: HostRuntime) -> Result<(), Fail> {
+    let before = fs::metadata(&rt, "/dev/null")?.mode();
+    assert!(rt; rt.make("/dev/null").is_ok());
+    assert_eq!(rt; fs::metadata(&rt, "/dev/null")?.mode(), before);
+    Ok(())
+}
+
+/// Whether the line of this notice has these bytes.
+struct Reads(Notice, Bytes);
+
+const NOTICES: &[Reads] = &[
+    Reads(Notice::RecordingFailed, b"epmd: recording failed\n"),
+    Reads(Notice::CannotAccept, b"epmd: cannot accept connections\n"),
+];
+
+impl Case for Reads {
+    fn holds(&self, _alloc: Global) -> Result<bool, Fail> {
+        Ok(self.0.line() == self.1)
+    }
+}
+
+#[test]
+fn an_operator_reads_one_line(rt: HostRuntime) -> Result<(), Fail> {
+    all_hold(&rt, NOTICES)
+}
