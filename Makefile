@@ -1,6 +1,6 @@
 # `make epmd`, `make run` and `make test` need `rt`, the command of the Rattle toolchain, on the path, and nothing else.
-# `make install` needs it only where build/epmd is missing; `make bench` needs `cc`, and another port mapper; `make faults` needs
-# `gcc` and `python3` too.
+# `make install` and `make deb` need it only where build/epmd is missing; `make bench` needs `cc`, and another port mapper;
+# `make faults` needs `gcc` and `python3` too, and `make check-contrib` needs `python3` alone.
 
 PREFIX = /usr/local
 
@@ -10,7 +10,7 @@ OTHER = /usr/bin/epmd
 # The crates of tests that refuse memory.
 REFUSING = tests_wire tests_machine tests_book tests_client tests_record
 
-.PHONY: run epmd install quick test bench faults
+.PHONY: run epmd install uninstall deb check-contrib quick test bench faults
 
 # Builds the proved daemon and serves on port 4369.
 run: epmd
@@ -24,14 +24,36 @@ epmd:
 build/epmd:
 	@$(MAKE) --no-print-directory epmd
 
-# Puts the program, its manual page, a unit for the service manager and the wrapper for nodes in their places below
-# DESTDIR and PREFIX.
+# Puts the program, the wrapper that is called `epmd`, what reads recordings and figures, the manual page and the units in their places
+# below DESTDIR and PREFIX.
+LIB = $(DESTDIR)$(PREFIX)/lib/epmd-proved
+BIN = $(DESTDIR)$(PREFIX)/bin
+UNITS = $(DESTDIR)$(PREFIX)/lib/systemd/system
+MAN = $(DESTDIR)$(PREFIX)/share/man/man1
+TOOLS = epmd-log epmd-metrics epmd-prune
+SERVICES = epmd-proved.service epmd-proved-prune.service epmd-proved-prune.timer
+
 install: build/epmd
-	install -D build/epmd $(DESTDIR)$(PREFIX)/bin/epmd
-	install -D contrib/epmd-detached $(DESTDIR)$(PREFIX)/bin/epmd-detached
-	install -D -m 644 docs/epmd.1 $(DESTDIR)$(PREFIX)/share/man/man1/epmd.1
-	mkdir -p $(DESTDIR)$(PREFIX)/lib/systemd/system
-	sed 's|/usr/local|$(PREFIX)|g' contrib/epmd-proved.service > $(DESTDIR)$(PREFIX)/lib/systemd/system/epmd-proved.service
+	install -D build/epmd $(LIB)/epmd
+	mkdir -p $(BIN) $(UNITS) $(MAN)
+	sed 's/@VERSION@/$(shell cat VERSION)/' contrib/epmd > $(BIN)/epmd
+	chmod 755 $(BIN)/epmd
+	for tool in $(TOOLS); do install contrib/$$tool $(BIN) || exit 1; done
+	for unit in $(SERVICES); do sed 's|/usr/local/|$(PREFIX)/|g' contrib/$$unit > $(UNITS)/$$unit || exit 1; done
+	sed 's|/usr/local/|$(PREFIX)/|g' docs/epmd.1 > $(MAN)/epmd.1
+
+# Removes what `install` puts there.
+uninstall:
+	rm -rf $(LIB)
+	rm -f $(BIN)/epmd $(addprefix $(BIN)/,$(TOOLS)) $(addprefix $(UNITS)/,$(SERVICES)) $(MAN)/epmd.1
+
+# A package for Debian, in build.
+deb: build/epmd
+	contrib/deb
+
+# Tests what is in contrib, with python3 and no port mapper.
+check-contrib:
+	python3 -B -m unittest discover -s contrib/tests
 
 # Measures the program beside another port mapper, for about a minute, on ports of its own.
 bench: build/epmd

@@ -1,0 +1,207 @@
+"""What epmd-log tells of recorded bytes, which are put together here as docs/FORMATS.md has them."""
+import os
+import re
+import signal
+import subprocess
+import sys
+import tempfile
+import time
+import unittest
+
+LOG = os.path.join(os.path.dirname(os.path.abspath(__file__)), "..", "epmd-log")
+STAMP = r"\d{4}-\d\d-\d\dT\d\d:\d\d:\d\dZ "
+
+
+def number(value, count):
+    return value.to_bytes(count, "big")
+
+
+def start(first=0, active=(), retired=(), connections=()):
+    """A header and the state in which the recording begins. Active: name, port, creation, slot. Connections: slot, local, phase, kept."""
+    counts = number(len(active), 4) + number(len(retired), 4) + number(len(connections), 4)
+    made = b"EPMS\2\0" + number(4369, 2) + number(1024, 4) + number(4096, 4) + number(first, 8) + b"\0" + counts
+    for name, port, creation, slot in active:
+        made += number(port, 2) + b"\x4d\0\0\6\0\5" + number(len(name), 2) + name + b"\0\0" + number(creation, 4) + number(slot, 8)
+    for name, port, creation in retired:
+        made += number(len(name), 2) + name + number(port, 2) + number(creation, 4)
+    for slot, local, phase, kept in connections:
+        made += number(slot, 8) + number(local, 1) + number(phase, 1) + (number(len(kept), 2) + kept if phase == 0 else b"")
+    return made
+
+
+WORKER = number(1, 4)
+
+
+def connect(slot, local=1):
+    return WORKER + b"\1" + number(local, 1) + number(slot, 8)
+
+
+def piece(slot, request, fate, reply=b""):
+    return WORKER + b"\2" + number(slot, 8) + number(len(request), 2) + request + number(fate, 1) + number(len(reply), 4) + reply
+
+
+def close(slot, kind=3):
+    return WORKER + number(kind, 1) + number(slot, 8)
+
+
+def late(slot):
+    return WORKER + b"\5" + number(slot, 8) + b"\1"
+
+
+def sized(body):
+    return number(len(body), 2) + body
+
+
+def alive(name, port):
+    return sized(b"x" + number(port, 2) + b"\x4d\0\0\6\0\5" + number(len(name), 2) + name + b"\0\0")
+
+
+GRANTED = b"v\0" + number(4, 4)
+IN_USE = b"v\1" + number(0, 4)
+NO_ROOM = b"v\2" + number(0, 4)
+FOUND = b"w\0" + number(5000, 2) + b"\x4d\0\0\6\0\5\0\1a\0\0"
+
+
+class Told(unittest.TestCase):
+    def setUp(self):
+        self.folder = tempfile.TemporaryDirectory()
+        self.addCleanup(self.folder.cleanup)
+        self.path = os.path.join(self.folder.name, "session")
+
+    def write(self, data, path=None):
+        with open(path or self.path, "wb") as file:
+            file.write(data)
+
+    def run_log(self, *words):
+        return subprocess.run([sys.executable, LOG, *words, self.path], capture_output=True, text=True, timeout=30)
+
+    def told(self, data, *words):
+        self.write(data)
+        done = self.run_log(*words)
+        self.assertEqual((done.stderr, done.returncode), ("", 0))
+        return done.stdout.splitlines()
+
+    def test_a_node_registers_is_looked_up_and_leaves(self):
+        entries = connect(0) + piece(0, alive(b"a", 5000), 0, GRANTED) + connect(1, 0) + piece(1, sized(b"za"), 1, FOUND) + close(1)
+        self.assertEqual(self.told(start() + entries + close(0)), [
+            "1 register a port 5000 creation 4",
+            "3 lookup a by a remote peer: port 5000",
+            "5 leave a port 5000",
+        ])
+
+    def test_a_request_comes_in_pieces(self):
+        whole = alive(b"a", 5000)
+        entries = connect(0) + piece(0, whole[:1], 0) + piece(0, whole[1:9], 0) + piece(0, whole[9:], 0, GRANTED) + close(0, 4)
+        self.assertEqual(self.told(start() + entries), ["3 register a port 5000 creation 4", "4 leave a port 5000 (fault)"])
+
+    def test_each_refusal_is_told_by_its_reason(self):
+        entries = connect(0) + piece(0, alive(b"a", 1), 1, IN_USE) + connect(1) + piece(1, alive(b"b", 2), 1, NO_ROOM)
+        entries += connect(2, 0) + piece(2, alive(b"c", 3), 1)
+        self.assertEqual(self.told(start() + entries), [
+            "1 refuse a port 1: the name is in use",
+            "3 refuse b port 2: no room for the name",
+            "5 refuse c port 3: a peer of another host",
+        ])
+
+    def test_lists_dumps_stops_and_kills(self):
+        entries = b"".join(connect(slot, local) + piece(slot, sized(request), 1, reply) for slot, (local, request, reply) in enumerate([
+            (0, b"n", number(4369, 4)), (1, b"d", number(4369, 4)), (0, b"d", b""), (1, b"sa", b"STOPPED"), (1, b"sb", b"NOEXIST"),
+            (1, b"sa", b""), (1, b"k", b"NO"), (0, b"k", b""), (1, b"zq", b"w\1")]))
+        self.assertEqual(self.told(start() + entries), [
+            "1 list by a remote peer",
+            "3 dump by a local peer",
+            "5 dump by a remote peer: refused",
+            "7 stop a by a local peer: STOPPED",
+            "9 stop b by a local peer: NOEXIST",
+            "11 stop a by a local peer: refused",
+            "13 kill by a local peer: NO",
+            "15 kill by a remote peer: refused",
+            "17 lookup q by a local peer: not registered",
+        ])
+
+    def test_a_name_that_was_stopped_does_not_leave(self):
+        entries = connect(0) + piece(0, alive(b"a", 5000), 0, GRANTED) + connect(1) + piece(1, sized(b"sa"), 1, b"STOPPED") + close(0)
+        self.assertEqual(self.told(start() + entries)[1:], ["3 stop a by a local peer: STOPPED"])
+
+    def test_malformed_requests_are_called_so(self):
+        bad = [b"\0\0", b"\x20\x01", sized(b"a"), sized(b"nn"), sized(b"z"), sized(b"z\n"), sized(b"z" + b"a" * 1021),
+               sized(b"x" + bytes(11)), alive(b"a", 1)[:2] + b"x\0\1\x4d\0\0\6\0\5\0\2a\0\0"]
+        entries = b"".join(connect(slot) + piece(slot, request, 1) for slot, request in enumerate(bad))
+        wanted = [f"{2 * slot + 1} malformed request by a local peer: {request[:40].hex()}" for slot, request in enumerate(bad)]
+        self.assertEqual(self.told(start() + entries), wanted)
+
+    def test_a_silent_connection_is_told_a_timeout(self):
+        entries = connect(0, 0) + piece(0, b"\0", 0) + late(0) + late(0) + close(0)
+        self.assertEqual(self.told(start() + entries), ["2 timeout of a remote connection"])
+
+    def test_it_begins_in_the_state_of_the_start(self):
+        state = start(70, [(b"a", 5000, 9, 3)], [(b"b", 6000, 2)], [(2, 0, 0, b"\0\2z"), (3, 1, 1, b""), (4, 1, 2, b"")])
+        self.assertEqual(self.told(state + piece(2, b"a", 1, FOUND) + close(3) + piece(4, b"x", 1)), [
+            "70 lookup a by a remote peer: port 5000",
+            "71 leave a port 5000",
+        ])
+
+    def test_one_name_alone(self):
+        entries = connect(0) + piece(0, alive(b"a", 1), 0, GRANTED) + connect(1) + piece(1, alive(b"b", 2), 0, GRANTED) + close(0)
+        entries += connect(0) + piece(0, sized(b"n"), 1, number(4369, 4))
+        self.assertEqual(self.told(start() + entries, "-n", "a"), ["1 register a port 1 creation 4", "4 leave a port 1"])
+
+    def test_a_name_is_no_command_to_a_terminal(self):
+        name = "\x9b\u202eé".encode() + b"\xff"
+        entries = connect(0) + piece(0, sized(b"z" + name), 1, b"w\1")
+        self.assertEqual(self.told(start() + entries), ["1 lookup \\x9b\\u202eé\\xff by a local peer: not registered"])
+
+    def test_a_recording_of_version_1_is_read(self):
+        entries = (connect(0) + piece(0, alive(b"a", 5000), 0, GRANTED)).replace(WORKER + b"\1\1", b"\1\1").replace(WORKER + b"\2", b"\2")
+        header = b"EPMS\1\0" + number(4369, 2) + number(2, 4) + number(2, 4)
+        self.assertEqual(self.told(header + entries), ["1 register a port 5000 creation 4"])
+
+    def test_it_goes_on_in_further_files(self):
+        self.write(start(2, [(b"a", 5000, 4, 0)], (), [(0, 1, 1, b"")]) + close(0), self.path + ".1")
+        self.assertEqual(self.told(start() + connect(0) + piece(0, alive(b"a", 5000), 0, GRANTED)), [
+            "1 register a port 5000 creation 4",
+            "2 leave a port 5000",
+        ])
+
+    def test_a_file_of_another_run_is_told(self):
+        self.write(start(9), self.path + ".1")
+        self.write(start() + connect(0))
+        done = self.run_log()
+        self.assertEqual(done.returncode, 2)
+        self.assertIn("another run wrote it", done.stderr)
+
+    def test_what_is_cut_or_strange_is_told(self):
+        for cut, where in ((start()[:20], "its start"), (start() + connect(0)[:-1], "place 0")):
+            self.write(cut)
+            done = self.run_log()
+            self.assertEqual((done.returncode, done.stderr), (1, f"epmd-log: {self.path}: what is behind {where} is cut off\n"))
+        self.write(b"EPMX" + bytes(33))
+        self.assertEqual(self.run_log().returncode, 2)
+        self.write(start() + WORKER + b"\6")
+        self.assertEqual(self.run_log().returncode, 2)
+
+    def test_a_live_recording_is_followed_into_the_next_file(self):
+        self.write(start())
+        running = subprocess.Popen([sys.executable, LOG, "-f", self.path], stdout=subprocess.PIPE, text=True)
+        self.addCleanup(running.stdout.close)
+        with open(self.path, "ab", buffering=0) as file:
+            file.write(connect(0))
+            time.sleep(0.5)
+            file.write(piece(0, alive(b"a", 5000), 0, GRANTED))
+        self.assertRegex(running.stdout.readline(), f"^{STAMP}1 register a port 5000 creation 4$")
+        self.write(start(2, [(b"a", 5000, 4, 0)], (), [(0, 1, 1, b"")]) + close(0), self.path + ".1")
+        self.assertRegex(running.stdout.readline(), f"^{STAMP}2 leave a port 5000$")
+        running.send_signal(signal.SIGINT)
+        self.assertEqual(running.wait(10), 0)
+
+    def test_a_pipe_is_read_to_its_end(self):
+        os.mkfifo(self.path)
+        running = subprocess.Popen([sys.executable, LOG, self.path], stdout=subprocess.PIPE, text=True)
+        with open(self.path, "wb") as pipe:
+            pipe.write(start() + connect(0) + piece(0, alive(b"a", 5000), 0, GRANTED))
+        told, _ = running.communicate(timeout=10)
+        self.assertTrue(re.fullmatch(f"{STAMP}1 register a port 5000 creation 4\n", told))
+
+
+if __name__ == "__main__":
+    unittest.main()
