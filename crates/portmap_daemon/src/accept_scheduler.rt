@@ -6,10 +6,11 @@ ghost use Rattle.portmap_daemon.specs.declared.shared.TheConstants.{IDLE};
 
 use crate::limits::{HELD_MS, LOAD_POLLS, LOAD_US, REST_US};
 use crate::shared::{IDLE, Shared};
+use crate::system::Wake;
 use std::rt::Clock;
 use std::sync::atomic::Ordering;
 
-impl Shared {
+impl<W: Wake> Shared<W> {
     /// Whether a worker accepts.
     pub(crate) fn accepts(&self, worker: usize) -> bool {
         (worker as u64) < self.acceptors.load(Ordering::SeqCst)

@@ -4,14 +4,14 @@ ghost use Rattle.portmap_daemon.specs.Listening.{IsFreshFrom};
 ghost use Rattle.portmap_daemon.specs.Peers.{is_local_by};
 
 use crate::Turn;
+use crate::host::Host;
 use crate::limits::{PLACE_TIMEOUT_MS, ROOM_BACKOFF_MS};
 use crate::link::{Held, Link};
-use crate::memory::is_there;
 use crate::peer::{is_local_by, own_ip};
 use crate::quota::{Candidate, goes_before, spares_local};
 use crate::shared::NO_NEWS;
 use crate::socket_source::SocketSource;
-use mio::net::TcpStream;
+use crate::system::{Stream, System};
 use std::net::IpAddr;
 use std::rt::Clock;
 use std::sync::Wait;
@@ -20,16 +20,16 @@ use std::sync::ledger::Ledger;
 
 /// A connection that has no place yet.
 #[derive(Drop)]
-pub(crate) struct Newcomer {
-    stream: TcpStream,
+pub(crate) struct Newcomer<S: Stream> {
+    stream: S,
     is_local: bool,
     /// When it came.
     came: u64,
 }
 
-impl Newcomer {
+impl<S: Stream> Newcomer<S> {
     /// One that comes now, with the addresses of its peer and, if it is known, of its own.
-    fn new(stream: TcpStream, peer: IpAddr, own: Option<IpAddr>, now: u64) -> Newcomer
+    fn new(stream: S, peer: IpAddr, own: Option<IpAddr>, now: u64) -> Newcomer<S>
         ensures { result.is_local ≡ is_local_by peer own }
     {
         Newcomer {
@@ -40,7 +40,7 @@ impl Newcomer {
     }
 }
 
-impl<L: Ledger, R: Wait + Clock> SocketSource<'_, L, R> {
+impl<L: Ledger, S: System, R: Host + Wait + Clock> SocketSource<'_, L, S, R> {
     /// The next connection: the one that waits for a place, or one that waits at a listener.
     pub(crate) fn admit(&mut self) -> Option<Turn> {
         let waiting = self.newcomer.take();
@@ -62,9 +62,9 @@ impl<L: Ledger, R: Wait + Clock> SocketSource<'_, L, R> {
     }
 
     /// The next connection that waits at a listener.
-    fn accept(&mut self) -> Option<Newcomer> {
+    fn accept(&mut self) -> Option<Newcomer<S::Stream>> {
         let listeners = &mut self.sockets.listeners;
-        let accepted = listeners.accept(self.sockets.poller.registry(), self.now);
+        let accepted = listeners.accept(&mut self.sockets.system, self.now);
         if listeners.take_idle() {
             self.shared.stop_accepting(self.sockets.worker);
         }
@@ -74,7 +74,7 @@ impl<L: Ledger, R: Wait + Clock> SocketSource<'_, L, R> {
     }
 
     /// Takes a connection that has a place, if there is memory for it. It is closed otherwise.
-    fn take(&mut self, newcomer: Newcomer) -> Option<Turn>
+    fn take(&mut self, newcomer: Newcomer<S::Stream>) -> Option<Turn>
         ensures { IfSome result (λ turn. IsFreshFrom newcomer.is_local turn) }
     {
         let is_local = newcomer.is_local;
@@ -94,11 +94,11 @@ impl<L: Ledger, R: Wait + Clock> SocketSource<'_, L, R> {
 
     /// Holds a new connection. It is looked at without waiting for the poll, since its request is most likely there. More are held at
     /// once than ever were only if memory is left that others may need.
-    fn hold(&mut self, newcomer: Newcomer) -> Option<Turn>
+    fn hold(&mut self, newcomer: Newcomer<S::Stream>) -> Option<Turn>
         ensures { IfSome result (λ turn. IsFreshFrom newcomer.is_local turn) }
     {
         let local = newcomer.is_local;
-        if self.links.len() >= self.links.capacity() && !is_there(self.alloc) {
+        if self.links.len() >= self.links.capacity() && !self.rt.has_memory(self.alloc) {
             return None;
         }
         self.queue.reserve(self.links.len().saturating_add(1)).ok()?;
@@ -113,7 +113,7 @@ impl<L: Ledger, R: Wait + Clock> SocketSource<'_, L, R> {
 
     /// There is no place for a new connection: one is given up for it, here or, for a local peer, by another worker soon. A
     /// connection is closed for which none can be.
-    fn make_room(&mut self, newcomer: Newcomer) -> Option<Turn> {
+    fn make_room(&mut self, newcomer: Newcomer<S::Stream>) -> Option<Turn> {
         let waited = self.now.saturating_sub(newcomer.came);
         let remote_first = spares_local(waited, self.shared.quota.remote());
         if let Some(key) = self.candidate(newcomer.is_local && !remote_first) {

@@ -4,9 +4,10 @@
 //! has passed it once it has gone through all that its poll reported after the epoch began: then it knows of each end that was
 //! there when it began.
 use crate::shared::Shared;
+use crate::system::Wake;
 use std::sync::atomic::Ordering;
 
-impl Shared {
+impl<W: Wake> Shared<W> {
     /// Begins one, of which the other workers learn, and gives its number. This worker polls soon.
     pub(crate) fn begin_epoch(&self, worker: usize) -> u64 {
         let epoch = self.epoch.fetch_add(1, Ordering::SeqCst).saturating_add(1);

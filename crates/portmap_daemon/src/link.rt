@@ -5,18 +5,13 @@ ghost use Rattle.portmap_daemon.specs.Link.{IsBroken, IsOver, may_move};
 use crate::Turn;
 use crate::first_piece::FirstPiece;
 use crate::limits::YOUNG_MS;
-use mio::net::TcpStream;
-use mio::{Interest, Registry, Token};
+use crate::system::{Interest, Stream, System};
 use portmap_core::Name;
 use portmap_link::{Device, Input, Output, Past, Pull, Put, pull_from, put_from};
 use std::alloc::Global;
 use std::collections::VecDeque;
 use std::io;
 use std::io::{ErrorKind, Read, Write};
-use std::os::fd::AsRawFd;
-
-/// How many bytes the system is to read of an address.
-const ADDRESS_BYTES: u32 = 16;
 
 /// Whether a stream may have bytes. Its news are reported once.
 #[derive(Clone, Copy, Debug, PartialEq, Eq)]
@@ -67,7 +62,8 @@ pub struct Link<S: Read + Write> {
     came: u64,
     /// A put has ever answered Wrote.
     is_answered: bool,
-    /// It was answered and goes on sending: what it sends is of no use, and is read piece by piece with rests in between.
+    /// It was answered and goes on sending: what it sends is of no use, and is read piece by piece with rests in between. Or the poll
+    /// has refused to report it.
     is_resting: bool,
     /// How many bytes have moved since that was last asked.
     moved_bytes: usize,
@@ -166,6 +162,13 @@ impl<S: Read + Write> Link<S> {
         }
     }
 
+    /// Its stream.
+    pub fn stream(&self) -> &S
+        ensures { result.now ≡ self.now.stream }
+    {
+        &self.stream
+    }
+
     /// The name that it asks to register, while that is kept back.
     pub fn asked_name(&self) -> Option<&Name> {
         self.first.name()
@@ -261,6 +264,9 @@ impl<S: Read + Write> Link<S> {
     /// It has rested.
     pub(crate) fn end_rest(&mut self, queue: &mut VecDeque<usize>, key: usize) {
         self.is_resting = false;
+        if !self.is_watched() {
+            self.note_report();
+        }
         if self.may_move() {
             self.enqueue(queue, key);
         }
@@ -338,58 +344,52 @@ impl<S: Read + Write> Link<S> {
     }
 }
 
-impl Link<TcpStream> {
+impl<S: Stream> Link<S> {
     /// It was told, and is told again, at once or once it has rested, unless a call on it would have waited: then the poll is to
-    /// report it. If the poll refuses, the next look tries again.
-    pub(crate) fn put_back(
+    /// report it. If the poll refuses, it is asked again once it has rested.
+    pub(crate) fn put_back<P: System<Stream = S>>(
         &mut self,
         queue: &mut VecDeque<usize>,
         resting: &mut VecDeque<usize>,
-        registry: &Registry,
+        system: &mut P,
         key: usize,
     ) {
-        if self.is_resting {
-            self.is_resting = resting.push_back(key).is_ok();
-        }
-        if self.may_move() && !self.is_resting {
-            self.enqueue(queue, key);
-        } else if !self.is_watched() && self.watch(registry, Token(key)).is_ok() {
-            self.watched = self.wanted();
-        }
-    }
-
-    /// Has the poll report the stream under this token, as far as it is wanted.
-    fn watch(&mut self, registry: &Registry, token: Token) -> io::Result<()> {
-        let interest = match self.wanted() {
-            Watched::Both => Interest::READABLE | Interest::WRITABLE,
-            Watched::Nothing | Watched::Reading => Interest::READABLE,
-        };
-        match self.watched {
-            Watched::Nothing => registry.register(&mut self.stream, token, interest),
-            Watched::Reading | Watched::Both => {
-                registry.reregister(&mut self.stream, token, interest)
+        if (self.is_resting || !self.may_move()) && !self.is_watched() {
+            if self.watch(system, key).is_ok() {
+                self.watched = self.wanted();
+            } else {
+                self.is_resting = true;
             }
         }
-    }
-
-    /// The link is given up. If bytes wait to be written its peer is to see that it doesn't have all: a reset in place of an end.
-    fn abort_if_unsent(&mut self) {
-        if self.is_unsent() {
-            // An address of no family: the system undoes the connection. If it refuses, the connection ends as any other.
-            let nowhere = [0; 128];
-            let _ = unsafe { libc::net::connect(self.stream.as_raw_fd(), &nowhere, ADDRESS_BYTES) };
+        if self.is_resting {
+            self.is_resting = resting.push_back(key).is_ok();
+        } else if self.may_move() {
+            self.enqueue(queue, key);
         }
     }
+
+    /// Has the poll report the stream under this key, as far as it is wanted.
+    fn watch<P: System<Stream = S>>(&mut self, system: &mut P, key: usize) -> io::Result<()> {
+        let interest = match self.wanted() {
+            Watched::Both => Interest::Both,
+            Watched::Nothing | Watched::Reading => Interest::Reading,
+        };
+        let was_watched = self.watched != Watched::Nothing;
+        system.watch(&mut self.stream, key, interest, was_watched)
+    }
 }
 
-/// A link that a worker holds. However it is given up, a peer that doesn't have all of its answer sees that.
-pub(crate) struct Held {
-    pub(crate) link: Link<TcpStream>,
+/// A link that a worker holds. However it is given up, a peer that doesn't have all of its answer sees that: its connection ends by a
+/// reset in place of an end.
+pub(crate) struct Held<S: Stream> {
+    pub(crate) link: Link<S>,
 }
 
-impl Drop for Held {
+impl<S: Stream> Drop for Held<S> {
     fn drop(mut self) {
-        self.link.abort_if_unsent();
+        if self.link.is_unsent() {
+            self.link.stream.reset();
+        }
         let Held { link: _link } = self;
     }
 }

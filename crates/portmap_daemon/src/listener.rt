@@ -1,19 +1,14 @@
 //! A worker's shares of the listening sockets.
-ghost use Rattle.std.specs.Prelude.{◌≡◌, ◌+◌, ◌-◌, ◌<◌, ◌≤◌, ◌^◌, min, false, IfOk, IfErr};
+ghost use Rattle.std.specs.Prelude.{◌≡◌, ◌+◌, ◌-◌, ◌<◌, ◌≤◌, ◌^◌, min, false, IfOk};
 ghost use Rattle.portmap_daemon.specs.Listening.{accept_error};
-ghost use Rattle.portmap_daemon.specs.Running.{IsOfAddresses};
 ghost use Rattle.portmap_daemon.specs.declared.limits.TheConstants.{ACCEPT_BACKOFF_MS};
 
-use crate::accepting::accept;
-use crate::daemon::RunFault;
 use crate::limits::{ACCEPT_BACKOFF_MS, IDLE_REPORTS_MOST};
-use crate::poller::FIRST_LISTENER;
-use mio::net::{TcpListener, TcpStream};
-use mio::{Interest, Registry, Token};
+use crate::system::System;
+use portmap_link::NoMemory;
 use std::alloc::Global;
 use std::io::ErrorKind;
 use std::net::IpAddr;
-use std::{io, net};
 
 /// How a worker stands to a listening socket.
 #[derive(Clone, Copy, Debug, PartialEq, Eq)]
@@ -50,10 +45,10 @@ fn accept_error(kind: ErrorKind) -> AcceptError
 
 /// One worker's share of a listening socket. The system reports it to every worker that watches it, and one of them gets the
 /// connection.
-#[derive(Drop)]
+#[derive(Clone, Copy, Debug, PartialEq, Eq)]
 struct Listener {
-    socket: TcpListener,
-    token: Token,
+    /// Which of them it is.
+    place: usize,
     watch: Watch,
     /// Connections may wait at it.
     waiting: bool,
@@ -62,12 +57,6 @@ struct Listener {
 }
 
 impl Listener {
-    /// Has the poll report it, and what waits already too.
-    fn register(&mut self, registry: &Registry) -> io::Result<()> {
-        let socket = &mut self.socket;
-        registry.register(socket, self.token, Interest::READABLE)
-    }
-
     /// The poll has reported it. A report that comes before the last one has come to nothing is one with it.
     fn note_report(&mut self) {
         self.took = self.took && self.waiting;
@@ -75,7 +64,7 @@ impl Listener {
     }
 
     /// None could be accepted.
-    fn fail(&mut self, registry: &Registry, now: u64, kind: ErrorKind) -> AcceptError
+    fn fail<S: System>(&mut self, system: &mut S, now: u64, kind: ErrorKind) -> AcceptError
         ensures error { result ≡ accept_error kind }
         ensures aborted { result ≡ AcceptError.Aborted → self.new ≡ self.old }
         ensures would_block { result ≡ AcceptError.WouldBlock → (self.new.waiting ≡ false) × (self.new.watch ≡ self.old.watch) × (self.new.took ≡ self.old.took) }
@@ -87,7 +76,7 @@ impl Listener {
             AcceptError::WouldBlock => self.waiting = false,
             // What waits is not reported again, so the poll is to look anew after a while.
             AcceptError::Exhausted => {
-                self.leave(registry);
+                self.leave(system);
                 self.watch = Watch::From(now.saturating_add(ACCEPT_BACKOFF_MS));
             }
         }
@@ -95,25 +84,25 @@ impl Listener {
     }
 
     /// Leaves it to others.
-    fn leave(&mut self, registry: &Registry)
+    fn leave<S: System>(&mut self, system: &mut S)
         ensures { self.new.waiting ≡ false }
     {
         if self.watch == Watch::On {
-            let _ = registry.deregister(&mut self.socket);
+            system.leave(self.place);
         }
         self.watch = Watch::Off;
         self.waiting = false;
     }
 
     /// Watches it, if it is time. Whether it can't be watched.
-    fn come_back(&mut self, registry: &Registry, now: u64) -> bool {
+    fn come_back<S: System>(&mut self, system: &mut S, now: u64) -> bool {
         let Watch::From(time) = self.watch else {
             return false;
         };
         if now < time {
             return false;
         }
-        self.watch = match self.register(registry) {
+        self.watch = match system.listen(self.place) {
             Ok(()) => Watch::On,
             // It was never left, so what waits at it is not reported again.
             Err(error) if error.kind() == ErrorKind::AlreadyExists => {
@@ -141,30 +130,19 @@ pub(crate) struct Listeners {
 }
 
 impl Listeners {
-    /// One worker's shares of these sockets, which its poll reports if it accepts.
-    pub(crate) fn share(
-        alloc: Global,
-        registry: &Registry,
-        sockets: &[net::TcpListener],
-        is_on: bool,
-    ) -> Result<Listeners, RunFault>
-        ensures is_on { IfOk result (λ listeners. listeners.is_on ≡ is_on) }
-        ensures fault { IfErr result (λ f. IsOfAddresses 0 f) }
+    /// A worker's shares of so many sockets, which its poll is to report if it accepts.
+    pub(crate) fn new(alloc: Global, count: usize, is_on: bool) -> Result<Listeners, NoMemory>
+        ensures { IfOk result (λ listeners. listeners.is_on ≡ is_on) }
     {
+        let watch = if is_on { Watch::From(0) } else { Watch::Off };
         let mut listeners = Vec::new(alloc);
-        for (place, socket) in sockets.iter().enumerate() {
-            let mut listener = Listener {
-                socket: TcpListener::from_std(socket.try_clone()?),
-                token: Token(FIRST_LISTENER.saturating_add(place)),
-                watch: Watch::Off,
+        for place in 0..count {
+            listeners.push(Listener {
+                place,
+                watch,
                 waiting: false,
                 took: false,
-            };
-            if is_on {
-                listener.register(registry)?;
-                listener.watch = Watch::On;
-            }
-            listeners.push(listener)?;
+            })?;
         }
         Ok(Listeners {
             listeners,
@@ -196,21 +174,23 @@ impl Listeners {
         until
     }
 
-    /// The poll has reported the one with this token.
-    pub(crate) fn report(&mut self, token: Token) {
-        for listener in &mut self.listeners {
-            if listener.token == token {
-                listener.note_report();
-            }
+    /// The poll has reported the one at this place.
+    pub(crate) fn report(&mut self, place: usize) {
+        if let Some(listener) = self.listeners.get_mut(place) {
+            listener.note_report();
         }
     }
 
     /// The next connection that waits, with the address of its peer. The listeners are asked in turn.
-    pub(crate) fn accept(&mut self, registry: &Registry, now: u64) -> Option<(TcpStream, IpAddr)> {
+    pub(crate) fn accept<S: System>(
+        &mut self,
+        system: &mut S,
+        now: u64,
+    ) -> Option<(S::Stream, IpAddr)> {
         for _ in 0..self.listeners.len() {
             let place = self.first;
             self.first = next_place(place, self.listeners.len());
-            let accepted = self.accept_at(place, registry, now);
+            let accepted = self.accept_at(place, system, now);
             if accepted.is_some() {
                 return accepted;
             }
@@ -219,23 +199,23 @@ impl Listeners {
     }
 
     /// The next one that waits at the listener at this place.
-    fn accept_at(
+    fn accept_at<S: System>(
         &mut self,
         place: usize,
-        registry: &Registry,
+        system: &mut S,
         now: u64,
-    ) -> Option<(TcpStream, IpAddr)> {
+    ) -> Option<(S::Stream, IpAddr)> {
         let listener = self.listeners.get_mut(place)?;
         if !listener.waiting {
             return None;
         }
-        match accept(&listener.socket) {
+        match system.accept(place) {
             Ok(accepted) => {
                 listener.took = true;
                 self.idle_reports = 0;
                 return Some(accepted);
             }
-            Err(error) => match listener.fail(registry, now, error.kind()) {
+            Err(error) => match listener.fail(system, now, error.kind()) {
                 AcceptError::Aborted => {}
                 AcceptError::WouldBlock if listener.took => {}
                 AcceptError::WouldBlock => self.idle_reports = self.idle_reports.saturating_add(1),
@@ -266,7 +246,7 @@ impl Listeners {
 
     /// Watches the listeners from now on, or leaves them, as the worker accepts or not. Those that are to be watched again are, if it
     /// is time.
-    pub(crate) fn pass(&mut self, registry: &Registry, now: u64, is_on: bool) {
+    pub(crate) fn pass<S: System>(&mut self, system: &mut S, now: u64, is_on: bool) {
         let turns = is_on != self.is_on;
         if turns {
             self.is_on = is_on;
@@ -274,11 +254,11 @@ impl Listeners {
         }
         for listener in &mut self.listeners {
             if turns && !is_on {
-                listener.leave(registry);
+                listener.leave(system);
             } else if turns && listener.watch == Watch::Off {
                 listener.watch = Watch::From(now);
             }
-            if listener.come_back(registry, now) {
+            if listener.come_back(system, now) {
                 self.exhausted = true;
             }
         }

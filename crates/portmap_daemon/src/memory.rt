@@ -1,19 +1,19 @@
 //! What is done while memory is short.
 ghost use Rattle.std.specs.Prelude.{◌≡◌, ◌+◌, ◌||◌, ◌&&◌, not, true, false, min};
 
-use crate::limits::{PROBE_BYTES, RESERVE_BYTES, STARVED_SECONDS_MOST};
+use crate::host::Host;
+use crate::limits::{RESERVE_BYTES, STARVED_SECONDS_MOST};
 use crate::shared::News;
 use std::alloc::Global;
 
-/// Whether memory can be had. Nothing is kept of it.
-pub(crate) fn is_there(alloc: Global) -> bool {
-    Vec::<u8>::with_capacity(alloc, PROBE_BYTES).is_ok()
-}
-
 /// Memory that is kept for the time when no other can be had, if it can be had and more beside it.
-fn reserve(alloc: Global) -> Option<Vec<u8>> {
+fn reserve<R: Host>(rt: &R, alloc: Global) -> Option<Vec<u8>> {
     let reserve = Vec::with_capacity(alloc, RESERVE_BYTES).ok()?;
-    if is_there(alloc) { Some(reserve) } else { None }
+    if rt.has_memory(alloc) {
+        Some(reserve)
+    } else {
+        None
+    }
 }
 
 /// For how many seconds on end nothing has got through for want of memory, after one more in which entries could not be taken out
@@ -37,9 +37,9 @@ pub(crate) struct Memory {
 }
 
 impl Memory {
-    pub(crate) fn new(alloc: Global) -> Memory {
+    pub(crate) fn new<R: Host>(rt: &R, alloc: Global) -> Memory {
         Memory {
-            reserve: reserve(alloc),
+            reserve: reserve(rt, alloc),
             starved_seconds: 0,
         }
     }
@@ -55,20 +55,20 @@ impl Memory {
     }
 
     /// A peer went unanswered: if no memory can be had that is why, perhaps, and the reserve is given back.
-    pub(crate) fn relieve_if_short(&mut self, alloc: Global) {
-        if self.reserve.is_some() && !is_there(alloc) {
+    pub(crate) fn relieve_if_short<R: Host>(&mut self, rt: &R, alloc: Global) {
+        if self.reserve.is_some() && !rt.has_memory(alloc) {
             self.relieve();
         }
     }
 
     /// Takes a look, once a second, by whether entries are left in the log that could not be taken out, and what has become of
     /// connections. Whether nothing has got through for so long that the daemon is to end.
-    pub(crate) fn look(&mut self, alloc: Global, stuck: bool, news: News) -> bool {
+    pub(crate) fn look<R: Host>(&mut self, rt: &R, alloc: Global, stuck: bool, news: News) -> bool {
         if stuck || news.unanswered {
-            self.relieve_if_short(alloc);
+            self.relieve_if_short(rt, alloc);
         }
         if self.is_short() && !stuck {
-            self.reserve = reserve(alloc);
+            self.reserve = reserve(rt, alloc);
         }
         self.starved_seconds = starved_for(self.starved_seconds, stuck, self.is_short(), news);
         self.starved_seconds >= STARVED_SECONDS_MOST

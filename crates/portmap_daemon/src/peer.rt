@@ -3,7 +3,7 @@ ghost use Rattle.std.specs.Prelude.{◌≡◌};
 ghost use Rattle.portmap_core.specs.Locality.{is_local_to};
 ghost use Rattle.portmap_daemon.specs.Peers.{ip_of, is_local_by};
 
-use mio::net::TcpStream;
+use crate::system::Stream;
 use portmap_core::{Ip, is_local};
 use std::net::{IpAddr, Ipv4Addr};
 
@@ -35,9 +35,10 @@ pub(crate) fn is_local_by(peer: IpAddr, own: Option<IpAddr>) -> bool
 }
 
 /// A connection's own address. It is asked for only if the peer's doesn't decide, since that takes a call of the system.
-pub(crate) fn own_ip(stream: &TcpStream, peer: IpAddr) -> Option<IpAddr> {
+pub(crate) fn own_ip<S: Stream>(stream: &S, peer: IpAddr) -> Option<IpAddr> {
     if is_local_by(peer, None) {
-        return None;
+        None
+    } else {
+        stream.own_ip()
     }
-    Some(stream.local_addr().ok()?.ip())
 }

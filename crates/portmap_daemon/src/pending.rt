@@ -3,9 +3,10 @@
 //! If a name is active when it is asked for, perhaps the connection that owns it has ended, or is ending: then the name is free soon.
 //! What the machine says after that is final.
 use crate::Turn;
+use crate::host::Host;
 use crate::limits::{EPOCH_TIMEOUT_MS, NAME_TIMEOUT_MS, PENDING_MOST};
-use crate::memory::is_there;
 use crate::socket_source::SocketSource;
+use crate::system::System;
 use std::rt::Clock;
 use std::sync::Wait;
 use std::sync::atomic::Ordering;
@@ -21,7 +22,7 @@ pub(crate) struct Pending {
     epoch: Option<u64>,
 }
 
-impl<L: Ledger, R: Wait + Clock> SocketSource<'_, L, R> {
+impl<L: Ledger, S: System, R: Host + Wait + Clock> SocketSource<'_, L, S, R> {
     /// Whether the name is active that the link with this key asks to register; none if it keeps nothing back.
     fn is_name_active(&self, key: usize) -> Option<bool> {
         let name = self.links.get(key)?.link.asked_name()?;
@@ -33,7 +34,7 @@ impl<L: Ledger, R: Wait + Clock> SocketSource<'_, L, R> {
     pub(crate) fn hold_back(&mut self) -> Option<Turn> {
         let key = self.last?;
         let is_active = self.is_name_active(key)?;
-        if !is_there(self.alloc) {
+        if !self.rt.has_memory(self.alloc) {
             return Some(Turn::Late(key as u64));
         }
         let pending = Pending {

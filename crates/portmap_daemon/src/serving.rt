@@ -24,7 +24,7 @@ pub struct Outcome<L: Ledger> {
 
 /// A worker at a desk.
 #[derive(Drop)]
-struct Worker<'a, L: Ledger, S: Source, G: Gate, R: Wait> {
+pub struct Worker<'a, L: Ledger, S: Source, G: Gate, R: Wait> {
     rt: &'a R,
     alloc: Global,
     desk: &'a Desk<L>,
@@ -36,7 +36,50 @@ struct Worker<'a, L: Ledger, S: Source, G: Gate, R: Wait> {
     held: BTreeMap<u64, Carrier<L>>,
 }
 
-impl<L: Ledger, S: Source + Drop, G: Gate, R: Wait> Worker<'_, L, S, G, R> {
+impl<'a, L: Ledger, S: Source + Drop, G: Gate, R: Wait> Worker<'a, L, S, G, R> {
+    /// A worker that holds no connection. It has the number of its seat.
+    pub fn new(
+        rt: &'a R,
+        alloc: Global,
+        desk: &'a Desk<L>,
+        seat: Seat<L>,
+        source: S,
+        gate: &'a G,
+    ) -> Worker<'a, L, S, G, R>
+        ensures { result.seat ≡ seat }
+    {
+        Worker {
+            rt,
+            alloc,
+            desk,
+            number: seat.worker(),
+            gate,
+            seat,
+            source,
+            held: BTreeMap::new(alloc),
+        }
+    }
+
+    /// Does what its source tells next. Whether there is more to do.
+    pub fn turn(&mut self) -> bool
+        ensures { self.old.seat.count ≤ self.new.seat.count }
+    {
+        let turn = self.source.turn();
+        self.take(turn)
+    }
+
+    /// Where its links come from.
+    pub fn source(&mut self) -> &mut S {
+        &mut self.source
+    }
+
+    /// How many acts it made at the desk with its seat.
+    pub fn acts(&self) -> u64
+        ensures { result ≡ self.now.seat.count }
+    {
+        self.seat.count()
+    }
+
     /// Goes on with what the source tells. Whether there is more to do.
     fn take(&mut self, turn: Turn) -> bool
         ensures { self.old.seat.count ≤ self.new.seat.count }
@@ -197,7 +240,7 @@ impl<L: Ledger, S: Source + Drop, G: Gate, R: Wait> Worker<'_, L, S, G, R> {
     }
 
     /// Closes all that it holds, and gives its seat back.
-    fn leave(self) -> Seat<L>
+    pub fn leave(self) -> Seat<L>
         ensures { self.entry.seat.count ≤ result.count }
     {
         let mut worker = self;
@@ -225,19 +268,10 @@ pub fn serve<'a, L: Ledger, S: Source + Drop, G: Gate, R: Wait>(
     ensures { result.seat.count ≡ seat.count + result.served }
 {
     let before = seat.count();
-    let mut worker = Worker {
-        rt,
-        alloc,
-        desk,
-        number,
-        gate,
-        seat,
-        source,
-        held: BTreeMap::new(alloc),
-    };
+    let mut worker = Worker::new(rt, alloc, desk, seat, source, gate);
+    worker.number = number;
     for _ in rt.forever() {
-        let turn = worker.source.turn();
-        if !worker.take(turn) {
+        if !worker.turn() {
             break;
         }
     }

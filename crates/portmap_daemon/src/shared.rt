@@ -2,7 +2,7 @@
 ghost use Rattle.std.specs.Prelude.{◌≡◌, vec_len, IfOk};
 
 use crate::quota::Quota;
-use mio::Waker;
+use crate::system::Wake;
 use portmap_link::NoMemory;
 use std::alloc::Global;
 use std::rt::Clock;
@@ -17,8 +17,8 @@ pub(crate) const NO_CONNECTIONS: u64 = u64::MAX;
 
 /// What the other threads know of a worker.
 #[derive(Drop)]
-pub(crate) struct WorkerState {
-    waker: Waker,
+pub struct WorkerState<W: Wake> {
+    waker: W,
     /// How many registrations are pending at it.
     pub(crate) pending: AtomicU64,
     /// The last poll epoch that it has passed.
@@ -29,9 +29,9 @@ pub(crate) struct WorkerState {
     pub(crate) served: AtomicU64,
 }
 
-impl WorkerState {
+impl<W: Wake> WorkerState<W> {
     /// A worker that has not begun, whose poll this waker ends.
-    pub(crate) fn new(waker: Waker) -> WorkerState {
+    pub fn new(waker: W) -> WorkerState<W> {
         WorkerState {
             waker,
             pending: AtomicU64::new(0),
@@ -43,7 +43,7 @@ impl WorkerState {
 
     /// Ends its wait.
     pub(crate) fn wake(&self) {
-        let _ = self.waker.wake();
+        self.waker.wake();
     }
 }
 
@@ -67,10 +67,10 @@ pub(crate) const NO_NEWS: News = News {
 
 /// What threads share. Workers have numbers from 0.
 #[derive(Drop)]
-pub(crate) struct Shared {
-    pub(crate) workers: Vec<WorkerState>,
+pub struct Shared<W: Wake> {
+    pub(crate) workers: Vec<WorkerState<W>>,
     /// Ends the wait of the thread that takes out the log.
-    drain: Waker,
+    drain: W,
     /// When the daemon began, if the clock can be read.
     begun: Option<Instant>,
     pub(crate) quota: Quota,
@@ -91,14 +91,9 @@ pub(crate) struct Shared {
     exhausted: AtomicBool,
 }
 
-impl Shared {
+impl<W: Wake> Shared<W> {
     /// What the threads of a daemon share that begins, with so many places for connections.
-    pub(crate) fn new<R: Clock>(
-        rt: &R,
-        workers: Vec<WorkerState>,
-        drain: Waker,
-        places: u32,
-    ) -> Shared
+    pub fn new<R: Clock>(rt: &R, workers: Vec<WorkerState<W>>, drain: W, places: u32) -> Shared<W>
         ensures { vec_len result.workers ≡ vec_len workers }
     {
         Shared {
@@ -144,11 +139,11 @@ impl Shared {
 
     /// Ends the wait of the thread that takes out the log.
     pub(crate) fn wake_drain(&self) {
-        let _ = self.drain.wake();
+        self.drain.wake();
     }
 
     /// One more worker begins.
-    pub(crate) fn begin_one(&self) {
+    pub fn begin_one(&self) {
         self.running.fetch_add(1, Ordering::SeqCst);
     }
 
@@ -157,13 +152,22 @@ impl Shared {
         self.running.fetch_sub(1, Ordering::SeqCst);
     }
 
+    /// A worker has ended after so many acts, and all others are to end.
+    pub fn end_worker(&self, worker: usize, served: u64) {
+        if let Some(state) = self.workers.get(worker) {
+            state.served.store(served, Ordering::SeqCst);
+        }
+        self.end_one();
+        self.stop_all();
+    }
+
     /// Whether every worker has ended.
     pub(crate) fn are_done(&self) -> bool {
         self.running.load(Ordering::SeqCst) == 0
     }
 
     /// Has every worker end, and the thread that takes out the log look for that.
-    pub(crate) fn stop_all(&self) {
+    pub fn stop_all(&self) {
         self.stopping.store(true, Ordering::SeqCst);
         for state in &self.workers {
             state.wake();

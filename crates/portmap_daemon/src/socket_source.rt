@@ -1,9 +1,10 @@
 //! The source of a worker over sockets.
-ghost use Rattle.std.specs.Prelude.{◌≡◌, ◌-◌, ◌≤◌, true, false, max};
+ghost use Rattle.std.specs.Prelude.{◌≡◌, ◌-◌, ◌≤◌, ◌==◌, true, false, max, IfOk};
 ghost use Rattle.portmap_daemon.specs.declared.limits.TheConstants.{SHORT_TIMEOUT_MS};
 
 use crate::accept_scheduler::LoadMeter;
 use crate::admission::Newcomer;
+use crate::host::Host;
 use crate::limits::{
     BACKLOG_MOST, EVENTS_MOST, IDLE_TIMEOUT_MS, LOG_BYTES_HEAVY, LOOK_INTERVAL_MS, POLLS_MOST,
     RESTS_MOST, SHORT_TIMEOUT_MS, TURNS_MOST, WEIGH_BYTES,
@@ -11,11 +12,11 @@ use crate::limits::{
 use crate::link::{Held, Link};
 use crate::listener::Listeners;
 use crate::pending::Pending;
-use crate::poller::Poller;
 use crate::shared::{IDLE, NO_CONNECTIONS, NO_NEWS, News, Shared, WorkerState};
+use crate::system::{Report, System};
 use crate::{Source, Turn};
-use mio::net::TcpStream;
 use portmap_book::Desk;
+use portmap_link::NoMemory;
 use slab::Slab;
 use std::alloc::Global;
 use std::collections::VecDeque;
@@ -26,10 +27,10 @@ use std::sync::ledger::Ledger;
 
 /// The sockets of one worker.
 #[derive(Drop)]
-pub(crate) struct Sockets {
+pub struct Sockets<S: System> {
     /// Which worker it is, from 0.
     pub(crate) worker: usize,
-    pub(crate) poller: Poller,
+    pub(crate) system: S,
     pub(crate) listeners: Listeners,
     /// How many milliseconds a link may move no byte.
     pub(crate) timeout: u64,
@@ -38,15 +39,15 @@ pub(crate) struct Sockets {
 /// A worker's sockets and links, with the desk and what it shares with the other workers. Times are in milliseconds since the daemon
 /// began.
 #[derive(Drop)]
-pub(crate) struct SocketSource<'a, L: Ledger, R: Wait + Clock> {
+pub struct SocketSource<'a, L: Ledger, S: System, R: Host + Wait + Clock> {
     pub(crate) rt: &'a R,
     pub(crate) alloc: Global,
     pub(crate) desk: &'a Desk<L>,
-    pub(crate) shared: &'a Shared,
+    pub(crate) shared: &'a Shared<S::Waker>,
     /// What the others know of this worker.
-    pub(crate) state: &'a WorkerState,
-    pub(crate) sockets: Sockets,
-    pub(crate) links: Slab<Held>,
+    pub(crate) state: &'a WorkerState<S::Waker>,
+    pub(crate) sockets: Sockets<S>,
+    pub(crate) links: Slab<Held<S::Stream>>,
     /// The links of which there is something to tell, in the order in which it came.
     pub(crate) queue: VecDeque<usize>,
     /// The links that rest, in the order in which they began to.
@@ -58,7 +59,7 @@ pub(crate) struct SocketSource<'a, L: Ledger, R: Wait + Clock> {
     /// How many more connections are accepted in a row, to learn whether so many wait.
     backlog: u32,
     /// The connection that waits for a place. While it does none is accepted.
-    pub(crate) newcomer: Option<Newcomer>,
+    pub(crate) newcomer: Option<Newcomer<S::Stream>>,
     /// No link is looked for before this time that may be given up for another one.
     pub(crate) room_backoff: u64,
     /// The registrations that wait for their names, in the order in which they came.
@@ -79,6 +80,28 @@ pub(crate) struct SocketSource<'a, L: Ledger, R: Wait + Clock> {
     pub(crate) news: News,
 }
 
+impl<S: System> Sockets<S> {
+    /// The sockets of this worker. The first one accepts.
+    pub fn new(
+        alloc: Global,
+        worker: usize,
+        system: S,
+        timeout: u64,
+    ) -> Result<Sockets<S>, NoMemory>
+        ensures worker { IfOk result (λ sockets. sockets.worker ≡ worker) }
+        ensures is_on { IfOk result (λ sockets. sockets.listeners.is_on ≡ (worker == 0)) }
+        ensures timeout { IfOk result (λ sockets. sockets.timeout ≡ timeout) }
+    {
+        let listeners = Listeners::new(alloc, system.listeners(), worker == 0)?;
+        Ok(Sockets {
+            worker,
+            system,
+            listeners,
+            timeout,
+        })
+    }
+}
+
 /// How many milliseconds a poll may wait: not at all while there is something to do; else until this time, but at least a moment.
 fn poll_timeout(is_busy: bool, now: u64, until: u64) -> u64
     ensures busy { is_busy ≡ true → result ≡ 0 }
@@ -91,17 +114,17 @@ fn poll_timeout(is_busy: bool, now: u64, until: u64) -> u64
     }
 }
 
-impl<'a, L: Ledger, R: Wait + Clock> SocketSource<'a, L, R> {
-    /// The source of a worker that has no link yet.
-    pub(crate) fn new(
+impl<'a, L: Ledger, S: System, R: Host + Wait + Clock> SocketSource<'a, L, S, R> {
+    /// The source of a worker that has no link yet; none if it is none of those that share this.
+    pub fn new(
         rt: &'a R,
         alloc: Global,
         desk: &'a Desk<L>,
-        shared: &'a Shared,
-        state: &'a WorkerState,
-        sockets: Sockets,
-    ) -> SocketSource<'a, L, R> {
-        SocketSource {
+        shared: &'a Shared<S::Waker>,
+        sockets: Sockets<S>,
+    ) -> Option<SocketSource<'a, L, S, R>> {
+        let state = shared.workers.get(sockets.worker)?;
+        Some(SocketSource {
             rt,
             alloc,
             desk,
@@ -126,7 +149,7 @@ impl<'a, L: Ledger, R: Wait + Clock> SocketSource<'a, L, R> {
             looked: 0,
             unweighed_bytes: 0,
             news: NO_NEWS,
-        }
+        })
     }
 
     /// The microseconds since the daemon began. If the clock can't be read, a millisecond passes with each answer of the poll.
@@ -158,9 +181,9 @@ impl<'a, L: Ledger, R: Wait + Clock> SocketSource<'a, L, R> {
             return;
         };
         let bytes = held.link.take_moved_bytes();
-        let registry = self.sockets.poller.registry();
-        let resting = &mut self.resting;
-        held.link.put_back(&mut self.queue, resting, registry, key);
+        let system = &mut self.sockets.system;
+        held.link
+            .put_back(&mut self.queue, &mut self.resting, system, key);
         self.note_moved(bytes);
     }
 
@@ -180,6 +203,19 @@ impl<'a, L: Ledger, R: Wait + Clock> SocketSource<'a, L, R> {
         }
         self.has_accepted = false;
         self.pop()
+    }
+
+    /// The next thing to do, if there is one without a poll or by the next one.
+    pub fn step(&mut self) -> Option<Turn> {
+        let held_back = self.hold_back();
+        if held_back.is_some() {
+            return held_back;
+        }
+        self.put_back();
+        match self.next() {
+            None => self.poll(),
+            turn => turn,
+        }
     }
 
     /// One was accepted. If so many waited, a further worker is to accept too.
@@ -250,7 +286,7 @@ impl<'a, L: Ledger, R: Wait + Clock> SocketSource<'a, L, R> {
     fn pass_listeners(&mut self) {
         let is_on = self.shared.accepts(self.sockets.worker);
         let listeners = &mut self.sockets.listeners;
-        listeners.pass(self.sockets.poller.registry(), self.now, is_on);
+        listeners.pass(&mut self.sockets.system, self.now, is_on);
         if listeners.take_exhausted() {
             self.news.exhausted = true;
         }
@@ -293,7 +329,7 @@ impl<'a, L: Ledger, R: Wait + Clock> SocketSource<'a, L, R> {
             return false;
         }
         if begins {
-            let is_all = !self.sockets.poller.is_full() || self.ask_for_all();
+            let is_all = !self.sockets.system.is_full() || self.ask_for_all();
             self.left = self.queue.len();
             return is_all;
         }
@@ -302,7 +338,7 @@ impl<'a, L: Ledger, R: Wait + Clock> SocketSource<'a, L, R> {
 
     /// Asks the poll, which may wait for so many milliseconds, and notes what it reports. False if it has failed.
     fn ask(&mut self, timeout: u64) -> bool {
-        let is_well = self.sockets.poller.wait(timeout);
+        let is_well = self.sockets.system.poll(timeout);
         if is_well {
             self.take_events();
         }
@@ -311,13 +347,16 @@ impl<'a, L: Ledger, R: Wait + Clock> SocketSource<'a, L, R> {
 
     /// Notes what the poll has reported.
     fn take_events(&mut self) {
-        for event in &self.sockets.poller.events {
-            let token = event.token();
-            let is_closed = event.is_read_closed() && !event.is_error();
-            if let Some(held) = self.links.get_mut(token.0) {
-                held.link.report(&mut self.queue, token.0, is_closed);
-            } else {
-                self.sockets.listeners.report(token);
+        for place in 0..EVENTS_MOST {
+            match self.sockets.system.report(place) {
+                None => return,
+                Some(Report::Woken) => {}
+                Some(Report::Listener(place)) => self.sockets.listeners.report(place),
+                Some(Report::Stream { key, is_closed }) => {
+                    if let Some(held) = self.links.get_mut(key) {
+                        held.link.report(&mut self.queue, key, is_closed);
+                    }
+                }
             }
         }
     }
@@ -353,7 +392,7 @@ impl<'a, L: Ledger, R: Wait + Clock> SocketSource<'a, L, R> {
             if !self.ask(0) {
                 return false;
             }
-            if !self.sockets.poller.is_full() {
+            if !self.sockets.system.is_full() {
                 break;
             }
         }
@@ -361,26 +400,19 @@ impl<'a, L: Ledger, R: Wait + Clock> SocketSource<'a, L, R> {
     }
 }
 
-impl<L: Ledger, R: Wait + Clock> Source for SocketSource<'_, L, R> {
-    type Link = Link<TcpStream>;
+impl<L: Ledger, S: System, R: Host + Wait + Clock> Source for SocketSource<'_, L, S, R> {
+    type Link = Link<S::Stream>;
 
     fn turn(&mut self) -> Turn {
-        if let Some(turn) = self.hold_back() {
-            return turn;
-        }
-        self.put_back();
         for _ in 0..POLLS_MOST {
-            if let Some(turn) = self.next() {
-                return turn;
-            }
-            if let Some(turn) = self.poll() {
+            if let Some(turn) = self.step() {
                 return turn;
             }
         }
         Turn::Idle
     }
 
-    fn link(&mut self, key: u64) -> Option<&mut Link<TcpStream>> {
+    fn link(&mut self, key: u64) -> Option<&mut Link<S::Stream>> {
         match self.links.get_mut(key as usize) {
             Some(held) => Some(&mut held.link),
             None => None,

@@ -161,6 +161,8 @@ impl<R: Net + Clock> Net for Pushed<R> {
 }
 
 impl<R: Clock + Files<File = File>> Host for Pushed<R> {
+    type File = File;
+
     fn make(&self, path: &str) -> io::Result<File> {
         File::create(&self.rt, path)
     }

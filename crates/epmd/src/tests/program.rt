@@ -10,6 +10,7 @@ use portmap_testing::peers::sent;
 use portmap_testing::sessions::{SESSION, changed};
 use std::alloc::Global;
 use std::env::{Env, FillError};
+use std::fs::File;
 use std::io::Read;
 use std::net::{Ipv4Addr, Net, TcpListener, TcpStream};
 use std::rt::Clock;
@@ -242,10 +243,9 @@ const LISTS: &[&[u8]] = &[b"epmd", b"-port", b"14451", b"-names"];
 const ENDS: &[&[u8]] = &[b"epmd", b"-kill", b"-port", b"14451"];
 
 /// What commands tell at the port of a daemon: the statuses of a list and of a kill.
-fn statuses<R: Net + Host + Threads + Wait + Clock + Clone + Drop + Send + Sync + 'static>(
-    rt: &HostRuntime,
-    host: &R,
-) -> Result<(u8, u8), WordFault> {
+fn statuses<
+    R: Net + Host<File = File> + Threads + Wait + Clock + Clone + Drop + Send + Sync + 'static,
+>(rt: &HostRuntime, host: &R) -> Result<(u8, u8), WordFault> {
     let lists = command_of(rt.alloc(), LISTS)?;
     let ends = command_of(rt.alloc(), ENDS)?;
     Ok((perform(rt, host, &lists), perform(rt, host, &ends)))
@@ -273,11 +273,9 @@ fn is_done(told: &Result<(u8, u8), WordFault>) -> bool {
 }
 
 /// The status of a command of these words.
-fn status_of<R: Net + Host + Threads + Wait + Clock + Clone + Drop + Send + Sync + 'static>(
-    rt: &HostRuntime,
-    host: &R,
-    words: &'static [&'static [u8]],
-) -> Result<u8, Fail> {
+fn status_of<
+    R: Net + Host<File = File> + Threads + Wait + Clock + Clone + Drop + Send + Sync + 'static,
+>(rt: &HostRuntime, host: &R, words: &'static [&'static [u8]]) -> Result<u8, Fail> {
     let command = command_of(rt.alloc(), words)?;
     Ok(perform(rt, host, &command))
 }
@@ -285,20 +283,17 @@ fn status_of<R: Net + Host + Threads + Wait + Clock + Clone + Drop + Send + Sync
 const CHECK: &[&[u8]] = &[b"epmd", b"-check", b"judged"];
 
 /// The status of a check of a file that has these bytes.
-fn check_of<R: Net + Host + Threads + Wait + Clock + Clone + Drop + Send + Sync + 'static>(
-    rt: &HostRuntime,
-    host: &R,
-    bytes: &[u8],
-) -> Result<u8, Fail> {
+fn check_of<
+    R: Net + Host<File = File> + Threads + Wait + Clock + Clone + Drop + Send + Sync + 'static,
+>(rt: &HostRuntime, host: &R, bytes: &[u8]) -> Result<u8, Fail> {
     fs::write(rt, "judged", bytes)?;
     status_of(rt, host, CHECK)
 }
 
 /// Whether a run, a session that is none, bytes that are no session, and a file that is not there have their statuses.
-fn are_judged<R: Net + Host + Threads + Wait + Clock + Clone + Drop + Send + Sync + 'static>(
-    rt: &HostRuntime,
-    host: &R,
-) -> Result<bool, Fail> {
+fn are_judged<
+    R: Net + Host<File = File> + Threads + Wait + Clock + Clone + Drop + Send + Sync + 'static,
+>(rt: &HostRuntime, host: &R) -> Result<bool, Fail> {
     let broken = changed(rt.alloc(), 108, &[1])?;
     let are_told = check_of(rt, host, &SESSION)? == 0 && check_of(rt, host, &broken)? == 1;
     let is_refused = check_of(rt, host, b"EPMX")? == 2;

@@ -1,0 +1,180 @@
+//! The system as `mio` and the kernel give it.
+ghost use Rattle.std.specs.Prelude.{◌≡◌, ◌≢◌, ◌∷◌, [], take, drop, IfSome, IfNone, IfErr};
+ghost use Rattle.std.specs.Net.Addr.{ipv4_octets};
+ghost use Rattle.portmap_daemon.specs.Running.{IsOfAddresses};
+
+use crate::daemon::RunFault;
+use crate::limits::EVENTS_MOST;
+use crate::system::{Interest, Report, Stream, System, Wake};
+use libc::net::{_SS_SIZE, AF_INET, SOCK_CLOEXEC, SOCK_NONBLOCK, accept4};
+use mio::net::{TcpListener, TcpStream};
+use mio::{Events, Poll, Token, Waker};
+use os::FromRawFd;
+use std::alloc::Global;
+use std::net::{IpAddr, Ipv4Addr, Net};
+use std::os::fd::AsRawFd;
+use std::time::Duration;
+use std::{io, net};
+
+/// The token of the first listener. Below it are the keys of streams.
+const FIRST_LISTENER: usize = 4_294_967_296;
+
+/// The token by which other threads end the wait.
+const WAKE: usize = 8_589_934_592;
+
+/// How many bytes of an address the system may write.
+const ADDRESS_MOST: u32 = 128;
+
+/// How many bytes the system is to read of an address.
+const ADDRESS_BYTES: u32 = 16;
+
+/// A poll with what it reported last, and a thread's shares of the listening sockets.
+#[derive(Drop)]
+pub(crate) struct MioSystem {
+    poll: Poll,
+    events: Events,
+    listeners: Vec<TcpListener>,
+}
+
+impl MioSystem {
+    /// A poll that reports nothing yet, with what ends its wait.
+    pub(crate) fn open<R: Net>(
+        rt: &R,
+        alloc: Global,
+        sockets: &[net::TcpListener],
+    ) -> Result<(MioSystem, Waker), RunFault>
+        ensures { IfErr result (λ f. IsOfAddresses 0 f) }
+    {
+        let poll = Poll::new(rt)?;
+        let waker = Waker::new(poll.registry(), Token(WAKE))?;
+        let events = Events::with_capacity(alloc, EVENTS_MOST)?;
+        let mut listeners = Vec::new(alloc);
+        for socket in sockets {
+            listeners.push(TcpListener::from_std(socket.try_clone()?))?;
+        }
+        let system = MioSystem {
+            poll,
+            events,
+            listeners,
+        };
+        Ok((system, waker))
+    }
+}
+
+impl System for MioSystem {
+    type Stream = TcpStream;
+
+    type Waker = Waker;
+
+    fn poll(&mut self, timeout_ms: u64) -> bool {
+        let timeout = Duration::from_millis(timeout_ms);
+        self.poll.poll(&mut self.events, Some(timeout)).is_ok()
+    }
+
+    fn report(&self, place: usize) -> Option<Report> {
+        let event = self.events.iter().nth(place)?;
+        let Token(token) = event.token();
+        Some(if token >= WAKE {
+            Report::Woken
+        } else if token >= FIRST_LISTENER {
+            Report::Listener(token - FIRST_LISTENER)
+        } else {
+            Report::Stream {
+                key: token,
+                is_closed: event.is_read_closed() && !event.is_error(),
+            }
+        })
+    }
+
+    fn is_full(&self) -> bool {
+        self.events.iter().len() >= EVENTS_MOST
+    }
+
+    fn watch(
+        &mut self,
+        stream: &mut TcpStream,
+        key: usize,
+        interest: Interest,
+        was_watched: bool,
+    ) -> io::Result<()> {
+        let interest = match interest {
+            Interest::Reading => mio::Interest::READABLE,
+            Interest::Both => mio::Interest::READABLE | mio::Interest::WRITABLE,
+        };
+        let registry = self.poll.registry();
+        if was_watched {
+            registry.reregister(stream, Token(key), interest)
+        } else {
+            registry.register(stream, Token(key), interest)
+        }
+    }
+
+    fn listeners(&self) -> usize {
+        self.listeners.len()
+    }
+
+    fn listen(&mut self, place: usize) -> io::Result<()> {
+        let Some(listener) = self.listeners.get_mut(place) else {
+            return Ok(());
+        };
+        let token = Token(FIRST_LISTENER.saturating_add(place));
+        let registry = self.poll.registry();
+        registry.register(listener, token, mio::Interest::READABLE)
+    }
+
+    fn leave(&mut self, place: usize) {
+        if let Some(listener) = self.listeners.get_mut(place) {
+            let _ = self.poll.registry().deregister(listener);
+        }
+    }
+
+    /// Calls on the connection don't wait: the system is told so as it gives the connection. The kit's own `accept` takes one call
+    /// more.
+    fn accept(&mut self, place: usize) -> io::Result<(TcpStream, IpAddr)> {
+        let Some(listener) = self.listeners.get(place) else {
+            return Err(io::Error::from(io::ErrorKind::WouldBlock));
+        };
+        let mut address = [0; _SS_SIZE];
+        let mut length = ADDRESS_MOST;
+        let flags = SOCK_NONBLOCK | SOCK_CLOEXEC;
+        let fd = unsafe { accept4(listener.as_raw_fd(), &mut address, &mut length, flags) };
+        if fd < 0 {
+            return Err(io::Error::from_raw_os_error(os::errno()));
+        }
+        let stream = unsafe { TcpStream::from_raw_fd(fd) };
+        let peer = match ipv4_in(&address) {
+            Some(ip) => IpAddr::V4(ip),
+            None => stream.peer_addr()?.ip(),
+        };
+        Ok((stream, peer))
+    }
+}
+
+impl Stream for TcpStream {
+    fn own_ip(&self) -> Option<IpAddr> {
+        Some(self.local_addr().ok()?.ip())
+    }
+
+    fn reset(&mut self) {
+        // An address of no family: the system undoes the connection. If it refuses, the connection ends as any other.
+        let nowhere = [0; 128];
+        let _ = unsafe { libc::net::connect(self.as_raw_fd(), &nowhere, ADDRESS_BYTES) };
+    }
+}
+
+impl Wake for Waker {
+    fn wake(&self) {
+        let _ = Waker::wake(self);
+    }
+}
+
+/// The IPv4 address in an address of the system, if it is of that family.
+fn ipv4_in(address: &[u8; _SS_SIZE]) -> Option<Ipv4Addr>
+    ensures found { IfSome result (λ ip. ipv4_octets ip ≡ take 4 (drop 4 address.now)) }
+    ensures other { IfNone result (take 2 address.now ≢ 2 ∷ 0 ∷ []) }
+{
+    if u16::from_ne_bytes([address[0], address[1]]) != AF_INET as u16 {
+        return None;
+    }
+    Some(Ipv4Addr::new(address[4], address[5], address[6], address[7]))
+}

@@ -1,0 +1,111 @@
+//! A daemon in simulated worlds, whose every choice comes from a seed.
+//!
+//! Standard input has a line for each case: `seed N workers W scenario S steps K`. The output has one line a case.
+#![tactic(auto)]
+
+mod judge;
+mod people;
+mod random;
+mod run;
+mod scenario;
+mod system;
+mod weather;
+mod wire;
+mod world;
+
+use crate::people::Tally;
+use crate::run::{Case, Outcome, Step, run_case};
+use crate::scenario::SCENARIOS;
+use crate::weather::FAULTS;
+use portmap_book::PARTS;
+use std::{env, io};
+use std::io::BufRead;
+use std::marker::Brand;
+use std::sync::Wait;
+use std::sync::ledger::Blank;
+
+/// The number behind a word.
+fn number_after(words: &[&str], word: &str) -> Option<u64> {
+    let place = words.iter().position(|each| *each == word)?;
+    words.get(place.saturating_add(1))?.parse::<u64>().ok()
+}
+
+fn main(rt: HostRuntime) -> io::Result<()> {
+    let words: Vec<String> = env::args(&rt)?.collect(rt.alloc())?;
+    if words.len() > 1 {
+        return tell_words(&rt, &rt, &words);
+    }
+    let input = io::BufReader::new(rt.alloc(), rt.stdin())?;
+    for line in input.lines(rt.alloc()) {
+        tell(&rt, &rt, line?.as_str())?;
+    }
+    Ok(())
+}
+
+/// Tells what the case of these words comes to: those of a line, with hyphens before their names.
+fn tell_words<R: Wait + Clone + Drop>(
+    rt: &HostRuntime,
+    host: &R,
+    words: &[String],
+) -> io::Result<()> {
+    let mut line = String::new(rt.alloc());
+    for word in words.iter().skip(1) {
+        line.push_str(word.as_str().trim_start_matches('-'))?;
+        line.push_str(" ")?;
+    }
+    tell(rt, host, line.as_str())
+}
+
+/// Tells what a case comes to.
+fn tell<R: Wait + Clone + Drop>(rt: &HostRuntime, host: &R, line: &str) -> io::Result<()> {
+    let words: Vec<&str> = line.split_whitespace().collect(rt.alloc())?;
+    let Some(scenario) = SCENARIOS
+        .iter()
+        .find(|scenario| words.contains(&scenario.name))
+    else {
+        return println!(rt; "no scenario: {line}");
+    };
+    let case = Case {
+        seed: number_after(&words, "seed").unwrap_or(1),
+        workers: number_after(&words, "workers").unwrap_or(2).clamp(1, 8) as u32,
+        scenario,
+        steps: number_after(&words, "steps").unwrap_or(4000).min(100_000_000) as u32,
+        is_traced: words.contains(&"trace"),
+    };
+    let own: R = host.clone()?;
+    match run_case::<Brand, R>(own, rt.alloc(), Blank::new(PARTS), &case) {
+        None => println!(rt; "WRONG {line}: no memory"),
+        Some(outcome) => tell_outcome(rt, line, &outcome),
+    }
+}
+
+/// Tells what a case came to.
+fn tell_outcome(rt: &HostRuntime, line: &str, outcome: &Outcome) -> io::Result<()> {
+    for Step { now, actor, turn } in &outcome.trace {
+        println!(rt; "{now} {actor} {turn:?}")?;
+    }
+    match outcome.wrong {
+        Some(wrong) => print!(rt; "WRONG {line}: {wrong}:")?,
+        None if !outcome.has_all_happened => print!(rt; "WRONG {line}: not all weather was seen:")?,
+        None => print!(rt; "ok {line}:")?,
+    }
+    let Tally {
+        connections,
+        registrations,
+        refused,
+        restarts,
+        answers,
+        unanswered,
+        longest,
+    } = outcome.tally;
+    let (longest, acts, seconds) = (longest / 1000, outcome.acts, outcome.seconds);
+    print!(rt; " {connections} connections, {registrations} registrations, {refused} refused,")?;
+    print!(rt; " {restarts} restarts, {answers} answers within {longest} ms, {unanswered} without,")?;
+    print!(rt; " {acts} acts in {seconds} s")?;
+    for ((_, fault), count) in FAULTS.iter().zip(outcome.happened) {
+        if count > 0 {
+            print!(rt; ", {fault} {count}")?;
+        }
+    }
+    println!(rt; "")
+}

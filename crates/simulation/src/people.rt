@@ -1,0 +1,414 @@
+//! Nodes, tools and strangers: the peers of a daemon.
+use crate::weather::Fault;
+use crate::world::{LISTENERS, World};
+use std::alloc::Global;
+
+/// What somebody wants of a port mapper.
+#[derive(Clone, Copy, Debug, PartialEq, Eq)]
+pub enum Role {
+    /// Registers a name of its own, holds it for a while, leaves and comes back at once.
+    Node,
+    /// Registers the name of the first node.
+    Rival,
+    /// Looks a node up.
+    Seeker,
+    /// Asks for the list of names.
+    Lister,
+    /// Asks for all that is known.
+    Dumper,
+    /// Asks for the list of names and reads it byte by byte.
+    Slow,
+    /// Asks the port mapper to end.
+    Killer,
+    /// Asks for a node to be stopped.
+    Stopper,
+    /// Connects and says nothing.
+    Silent,
+    /// Sends a byte of a request now and then, and never all of it.
+    Dripper,
+    /// Sends any bytes.
+    Babbler,
+    /// Registers a name of its own and goes on sending.
+    Talker,
+}
+
+/// What somebody is about.
+#[derive(Clone, Copy, Debug, PartialEq, Eq)]
+pub enum Stage {
+    /// Is not connected.
+    Away,
+    /// Sends its request.
+    Sending,
+    /// Waits for an answer since this time.
+    Waiting(u64),
+    /// Holds its name.
+    Holding,
+    /// Wants nothing more.
+    Gone,
+}
+
+/// What has been seen of people.
+#[derive(Clone, Copy, Debug, PartialEq, Eq)]
+pub struct Tally {
+    pub connections: u32,
+    pub registrations: u32,
+    pub refused: u32,
+    pub restarts: u32,
+    pub answers: u32,
+    pub unanswered: u32,
+    /// The longest that an answer took, in microseconds.
+    pub longest: u64,
+}
+
+pub const NOBODY: Tally = Tally {
+    connections: 0,
+    registrations: 0,
+    refused: 0,
+    restarts: 0,
+    answers: 0,
+    unanswered: 0,
+    longest: 0,
+};
+
+/// Somebody. Times are in microseconds.
+#[derive(Drop)]
+pub struct Person {
+    pub role: Role,
+    pub is_local: bool,
+    /// Which node it is, or asks for.
+    pub node: u8,
+    pub stage: Stage,
+    pub wire: Option<usize>,
+    pub next_at: u64,
+    request: Vec<u8>,
+    sent: usize,
+    /// How often it has come.
+    times: u32,
+    /// It is owed nothing: it may be closed, or refused.
+    pub is_lenient: bool,
+}
+
+/// A name that another node holds is refused within this time.
+const REFUSAL_US: u64 = 200_000;
+
+/// What was wrong.
+pub type Wrong = &'static str;
+
+impl Person {
+    pub fn new(alloc: Global, role: Role, is_local: bool, node: u8, next_at: u64) -> Person {
+        Person {
+            role,
+            is_local,
+            node,
+            stage: Stage::Away,
+            wire: None,
+            next_at,
+            request: Vec::new(alloc),
+            sent: 0,
+            times: 0,
+            is_lenient: false,
+        }
+    }
+
+    /// Whether it acts now: at its time, or since there is news of its connection.
+    pub fn is_due(&self, world: &World) -> bool {
+        self.stage != Stage::Gone && (self.next_at <= world.now || self.has_news(world))
+    }
+
+    fn has_news(&self, world: &World) -> bool {
+        match self.wire.and_then(|wire| world.wires.get(wire)) {
+            Some(wire) => wire.has_peer_news && self.role != Role::Slow,
+            None => false,
+        }
+    }
+
+    /// For how long it has waited for an answer.
+    pub fn waited(&self, now: u64) -> u64 {
+        match self.stage {
+            Stage::Waiting(since) => now.saturating_sub(since),
+            Stage::Away | Stage::Sending | Stage::Holding | Stage::Gone => 0,
+        }
+    }
+
+    /// The name that it holds, or asks for.
+    pub fn name(&self) -> [u8; 2] {
+        [0x6E, 0x30u8.saturating_add(self.node)]
+    }
+
+    /// Writes what it asks.
+    fn ask(&mut self, world: &mut World) -> Option<()> {
+        self.request.clear();
+        self.sent = 0;
+        let name = self.name();
+        let request = &mut self.request;
+        match self.role {
+            Role::Node | Role::Talker | Role::Rival => {
+                let fields = [0, 15, 0x78, 0x13, 0x88, 0x4D, 0, 0, 6, 0, 5, 0, 2];
+                request.extend_from_slice(&fields).ok()?;
+                request.extend_from_slice(&name).ok()?;
+                request.extend_from_slice(&[0, 0]).ok()?;
+            }
+            Role::Seeker => {
+                request.extend_from_slice(&[0, 3, 0x7A]).ok()?;
+                request.extend_from_slice(&name).ok()?;
+            }
+            Role::Stopper => {
+                request.extend_from_slice(&[0, 3, 0x73]).ok()?;
+                request.extend_from_slice(&name).ok()?;
+            }
+            Role::Lister | Role::Slow => request.extend_from_slice(&[0, 1, 0x6E]).ok()?,
+            Role::Dumper => request.extend_from_slice(&[0, 1, 0x64]).ok()?,
+            Role::Killer => request.extend_from_slice(&[0, 1, 0x6B]).ok()?,
+            Role::Silent => {}
+            Role::Dripper => request.extend_from_slice(&[0, 200]).ok()?,
+            Role::Babbler => {
+                for _ in 0..world.random.below(40) {
+                    request.push(world.random.below(256) as u8).ok()?;
+                }
+            }
+        }
+        Some(())
+    }
+
+    /// Connects.
+    fn come(&mut self, world: &mut World, tally: &mut Tally) {
+        let place = if self.is_local {
+            world.random.below(LISTENERS as u64) as usize
+        } else {
+            0
+        };
+        self.wire = world.connect(place, self.is_local);
+        if self.wire.is_none() || self.ask(world).is_none() {
+            // Too many wait: it tries again after a second, as TCP does.
+            self.next_at = world.now.saturating_add(1_000_000);
+            return;
+        }
+        tally.connections = tally.connections.saturating_add(1);
+        if self.times > 0 && self.role == Role::Node {
+            tally.restarts = tally.restarts.saturating_add(1);
+        }
+        self.times = self.times.saturating_add(1);
+        self.stage = Stage::Sending;
+        self.next_at = world.now;
+    }
+
+    /// Sends a part of its request.
+    fn say(&mut self, world: &mut World, wire: usize) {
+        let left = self.request.len().saturating_sub(self.sent);
+        let count = if self.role == Role::Dripper || world.happens(Fault::Dripped) {
+            left.min(1)
+        } else if self.role == Role::Node {
+            // A node writes its registration at once.
+            left
+        } else {
+            left.min(world.random.between(1, 64) as usize)
+        };
+        let end = self.sent.saturating_add(count);
+        if let Some(piece) = self.request.get(self.sent..end) {
+            world.send(wire, piece);
+        }
+        self.sent = end;
+        if self.sent < self.request.len() {
+            self.next_at = world.now.saturating_add(world.random.below(3000));
+            return;
+        }
+        self.next_at = u64::MAX;
+        self.stage = Stage::Waiting(world.now);
+        match self.role {
+            Role::Silent | Role::Babbler => self.hold(world),
+            Role::Dripper => {
+                self.stage = Stage::Sending;
+                self.sent = 0;
+                self.request.clear();
+                let _ = self.request.push(0);
+                self.next_at = world.now.saturating_add(world.random.below(400_000));
+            }
+            Role::Slow => self.next_at = world.now.saturating_add(world.random.below(50_000)),
+            Role::Node | Role::Rival | Role::Seeker | Role::Lister | Role::Dumper => {}
+            Role::Killer | Role::Stopper | Role::Talker => {}
+        }
+    }
+
+    /// Stays as it is for a while.
+    fn hold(&mut self, world: &mut World) {
+        self.stage = Stage::Holding;
+        let most = if world.random.happens(100) {
+            1_800_000_000
+        } else {
+            2_000_000
+        };
+        self.next_at = world.now.saturating_add(world.random.below(most));
+    }
+
+    /// Leaves, to come back after so many microseconds at most.
+    fn leave(&mut self, world: &mut World, most: u64) {
+        if let Some(wire) = self.wire.take() {
+            let is_reset = world.happens(Fault::Reset);
+            world.end(wire, is_reset);
+        }
+        self.stage = Stage::Away;
+        self.next_at = world.now.saturating_add(world.random.below(most));
+    }
+
+    /// Reads what has come. What was wrong, if anything was.
+    fn hear(&mut self, world: &mut World, number: usize, tally: &mut Tally) -> Option<Wrong> {
+        let most = if self.role == Role::Slow { 1 } else { 65_536 };
+        world.receive(number, most);
+        let now = world.now;
+        let (got, is_over, is_reset) = match world.wires.get(number) {
+            Some(wire) => (
+                wire.received.len(),
+                wire.is_down_ended && wire.down.is_empty(),
+                wire.is_reset,
+            ),
+            None => (0, true, true),
+        };
+        let Stage::Waiting(since) = self.stage else {
+            if is_over || is_reset {
+                return self.lose(world, is_reset);
+            }
+            self.next_at = self.next_at.max(now.saturating_add(1));
+            return None;
+        };
+        let registers = match self.role {
+            Role::Node | Role::Rival | Role::Talker => true,
+            _ => false,
+        };
+        let is_answered = if registers { got >= 6 } else { got > 0 && is_over };
+        if is_answered {
+            tally.answers = tally.answers.saturating_add(1);
+            if self.role != Role::Slow {
+                tally.longest = tally.longest.max(now.saturating_sub(since));
+            }
+            return self.take(world, number, tally);
+        }
+        if is_over || is_reset {
+            tally.unanswered = tally.unanswered.saturating_add(1);
+            let is_owed = got == 0 && !is_reset && self.is_local && !self.is_lenient;
+            let is_owed = is_owed && self.is_answered_by_all();
+            self.leave(world, 50_000);
+            return if is_owed {
+                Some("closed without an answer")
+            } else {
+                None
+            };
+        }
+        if self.role == Role::Slow {
+            self.next_at = now.saturating_add(world.random.below(20_000));
+        }
+        None
+    }
+
+    /// Whether any port mapper has an answer to what it asks of its own host.
+    fn is_answered_by_all(&self) -> bool {
+        match self.role {
+            Role::Stopper | Role::Silent | Role::Dripper | Role::Babbler => false,
+            Role::Node | Role::Rival | Role::Talker | Role::Seeker => true,
+            Role::Lister | Role::Dumper | Role::Slow | Role::Killer => true,
+        }
+    }
+
+    /// Its connection has ended while it waited for nothing.
+    fn lose(&mut self, world: &mut World, is_reset: bool) -> Option<Wrong> {
+        let holds = match self.role {
+            Role::Node | Role::Rival | Role::Talker => self.stage == Stage::Holding,
+            _ => false,
+        };
+        self.leave(world, 50_000);
+        if holds && !is_reset && !self.is_lenient {
+            Some("a registered connection was closed")
+        } else {
+            None
+        }
+    }
+
+    /// Has its answer.
+    fn take(&mut self, world: &mut World, number: usize, tally: &mut Tally) -> Option<Wrong> {
+        let result = match world.wires.get(number) {
+            Some(wire) => wire.received.get(1).copied(),
+            None => None,
+        };
+        match self.role {
+            Role::Node | Role::Talker if result == Some(0) => {
+                tally.registrations = tally.registrations.saturating_add(1);
+                self.hold(world);
+                if self.role == Role::Talker {
+                    self.next_at = world.now;
+                }
+                None
+            }
+            Role::Node | Role::Talker => {
+                tally.refused = tally.refused.saturating_add(1);
+                self.leave(world, 50_000);
+                if self.is_lenient {
+                    None
+                } else {
+                    Some("a node that closed first was refused")
+                }
+            }
+            Role::Rival => {
+                let waited = self.waited(world.now);
+                self.leave(world, 500_000);
+                if result == Some(0) {
+                    tally.registrations = tally.registrations.saturating_add(1);
+                    return None;
+                }
+                tally.refused = tally.refused.saturating_add(1);
+                if waited > REFUSAL_US && !self.is_lenient {
+                    Some("a duplicate was refused too late")
+                } else {
+                    None
+                }
+            }
+            _ => {
+                self.leave(world, 200_000);
+                None
+            }
+        }
+    }
+
+    /// Does what is next. What was wrong, if anything was.
+    pub fn act(&mut self, world: &mut World, tally: &mut Tally) -> Option<Wrong> {
+        let Some(number) = self.wire else {
+            self.come(world, tally);
+            return None;
+        };
+        if self.has_news(world) || (self.role == Role::Slow && self.waited(world.now) > 0) {
+            return self.hear(world, number, tally);
+        }
+        match self.stage {
+            Stage::Sending => self.say(world, number),
+            Stage::Holding if self.role == Role::Talker => {
+                world.send(number, b"abc");
+                self.next_at = world.now.saturating_add(world.random.below(200));
+                if world.random.happens(2) {
+                    self.leave(world, 1000);
+                }
+            }
+            Stage::Holding => {
+                let most = if self.role == Role::Node { 200 } else { 300_000 };
+                self.leave(world, most);
+            }
+            Stage::Waiting(_) | Stage::Away | Stage::Gone => self.next_at = u64::MAX,
+        }
+        None
+    }
+
+    /// The weather is over: who holds a name keeps it, and all others leave for good.
+    pub fn retire(&mut self, world: &mut World) {
+        let keeps = self.stage == Stage::Holding && self.role == Role::Node;
+        if !keeps {
+            self.leave(world, 1);
+            self.stage = Stage::Gone;
+        }
+        self.next_at = u64::MAX;
+    }
+
+    /// Whether it holds a name.
+    pub fn holds(&self) -> bool {
+        match self.role {
+            Role::Node | Role::Talker => self.stage == Stage::Holding,
+            _ => false,
+        }
+    }
+}

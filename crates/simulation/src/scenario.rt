@@ -1,0 +1,245 @@
+//! Who comes, in which weather.
+use crate::people::Role;
+use crate::weather::{Chances, Fault};
+
+/// So many people of a role, on this host or on another one. Strangers come at the first address alone.
+pub struct Crowd(pub Role, pub u8, pub bool);
+
+/// A scenario.
+pub struct Scenario {
+    pub name: &'static str,
+    pub people: &'static [Crowd],
+    pub chances: Chances,
+    /// What peers ask of the port mapper is not checked: it may be ended, and names may be stopped.
+    pub is_relaxed: bool,
+    pub conn_max: u32,
+    pub known_max: u32,
+    /// A file of the recording that has so many bytes is full.
+    pub file_bytes_most: u64,
+    /// Who waits on this host does so for so many milliseconds at most.
+    pub limit_ms: u64,
+    /// Each request of this host is answered, and each node that has left is let in again.
+    pub is_strict: bool,
+    /// The daemon may end before it is told to.
+    pub may_end: bool,
+}
+
+const PLENTY: u64 = 100_000_000;
+
+const BUSTLE: &[Crowd] = &[
+    Crowd(Role::Node, 6, true),
+    Crowd(Role::Seeker, 4, true),
+    Crowd(Role::Seeker, 2, false),
+    Crowd(Role::Lister, 3, true),
+    Crowd(Role::Dumper, 1, true),
+    Crowd(Role::Slow, 2, true),
+    Crowd(Role::Silent, 2, true),
+    Crowd(Role::Babbler, 2, true),
+];
+
+const RESTARTS: &[Crowd] = &[Crowd(Role::Node, 20, true), Crowd(Role::Seeker, 2, true)];
+
+const RIVALS: &[Crowd] = &[Crowd(Role::Node, 3, true), Crowd(Role::Rival, 4, true)];
+
+const STRANGERS: &[Crowd] = &[
+    Crowd(Role::Silent, 12, false),
+    Crowd(Role::Dripper, 12, false),
+    Crowd(Role::Babbler, 12, false),
+    Crowd(Role::Lister, 6, false),
+    Crowd(Role::Node, 4, true),
+    Crowd(Role::Seeker, 3, true),
+];
+
+const CROWDED: &[Crowd] = &[
+    Crowd(Role::Silent, 20, true),
+    Crowd(Role::Dripper, 10, true),
+    Crowd(Role::Node, 4, true),
+    Crowd(Role::Seeker, 4, true),
+    Crowd(Role::Silent, 6, false),
+];
+
+const TALKERS: &[Crowd] = &[
+    Crowd(Role::Talker, 3, true),
+    Crowd(Role::Node, 3, true),
+    Crowd(Role::Seeker, 3, true),
+];
+
+const READERS: &[Crowd] = &[
+    Crowd(Role::Node, 12, true),
+    Crowd(Role::Slow, 10, true),
+    Crowd(Role::Dumper, 4, true),
+    Crowd(Role::Seeker, 2, true),
+];
+
+const NODES: &[Crowd] = &[Crowd(Role::Node, 12, true)];
+
+const KILLERS: &[Crowd] = &[
+    Crowd(Role::Node, 4, true),
+    Crowd(Role::Seeker, 4, true),
+    Crowd(Role::Stopper, 2, true),
+    Crowd(Role::Killer, 1, true),
+];
+
+/// What is not said of a scenario.
+const USUAL: Scenario = Scenario {
+    name: "calm",
+    people: BUSTLE,
+    chances: &[],
+    is_relaxed: false,
+    conn_max: 64,
+    known_max: 64,
+    file_bytes_most: PLENTY,
+    limit_ms: 1000,
+    is_strict: true,
+    may_end: false,
+};
+
+pub const SCENARIOS: &[Scenario] = &[
+    USUAL,
+    Scenario {
+        name: "signals",
+        chances: &[(Fault::Interrupted, 100), (Fault::Short, 200)],
+        ..USUAL
+    },
+    Scenario {
+        name: "edges",
+        chances: &[(Fault::Late, 300), (Fault::Spurious, 50)],
+        ..USUAL
+    },
+    Scenario {
+        name: "accepts",
+        chances: &[
+            (Fault::Aborted, 30),
+            (Fault::Exhausted, 20),
+            (Fault::Interrupted, 20),
+        ],
+        ..USUAL
+    },
+    Scenario {
+        name: "watches",
+        chances: &[(Fault::Unwatched, 50)],
+        limit_ms: 3000,
+        ..USUAL
+    },
+    Scenario {
+        name: "threads",
+        chances: &[(Fault::Held, 5), (Fault::Late, 100)],
+        limit_ms: 3000,
+        ..USUAL
+    },
+    Scenario {
+        name: "drips",
+        chances: &[(Fault::Dripped, 500)],
+        ..USUAL
+    },
+    Scenario {
+        name: "resets",
+        chances: &[(Fault::Reset, 300), (Fault::Late, 50)],
+        ..USUAL
+    },
+    Scenario {
+        name: "files",
+        file_bytes_most: 4000,
+        ..USUAL
+    },
+    Scenario {
+        name: "restarts",
+        people: RESTARTS,
+        chances: &[(Fault::Late, 200), (Fault::Reset, 100)],
+        ..USUAL
+    },
+    Scenario {
+        name: "rivals",
+        people: RIVALS,
+        ..USUAL
+    },
+    Scenario {
+        name: "strangers",
+        people: STRANGERS,
+        conn_max: 24,
+        ..USUAL
+    },
+    Scenario {
+        name: "crowded",
+        people: CROWDED,
+        conn_max: 16,
+        is_strict: false,
+        ..USUAL
+    },
+    Scenario {
+        name: "talkers",
+        people: TALKERS,
+        ..USUAL
+    },
+    Scenario {
+        name: "readers",
+        people: READERS,
+        chances: &[(Fault::Short, 100), (Fault::Interrupted, 50)],
+        ..USUAL
+    },
+    Scenario {
+        name: "hours",
+        people: NODES,
+        ..USUAL
+    },
+    Scenario {
+        name: "jumps",
+        chances: &[(Fault::Jump, 2)],
+        ..USUAL
+    },
+    Scenario {
+        name: "unread",
+        chances: &[(Fault::Unread, 2)],
+        limit_ms: 3000,
+        ..USUAL
+    },
+    Scenario {
+        name: "starved",
+        chances: &[(Fault::Starved, 100)],
+        is_strict: false,
+        may_end: true,
+        ..USUAL
+    },
+    Scenario {
+        name: "stalls",
+        chances: &[(Fault::Stalled, 100), (Fault::Short, 50)],
+        ..USUAL
+    },
+    Scenario {
+        name: "full",
+        chances: &[(Fault::Full, 200)],
+        ..USUAL
+    },
+    Scenario {
+        name: "kills",
+        people: KILLERS,
+        is_relaxed: true,
+        is_strict: false,
+        may_end: true,
+        ..USUAL
+    },
+    Scenario {
+        name: "deaf",
+        chances: &[(Fault::Deaf, 2)],
+        is_strict: false,
+        may_end: true,
+        ..USUAL
+    },
+    Scenario {
+        name: "storm",
+        chances: &[
+            (Fault::Interrupted, 30),
+            (Fault::Short, 50),
+            (Fault::Aborted, 5),
+            (Fault::Exhausted, 5),
+            (Fault::Unwatched, 10),
+            (Fault::Late, 100),
+            (Fault::Spurious, 10),
+            (Fault::Held, 3),
+            (Fault::Dripped, 100),
+            (Fault::Reset, 50),
+        ],
+        limit_ms: 4000,
+        ..USUAL
+    },
+];

@@ -1,0 +1,290 @@
+//! The world as a daemon's system: its streams, its polls, its clock and its disk.
+use crate::weather::Fault;
+use crate::world::{LISTENERS, World};
+use portmap_daemon::{Host, Interest, Notice, RecordFile, Report, Stream, System, Wake};
+use std::alloc::Global;
+use std::cell::RefCell;
+use std::io;
+use std::io::{ErrorKind, Read, Write};
+use std::net::{IpAddr, Ipv4Addr};
+use std::rc::Rc;
+use std::rt::Clock;
+use std::sync::Wait;
+use std::time::Duration;
+
+/// The address of this host, and that of another one.
+const OWN: [u8; 4] = [10, 0, 0, 1];
+
+const OTHER: [u8; 4] = [10, 0, 0, 2];
+
+/// A world that all parts of a daemon share.
+pub type SharedWorld = Rc<RefCell<World>>;
+
+fn lost() -> io::Error {
+    io::Error::from(ErrorKind::Other)
+}
+
+/// The daemon's end of a connection.
+pub struct SimStream {
+    world: SharedWorld,
+    number: usize,
+}
+
+impl SimStream {
+    /// Which connection it is.
+    pub fn number(&self) -> usize {
+        self.number
+    }
+}
+
+impl Drop for SimStream {
+    fn drop(self) {
+        if let Ok(mut world) = self.world.try_borrow_mut() {
+            world.close(self.number);
+        }
+        let SimStream {
+            world: _world,
+            number: _,
+        } = self;
+    }
+}
+
+impl Read for SimStream {
+    fn read(&mut self, buffer: &mut [u8]) -> io::Result<usize> {
+        match self.world.try_borrow_mut() {
+            Ok(mut world) => world.read(self.number, buffer),
+            Err(_) => Err(lost()),
+        }
+    }
+}
+
+impl Write for SimStream {
+    fn write(&mut self, bytes: &[u8]) -> io::Result<usize> {
+        match self.world.try_borrow_mut() {
+            Ok(mut world) => world.write(self.number, bytes),
+            Err(_) => Err(lost()),
+        }
+    }
+
+    fn flush(&mut self) -> io::Result<()> {
+        Ok(())
+    }
+}
+
+impl Stream for SimStream {
+    fn own_ip(&self) -> Option<IpAddr> {
+        Some(IpAddr::V4(Ipv4Addr::from(OWN)))
+    }
+
+    fn reset(&mut self) {
+        if let Ok(mut world) = self.world.try_borrow_mut() {
+            world.reset(self.number);
+        }
+    }
+}
+
+/// What ends the wait of a thread.
+#[derive(Drop)]
+pub struct SimWaker {
+    pub world: SharedWorld,
+    pub thread: usize,
+}
+
+impl Wake for SimWaker {
+    fn wake(&self) {
+        if let Ok(mut world) = self.world.try_borrow_mut() {
+            world.wake(self.thread);
+        }
+    }
+}
+
+/// What a thread asks of the world.
+#[derive(Drop)]
+pub struct SimSystem {
+    pub world: SharedWorld,
+    pub thread: usize,
+}
+
+impl System for SimSystem {
+    type Stream = SimStream;
+
+    type Waker = SimWaker;
+
+    fn poll(&mut self, timeout_ms: u64) -> bool {
+        match self.world.try_borrow_mut() {
+            Ok(mut world) => world.poll(self.thread, timeout_ms),
+            Err(_) => false,
+        }
+    }
+
+    fn report(&self, place: usize) -> Option<Report> {
+        match self.world.try_borrow() {
+            Ok(world) => world.report(self.thread, place),
+            Err(_) => None,
+        }
+    }
+
+    fn is_full(&self) -> bool {
+        match self.world.try_borrow() {
+            Ok(world) => world.is_full(self.thread),
+            Err(_) => false,
+        }
+    }
+
+    fn watch(
+        &mut self,
+        stream: &mut SimStream,
+        key: usize,
+        interest: Interest,
+        _was_watched: bool,
+    ) -> io::Result<()> {
+        match self.world.try_borrow_mut() {
+            Ok(mut world) => world.watch(self.thread, stream.number, key, interest),
+            Err(_) => Err(lost()),
+        }
+    }
+
+    fn listeners(&self) -> usize {
+        LISTENERS
+    }
+
+    fn listen(&mut self, place: usize) -> io::Result<()> {
+        match self.world.try_borrow_mut() {
+            Ok(mut world) => world.listen(self.thread, place),
+            Err(_) => Err(lost()),
+        }
+    }
+
+    fn leave(&mut self, place: usize) {
+        if let Ok(mut world) = self.world.try_borrow_mut() {
+            world.leave(self.thread, place);
+        }
+    }
+
+    fn accept(&mut self, place: usize) -> io::Result<(SimStream, IpAddr)> {
+        let shared = self.world.clone()?;
+        let Ok(mut world) = self.world.try_borrow_mut() else {
+            return Err(lost());
+        };
+        let number = world.accept(place)?;
+        let is_local = world.wires.get(number).is_some_and(|wire| wire.is_local);
+        let peer = if is_local { OWN } else { OTHER };
+        let stream = SimStream {
+            world: shared,
+            number,
+        };
+        Ok((stream, IpAddr::V4(Ipv4Addr::from(peer))))
+    }
+}
+
+/// A file on the world's disk.
+#[derive(Drop)]
+pub struct SimFile {
+    world: SharedWorld,
+    number: usize,
+}
+
+impl Write for SimFile {
+    fn write(&mut self, bytes: &[u8]) -> io::Result<usize> {
+        let Ok(mut world) = self.world.try_borrow_mut() else {
+            return Err(lost());
+        };
+        if world.happens(Fault::Interrupted) {
+            return Err(io::Error::from(ErrorKind::Interrupted));
+        }
+        if world.happens(Fault::Full) {
+            world.is_disk_full = true;
+        }
+        if world.is_disk_full {
+            return Err(io::Error::from(ErrorKind::StorageFull));
+        }
+        let count = if world.happens(Fault::Short) {
+            bytes.len().min(1)
+        } else {
+            bytes.len()
+        };
+        let Some(file) = world.files.get_mut(self.number) else {
+            return Err(lost());
+        };
+        for byte in bytes.iter().take(count) {
+            file.push(*byte)?;
+        }
+        Ok(count)
+    }
+
+    fn flush(&mut self) -> io::Result<()> {
+        Ok(())
+    }
+}
+
+impl RecordFile for SimFile {
+    fn cut(&mut self, size: u64) {
+        if let Ok(mut world) = self.world.try_borrow_mut() {
+            if let Some(file) = world.files.get_mut(self.number) {
+                file.truncate(size as usize);
+            }
+        }
+    }
+}
+
+/// The host of a daemon in the world.
+#[derive(Drop)]
+pub struct SimHost<R: Wait + Drop> {
+    pub rt: R,
+    pub world: SharedWorld,
+}
+
+impl<R: Wait + Drop> Wait for SimHost<R> {}
+
+impl<R: Wait + Drop> Clock for SimHost<R> {
+    fn monotonic(&self) -> io::Result<Duration> {
+        let Ok(mut world) = self.world.try_borrow_mut() else {
+            return Err(lost());
+        };
+        match world.time() {
+            Some(time) => Ok(Duration::from_micros(time)),
+            None => Err(lost()),
+        }
+    }
+
+    fn since_1970(&self) -> io::Result<Duration> {
+        self.monotonic()
+    }
+
+    fn sleep(&self, _duration: Duration) {}
+}
+
+impl<R: Wait + Drop> Host for SimHost<R> {
+    type File = SimFile;
+
+    fn make(&self, _path: &str) -> io::Result<SimFile> {
+        let shared = self.world.clone()?;
+        let Ok(mut world) = self.world.try_borrow_mut() else {
+            return Err(lost());
+        };
+        let number = world.files.len();
+        let file = world.new_file();
+        world.files.push(file)?;
+        Ok(SimFile {
+            world: shared,
+            number,
+        })
+    }
+
+    fn tell(&self, notice: Notice) {
+        if let Ok(mut world) = self.world.try_borrow_mut() {
+            let told = match notice {
+                Notice::RecordingFailed => &mut world.told_failed,
+                Notice::CannotAccept => &mut world.told_exhausted,
+            };
+            *told = told.saturating_add(1);
+        }
+    }
+
+    fn has_memory(&self, _alloc: Global) -> bool {
+        match self.world.try_borrow_mut() {
+            Ok(mut world) => world.has_memory(),
+            Err(_) => true,
+        }
+    }
+}

@@ -1,0 +1,561 @@
+//! The world of a daemon: a network, a clock, memory and a disk that are values.
+ghost use Rattle.std.specs.Prelude.{◌≤◌, IfOk, length};
+
+use crate::random::Random;
+use crate::weather::{Chances, Fault, Weather};
+use crate::wire::{Watch, Wire};
+use portmap_daemon::{Interest, Report};
+use std::alloc::Global;
+use std::collections::VecDeque;
+use std::io;
+use std::io::ErrorKind;
+
+/// How many listeners a daemon has.
+pub const LISTENERS: usize = 2;
+
+/// The most connections that wait at a listener.
+const BACKLOG_MOST: usize = 128;
+
+/// The most events that one poll reports.
+const EVENTS_MOST: usize = 256;
+
+/// What the system knows of a thread.
+#[derive(Drop)]
+pub struct Thread {
+    /// Which listeners its poll reports, and from when on; none if there is nothing that was not reported.
+    listens: [bool; LISTENERS],
+    listener_news: [Option<u64>; LISTENERS],
+    /// The streams that its poll reports.
+    watched: Vec<usize>,
+    /// Its wait is ended.
+    is_woken: bool,
+    /// What its last poll has reported.
+    reports: Vec<Report>,
+    /// Until when it waits; none if it doesn't.
+    until: Option<u64>,
+    /// Until when it is held.
+    held_until: u64,
+    /// How often it has polled.
+    pub polls: u64,
+}
+
+/// A world. Times are in microseconds.
+#[derive(Drop)]
+pub struct World {
+    alloc: Global,
+    pub random: Random,
+    pub weather: Weather,
+    pub now: u64,
+    pub wires: Vec<Wire>,
+    /// The connections that wait at each listener.
+    backlogs: Vec<VecDeque<usize>>,
+    pub threads: Vec<Thread>,
+    exhausted_until: u64,
+    unread_until: u64,
+    /// By how much the clock has jumped forward.
+    pub jumped: u64,
+    starved_until: u64,
+    pub stalled_until: u64,
+    pub is_disk_full: bool,
+    /// How many connections of other hosts the daemon has.
+    pub remote: u32,
+    pub files: Vec<Vec<u8>>,
+    /// How often the operator was told that the recording has failed, and that no connection can be accepted.
+    pub told_failed: u32,
+    pub told_exhausted: u32,
+    /// No memory for the world itself.
+    pub is_lost: bool,
+}
+
+impl World {
+    /// A world with so many threads, in which nothing has happened.
+    pub fn new(alloc: Global, seed: u64, chances: Chances, threads: usize) -> Option<World> {
+        let mut backlogs = Vec::new(alloc);
+        for _ in 0..LISTENERS {
+            backlogs.push(VecDeque::new(alloc)).ok()?;
+        }
+        let mut world = World {
+            alloc,
+            random: Random::new(seed),
+            weather: Weather::new(chances),
+            now: 1_000_000,
+            wires: Vec::new(alloc),
+            backlogs,
+            threads: Vec::new(alloc),
+            exhausted_until: 0,
+            unread_until: 0,
+            jumped: 0,
+            starved_until: 0,
+            stalled_until: 0,
+            is_disk_full: false,
+            remote: 0,
+            files: Vec::new(alloc),
+            told_failed: 0,
+            told_exhausted: 0,
+            is_lost: false,
+        };
+        for _ in 0..threads {
+            let thread = Thread {
+                listens: [false; LISTENERS],
+                listener_news: [None; LISTENERS],
+                watched: Vec::new(alloc),
+                is_woken: false,
+                reports: Vec::new(alloc),
+                until: None,
+                held_until: 0,
+                polls: 0,
+            };
+            world.threads.push(thread).ok()?;
+        }
+        Some(world)
+    }
+
+    /// Whether a fault happens now.
+    pub fn happens(&mut self, fault: Fault) -> bool {
+        self.weather.happens(&mut self.random, fault)
+    }
+
+    /// The weather is over.
+    pub fn calm(&mut self) {
+        self.weather.calm();
+        self.exhausted_until = 0;
+        self.unread_until = 0;
+        self.starved_until = 0;
+        self.stalled_until = 0;
+        for thread in &mut self.threads {
+            thread.held_until = 0;
+        }
+    }
+
+    /// From when on news that come now are reported.
+    fn news_at(&mut self) -> u64 {
+        if self.happens(Fault::Late) {
+            self.now.saturating_add(self.random.below(20_000))
+        } else {
+            self.now
+        }
+    }
+
+    /// There is news of a stream for who watches it.
+    fn note_news(&mut self, number: usize) {
+        let at = self.news_at();
+        if let Some(wire) = self.wires.get_mut(number) {
+            if wire.watch.is_some() && wire.news_at.is_none() {
+                wire.news_at = Some(at);
+            }
+        }
+    }
+
+    /// A file with nothing in it.
+    pub fn new_file(&self) -> Vec<u8> {
+        Vec::new(self.alloc)
+    }
+
+    // ---- what peers do
+
+    /// A peer connects at a listener. The number of the connection; none if too many wait there.
+    pub fn connect(&mut self, place: usize, is_local: bool) -> Option<usize> {
+        let backlog = self.backlogs.get_mut(place)?;
+        if backlog.len() >= BACKLOG_MOST {
+            return None;
+        }
+        let room = if self.random.happens(200) { 64 } else { 65_536 };
+        let wire = Wire {
+            is_local,
+            up: VecDeque::new(self.alloc),
+            is_up_ended: false,
+            down: VecDeque::new(self.alloc),
+            room,
+            is_down_ended: false,
+            is_reset: false,
+            received: Vec::new(self.alloc),
+            watch: None,
+            news_at: None,
+            has_peer_news: false,
+        };
+        let number = self.wires.len();
+        if self.wires.push(wire).is_err() || backlog.push_back(number).is_err() {
+            self.is_lost = true;
+            return None;
+        }
+        let at = self.news_at();
+        for thread in &mut self.threads {
+            let listens = thread.listens.get(place).is_some_and(|listens| *listens);
+            if let Some(news) = thread.listener_news.get_mut(place) {
+                if listens && news.is_none() {
+                    *news = Some(at);
+                }
+            }
+        }
+        Some(number)
+    }
+
+    /// A peer sends bytes.
+    pub fn send(&mut self, number: usize, bytes: &[u8]) {
+        if let Some(wire) = self.wires.get_mut(number) {
+            for byte in bytes {
+                if wire.up.push_back(*byte).is_err() {
+                    self.is_lost = true;
+                }
+            }
+        }
+        self.note_news(number);
+    }
+
+    /// A peer ends its connection: it sends no more, and reads no more.
+    pub fn end(&mut self, number: usize, is_reset: bool) {
+        if let Some(wire) = self.wires.get_mut(number) {
+            wire.is_up_ended = true;
+            if is_reset {
+                wire.is_reset = true;
+                wire.up.clear();
+                wire.down.clear();
+            }
+        }
+        self.note_news(number);
+    }
+
+    /// A peer reads so many bytes at most.
+    pub fn receive(&mut self, number: usize, most: usize) {
+        let mut was_full = false;
+        if let Some(wire) = self.wires.get_mut(number) {
+            was_full = !wire.is_writable();
+            wire.has_peer_news = false;
+            for _ in 0..most.min(wire.down.len()) {
+                if let Some(byte) = wire.down.pop_front() {
+                    if wire.received.push(byte).is_err() {
+                        self.is_lost = true;
+                    }
+                }
+            }
+        }
+        if was_full {
+            self.note_news(number);
+        }
+    }
+
+    // ---- what the daemon's streams do
+
+    /// Reads the bytes that have come.
+    pub fn read(&mut self, number: usize, buffer: &mut [u8]) -> io::Result<usize>
+        ensures { IfOk result (λ n. n ≤ length buffer.new) }
+    {
+        if self.happens(Fault::Interrupted) {
+            return Err(io::Error::from(ErrorKind::Interrupted));
+        }
+        let Some(wire) = self.wires.get_mut(number) else {
+            return Err(io::Error::from(ErrorKind::Other));
+        };
+        if wire.is_reset {
+            return Err(io::Error::from(ErrorKind::ConnectionReset));
+        }
+        if wire.up.is_empty() && !wire.is_up_ended {
+            return Err(io::Error::from(ErrorKind::WouldBlock));
+        }
+        let count = buffer.len().min(wire.up.len());
+        for place in buffer.iter_mut().take(count) {
+            if let Some(byte) = wire.up.pop_front() {
+                *place = byte;
+            }
+        }
+        Ok(count)
+    }
+
+    /// Writes as many bytes as there is room for.
+    pub fn write(&mut self, number: usize, bytes: &[u8]) -> io::Result<usize>
+        ensures { IfOk result (λ n. n ≤ length bytes.now) }
+    {
+        if self.happens(Fault::Interrupted) {
+            return Err(io::Error::from(ErrorKind::Interrupted));
+        }
+        let is_short = self.happens(Fault::Short);
+        let Some(wire) = self.wires.get_mut(number) else {
+            return Err(io::Error::from(ErrorKind::Other));
+        };
+        if wire.is_reset {
+            return Err(io::Error::from(ErrorKind::BrokenPipe));
+        }
+        let room = wire.room.saturating_sub(wire.down.len());
+        if room == 0 {
+            return Err(io::Error::from(ErrorKind::WouldBlock));
+        }
+        let most = if is_short { 1 } else { room };
+        let count = bytes.len().min(most);
+        for byte in bytes.iter().take(count) {
+            if wire.down.push_back(*byte).is_err() {
+                self.is_lost = true;
+            }
+        }
+        wire.has_peer_news = true;
+        Ok(count)
+    }
+
+    /// The daemon has a connection reset.
+    pub fn reset(&mut self, number: usize) {
+        if let Some(wire) = self.wires.get_mut(number) {
+            wire.is_reset = true;
+            wire.has_peer_news = true;
+        }
+    }
+
+    /// The daemon gives a connection up.
+    pub fn close(&mut self, number: usize) {
+        if let Some(wire) = self.wires.get_mut(number) {
+            wire.is_down_ended = true;
+            wire.has_peer_news = true;
+            if !wire.is_local {
+                self.remote = self.remote.saturating_sub(1);
+            }
+            if let Some(watch) = wire.watch.take() {
+                if let Some(thread) = self.threads.get_mut(watch.thread) {
+                    thread.watched.retain(|watched| *watched != number);
+                }
+            }
+        }
+    }
+
+    // ---- what the daemon's polls do
+
+    /// Whether a thread has something to do: it doesn't wait, or its wait is over.
+    pub fn is_due(&self, number: usize) -> bool {
+        match self.due_at(number) {
+            Some(at) => at <= self.now,
+            None => false,
+        }
+    }
+
+    /// From when on a thread has something to do.
+    pub fn due_at(&self, number: usize) -> Option<u64> {
+        let thread = self.threads.get(number)?;
+        let mut at = thread.until.unwrap_or(self.now);
+        if thread.is_woken {
+            at = self.now;
+        }
+        for news in thread.listener_news {
+            at = at.min(news.unwrap_or(at));
+        }
+        for number in &thread.watched {
+            if let Some(wire) = self.wires.get(*number) {
+                at = at.min(wire.news_at.unwrap_or(at));
+            }
+        }
+        Some(at.max(thread.held_until))
+    }
+
+    /// A thread waits until this time, unless it is woken.
+    pub fn wait(&mut self, number: usize, until: u64) {
+        if let Some(thread) = self.threads.get_mut(number) {
+            thread.until = Some(until);
+            thread.is_woken = false;
+        }
+    }
+
+    /// A thread is held until this time.
+    pub fn hold(&mut self, number: usize, until: u64) {
+        if let Some(thread) = self.threads.get_mut(number) {
+            thread.held_until = until;
+        }
+    }
+
+    /// Ends the wait of a thread.
+    pub fn wake(&mut self, number: usize) {
+        if let Some(thread) = self.threads.get_mut(number) {
+            thread.is_woken = true;
+        }
+    }
+
+    /// Polls. If there is nothing to report the thread waits for so many milliseconds.
+    pub fn poll(&mut self, number: usize, timeout_ms: u64) -> bool {
+        if self.happens(Fault::Deaf) {
+            return false;
+        }
+        let is_spurious = self.happens(Fault::Spurious);
+        let now = self.now;
+        let Some(thread) = self.threads.get_mut(number) else {
+            return false;
+        };
+        thread.polls = thread.polls.saturating_add(1);
+        thread.reports.clear();
+        let mut is_well = true;
+        if thread.is_woken {
+            thread.is_woken = false;
+            is_well = thread.reports.push(Report::Woken).is_ok();
+        }
+        for (place, news) in thread.listener_news.iter_mut().enumerate() {
+            if news.is_some_and(|at| at <= now) {
+                *news = None;
+                is_well = is_well && thread.reports.push(Report::Listener(place)).is_ok();
+            }
+        }
+        for number in &thread.watched {
+            if let Some(wire) = self.wires.get_mut(*number) {
+                let is_due = wire.news_at.is_some_and(|at| at <= now);
+                if let Some(watch) = wire.watch {
+                    // What is no longer so when the poll answers is not reported.
+                    if is_due && !wire.is_ready() {
+                        wire.news_at = None;
+                    } else if (is_due || is_spurious) && thread.reports.len() < EVENTS_MOST {
+                        wire.news_at = None;
+                        let is_closed = wire.is_up_ended && !wire.is_reset;
+                        let key = watch.key;
+                        let report = Report::Stream { key, is_closed };
+                        is_well = is_well && thread.reports.push(report).is_ok();
+                    }
+                }
+            }
+        }
+        self.is_lost = self.is_lost || !is_well;
+        thread.until = if thread.reports.is_empty() {
+            Some(now.saturating_add(timeout_ms.saturating_mul(1000)))
+        } else {
+            None
+        };
+        self.shuffle(number);
+        true
+    }
+
+    /// Has what a poll has reported come in any order.
+    fn shuffle(&mut self, number: usize) {
+        if let Some(thread) = self.threads.get_mut(number) {
+            let count = thread.reports.len();
+            for place in 0..count {
+                let other = self.random.below(count as u64) as usize;
+                thread.reports.swap(place, other);
+            }
+        }
+    }
+
+    /// What a thread's last poll has reported at this place.
+    pub fn report(&self, number: usize, place: usize) -> Option<Report> {
+        self.threads.get(number)?.reports.get(place).copied()
+    }
+
+    /// Whether a thread's last poll has reported as much as it can.
+    pub fn is_full(&self, number: usize) -> bool {
+        match self.threads.get(number) {
+            Some(thread) => thread.reports.len() >= EVENTS_MOST,
+            None => false,
+        }
+    }
+
+    /// Has a thread's poll report a stream.
+    pub fn watch(
+        &mut self,
+        thread: usize,
+        number: usize,
+        key: usize,
+        interest: Interest,
+    ) -> io::Result<()> {
+        if self.happens(Fault::Unwatched) {
+            return Err(io::Error::from(ErrorKind::OutOfMemory));
+        }
+        let now = self.now;
+        let (Some(wire), Some(own)) = (self.wires.get_mut(number), self.threads.get_mut(thread))
+        else {
+            return Err(io::Error::from(ErrorKind::Other));
+        };
+        if wire.watch.is_none() && own.watched.push(number).is_err() {
+            self.is_lost = true;
+        }
+        wire.watch = Some(Watch {
+            thread,
+            key,
+            is_both: interest == Interest::Both,
+        });
+        if wire.is_ready() {
+            wire.news_at = Some(now);
+        }
+        Ok(())
+    }
+
+    /// Has a thread's poll report a listener.
+    pub fn listen(&mut self, number: usize, place: usize) -> io::Result<()> {
+        if self.happens(Fault::Unwatched) {
+            return Err(io::Error::from(ErrorKind::OutOfMemory));
+        }
+        let now = self.now;
+        let waits = self
+            .backlogs
+            .get(place)
+            .is_some_and(|backlog| !backlog.is_empty());
+        let Some(thread) = self.threads.get_mut(number) else {
+            return Err(io::Error::from(ErrorKind::Other));
+        };
+        if let (Some(listens), Some(news)) = (
+            thread.listens.get_mut(place),
+            thread.listener_news.get_mut(place),
+        ) {
+            if *listens {
+                return Err(io::Error::from(ErrorKind::AlreadyExists));
+            }
+            *listens = true;
+            if waits {
+                *news = Some(now);
+            }
+        }
+        Ok(())
+    }
+
+    /// Has a thread's poll report a listener no more.
+    pub fn leave(&mut self, number: usize, place: usize) {
+        if let Some(thread) = self.threads.get_mut(number) {
+            if let (Some(listens), Some(news)) = (
+                thread.listens.get_mut(place),
+                thread.listener_news.get_mut(place),
+            ) {
+                *listens = false;
+                *news = None;
+            }
+        }
+    }
+
+    /// The next connection that waits at a listener.
+    pub fn accept(&mut self, place: usize) -> io::Result<usize> {
+        if self.happens(Fault::Interrupted) {
+            return Err(io::Error::from(ErrorKind::Interrupted));
+        }
+        if self.happens(Fault::Exhausted) {
+            self.exhausted_until = self.now.saturating_add(self.random.below(200_000));
+        }
+        if self.now < self.exhausted_until {
+            return Err(io::Error::from(ErrorKind::Other));
+        }
+        let Some(number) = self.backlogs.get_mut(place).and_then(|waiting| waiting.pop_front())
+        else {
+            return Err(io::Error::from(ErrorKind::WouldBlock));
+        };
+        if self.happens(Fault::Aborted) {
+            self.reset(number);
+            return Err(io::Error::from(ErrorKind::ConnectionAborted));
+        }
+        if self.wires.get(number).is_some_and(|wire| !wire.is_local) {
+            self.remote = self.remote.saturating_add(1);
+        }
+        Ok(number)
+    }
+
+    // ---- clock and memory
+
+    /// The time; none if the clock can't be read.
+    pub fn time(&mut self) -> Option<u64> {
+        if self.happens(Fault::Jump) {
+            self.jumped = self.jumped.saturating_add(self.random.below(3_600_000_000));
+        }
+        if self.happens(Fault::Unread) {
+            self.unread_until = self.now.saturating_add(self.random.below(2_000_000));
+        }
+        if self.now < self.unread_until {
+            None
+        } else {
+            Some(self.now.saturating_add(self.jumped))
+        }
+    }
+
+    /// Whether memory can be had.
+    pub fn has_memory(&mut self) -> bool {
+        if self.happens(Fault::Starved) {
+            self.starved_until = self.now.saturating_add(self.random.below(2_000_000));
+        }
+        self.now >= self.starved_until
+    }
+}
