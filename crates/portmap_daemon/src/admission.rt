@@ -160,8 +160,8 @@ impl<L: Ledger, S: System, R: Host + Wait + Clock> SocketSource<'_, L, S, R> {
         for key in 0..self.links.capacity() {
             if let Some(Held { link }) = self.links.get(key) {
                 let candidate = Candidate {
-                    is_local: link.is_local(),
-                    came: link.came(),
+                    is_local: link.is_local,
+                    came: link.came,
                     key,
                 };
                 let may_go = (with_local || !candidate.is_local) && link.may_go(self.now);

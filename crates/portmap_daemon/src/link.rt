@@ -57,11 +57,11 @@ pub struct Link<S: Read + Write> {
     watched: Watched,
     /// The peer has all of its answer, and sends no more.
     has_left: bool,
-    is_local: bool,
+    pub(crate) is_local: bool,
     /// When it came.
-    came: u64,
+    pub(crate) came: u64,
     /// A put has ever answered Wrote.
-    is_answered: bool,
+    pub(crate) is_answered: bool,
     /// It was answered and goes on sending: what it sends is of no use, and is read piece by piece with rests in between. Or the poll
     /// has refused to report it.
     is_resting: bool,
@@ -179,21 +179,6 @@ impl<S: Read + Write> Link<S> {
         ensures { result ≡ may_move self.now.reading self.now.writing }
     {
         may_move(self.reading, self.writing)
-    }
-
-    /// Whether its peer is on this host.
-    pub(crate) fn is_local(&self) -> bool {
-        self.is_local
-    }
-
-    /// When it came.
-    pub(crate) fn came(&self) -> u64 {
-        self.came
-    }
-
-    /// Whether a put has ever answered Wrote.
-    pub(crate) fn is_answered(&self) -> bool {
-        self.is_answered
     }
 
     /// How many bytes have moved since this was last asked.

@@ -424,10 +424,10 @@ impl<L: Ledger, S: System, R: Host + Wait + Clock> Source for SocketSource<'_, L
             return;
         };
         self.note_moved(held.link.take_moved_bytes());
-        if !held.link.is_answered() {
+        if !held.link.is_answered {
             self.note_unanswered();
         }
-        self.shared.quota.give_back(held.link.is_local());
+        self.shared.quota.give_back(held.link.is_local);
         self.shared.wake_pending(self.sockets.worker);
         if self.links.is_empty() {
             self.state.epoch.store(NO_CONNECTIONS, Ordering::SeqCst);

@@ -27,14 +27,14 @@ impl Told {
                 let number = opened.get(self.opened).copied();
                 self.opened = self.opened.saturating_add(1);
                 let slot = *slot as usize;
-                while self.slots.len() <= slot {
+                for _ in self.slots.len()..slot.saturating_add(1) {
                     self.slots.push(None).ok()?;
                 }
                 *self.slots.get_mut(slot)? = number;
             }
             Entry::Piece { slot, reply, .. } => {
                 if let Some(Some(number)) = self.slots.get(*slot as usize) {
-                    while self.told.len() <= *number {
+                    for _ in self.told.len()..number.saturating_add(1) {
                         self.told.push(Vec::new(alloc)).ok()?;
                     }
                     self.told.get_mut(*number)?.extend_from_slice(reply).ok()?;

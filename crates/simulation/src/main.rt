@@ -18,11 +18,11 @@ use crate::run::{Case, Outcome, Step, run_case};
 use crate::scenario::SCENARIOS;
 use crate::weather::FAULTS;
 use portmap_book::PARTS;
-use std::{env, io};
 use std::io::BufRead;
 use std::marker::Brand;
 use std::sync::Wait;
 use std::sync::ledger::Blank;
+use std::{env, io};
 
 /// The number behind a word.
 fn number_after(words: &[&str], word: &str) -> Option<u64> {
@@ -69,7 +69,9 @@ fn tell<R: Wait + Clone + Drop>(rt: &HostRuntime, host: &R, line: &str) -> io::R
         seed: number_after(&words, "seed").unwrap_or(1),
         workers: number_after(&words, "workers").unwrap_or(2).clamp(1, 8) as u32,
         scenario,
-        steps: number_after(&words, "steps").unwrap_or(4000).min(100_000_000) as u32,
+        steps: number_after(&words, "steps")
+            .unwrap_or(4000)
+            .min(100_000_000) as u32,
         is_traced: words.contains(&"trace"),
     };
     let own: R = host.clone()?;
@@ -100,7 +102,9 @@ fn tell_outcome(rt: &HostRuntime, line: &str, outcome: &Outcome) -> io::Result<(
     } = outcome.tally;
     let (longest, acts, seconds) = (longest / 1000, outcome.acts, outcome.seconds);
     print!(rt; " {connections} connections, {registrations} registrations, {refused} refused,")?;
-    print!(rt; " {restarts} restarts, {answers} answers within {longest} ms, {unanswered} without,")?;
+    print!(rt;
+        " {restarts} restarts, {answers} answers within {longest} ms, {unanswered} without,"
+    )?;
     print!(rt; " {acts} acts in {seconds} s")?;
     for ((_, fault), count) in FAULTS.iter().zip(outcome.happened) {
         if count > 0 {

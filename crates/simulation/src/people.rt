@@ -274,7 +274,11 @@ impl Person {
             Role::Node | Role::Rival | Role::Talker => true,
             _ => false,
         };
-        let is_answered = if registers { got >= 6 } else { got > 0 && is_over };
+        let is_answered = if registers {
+            got >= 6
+        } else {
+            got > 0 && is_over
+        };
         if is_answered {
             tally.answers = tally.answers.saturating_add(1);
             if self.role != Role::Slow {
@@ -386,7 +390,11 @@ impl Person {
                 }
             }
             Stage::Holding => {
-                let most = if self.role == Role::Node { 200 } else { 300_000 };
+                let most = if self.role == Role::Node {
+                    200
+                } else {
+                    300_000
+                };
                 self.leave(world, most);
             }
             Stage::Waiting(_) | Stage::Away | Stage::Gone => self.next_at = u64::MAX,

@@ -5,15 +5,15 @@ use crate::judge::judge;
 use crate::people::{NOBODY, Person, Role, Stage, Tally, Wrong};
 use crate::scenario::{Crowd, Scenario};
 use crate::system::{SharedWorld, SimFile, SimHost, SimStream, SimSystem, SimWaker};
-use crate::weather::Fault;
+use crate::weather::{Counts, Fault};
 use crate::world::{LISTENERS, World};
 use portmap_book::{Book, Desk, PARTS, Seat};
 use portmap_core::Config;
-use portmap_wire::{Line, read_names};
 use portmap_daemon::{
     Drain, Drained, Link, Open, RecordQueue, RecordWriter, Shared, SocketSource, Sockets, Source,
     Turn, Worker, WorkerState,
 };
+use portmap_wire::{Line, read_names};
 use std::alloc::Global;
 use std::cell::RefCell;
 use std::mem;
@@ -46,8 +46,8 @@ const ROUND_US: u64 = 25_000;
 /// A worker polls no more than so often within the rest.
 const POLLS_AT_REST: u64 = 1000;
 
-/// A daemon that is to end has ended after so many steps.
-const END_STEPS: u32 = 10_000;
+/// A daemon that is to end has ended by then.
+const END_US: u64 = 200_000;
 
 /// A step: the time, who made it, and what a worker was told.
 #[derive(Clone, Copy, Debug, PartialEq, Eq)]
@@ -73,7 +73,7 @@ pub struct Case<'a> {
 pub struct Outcome {
     pub wrong: Option<Wrong>,
     pub tally: Tally,
-    pub happened: [u32; 16],
+    pub happened: Counts,
     pub has_all_happened: bool,
     /// How many acts the workers made.
     pub acts: u64,
@@ -118,6 +118,15 @@ impl<L: Ledger, R: Wait + Drop> Source for Stepped<'_, L, R> {
 
 /// A worker of the daemon in the world.
 type SimWorker<'a, L, R> = Worker<'a, L, Stepped<'a, L, R>, Open, SimHost<R>>;
+
+/// What the parts of a daemon in the world share.
+#[derive(Drop)]
+struct Around<'a, L: Ledger, R: Wait + Drop> {
+    host: &'a SimHost<R>,
+    desk: &'a Desk<L>,
+    shared: &'a Shared<SimWaker>,
+    queue: &'a RecordQueue,
+}
 
 /// What a daemon in the world is made of.
 #[derive(Drop)]
@@ -176,7 +185,8 @@ impl<'a, L: Ledger, R: Wait + Drop> Daemon<'a, L, R> {
         }
         for (number, person) in self.people.iter().enumerate() {
             if person.is_due(&world) {
-                due.push(count.saturating_add(2).saturating_add(number)).ok()?;
+                due.push(count.saturating_add(2).saturating_add(number))
+                    .ok()?;
             }
         }
         Some(())
@@ -202,7 +212,7 @@ impl<'a, L: Ledger, R: Wait + Drop> Daemon<'a, L, R> {
                 next = next.min(person.next_at);
             }
         }
-        Some(next)
+        Some(next.min(world.lands_at().unwrap_or(u64::MAX)))
     }
 
     /// One step of somebody who has something to do, or time passes until somebody has, up to this time.
@@ -213,11 +223,13 @@ impl<'a, L: Ledger, R: Wait + Drop> Daemon<'a, L, R> {
             let next = self.next_time()?;
             let mut world = self.world().try_borrow_mut().ok()?;
             world.now = next.min(until).max(world.now);
+            world.land();
             return Some(());
         }
         let chosen = {
             let mut world = self.world().try_borrow_mut().ok()?;
             world.now = world.now.saturating_add(world.random.between(1, 30));
+            world.land();
             let place = world.random.below(count as u64) as usize;
             due.get(place).copied()?
         };
@@ -311,7 +323,9 @@ impl<'a, L: Ledger, R: Wait + Drop> Daemon<'a, L, R> {
     fn act(&mut self, number: usize) -> Option<()> {
         let wrong = {
             let mut world = self.world().try_borrow_mut().ok()?;
-            self.people.get_mut(number)?.act(&mut world, &mut self.tally)
+            self.people
+                .get_mut(number)?
+                .act(&mut world, &mut self.tally)
         };
         self.note(wrong);
         Some(())
@@ -332,8 +346,8 @@ impl<'a, L: Ledger, R: Wait + Drop> Daemon<'a, L, R> {
         }
         // One that waits for a place may be at each worker beside those that have one.
         let kept = scenario.conn_max / KEPT_SHARE;
-        let most = scenario.conn_max.saturating_sub(kept);
-        if remote > most.saturating_add(self.workers.len() as u32) {
+        let most = scenario.conn_max.saturating_sub(kept) as usize;
+        if remote as usize > most.saturating_add(self.workers.len()) {
             self.note(Some("other hosts have more places than they may"));
         }
         Some(())
@@ -353,7 +367,9 @@ impl<'a, L: Ledger, R: Wait + Drop> Daemon<'a, L, R> {
         self.pass(&mut due, SETTLING_US)?;
         let before = self.polls()?;
         self.pass(&mut due, REST_US)?;
-        if self.polls()?.saturating_sub(before) > POLLS_AT_REST.saturating_mul(self.workers.len() as u64) {
+        if self.polls()?.saturating_sub(before)
+            > POLLS_AT_REST.saturating_mul(self.workers.len() as u64)
+        {
             self.note(Some("a worker does not sleep"));
         }
         self.list(&mut due)?;
@@ -429,7 +445,10 @@ impl<'a, L: Ledger, R: Wait + Drop> Daemon<'a, L, R> {
             if person.holds() {
                 count = count.saturating_add(1);
                 let name = person.name();
-                if !lines.iter().any(|line| line.name.bytes() == name.as_slice()) {
+                if !lines
+                    .iter()
+                    .any(|line| line.name.bytes() == name.as_slice())
+                {
                     return false;
                 }
             }
@@ -479,18 +498,121 @@ impl<'a, L: Ledger, R: Wait + Drop> Daemon<'a, L, R> {
             self.note(Some("it has ended"));
         }
         self.is_ending = true;
+        let until = {
+            let mut world = self.world().try_borrow_mut().ok()?;
+            world.calm();
+            world.now.saturating_add(END_US)
+        };
         if !has_ended {
             self.shared.stop_all();
         }
         let mut due = Vec::new(self.alloc);
-        for _ in 0..END_STEPS {
+        for _ in 0..REST_STEPS {
             if self.drained.is_some() && !self.is_writing {
                 return Some(());
             }
-            self.step(&mut due, u64::MAX)?;
+            if self.world().try_borrow().ok()?.now >= until {
+                break;
+            }
+            self.step(&mut due, until)?;
         }
         self.wrong = self.wrong.or(Some("it does not end"));
         Some(())
+    }
+    /// The workers of a case.
+    fn workers_of(
+        alloc: Global,
+        around: &Around<'a, L, R>,
+        count: u32,
+    ) -> Option<Vec<Option<SimWorker<'a, L, R>>>> {
+        let Around {
+            host,
+            desk,
+            shared,
+            queue: _,
+        } = around;
+        let mut workers = Vec::new(alloc);
+        for number in 0..count {
+            let seat = desk.seat(*host, number.saturating_add(1))?;
+            let thread = number as usize;
+            let world = host.world.clone().ok()?;
+            let system = SimSystem { world, thread };
+            let sockets = Sockets::new(alloc, thread, system, TIMEOUT_MS).ok()?;
+            let source = SocketSource::new(*host, alloc, *desk, *shared, sockets)?;
+            let stepped = Stepped {
+                source,
+                fresh: None,
+                told: None,
+            };
+            shared.begin_one();
+            let worker = Worker::new(*host, alloc, *desk, seat, stepped, &Open);
+            workers.push(Some(worker)).ok()?;
+        }
+        Some(workers)
+    }
+
+    /// Has a daemon serve the people of a case. What that comes to, and the seats of its workers.
+    fn simulate(
+        alloc: Global,
+        around: Around<'a, L, R>,
+        case: &Case<'_>,
+    ) -> Option<(Outcome, Vec<Seat<L>>)> {
+        let workers = Daemon::workers_of(alloc, &around, case.workers)?;
+        let Around {
+            host,
+            desk,
+            shared,
+            queue,
+        } = around;
+        let people = {
+            let mut world = host.world.try_borrow_mut().ok()?;
+            people_of(alloc, case.scenario, &mut world)?
+        };
+        let mut daemon = Daemon {
+            host,
+            alloc,
+            desk,
+            shared,
+            queue,
+            workers,
+            seats: Vec::new(alloc),
+            drain: Drain::begin(host, alloc, desk, Some(queue)).ok()?,
+            writer: RecordWriter::new("recording", case.scenario.file_bytes_most),
+            drained: None,
+            is_writing: true,
+            opened: Vec::new(alloc),
+            people,
+            tally: NOBODY,
+            wrong: None,
+            is_ending: false,
+            is_traced: case.is_traced,
+            trace: Vec::new(alloc),
+        };
+        daemon.run(case)?;
+        daemon.end(case.scenario)?;
+        let outcome = daemon.outcome(case)?;
+        let seats = mem::replace(&mut daemon.seats, Vec::new(alloc));
+        Some((outcome, seats))
+    }
+
+    /// What it came to, once it has ended.
+    fn outcome(&mut self, case: &Case<'_>) -> Option<Outcome> {
+        let mut world = self.world().try_borrow_mut().ok()?;
+        let found = judge(self.alloc, &mut world, &self.opened)?;
+        let acts = self
+            .seats
+            .iter()
+            .fold(0u64, |sum, seat| sum.saturating_add(seat.count()));
+        let weather = &world.weather;
+        Some(Outcome {
+            wrong: self.wrong.or(found),
+            tally: self.tally,
+            happened: weather.happened,
+            has_all_happened: weather.has_all_happened(case.scenario.chances),
+            acts,
+            seconds: world.now / 1_000_000,
+            trace: mem::replace(&mut self.trace, Vec::new(self.alloc)),
+        })
     }
 }
 
@@ -498,10 +620,7 @@ impl<'a, L: Ledger, R: Wait + Drop> Daemon<'a, L, R> {
 fn people_of(alloc: Global, scenario: &Scenario, world: &mut World) -> Option<Vec<Person>> {
     let mut people = Vec::new(alloc);
     let mut node = 0u8;
-    let has_rivals = scenario
-        .people
-        .iter()
-        .any(|crowd| crowd.0 == Role::Rival);
+    let has_rivals = scenario.people.iter().any(|crowd| crowd.0 == Role::Rival);
     for Crowd(role, count, is_local) in scenario.people {
         for _ in 0..*count {
             let next_at = world.now.saturating_add(world.random.below(100_000));
@@ -532,96 +651,41 @@ fn at_desk<L: Ledger, R: Wait + Drop>(
     requires enough { blank.parts ≡ PARTS }
 {
     let scenario = case.scenario;
-    let config = Config::new(4369, scenario.is_relaxed, scenario.conn_max, scenario.known_max).ok()?;
+    let config = Config::new(
+        4369,
+        scenario.is_relaxed,
+        scenario.conn_max,
+        scenario.known_max,
+    )
+    .ok()?;
     let desk: Desk<L> = Desk::new(blank, Book::new(alloc, config, 4).ok()?);
     let queue = RecordQueue::new(alloc);
     let mut states = Vec::new(alloc);
     for thread in 0..case.workers {
         let world = host.world.clone().ok()?;
         let thread = thread as usize;
-        states.push(WorkerState::new(SimWaker { world, thread })).ok()?;
+        states
+            .push(WorkerState::new(SimWaker { world, thread }))
+            .ok()?;
     }
     let world = host.world.clone().ok()?;
     let thread = case.workers as usize;
     let shared = Shared::new(host, states, SimWaker { world, thread }, scenario.conn_max);
-    let mut people = {
-        let mut world = host.world.try_borrow_mut().ok()?;
-        people_of(alloc, scenario, &mut world)?
-    };
-    let mut daemon = Daemon {
+    let around = Around {
         host,
-        alloc,
         desk: &desk,
         shared: &shared,
         queue: &queue,
-        workers: workers_of(host, alloc, &desk, &shared, case)?,
-        seats: Vec::new(alloc),
-        drain: Drain::begin(host, alloc, &desk, Some(&queue)).ok()?,
-        writer: RecordWriter::new("recording", scenario.file_bytes_most),
-        drained: None,
-        is_writing: true,
-        opened: Vec::new(alloc),
-        people,
-        tally: NOBODY,
-        wrong: None,
-        is_ending: false,
-        is_traced: case.is_traced,
-        trace: Vec::new(alloc),
     };
-    daemon.run(case)?;
-    daemon.end(scenario)?;
-    outcome_of(daemon, case)
-}
-
-/// The workers of a case.
-fn workers_of<'a, L: Ledger, R: Wait + Drop>(
-    host: &'a SimHost<R>,
-    alloc: Global,
-    desk: &'a Desk<L>,
-    shared: &'a Shared<SimWaker>,
-    case: &Case<'_>,
-) -> Option<Vec<Option<SimWorker<'a, L, R>>>> {
-    let mut workers = Vec::new(alloc);
-    for number in 0..case.workers {
-        let seat = desk.seat(host, number.saturating_add(1))?;
-        let thread = number as usize;
-        let world = host.world.clone().ok()?;
-        let system = SimSystem { world, thread };
-        let sockets = Sockets::new(alloc, thread, system, TIMEOUT_MS).ok()?;
-        let source = SocketSource::new(host, alloc, desk, shared, sockets)?;
-        let stepped = Stepped {
-            source,
-            fresh: None,
-            told: None,
-        };
-        shared.begin_one();
-        let worker = Worker::new(host, alloc, desk, seat, stepped, &Open);
-        workers.push(Some(worker)).ok()?;
-    }
-    Some(workers)
-}
-
-/// What a daemon that has ended came to.
-fn outcome_of<L: Ledger, R: Wait + Drop>(
-    daemon: Daemon<'_, L, R>,
-    case: &Case<'_>,
-) -> Option<Outcome> {
-    let mut daemon = daemon;
-    let mut world = daemon.world().try_borrow_mut().ok()?;
-    let found = judge(daemon.alloc, &mut world, &daemon.opened)?;
-    let wrong = daemon.wrong.or(found);
-    let mut acts = 0u64;
-    for seat in &daemon.seats {
-        acts = acts.saturating_add(seat.count());
-    }
+    let (outcome, seats) = Daemon::simulate(alloc, around, case)?;
+    let are_told = desk.finish(seats).is_ok();
     Some(Outcome {
-        wrong,
-        tally: daemon.tally,
-        happened: world.weather.happened,
-        has_all_happened: world.weather.has_all_happened(case.scenario.chances),
-        acts,
-        seconds: world.now / 1_000_000,
-        trace: mem::replace(&mut daemon.trace, Vec::new(daemon.alloc)),
+        wrong: if are_told {
+            outcome.wrong
+        } else {
+            outcome.wrong.or(Some("the seats don't add up"))
+        },
+        ..outcome
     })
 }
 

@@ -39,6 +39,12 @@ const BUSTLE: &[Crowd] = &[
 
 const RESTARTS: &[Crowd] = &[Crowd(Role::Node, 20, true), Crowd(Role::Seeker, 2, true)];
 
+const LATE_COMERS: &[Crowd] = &[
+    Crowd(Role::Node, 6, true),
+    Crowd(Role::Seeker, 10, true),
+    Crowd(Role::Lister, 10, true),
+];
+
 const RIVALS: &[Crowd] = &[Crowd(Role::Node, 3, true), Crowd(Role::Rival, 4, true)];
 
 const STRANGERS: &[Crowd] = &[
@@ -185,6 +191,13 @@ pub const SCENARIOS: &[Scenario] = &[
     Scenario {
         name: "jumps",
         chances: &[(Fault::Jump, 2)],
+        ..USUAL
+    },
+    Scenario {
+        name: "stopped",
+        people: LATE_COMERS,
+        chances: &[(Fault::Stopped, 5), (Fault::Late, 300)],
+        limit_ms: 30_000,
         ..USUAL
     },
     Scenario {

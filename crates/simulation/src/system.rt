@@ -273,11 +273,9 @@ impl<R: Wait + Drop> Host for SimHost<R> {
 
     fn tell(&self, notice: Notice) {
         if let Ok(mut world) = self.world.try_borrow_mut() {
-            let told = match notice {
-                Notice::RecordingFailed => &mut world.told_failed,
-                Notice::CannotAccept => &mut world.told_exhausted,
-            };
-            *told = told.saturating_add(1);
+            if notice == Notice::RecordingFailed {
+                world.told_failed = world.told_failed.saturating_add(1);
+            }
         }
     }
 

@@ -14,8 +14,10 @@ pub enum Fault {
     Exhausted,
     /// The poll refuses to report a stream, or a listener.
     Unwatched,
-    /// News are reported some milliseconds after they came.
+    /// What a peer does is seen some milliseconds later.
     Late,
+    /// The process is stopped for up to ten seconds as it reads the clock.
+    Stopped,
     /// A stream is reported of which there is no news.
     Spurious,
     /// A thread is held for up to half a second between two steps.
@@ -39,13 +41,14 @@ pub enum Fault {
 }
 
 /// Each, with how it is told.
-pub const FAULTS: [(Fault, &str); 16] = [
+pub const FAULTS: [(Fault, &str); 17] = [
     (Fault::Interrupted, "interrupted"),
     (Fault::Short, "short"),
     (Fault::Aborted, "aborted"),
     (Fault::Exhausted, "exhausted"),
     (Fault::Unwatched, "unwatched"),
     (Fault::Late, "late"),
+    (Fault::Stopped, "stopped"),
     (Fault::Spurious, "spurious"),
     (Fault::Held, "held"),
     (Fault::Jump, "jumps"),
@@ -61,18 +64,21 @@ pub const FAULTS: [(Fault, &str); 16] = [
 /// How often faults happen, in a thousand times.
 pub type Chances = &'static [(Fault, u32)];
 
+/// How often each has happened.
+pub type Counts = [u32; 17];
+
 /// The weather: what may happen, and how often each has.
 #[derive(Drop)]
 pub struct Weather {
     chances: Chances,
-    pub happened: [u32; 16],
+    pub happened: Counts,
 }
 
 impl Weather {
     pub fn new(chances: Chances) -> Weather {
         Weather {
             chances,
-            happened: [0; 16],
+            happened: [0; 17],
         }
     }
 

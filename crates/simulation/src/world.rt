@@ -39,6 +39,16 @@ pub struct Thread {
     pub polls: u64,
 }
 
+/// What a peer has done, and the daemon can't see before this time.
+#[derive(Drop)]
+struct Flight {
+    at: u64,
+    number: usize,
+    bytes: Vec<u8>,
+    is_end: bool,
+    is_reset: bool,
+}
+
 /// A world. Times are in microseconds.
 #[derive(Drop)]
 pub struct World {
@@ -47,6 +57,8 @@ pub struct World {
     pub weather: Weather,
     pub now: u64,
     pub wires: Vec<Wire>,
+    /// What is underway, in the order in which it was done.
+    flights: VecDeque<Flight>,
     /// The connections that wait at each listener.
     backlogs: Vec<VecDeque<usize>>,
     pub threads: Vec<Thread>,
@@ -60,9 +72,8 @@ pub struct World {
     /// How many connections of other hosts the daemon has.
     pub remote: u32,
     pub files: Vec<Vec<u8>>,
-    /// How often the operator was told that the recording has failed, and that no connection can be accepted.
+    /// How often the operator was told that the recording has failed.
     pub told_failed: u32,
-    pub told_exhausted: u32,
     /// No memory for the world itself.
     pub is_lost: bool,
 }
@@ -80,6 +91,7 @@ impl World {
             weather: Weather::new(chances),
             now: 1_000_000,
             wires: Vec::new(alloc),
+            flights: VecDeque::new(alloc),
             backlogs,
             threads: Vec::new(alloc),
             exhausted_until: 0,
@@ -91,7 +103,6 @@ impl World {
             remote: 0,
             files: Vec::new(alloc),
             told_failed: 0,
-            told_exhausted: 0,
             is_lost: false,
         };
         for _ in 0..threads {
@@ -127,21 +138,11 @@ impl World {
         }
     }
 
-    /// From when on news that come now are reported.
-    fn news_at(&mut self) -> u64 {
-        if self.happens(Fault::Late) {
-            self.now.saturating_add(self.random.below(20_000))
-        } else {
-            self.now
-        }
-    }
-
     /// There is news of a stream for who watches it.
     fn note_news(&mut self, number: usize) {
-        let at = self.news_at();
         if let Some(wire) = self.wires.get_mut(number) {
             if wire.watch.is_some() && wire.news_at.is_none() {
-                wire.news_at = Some(at);
+                wire.news_at = Some(self.now);
             }
         }
     }
@@ -178,41 +179,84 @@ impl World {
             self.is_lost = true;
             return None;
         }
-        let at = self.news_at();
         for thread in &mut self.threads {
             let listens = thread.listens.get(place).is_some_and(|listens| *listens);
             if let Some(news) = thread.listener_news.get_mut(place) {
                 if listens && news.is_none() {
-                    *news = Some(at);
+                    *news = Some(self.now);
                 }
             }
         }
         Some(number)
     }
 
-    /// A peer sends bytes.
+    /// A peer sends bytes, ends its connection, or resets it: then it sends and reads no more.
     pub fn send(&mut self, number: usize, bytes: &[u8]) {
+        self.fly(number, bytes, false, false);
+    }
+
+    pub fn end(&mut self, number: usize, is_reset: bool) {
+        self.fly(number, &[], true, is_reset);
+    }
+
+    fn fly(&mut self, number: usize, bytes: &[u8], is_end: bool, is_reset: bool) {
+        let delay = if self.happens(Fault::Late) {
+            self.random.below(20_000)
+        } else {
+            0
+        };
+        let Ok(bytes) = Vec::from_slice(self.alloc, bytes) else {
+            self.is_lost = true;
+            return;
+        };
+        // What one peer does is seen in the order in which it was done.
+        let before = self.flights.iter().filter(|flight| flight.number == number);
+        let least = before.fold(self.now, |least, flight| least.max(flight.at));
+        let flight = Flight {
+            at: self.now.saturating_add(delay).max(least),
+            number,
+            bytes,
+            is_end,
+            is_reset,
+        };
+        self.is_lost = self.is_lost || self.flights.push_back(flight).is_err();
+        self.land();
+    }
+
+    /// What was underway is there now, if it is time.
+    pub fn land(&mut self) {
+        for _ in 0..self.flights.len() {
+            if let Some(flight) = self.flights.pop_front() {
+                if flight.at > self.now {
+                    self.is_lost = self.is_lost || self.flights.push_back(flight).is_err();
+                } else {
+                    self.arrive(flight);
+                }
+            }
+        }
+    }
+
+    fn arrive(&mut self, flight: Flight) {
+        let number = flight.number;
         if let Some(wire) = self.wires.get_mut(number) {
-            for byte in bytes {
+            for byte in &flight.bytes {
                 if wire.up.push_back(*byte).is_err() {
                     self.is_lost = true;
                 }
             }
-        }
-        self.note_news(number);
-    }
-
-    /// A peer ends its connection: it sends no more, and reads no more.
-    pub fn end(&mut self, number: usize, is_reset: bool) {
-        if let Some(wire) = self.wires.get_mut(number) {
-            wire.is_up_ended = true;
-            if is_reset {
+            wire.is_up_ended = wire.is_up_ended || flight.is_end;
+            if flight.is_reset {
                 wire.is_reset = true;
                 wire.up.clear();
                 wire.down.clear();
             }
         }
         self.note_news(number);
+    }
+
+    /// The time when something lands next.
+    pub fn lands_at(&self) -> Option<u64> {
+        self.flights.iter().map(|flight| flight.at).min()
     }
 
     /// A peer reads so many bytes at most.
@@ -369,6 +413,7 @@ impl World {
         if self.happens(Fault::Deaf) {
             return false;
         }
+        self.land();
         let is_spurious = self.happens(Fault::Spurious);
         let now = self.now;
         let Some(thread) = self.threads.get_mut(number) else {
@@ -520,7 +565,10 @@ impl World {
         if self.now < self.exhausted_until {
             return Err(io::Error::from(ErrorKind::Other));
         }
-        let Some(number) = self.backlogs.get_mut(place).and_then(|waiting| waiting.pop_front())
+        let Some(number) = self
+            .backlogs
+            .get_mut(place)
+            .and_then(|waiting| waiting.pop_front())
         else {
             return Err(io::Error::from(ErrorKind::WouldBlock));
         };
@@ -540,6 +588,10 @@ impl World {
     pub fn time(&mut self) -> Option<u64> {
         if self.happens(Fault::Jump) {
             self.jumped = self.jumped.saturating_add(self.random.below(3_600_000_000));
+        }
+        if self.happens(Fault::Stopped) {
+            self.now = self.now.saturating_add(self.random.below(10_000_000));
+            self.land();
         }
         if self.happens(Fault::Unread) {
             self.unread_until = self.now.saturating_add(self.random.below(2_000_000));
