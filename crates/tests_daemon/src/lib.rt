@@ -16,15 +16,11 @@ mod host;
 #[cfg(test)]
 mod links;
 #[cfg(test)]
-mod pauses;
-#[cfg(test)]
 mod places;
 #[cfg(test)]
 mod recorder;
 #[cfg(test)]
 mod recordings;
-#[cfg(test)]
-mod restarts;
 #[cfg(test)]
 mod serving;
 #[cfg(test)]

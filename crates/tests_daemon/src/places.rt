@@ -10,6 +10,7 @@ use portmap_daemon::{Host, RunFault, Settings, run};
 use portmap_testing::bytes::{FOUND_A, KILL, PORT_A};
 use portmap_testing::peers::connect;
 use std::alloc::Global;
+use std::fs::File;
 use std::io::Read;
 use std::net::{Net, TcpStream};
 use std::rt::Clock;
@@ -40,11 +41,9 @@ fn settings_of_two(alloc: Global, port: u16) -> Result<Settings, Fail>
 }
 
 /// Whether a daemon at this port that has places for two connections ends well.
-fn serves<R: Net + Host + Threads + Wait + Clock + Clone + Drop + Send + Sync + 'static>(
-    rt: &R,
-    alloc: Global,
-    port: u16,
-) -> Result<bool, Fail> {
+fn serves<
+    R: Net + Host<File = File> + Threads + Wait + Clock + Clone + Drop + Send + Sync + 'static,
+>(rt: &R, alloc: Global, port: u16) -> Result<bool, Fail> {
     let settings = settings_of_two(alloc, port)?;
     Ok(run(rt, alloc, settings).is_ok())
 }
@@ -53,7 +52,7 @@ fn serves<R: Net + Host + Threads + Wait + Clock + Clone + Drop + Send + Sync + 
 fn comes_to_be_found<R: Net<Stream = TcpStream> + Clock>(
     rt: &R,
     port: u16,
-    clock: &Pushing<R>,
+    clock: &Pushing,
 ) -> bool {
     for _ in 0..PUSHES {
         if is_answered(rt, port, PORT_A, FOUND_A) == Some(true) {
@@ -69,7 +68,7 @@ fn comes_to_be_found<R: Net<Stream = TcpStream> + Clock>(
 fn makes_room<R: Net<Stream = TcpStream> + Clock>(
     rt: &R,
     port: u16,
-    clock: &Pushing<R>,
+    clock: &Pushing,
 ) -> Option<bool> {
     let _node = registered(rt, port)?;
     let mut silent = connect(rt, port)?;
@@ -79,11 +78,7 @@ fn makes_room<R: Net<Stream = TcpStream> + Clock>(
 }
 
 /// Whether a connection that says nothing stays while nobody waits for its place.
-fn is_kept<R: Net<Stream = TcpStream> + Clock>(
-    rt: &R,
-    port: u16,
-    clock: &Pushing<R>,
-) -> Option<bool> {
+fn is_kept<R: Net<Stream = TcpStream> + Clock>(rt: &R, port: u16, clock: &Pushing) -> Option<bool> {
     let mut silent = connect(rt, port)?;
     clock.push(PUSH);
     silent
