@@ -195,11 +195,11 @@ impl Person {
     /// Sends a part of its request.
     fn say(&mut self, world: &mut World, wire: usize) {
         let left = self.request.len().saturating_sub(self.sent);
-        let count = if self.role == Role::Dripper || world.happens(Fault::Dripped) {
-            left.min(1)
-        } else if self.role == Role::Node {
+        let count = if self.role == Role::Node {
             // A node writes its registration at once.
             left
+        } else if self.role == Role::Dripper || world.happens(Fault::Dripped) {
+            left.min(1)
         } else {
             left.min(world.random.between(1, 64) as usize)
         };

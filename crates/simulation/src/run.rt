@@ -33,7 +33,7 @@ const KEPT_SHARE: u32 = 8;
 /// After the storm so many steps are made at most, and so much time passes.
 const REST_STEPS: u32 = 60_000;
 
-const REST_US: u64 = 120_000_000;
+const REST_US: u64 = 20_000_000;
 
 /// So long connections that have ended are still on their way out.
 const SETTLING_US: u64 = 10_000_000;
@@ -44,7 +44,7 @@ const ROUNDS: u32 = 20;
 const ROUND_US: u64 = 25_000;
 
 /// A worker polls no more than so often within the rest.
-const POLLS_AT_REST: u64 = 1000;
+const POLLS_AT_REST: u64 = 200;
 
 /// A daemon that is to end has ended by then.
 const END_US: u64 = 200_000;
@@ -116,8 +116,27 @@ impl<L: Ledger, R: Wait + Drop> Source for Stepped<'_, L, R> {
     }
 }
 
+/// What a source tells of its last step.
+trait Steps: Source + Drop {
+    /// The connection that it told last as a fresh one, once.
+    fn take_fresh(&mut self) -> Option<usize>;
+
+    /// What it told last.
+    fn told(&self) -> Option<Turn>;
+}
+
+impl<L: Ledger, R: Wait + Drop> Steps for Stepped<'_, L, R> {
+    fn take_fresh(&mut self) -> Option<usize> {
+        self.fresh.take()
+    }
+
+    fn told(&self) -> Option<Turn> {
+        self.told
+    }
+}
+
 /// A worker of the daemon in the world.
-type SimWorker<'a, L, R> = Worker<'a, L, Stepped<'a, L, R>, Open, SimHost<R>>;
+type SimWorker<'a, L, S, R> = Worker<'a, L, S, Open, SimHost<R>>;
 
 /// What the parts of a daemon in the world share.
 #[derive(Drop)]
@@ -130,13 +149,13 @@ struct Around<'a, L: Ledger, R: Wait + Drop> {
 
 /// What a daemon in the world is made of.
 #[derive(Drop)]
-struct Daemon<'a, L: Ledger, R: Wait + Drop> {
+struct Daemon<'a, L: Ledger, S: Steps, R: Wait + Drop> {
     host: &'a SimHost<R>,
     alloc: Global,
     desk: &'a Desk<L>,
     shared: &'a Shared<SimWaker>,
     queue: &'a RecordQueue,
-    workers: Vec<Option<SimWorker<'a, L, R>>>,
+    workers: Vec<Option<SimWorker<'a, L, S, R>>>,
     seats: Vec<Seat<L>>,
     drain: Drain<'a>,
     writer: RecordWriter<'a, SimFile>,
@@ -155,7 +174,7 @@ struct Daemon<'a, L: Ledger, R: Wait + Drop> {
     trace: Vec<Step>,
 }
 
-impl<'a, L: Ledger, R: Wait + Drop> Daemon<'a, L, R> {
+impl<'a, L: Ledger, S: Steps, R: Wait + Drop> Daemon<'a, L, S, R> {
     fn world(&self) -> &'a SharedWorld {
         &self.host.world
     }
@@ -251,7 +270,7 @@ impl<'a, L: Ledger, R: Wait + Drop> Daemon<'a, L, R> {
         if self.is_traced {
             let now = self.world().try_borrow().ok()?.now;
             let turn = match self.workers.get_mut(actor) {
-                Some(Some(worker)) => worker.source().told,
+                Some(Some(worker)) => worker.source().told(),
                 Some(None) | None => None,
             };
             self.trace.push(Step { now, actor, turn }).ok()?;
@@ -272,7 +291,7 @@ impl<'a, L: Ledger, R: Wait + Drop> Daemon<'a, L, R> {
         let mut worker = self.workers.get_mut(number)?.take()?;
         let before = worker.acts();
         let goes_on = worker.turn();
-        if let Some(fresh) = worker.source().fresh.take() {
+        if let Some(fresh) = worker.source().take_fresh() {
             if worker.acts() > before {
                 self.opened.push(fresh).ok()?;
             }
@@ -519,33 +538,20 @@ impl<'a, L: Ledger, R: Wait + Drop> Daemon<'a, L, R> {
         self.wrong = self.wrong.or(Some("it does not end"));
         Some(())
     }
-    /// The workers of a case.
+
+    /// A worker for each source.
     fn workers_of(
         alloc: Global,
         around: &Around<'a, L, R>,
-        count: u32,
-    ) -> Option<Vec<Option<SimWorker<'a, L, R>>>> {
-        let Around {
-            host,
-            desk,
-            shared,
-            queue: _,
-        } = around;
+        sources: Vec<S>,
+    ) -> Option<Vec<Option<SimWorker<'a, L, S, R>>>> {
         let mut workers = Vec::new(alloc);
-        for number in 0..count {
-            let seat = desk.seat(*host, number.saturating_add(1))?;
-            let thread = number as usize;
-            let world = host.world.clone().ok()?;
-            let system = SimSystem { world, thread };
-            let sockets = Sockets::new(alloc, thread, system, TIMEOUT_MS).ok()?;
-            let source = SocketSource::new(*host, alloc, *desk, *shared, sockets)?;
-            let stepped = Stepped {
-                source,
-                fresh: None,
-                told: None,
-            };
-            shared.begin_one();
-            let worker = Worker::new(*host, alloc, *desk, seat, stepped, &Open);
+        let mut number = 0u32;
+        for source in sources {
+            number = number.saturating_add(1);
+            let seat = around.desk.seat(around.host, number)?;
+            around.shared.begin_one();
+            let worker = Worker::new(around.host, alloc, around.desk, seat, source, &Open);
             workers.push(Some(worker)).ok()?;
         }
         Some(workers)
@@ -555,9 +561,10 @@ impl<'a, L: Ledger, R: Wait + Drop> Daemon<'a, L, R> {
     fn simulate(
         alloc: Global,
         around: Around<'a, L, R>,
+        sources: Vec<S>,
         case: &Case<'_>,
     ) -> Option<(Outcome, Vec<Seat<L>>)> {
-        let workers = Daemon::workers_of(alloc, &around, case.workers)?;
+        let workers = Daemon::workers_of(alloc, &around, sources)?;
         let Around {
             host,
             desk,
@@ -639,6 +646,30 @@ fn people_of(alloc: Global, scenario: &Scenario, world: &mut World) -> Option<Ve
     Some(people)
 }
 
+/// The sources of so many workers.
+fn sources_of<'a, L: Ledger, R: Wait + Drop>(
+    alloc: Global,
+    around: &Around<'a, L, R>,
+    count: u32,
+) -> Option<Vec<Stepped<'a, L, R>>> {
+    let mut sources = Vec::new(alloc);
+    for number in 0..count {
+        let thread = number as usize;
+        let world = around.host.world.clone().ok()?;
+        let system = SimSystem { world, thread };
+        let sockets = Sockets::new(alloc, thread, system, TIMEOUT_MS).ok()?;
+        let source = SocketSource::new(around.host, alloc, around.desk, around.shared, sockets)?;
+        sources
+            .push(Stepped {
+                source,
+                fresh: None,
+                told: None,
+            })
+            .ok()?;
+    }
+    Some(sources)
+}
+
 /// What a case comes to at a desk of its own.
 fn at_desk<L: Ledger, R: Wait + Drop>(
     host: &SimHost<R>,
@@ -677,7 +708,8 @@ fn at_desk<L: Ledger, R: Wait + Drop>(
         shared: &shared,
         queue: &queue,
     };
-    let (outcome, seats) = Daemon::simulate(alloc, around, case)?;
+    let sources = sources_of(alloc, &around, case.workers)?;
+    let (outcome, seats) = Daemon::simulate(alloc, around, sources, case)?;
     let are_told = desk.finish(seats).is_ok();
     Some(Outcome {
         wrong: if are_told {
