@@ -39,10 +39,12 @@ pub(crate) const RESTS_MOST: u32 = 4;
 /// The most that are pending at one worker.
 pub(crate) const PENDING_MOST: usize = 64;
 
-/// For so long one waits for its name alone, and then for so long at most until every worker has passed an epoch.
+/// For so long one waits for its name alone, and then until every worker has passed an epoch, or for so long and so many rounds.
 pub(crate) const NAME_TIMEOUT_MS: u64 = 50;
 
 pub(crate) const EPOCH_TIMEOUT_MS: u64 = 1000;
+
+pub(crate) const EPOCH_ROUNDS_MOST: u32 = 500;
 
 // ---- polls
 

@@ -2,9 +2,12 @@
 //!
 //! If a name is active when it is asked for, perhaps the connection that owns it has ended, or is ending: then the name is free soon.
 //! What the machine says after that is final.
+ghost use Rattle.std.specs.Prelude.{◌≡◌, ◌↔◌, ◌+◌, ◌-◌, ◌≤◌, ◌^◌, true, min};
+ghost use Rattle.portmap_daemon.specs.declared.limits.TheConstants.{EPOCH_ROUNDS_MOST, EPOCH_TIMEOUT_MS};
+
 use crate::Turn;
 use crate::host::Host;
-use crate::limits::{EPOCH_TIMEOUT_MS, NAME_TIMEOUT_MS, PENDING_MOST};
+use crate::limits::{EPOCH_ROUNDS_MOST, EPOCH_TIMEOUT_MS, NAME_TIMEOUT_MS, PENDING_MOST};
 use crate::socket_source::SocketSource;
 use crate::system::System;
 use std::rt::Clock;
@@ -16,10 +19,19 @@ use std::sync::ledger::Ledger;
 #[derive(Clone, Copy, Debug, PartialEq, Eq)]
 pub(crate) struct Pending {
     key: usize,
-    /// Until when it waits for its name alone.
-    until: u64,
+    /// Until when it waits for its name alone: so long after the first answer of the poll behind it, however old the one before is.
+    until: Option<u64>,
     /// The epoch that it waits for after that, if it has begun.
     epoch: Option<u64>,
+    /// How often it was looked at since then: time alone passes also while the process is stopped.
+    rounds: u32,
+}
+
+/// Whether one that waits for an epoch gives up after so many rounds, at this time: it has waited for its name alone until then.
+fn gives_up(rounds: u32, now: u64, until: u64) -> bool
+    ensures { (result ≡ true) ↔ ((EPOCH_ROUNDS_MOST ≤ rounds) × (min (until + EPOCH_TIMEOUT_MS) (2 ^ 64 - 1) ≤ now)) }
+{
+    rounds >= EPOCH_ROUNDS_MOST && now >= until.saturating_add(EPOCH_TIMEOUT_MS)
 }
 
 impl<L: Ledger, S: System, R: Host + Wait + Clock> SocketSource<'_, L, S, R> {
@@ -39,8 +51,9 @@ impl<L: Ledger, S: System, R: Host + Wait + Clock> SocketSource<'_, L, S, R> {
         }
         let pending = Pending {
             key,
-            until: self.now.saturating_add(NAME_TIMEOUT_MS),
+            until: None,
             epoch: None,
+            rounds: 0,
         };
         let is_held = is_active
             && self.pending.len() < PENDING_MOST
@@ -73,25 +86,36 @@ impl<L: Ledger, S: System, R: Host + Wait + Clock> SocketSource<'_, L, S, R> {
         self.note_pending();
     }
 
+    /// The poll has answered: the time of those begins that have come since its last answer.
+    pub(crate) fn begin_pending(&mut self) {
+        let until = self.now.saturating_add(NAME_TIMEOUT_MS);
+        for pending in self.pending.iter_mut() {
+            pending.until = pending.until.or(Some(until));
+        }
+    }
+
     /// How one goes on waiting, if it does: for its name, and then until every worker has looked for connections that have ended.
     fn goes_on(&self, pending: Pending) -> Option<Pending> {
         if self.is_name_active(pending.key) != Some(true) {
             return None;
         }
-        let Pending { key, until, epoch } = pending;
-        let Some(epoch) = epoch else {
+        let Some(until) = pending.until else {
+            return Some(pending);
+        };
+        let rounds = pending.rounds;
+        let Some(epoch) = pending.epoch else {
             let epoch = if self.now < until {
                 None
             } else {
                 Some(self.shared.begin_epoch(self.sockets.worker))
             };
-            return Some(Pending { key, until, epoch });
+            return Some(Pending { epoch, ..pending });
         };
-        let is_over = self.now >= until.saturating_add(EPOCH_TIMEOUT_MS);
-        if is_over || self.shared.have_passed(epoch) {
+        if gives_up(rounds, self.now, until) || self.shared.have_passed(epoch) {
             return None;
         }
-        Some(pending)
+        let rounds = rounds.saturating_add(1);
+        Some(Pending { rounds, ..pending })
     }
 
     /// What the link with this key keeps back is to be told.
@@ -107,11 +131,14 @@ impl<L: Ledger, S: System, R: Host + Wait + Clock> SocketSource<'_, L, S, R> {
         self.state.pending.store(count, Ordering::SeqCst);
     }
 
-    /// The earliest time until which one waits for its name alone, or this one if it comes before.
+    /// The earliest time until which one waits for its name alone, or this one if it comes before. The time of one that has just come
+    /// begins with the next answer of the poll.
     pub(crate) fn pending_until(&self, time: u64) -> u64 {
-        match self.pending.front() {
-            Some(pending) => pending.until.min(time),
-            None => time,
-        }
+        let now = self.now;
+        let untils = self
+            .pending
+            .iter()
+            .map(|pending| pending.until.unwrap_or(now));
+        untils.min().unwrap_or(time).min(time)
     }
 }

@@ -249,6 +249,7 @@ impl<'a, L: Ledger, S: System, R: Host + Wait + Clock> SocketSource<'a, L, S, R>
             self.end_rests();
         }
         self.now = after / 1000;
+        self.begin_pending();
         self.state.busy_since.store(self.now, Ordering::SeqCst);
         if !is_well {
             return Some(self.fail());
