@@ -3,19 +3,24 @@
 //! Standard input has a line for each case: `seed N workers W scenario S steps K`. The output has one line a case.
 #![tactic(auto)]
 
+mod daemon;
 mod judge;
 mod people;
+mod polls;
 mod random;
+mod rest;
 mod run;
 mod scenario;
+mod steps;
 mod system;
 mod weather;
 mod wire;
 mod world;
 
 use crate::people::Tally;
-use crate::run::{Case, Outcome, Step, run_case};
+use crate::run::{Case, Outcome, run_case};
 use crate::scenario::SCENARIOS;
+use crate::steps::Step;
 use crate::weather::FAULTS;
 use portmap_book::PARTS;
 use std::io::BufRead;

@@ -1,10 +1,10 @@
 //! The world of a daemon: a network, a clock, memory and a disk that are values.
 ghost use Rattle.std.specs.Prelude.{◌≤◌, IfOk, length};
 
+use crate::polls::Thread;
 use crate::random::Random;
 use crate::weather::{Chances, Fault, Weather};
-use crate::wire::{Watch, Wire};
-use portmap_daemon::{Interest, Report};
+use crate::wire::Wire;
 use std::alloc::Global;
 use std::collections::VecDeque;
 use std::io;
@@ -15,29 +15,6 @@ pub const LISTENERS: usize = 2;
 
 /// The most connections that wait at a listener.
 const BACKLOG_MOST: usize = 128;
-
-/// The most events that one poll reports.
-const EVENTS_MOST: usize = 256;
-
-/// What the system knows of a thread.
-#[derive(Drop)]
-pub struct Thread {
-    /// Which listeners its poll reports, and from when on; none if there is nothing that was not reported.
-    listens: [bool; LISTENERS],
-    listener_news: [Option<u64>; LISTENERS],
-    /// The streams that its poll reports.
-    watched: Vec<usize>,
-    /// Its wait is ended.
-    is_woken: bool,
-    /// What its last poll has reported.
-    reports: Vec<Report>,
-    /// Until when it waits; none if it doesn't.
-    until: Option<u64>,
-    /// Until when it is held.
-    held_until: u64,
-    /// How often it has polled.
-    pub polls: u64,
-}
 
 /// What a peer has done, and the daemon can't see before this time.
 #[derive(Drop)]
@@ -60,9 +37,9 @@ pub struct World {
     /// What is underway, in the order in which it was done.
     flights: VecDeque<Flight>,
     /// The connections that wait at each listener.
-    backlogs: Vec<VecDeque<usize>>,
+    pub(crate) backlogs: Vec<VecDeque<usize>>,
     pub threads: Vec<Thread>,
-    exhausted_until: u64,
+    pub(crate) exhausted_until: u64,
     unread_until: u64,
     /// By how much the clock has jumped forward.
     pub jumped: u64,
@@ -106,17 +83,7 @@ impl World {
             is_lost: false,
         };
         for _ in 0..threads {
-            let thread = Thread {
-                listens: [false; LISTENERS],
-                listener_news: [None; LISTENERS],
-                watched: Vec::new(alloc),
-                is_woken: false,
-                reports: Vec::new(alloc),
-                until: None,
-                held_until: 0,
-                polls: 0,
-            };
-            world.threads.push(thread).ok()?;
+            world.threads.push(Thread::new(alloc)).ok()?;
         }
         Some(world)
     }
@@ -356,230 +323,6 @@ impl World {
                 }
             }
         }
-    }
-
-    // ---- what the daemon's polls do
-
-    /// Whether a thread has something to do: it doesn't wait, or its wait is over.
-    pub fn is_due(&self, number: usize) -> bool {
-        match self.due_at(number) {
-            Some(at) => at <= self.now,
-            None => false,
-        }
-    }
-
-    /// From when on a thread has something to do.
-    pub fn due_at(&self, number: usize) -> Option<u64> {
-        let thread = self.threads.get(number)?;
-        let mut at = thread.until.unwrap_or(self.now);
-        if thread.is_woken {
-            at = self.now;
-        }
-        for news in thread.listener_news {
-            at = at.min(news.unwrap_or(at));
-        }
-        for number in &thread.watched {
-            if let Some(wire) = self.wires.get(*number) {
-                at = at.min(wire.news_at.unwrap_or(at));
-            }
-        }
-        Some(at.max(thread.held_until))
-    }
-
-    /// A thread waits until this time, unless it is woken.
-    pub fn wait(&mut self, number: usize, until: u64) {
-        if let Some(thread) = self.threads.get_mut(number) {
-            thread.until = Some(until);
-            thread.is_woken = false;
-        }
-    }
-
-    /// A thread is held until this time.
-    pub fn hold(&mut self, number: usize, until: u64) {
-        if let Some(thread) = self.threads.get_mut(number) {
-            thread.held_until = until;
-        }
-    }
-
-    /// Ends the wait of a thread.
-    pub fn wake(&mut self, number: usize) {
-        if let Some(thread) = self.threads.get_mut(number) {
-            thread.is_woken = true;
-        }
-    }
-
-    /// Polls. If there is nothing to report the thread waits for so many milliseconds.
-    pub fn poll(&mut self, number: usize, timeout_ms: u64) -> bool {
-        if self.happens(Fault::Deaf) {
-            return false;
-        }
-        self.land();
-        let is_spurious = self.happens(Fault::Spurious);
-        let now = self.now;
-        let Some(thread) = self.threads.get_mut(number) else {
-            return false;
-        };
-        thread.polls = thread.polls.saturating_add(1);
-        thread.reports.clear();
-        let mut is_well = true;
-        if thread.is_woken {
-            thread.is_woken = false;
-            is_well = thread.reports.push(Report::Woken).is_ok();
-        }
-        for (place, news) in thread.listener_news.iter_mut().enumerate() {
-            if news.is_some_and(|at| at <= now) {
-                *news = None;
-                is_well = is_well && thread.reports.push(Report::Listener(place)).is_ok();
-            }
-        }
-        for number in &thread.watched {
-            if let Some(wire) = self.wires.get_mut(*number) {
-                let is_due = wire.news_at.is_some_and(|at| at <= now);
-                if let Some(watch) = wire.watch {
-                    // What is no longer so when the poll answers is not reported.
-                    if is_due && !wire.is_ready() {
-                        wire.news_at = None;
-                    } else if (is_due || is_spurious) && thread.reports.len() < EVENTS_MOST {
-                        wire.news_at = None;
-                        let is_closed = wire.is_up_ended && !wire.is_reset;
-                        let key = watch.key;
-                        let report = Report::Stream { key, is_closed };
-                        is_well = is_well && thread.reports.push(report).is_ok();
-                    }
-                }
-            }
-        }
-        self.is_lost = self.is_lost || !is_well;
-        thread.until = if thread.reports.is_empty() {
-            Some(now.saturating_add(timeout_ms.saturating_mul(1000)))
-        } else {
-            None
-        };
-        self.shuffle(number);
-        true
-    }
-
-    /// Has what a poll has reported come in any order.
-    fn shuffle(&mut self, number: usize) {
-        if let Some(thread) = self.threads.get_mut(number) {
-            let count = thread.reports.len();
-            for place in 0..count {
-                let other = self.random.below(count as u64) as usize;
-                thread.reports.swap(place, other);
-            }
-        }
-    }
-
-    /// What a thread's last poll has reported at this place.
-    pub fn report(&self, number: usize, place: usize) -> Option<Report> {
-        self.threads.get(number)?.reports.get(place).copied()
-    }
-
-    /// Whether a thread's last poll has reported as much as it can.
-    pub fn is_full(&self, number: usize) -> bool {
-        match self.threads.get(number) {
-            Some(thread) => thread.reports.len() >= EVENTS_MOST,
-            None => false,
-        }
-    }
-
-    /// Has a thread's poll report a stream.
-    pub fn watch(
-        &mut self,
-        thread: usize,
-        number: usize,
-        key: usize,
-        interest: Interest,
-    ) -> io::Result<()> {
-        if self.happens(Fault::Unwatched) {
-            return Err(io::Error::from(ErrorKind::OutOfMemory));
-        }
-        let now = self.now;
-        let (Some(wire), Some(own)) = (self.wires.get_mut(number), self.threads.get_mut(thread))
-        else {
-            return Err(io::Error::from(ErrorKind::Other));
-        };
-        if wire.watch.is_none() && own.watched.push(number).is_err() {
-            self.is_lost = true;
-        }
-        wire.watch = Some(Watch {
-            thread,
-            key,
-            is_both: interest == Interest::Both,
-        });
-        if wire.is_ready() {
-            wire.news_at = Some(now);
-        }
-        Ok(())
-    }
-
-    /// Has a thread's poll report a listener.
-    pub fn listen(&mut self, number: usize, place: usize) -> io::Result<()> {
-        if self.happens(Fault::Unwatched) {
-            return Err(io::Error::from(ErrorKind::OutOfMemory));
-        }
-        let now = self.now;
-        let waits = self
-            .backlogs
-            .get(place)
-            .is_some_and(|backlog| !backlog.is_empty());
-        let Some(thread) = self.threads.get_mut(number) else {
-            return Err(io::Error::from(ErrorKind::Other));
-        };
-        if let (Some(listens), Some(news)) = (
-            thread.listens.get_mut(place),
-            thread.listener_news.get_mut(place),
-        ) {
-            if *listens {
-                return Err(io::Error::from(ErrorKind::AlreadyExists));
-            }
-            *listens = true;
-            if waits {
-                *news = Some(now);
-            }
-        }
-        Ok(())
-    }
-
-    /// Has a thread's poll report a listener no more.
-    pub fn leave(&mut self, number: usize, place: usize) {
-        if let Some(thread) = self.threads.get_mut(number) {
-            if let (Some(listens), Some(news)) = (
-                thread.listens.get_mut(place),
-                thread.listener_news.get_mut(place),
-            ) {
-                *listens = false;
-                *news = None;
-            }
-        }
-    }
-
-    /// The next connection that waits at a listener.
-    pub fn accept(&mut self, place: usize) -> io::Result<usize> {
-        if self.happens(Fault::Interrupted) {
-            return Err(io::Error::from(ErrorKind::Interrupted));
-        }
-        if self.happens(Fault::Exhausted) {
-            self.exhausted_until = self.now.saturating_add(self.random.below(200_000));
-        }
-        if self.now < self.exhausted_until {
-            return Err(io::Error::from(ErrorKind::Other));
-        }
-        let Some(number) = self
-            .backlogs
-            .get_mut(place)
-            .and_then(|waiting| waiting.pop_front())
-        else {
-            return Err(io::Error::from(ErrorKind::WouldBlock));
-        };
-        if self.happens(Fault::Aborted) {
-            self.reset(number);
-            return Err(io::Error::from(ErrorKind::ConnectionAborted));
-        }
-        if self.wires.get(number).is_some_and(|wire| !wire.is_local) {
-            self.remote = self.remote.saturating_add(1);
-        }
-        Ok(number)
     }
 
     // ---- clock and memory

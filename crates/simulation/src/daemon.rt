@@ -1,0 +1,243 @@
+//! The parts of a daemon in a world, and who does something next.
+use crate::people::{Person, Role, Stage, Tally, Wrong};
+use crate::scenario::Scenario;
+use crate::steps::{Step, Steps};
+use crate::system::{SharedWorld, SimFile, SimHost, SimWaker};
+use crate::weather::Fault;
+use portmap_book::{Desk, Seat};
+use portmap_daemon::{Drain, Drained, Open, RecordQueue, RecordWriter, Shared, Worker};
+use std::alloc::Global;
+use std::sync::Wait;
+use std::sync::ledger::Ledger;
+
+/// One place of so many is kept for this host.
+const KEPT_SHARE: u32 = 8;
+
+/// A worker of the daemon in the world.
+pub type SimWorker<'a, L, S, R> = Worker<'a, L, S, Open, SimHost<R>>;
+
+/// What a daemon in the world is made of.
+#[derive(Drop)]
+pub struct Daemon<'a, L: Ledger, S: Steps, R: Wait + Drop> {
+    pub(crate) host: &'a SimHost<R>,
+    pub(crate) alloc: Global,
+    pub(crate) desk: &'a Desk<L>,
+    pub(crate) shared: &'a Shared<SimWaker>,
+    pub(crate) queue: &'a RecordQueue,
+    pub(crate) workers: Vec<Option<SimWorker<'a, L, S, R>>>,
+    pub(crate) seats: Vec<Seat<L>>,
+    pub(crate) drain: Drain<'a>,
+    pub(crate) writer: RecordWriter<'a, SimFile>,
+    /// Whether all of the log was handed on, once the workers have ended.
+    pub(crate) drained: Option<bool>,
+    /// More may be written.
+    pub(crate) is_writing: bool,
+    /// The connections that the desk has opened, in the order in which it did.
+    pub(crate) opened: Vec<usize>,
+    pub(crate) people: Vec<Person>,
+    pub(crate) tally: Tally,
+    pub(crate) wrong: Option<Wrong>,
+    /// The daemon is to end, or has ended: nobody is owed anything.
+    pub(crate) is_ending: bool,
+    pub(crate) is_traced: bool,
+    pub(crate) trace: Vec<Step>,
+}
+
+impl<'a, L: Ledger, S: Steps, R: Wait + Drop> Daemon<'a, L, S, R> {
+    pub(crate) fn world(&self) -> &'a SharedWorld {
+        &self.host.world
+    }
+
+    /// Something is wrong: what was wrong first is told.
+    pub(crate) fn note(&mut self, wrong: Option<Wrong>) {
+        if self.wrong.is_none() && !self.is_ending {
+            self.wrong = wrong;
+        }
+    }
+
+    /// Who may do something now: workers, then who takes the log out, who writes it, and people.
+    pub(crate) fn due(&self, due: &mut Vec<usize>) -> Option<()> {
+        due.clear();
+        let world = self.world().try_borrow().ok()?;
+        let count = self.workers.len();
+        for (number, worker) in self.workers.iter().enumerate() {
+            if worker.is_some() && world.is_due(number) {
+                due.push(number).ok()?;
+            }
+        }
+        if self.drained.is_none() && world.is_due(count) {
+            due.push(count).ok()?;
+        }
+        if self.is_writing && world.stalled_until <= world.now && !self.queue.is_idle(self.host) {
+            due.push(count.saturating_add(1)).ok()?;
+        }
+        for (number, person) in self.people.iter().enumerate() {
+            if person.is_due(&world) {
+                due.push(count.saturating_add(2).saturating_add(number))
+                    .ok()?;
+            }
+        }
+        Some(())
+    }
+
+    /// The time when somebody has something to do next.
+    pub(crate) fn next_time(&self) -> Option<u64> {
+        let world = self.world().try_borrow().ok()?;
+        let mut next = u64::MAX;
+        for (number, worker) in self.workers.iter().enumerate() {
+            if worker.is_some() {
+                next = next.min(world.due_at(number).unwrap_or(u64::MAX));
+            }
+        }
+        if self.drained.is_none() {
+            next = next.min(world.due_at(self.workers.len()).unwrap_or(u64::MAX));
+        }
+        if self.is_writing && !self.queue.is_idle(self.host) {
+            next = next.min(world.stalled_until);
+        }
+        for person in &self.people {
+            if person.stage != Stage::Gone {
+                next = next.min(person.next_at);
+            }
+        }
+        Some(next.min(world.lands_at().unwrap_or(u64::MAX)))
+    }
+
+    /// One step of somebody who has something to do, or time passes until somebody has, up to this time.
+    pub(crate) fn step(&mut self, due: &mut Vec<usize>, until: u64) -> Option<()> {
+        self.due(due)?;
+        let count = due.len();
+        if count == 0 {
+            let next = self.next_time()?;
+            let mut world = self.world().try_borrow_mut().ok()?;
+            world.now = next.min(until).max(world.now);
+            world.land();
+            return Some(());
+        }
+        let chosen = {
+            let mut world = self.world().try_borrow_mut().ok()?;
+            world.now = world.now.saturating_add(world.random.between(1, 30));
+            world.land();
+            let place = world.random.below(count as u64) as usize;
+            due.get(place).copied()?
+        };
+        let workers = self.workers.len();
+        if chosen < workers {
+            self.work(chosen)?;
+        } else if chosen == workers {
+            self.take_out()?;
+        } else if chosen == workers.saturating_add(1) {
+            self.write()?;
+        } else {
+            self.act(chosen.saturating_sub(workers).saturating_sub(2))?;
+        }
+        self.note_step(chosen)
+    }
+
+    /// Notes a step, if each is told.
+    pub(crate) fn note_step(&mut self, actor: usize) -> Option<()> {
+        if self.is_traced {
+            let now = self.world().try_borrow().ok()?.now;
+            let turn = match self.workers.get_mut(actor) {
+                Some(Some(worker)) => worker.source().told(),
+                Some(None) | None => None,
+            };
+            self.trace.push(Step { now, actor, turn }).ok()?;
+        }
+        Some(())
+    }
+
+    /// A turn of a worker.
+    pub(crate) fn work(&mut self, number: usize) -> Option<()> {
+        {
+            let mut world = self.world().try_borrow_mut().ok()?;
+            if world.happens(Fault::Held) {
+                let until = world.now.saturating_add(world.random.below(500_000));
+                world.hold(number, until);
+                return Some(());
+            }
+        }
+        let mut worker = self.workers.get_mut(number)?.take()?;
+        let before = worker.acts();
+        let goes_on = worker.turn();
+        if let Some(fresh) = worker.source().take_fresh() {
+            if worker.acts() > before {
+                self.opened.push(fresh).ok()?;
+            }
+        }
+        if goes_on {
+            *self.workers.get_mut(number)? = Some(worker);
+        } else {
+            let seat = worker.leave();
+            self.shared.end_worker(number, seat.count());
+            self.seats.push(seat).ok()?;
+        }
+        Some(())
+    }
+
+    /// A turn of who takes the log out.
+    pub(crate) fn take_out(&mut self) -> Option<()> {
+        let drained = self
+            .drain
+            .turn(self.host, self.alloc, self.desk, self.shared);
+        match drained {
+            Drained::Done(is_out) => {
+                self.drained = Some(is_out);
+                self.queue.close(self.host);
+            }
+            Drained::Wait(timeout) => {
+                let mut world = self.world().try_borrow_mut().ok()?;
+                let until = world.now.saturating_add(timeout.saturating_mul(1000));
+                world.wait(self.workers.len(), until);
+            }
+        }
+        Some(())
+    }
+
+    /// A part is written.
+    pub(crate) fn write(&mut self) -> Option<()> {
+        {
+            let mut world = self.world().try_borrow_mut().ok()?;
+            if world.happens(Fault::Stalled) {
+                world.stalled_until = world.now.saturating_add(world.random.below(3_000_000));
+                return Some(());
+            }
+        }
+        self.is_writing = self.writer.turn(self.host, self.alloc, self.queue);
+        Some(())
+    }
+
+    /// Somebody acts.
+    pub(crate) fn act(&mut self, number: usize) -> Option<()> {
+        let wrong = {
+            let mut world = self.world().try_borrow_mut().ok()?;
+            self.people
+                .get_mut(number)?
+                .act(&mut world, &mut self.tally)
+        };
+        self.note(wrong);
+        Some(())
+    }
+
+    /// Who has waited for longer than anybody may.
+    pub(crate) fn look(&mut self, scenario: &Scenario) -> Option<()> {
+        let world = self.world().try_borrow().ok()?;
+        let now = world.now;
+        let remote = world.remote;
+        drop(world);
+        let is_late = self.people.iter().any(|person| {
+            let waited = person.waited(now) / 1000;
+            waited > scenario.limit_ms && person.is_local && person.role != Role::Slow
+        });
+        if is_late {
+            self.note(Some("an answer took too long"));
+        }
+        // One that waits for a place may be at each worker beside those that have one.
+        let kept = scenario.conn_max / KEPT_SHARE;
+        let most = scenario.conn_max.saturating_sub(kept) as usize;
+        if remote as usize > most.saturating_add(self.workers.len()) {
+            self.note(Some("other hosts have more places than they may"));
+        }
+        Some(())
+    }
+}

@@ -1,0 +1,164 @@
+//! What a daemon is at rest, and how it ends.
+use crate::daemon::Daemon;
+use crate::scenario::Scenario;
+use crate::steps::Steps;
+use portmap_wire::{Line, read_names};
+use std::sync::Wait;
+use std::sync::ledger::Ledger;
+
+/// So many steps are made at most while time passes.
+const REST_STEPS: u32 = 60_000;
+
+/// At rest a request is answered within so many rounds.
+const ROUNDS: u32 = 20;
+
+const ROUND_US: u64 = 25_000;
+
+/// A daemon that is to end has ended by then.
+const END_US: u64 = 200_000;
+
+impl<'a, L: Ledger, S: Steps, R: Wait + Drop> Daemon<'a, L, S, R> {
+    /// Whether a worker has ended, or is to: then all are.
+    pub(crate) fn has_ended(&self) -> bool {
+        self.desk.halted(self.host) || self.workers.iter().any(|worker| worker.is_none())
+    }
+
+    /// So much time passes, if nobody has too much to do.
+    pub(crate) fn pass(&mut self, due: &mut Vec<usize>, time: u64) -> Option<()> {
+        let until = self.world().try_borrow().ok()?.now.saturating_add(time);
+        for _ in 0..REST_STEPS {
+            self.step(due, until)?;
+            if self.world().try_borrow().ok()?.now >= until {
+                return Some(());
+            }
+        }
+        self.note(Some("it never rests"));
+        Some(())
+    }
+
+    /// How often workers have polled.
+    pub(crate) fn polls(&self) -> Option<u64> {
+        let world = self.world().try_borrow().ok()?;
+        let workers = world.threads.iter().take(self.workers.len());
+        Some(workers.fold(0u64, |sum, thread| sum.saturating_add(thread.polls)))
+    }
+
+    /// Opens a connection of this host, and sends these bytes.
+    pub(crate) fn open(&mut self, bytes: &[u8]) -> Option<usize> {
+        let mut world = self.world().try_borrow_mut().ok()?;
+        let number = world.connect(0, true)?;
+        world.send(number, bytes);
+        Some(number)
+    }
+
+    /// Has these connections read what comes, for as long as an answer takes at rest.
+    pub(crate) fn hear(&mut self, due: &mut Vec<usize>, numbers: &[usize]) -> Option<()> {
+        for _ in 0..ROUNDS {
+            self.pass(due, ROUND_US)?;
+            let mut world = self.world().try_borrow_mut().ok()?;
+            for number in numbers {
+                world.receive(*number, usize::MAX);
+            }
+        }
+        Some(())
+    }
+
+    /// The names that are listed at rest are those of the nodes that hold them.
+    pub(crate) fn list(&mut self, due: &mut Vec<usize>) -> Option<()> {
+        let number = self.open(&[0, 1, 0x6E])?;
+        self.hear(due, &[number])?;
+        let world = self.world().try_borrow().ok()?;
+        let listed = read_names(self.alloc, &world.wires.get(number)?.received);
+        drop(world);
+        let is_so = match listed {
+            Ok((_, lines)) => self.are_holders(&lines),
+            Err(_) => false,
+        };
+        if !is_so {
+            self.note(Some("the names at rest are not those of who holds them"));
+        }
+        Some(())
+    }
+
+    /// Whether these are the names of those who hold one.
+    pub(crate) fn are_holders(&self, lines: &[Line]) -> bool {
+        let mut count = 0usize;
+        for person in &self.people {
+            if person.holds() {
+                count = count.saturating_add(1);
+                let name = person.name();
+                if !lines
+                    .iter()
+                    .any(|line| line.name.bytes() == name.as_slice())
+                {
+                    return false;
+                }
+            }
+        }
+        count == lines.len()
+    }
+
+    /// Each place that nobody holds at rest can be had, and each such connection is answered.
+    pub(crate) fn fill(&mut self, due: &mut Vec<usize>, conn_max: u32) -> Option<()> {
+        let held = self.people.iter().filter(|person| person.holds()).count();
+        let mut numbers = Vec::new(self.alloc);
+        for _ in held..conn_max as usize {
+            numbers.push(self.open(&[0, 1])?).ok()?;
+        }
+        self.hear(due, &numbers)?;
+        for number in &numbers {
+            let mut world = self.world().try_borrow_mut().ok()?;
+            world.send(*number, &[0x6E]);
+        }
+        self.hear(due, &numbers)?;
+        let mut are_answered = true;
+        for number in &numbers {
+            let world = self.world().try_borrow().ok()?;
+            let wire = world.wires.get(*number)?;
+            are_answered = are_answered && wire.is_down_ended && !wire.received.is_empty();
+        }
+        if !are_answered {
+            self.note(Some("a place at rest can't be had"));
+        }
+        Some(())
+    }
+
+    /// The storm is over.
+    pub(crate) fn retire(&mut self) -> Option<()> {
+        let mut world = self.world().try_borrow_mut().ok()?;
+        world.calm();
+        for person in &mut self.people {
+            person.retire(&mut world);
+        }
+        Some(())
+    }
+
+    /// It ends: since it has begun to, or is made to.
+    pub(crate) fn end(&mut self, scenario: &Scenario) -> Option<()> {
+        let has_ended = self.has_ended();
+        if has_ended && !scenario.may_end {
+            self.note(Some("it has ended"));
+        }
+        self.is_ending = true;
+        let until = {
+            let mut world = self.world().try_borrow_mut().ok()?;
+            world.calm();
+            world.now.saturating_add(END_US)
+        };
+        if !has_ended {
+            self.shared.stop_all();
+        }
+        let mut due = Vec::new(self.alloc);
+        for _ in 0..REST_STEPS {
+            if self.drained.is_some() && !self.is_writing {
+                return Some(());
+            }
+            if self.world().try_borrow().ok()?.now >= until {
+                break;
+            }
+            self.step(&mut due, until)?;
+        }
+        self.wrong = self.wrong.or(Some("it does not end"));
+        Some(())
+    }
+}
