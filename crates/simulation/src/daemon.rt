@@ -39,6 +39,8 @@ pub struct Daemon<'a, L: Ledger, S: Steps, R: Wait + Drop> {
     pub(crate) wrong: Option<Wrong>,
     /// The daemon is to end, or has ended: nobody is owed anything.
     pub(crate) is_ending: bool,
+    /// No connection is given up for another one.
+    pub(crate) is_strict: bool,
     pub(crate) is_traced: bool,
     pub(crate) trace: Vec<Step>,
 }
@@ -164,6 +166,9 @@ impl<'a, L: Ledger, S: Steps, R: Wait + Drop> Daemon<'a, L, S, R> {
             if worker.acts() > before {
                 self.opened.push(fresh).ok()?;
             }
+        }
+        if worker.source().is_unfair() && self.is_strict {
+            self.note(Some("one was told late of whom there was news"));
         }
         if goes_on {
             *self.workers.get_mut(number)? = Some(worker);

@@ -30,6 +30,8 @@ pub enum Role {
     Babbler,
     /// Registers a name of its own and goes on sending.
     Talker,
+    /// Asks for the list of names, and says the last of that about when its time is over.
+    Tardy,
 }
 
 /// What somebody is about.
@@ -90,6 +92,9 @@ pub struct Person {
 
 /// A name that another node holds is refused within this time.
 const REFUSAL_US: u64 = 200_000;
+
+/// When the look comes at which those are late who came at the beginning.
+const TARDY_US: u64 = 6_850_000;
 
 /// What was wrong.
 pub type Wrong = &'static str;
@@ -156,7 +161,9 @@ impl Person {
                 request.extend_from_slice(&[0, 3, 0x73]).ok()?;
                 request.extend_from_slice(&name).ok()?;
             }
-            Role::Lister | Role::Slow => request.extend_from_slice(&[0, 1, 0x6E]).ok()?,
+            Role::Lister | Role::Slow | Role::Tardy => request
+                .extend_from_slice(&[0, 1, 0x6E])
+                .ok()?,
             Role::Dumper => request.extend_from_slice(&[0, 1, 0x64]).ok()?,
             Role::Killer => request.extend_from_slice(&[0, 1, 0x6B]).ok()?,
             Role::Silent => {}
@@ -198,6 +205,8 @@ impl Person {
         let count = if self.role == Role::Node {
             // A node writes its registration at once.
             left
+        } else if self.role == Role::Tardy {
+            left.min(2)
         } else if self.role == Role::Dripper || world.happens(Fault::Dripped) {
             left.min(1)
         } else {
@@ -209,7 +218,14 @@ impl Person {
         }
         self.sent = end;
         if self.sent < self.request.len() {
-            self.next_at = world.now.saturating_add(world.random.below(3000));
+            let most = if self.role == Role::Tardy {
+                // Its time has begun with the first look, and is over at the look behind its end.
+                TARDY_US.saturating_sub(world.now).saturating_add(20_000)
+            } else {
+                3000
+            };
+            let least = most.saturating_sub(20_000);
+            self.next_at = world.now.saturating_add(world.random.between(least, most));
             return;
         }
         self.next_at = u64::MAX;
@@ -225,7 +241,7 @@ impl Person {
             }
             Role::Slow => self.next_at = world.now.saturating_add(world.random.below(50_000)),
             Role::Node | Role::Rival | Role::Seeker | Role::Lister | Role::Dumper => {}
-            Role::Killer | Role::Stopper | Role::Talker => {}
+            Role::Killer | Role::Stopper | Role::Talker | Role::Tardy => {}
         }
     }
 
@@ -306,7 +322,8 @@ impl Person {
     /// Whether any port mapper has an answer to what it asks of its own host.
     fn is_answered_by_all(&self) -> bool {
         match self.role {
-            Role::Stopper | Role::Silent | Role::Dripper | Role::Babbler => false,
+            Role::Stopper | Role::Silent | Role::Dripper => false,
+            Role::Babbler | Role::Tardy => false,
             Role::Node | Role::Rival | Role::Talker | Role::Seeker => true,
             Role::Lister | Role::Dumper | Role::Slow | Role::Killer => true,
         }

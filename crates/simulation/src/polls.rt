@@ -128,6 +128,7 @@ impl World {
                         wire.news_at = None;
                     } else if (is_due || is_spurious) && thread.reports.len() < EVENTS_MOST {
                         wire.news_at = None;
+                        wire.is_reported = true;
                         let is_closed = wire.is_up_ended && !wire.is_reset;
                         let key = watch.key;
                         let report = Report::Stream { key, is_closed };

@@ -103,7 +103,15 @@ impl<'a, L: Ledger, S: Steps, R: Wait + Drop> Daemon<'a, L, S, R> {
         let held = self.people.iter().filter(|person| person.holds()).count();
         let mut numbers = Vec::new(self.alloc);
         for _ in held..conn_max as usize {
-            numbers.push(self.open(&[0, 1])?).ok()?;
+            let number = match self.open(&[0, 1]) {
+                Some(number) => number,
+                None => {
+                    // Too many wait at the listener.
+                    self.pass(due, ROUND_US)?;
+                    self.open(&[0, 1])?
+                }
+            };
+            numbers.push(number).ok()?;
         }
         self.hear(due, &numbers)?;
         for number in &numbers {

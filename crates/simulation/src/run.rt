@@ -143,6 +143,7 @@ impl<'a, L: Ledger, S: Steps, R: Wait + Drop> Daemon<'a, L, S, R> {
             tally: NOBODY,
             wrong: None,
             is_ending: false,
+            is_strict: case.scenario.is_strict,
             is_traced: case.is_traced,
             trace: Vec::new(alloc),
         };
@@ -278,7 +279,12 @@ pub fn run_case<L: Ledger, R: Wait + Drop>(
     requires enough { blank.parts ≡ PARTS }
 {
     let threads = (case.workers as usize).saturating_add(1);
-    let world = World::new(alloc, case.seed, case.scenario.chances, threads)?;
+    let Scenario {
+        chances,
+        backlog_most,
+        ..
+    } = case.scenario;
+    let world = World::new(alloc, case.seed, *chances, threads, *backlog_most)?;
     let world = Rc::new(alloc, RefCell::new(world)).ok()?;
     let host = SimHost { rt, world };
     at_desk::<L, R>(&host, alloc, blank, case)

@@ -12,6 +12,8 @@ pub struct Scenario {
     pub chances: Chances,
     /// What peers ask of the port mapper is not checked: it may be ended, and names may be stopped.
     pub is_relaxed: bool,
+    /// The most connections that wait at a listener.
+    pub backlog_most: usize,
     pub conn_max: u32,
     pub known_max: u32,
     /// A file of the recording that has so many bytes is full.
@@ -44,6 +46,8 @@ const LATE_COMERS: &[Crowd] = &[
     Crowd(Role::Seeker, 10, true),
     Crowd(Role::Lister, 10, true),
 ];
+
+const TARDY: &[Crowd] = &[Crowd(Role::Tardy, 180, true), Crowd(Role::Seeker, 1, true)];
 
 const RIVALS: &[Crowd] = &[Crowd(Role::Node, 3, true), Crowd(Role::Rival, 4, true)];
 
@@ -92,6 +96,7 @@ const USUAL: Scenario = Scenario {
     people: BUSTLE,
     chances: &[],
     is_relaxed: false,
+    backlog_most: 512,
     conn_max: 64,
     known_max: 64,
     file_bytes_most: PLENTY,
@@ -114,6 +119,8 @@ pub const SCENARIOS: &[Scenario] = &[
     },
     Scenario {
         name: "accepts",
+        backlog_most: 3,
+        limit_ms: 3000,
         chances: &[
             (Fault::Aborted, 30),
             (Fault::Exhausted, 20),
@@ -198,6 +205,12 @@ pub const SCENARIOS: &[Scenario] = &[
         people: LATE_COMERS,
         chances: &[(Fault::Stopped, 5), (Fault::Late, 300)],
         limit_ms: 30_000,
+        ..USUAL
+    },
+    Scenario {
+        name: "tardy",
+        people: TARDY,
+        conn_max: 256,
         ..USUAL
     },
     Scenario {

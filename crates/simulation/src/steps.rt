@@ -23,6 +23,8 @@ pub struct Stepped<'a, L: Ledger, R: Wait + Drop> {
     fresh: Option<usize>,
     /// What it told last.
     told: Option<Turn>,
+    /// It has told one late of which there was news.
+    is_unfair: bool,
 }
 
 impl<'a, L: Ledger, R: Wait + Drop> Stepped<'a, L, R> {
@@ -32,6 +34,7 @@ impl<'a, L: Ledger, R: Wait + Drop> Stepped<'a, L, R> {
             source,
             fresh: None,
             told: None,
+            is_unfair: false,
         }
     }
 }
@@ -47,6 +50,13 @@ impl<L: Ledger, R: Wait + Drop> Source for Stepped<'_, L, R> {
                 Some(link) => Some(link.stream().number()),
                 None => None,
             };
+        }
+        if let Turn::Late(key) = turn {
+            let has_news = match self.source.link(key) {
+                Some(link) => link.stream().has_news(),
+                None => false,
+            };
+            self.is_unfair = self.is_unfair || has_news;
         }
         turn
     }
@@ -67,6 +77,9 @@ pub trait Steps: Source + Drop {
 
     /// What it told last.
     fn told(&self) -> Option<Turn>;
+
+    /// Whether it has told one late of which there was news.
+    fn is_unfair(&self) -> bool;
 }
 
 impl<L: Ledger, R: Wait + Drop> Steps for Stepped<'_, L, R> {
@@ -76,5 +89,9 @@ impl<L: Ledger, R: Wait + Drop> Steps for Stepped<'_, L, R> {
 
     fn told(&self) -> Option<Turn> {
         self.told
+    }
+
+    fn is_unfair(&self) -> bool {
+        self.is_unfair
     }
 }

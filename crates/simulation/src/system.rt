@@ -35,6 +35,17 @@ impl SimStream {
     pub fn number(&self) -> usize {
         self.number
     }
+
+    /// Whether bytes were reported that were not read.
+    pub fn has_news(&self) -> bool {
+        match self.world.try_borrow() {
+            Ok(world) => {
+                let wire = world.wires.get(self.number);
+                wire.is_some_and(|wire| wire.is_reported && !wire.up.is_empty())
+            }
+            Err(_) => false,
+        }
+    }
 }
 
 impl Drop for SimStream {

@@ -31,6 +31,8 @@ pub struct Wire {
     pub watch: Option<Watch>,
     /// From when on the poll of who watches reports it; none if there is nothing that was not reported.
     pub news_at: Option<u64>,
+    /// A poll has reported it, and it was not read since.
+    pub is_reported: bool,
     /// There is news for the peer.
     pub has_peer_news: bool,
 }

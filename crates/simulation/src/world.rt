@@ -13,9 +13,6 @@ use std::io::ErrorKind;
 /// How many listeners a daemon has.
 pub const LISTENERS: usize = 2;
 
-/// The most connections that wait at a listener.
-const BACKLOG_MOST: usize = 128;
-
 /// What a peer has done, and the daemon can't see before this time.
 #[derive(Drop)]
 struct Flight {
@@ -36,6 +33,8 @@ pub struct World {
     pub wires: Vec<Wire>,
     /// What is underway, in the order in which it was done.
     flights: VecDeque<Flight>,
+    /// The most connections that wait at a listener.
+    backlog_most: usize,
     /// The connections that wait at each listener.
     pub(crate) backlogs: Vec<VecDeque<usize>>,
     pub threads: Vec<Thread>,
@@ -57,7 +56,13 @@ pub struct World {
 
 impl World {
     /// A world with so many threads, in which nothing has happened.
-    pub fn new(alloc: Global, seed: u64, chances: Chances, threads: usize) -> Option<World> {
+    pub fn new(
+        alloc: Global,
+        seed: u64,
+        chances: Chances,
+        threads: usize,
+        backlog_most: usize,
+    ) -> Option<World> {
         let mut backlogs = Vec::new(alloc);
         for _ in 0..LISTENERS {
             backlogs.push(VecDeque::new(alloc)).ok()?;
@@ -69,6 +74,7 @@ impl World {
             now: 1_000_000,
             wires: Vec::new(alloc),
             flights: VecDeque::new(alloc),
+            backlog_most,
             backlogs,
             threads: Vec::new(alloc),
             exhausted_until: 0,
@@ -124,7 +130,7 @@ impl World {
     /// A peer connects at a listener. The number of the connection; none if too many wait there.
     pub fn connect(&mut self, place: usize, is_local: bool) -> Option<usize> {
         let backlog = self.backlogs.get_mut(place)?;
-        if backlog.len() >= BACKLOG_MOST {
+        if backlog.len() >= self.backlog_most {
             return None;
         }
         let room = if self.random.happens(200) { 64 } else { 65_536 };
@@ -139,6 +145,7 @@ impl World {
             received: Vec::new(self.alloc),
             watch: None,
             news_at: None,
+            is_reported: false,
             has_peer_news: false,
         };
         let number = self.wires.len();
@@ -257,6 +264,7 @@ impl World {
         let Some(wire) = self.wires.get_mut(number) else {
             return Err(io::Error::from(ErrorKind::Other));
         };
+        wire.is_reported = false;
         if wire.is_reset {
             return Err(io::Error::from(ErrorKind::ConnectionReset));
         }
