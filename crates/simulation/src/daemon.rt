@@ -1,9 +1,10 @@
 //! The parts of a daemon in a world, and who does something next.
-use crate::people::{Person, Role, Stage, Tally, Wrong};
+use crate::people::{Person, Role, Tally, Wrong};
 use crate::scenario::Scenario;
 use crate::steps::{Step, Steps};
 use crate::system::{SharedWorld, SimFile, SimHost, SimWaker};
 use crate::weather::Fault;
+use crate::world::World;
 use portmap_book::{Desk, Seat};
 use portmap_daemon::{Drain, Drained, Open, RecordQueue, RecordWriter, Shared, Worker};
 use std::alloc::Global;
@@ -12,6 +13,9 @@ use std::sync::ledger::Ledger;
 
 /// One place of so many is kept for this host.
 const KEPT_SHARE: u32 = 8;
+
+/// The most bytes that the log takes, by its own reckoning.
+const LOG_BYTES_MOST: u64 = 400_000;
 
 /// A worker of the daemon in the world.
 pub type SimWorker<'a, L, S, R> = Worker<'a, L, S, Open, SimHost<R>>;
@@ -57,73 +61,61 @@ impl<'a, L: Ledger, S: Steps, R: Wait + Drop> Daemon<'a, L, S, R> {
         }
     }
 
-    /// Who may do something now: workers, then who takes the log out, who writes it, and people.
-    pub(crate) fn due(&self, due: &mut Vec<usize>) -> Option<()> {
-        due.clear();
-        let world = self.world().try_borrow().ok()?;
+    /// From when on somebody may do something: workers, then who takes the log out, who writes it, and people; none if there is nothing
+    /// to do.
+    fn due_at(&self, world: &World, actor: usize) -> Option<u64> {
         let count = self.workers.len();
-        for (number, worker) in self.workers.iter().enumerate() {
-            if worker.is_some() && world.is_due(number) {
-                due.push(number).ok()?;
-            }
+        if let Some(worker) = self.workers.get(actor) {
+            worker.as_ref()?;
+            return world.due_at(actor);
         }
-        if self.drained.is_none() && world.is_due(count) {
-            due.push(count).ok()?;
+        if actor == count {
+            return if self.drained.is_none() { world.due_at(actor) } else { None };
         }
-        if self.is_writing && world.stalled_until <= world.now && !self.queue.is_idle(self.host) {
-            due.push(count.saturating_add(1)).ok()?;
+        if actor == count.saturating_add(1) {
+            let has_work = self.is_writing && !self.queue.is_idle(self.host);
+            return if has_work { Some(world.stalled_until) } else { None };
         }
-        for (number, person) in self.people.iter().enumerate() {
-            if person.is_due(&world) {
-                due.push(count.saturating_add(2).saturating_add(number))
-                    .ok()?;
-            }
-        }
-        Some(())
+        let person = self.people.get(actor.saturating_sub(count).saturating_sub(2))?;
+        person.due_at(world)
     }
 
-    /// The time when somebody has something to do next.
-    pub(crate) fn next_time(&self) -> Option<u64> {
+    /// Finds who may do something now, and the time when somebody else may.
+    fn find_due(&self, due: &mut Vec<usize>) -> Option<u64> {
+        due.clear();
         let world = self.world().try_borrow().ok()?;
-        let mut next = u64::MAX;
-        for (number, worker) in self.workers.iter().enumerate() {
-            if worker.is_some() {
-                next = next.min(world.due_at(number).unwrap_or(u64::MAX));
+        let mut next = world.lands_at().unwrap_or(u64::MAX);
+        let count = self.workers.len().saturating_add(2).saturating_add(self.people.len());
+        for actor in 0..count {
+            match self.due_at(&world, actor) {
+                Some(at) if at <= world.now => due.push(actor).ok()?,
+                Some(at) => next = next.min(at),
+                None => {}
             }
         }
-        if self.drained.is_none() {
-            next = next.min(world.due_at(self.workers.len()).unwrap_or(u64::MAX));
-        }
-        if self.is_writing && !self.queue.is_idle(self.host) {
-            next = next.min(world.stalled_until);
-        }
-        for person in &self.people {
-            if person.stage != Stage::Gone {
-                next = next.min(person.next_at);
-            }
-        }
-        Some(next.min(world.lands_at().unwrap_or(u64::MAX)))
+        Some(next)
     }
 
     /// One step of somebody who has something to do, or time passes until somebody has, up to this time.
     pub(crate) fn step(&mut self, due: &mut Vec<usize>, until: u64) -> Option<()> {
-        self.due(due)?;
+        let next = self.find_due(due)?;
         let count = due.len();
-        if count == 0 {
-            let next = self.next_time()?;
-            let mut world = self.world().try_borrow_mut().ok()?;
-            world.now = next.min(until).max(world.now);
-            world.land();
-            return Some(());
-        }
+        let workers = self.workers.len();
         let chosen = {
             let mut world = self.world().try_borrow_mut().ok()?;
-            world.now = world.now.saturating_add(world.random.between(1, 30));
-            world.land();
+            if count == 0 {
+                world.now = next.min(until).max(world.now);
+                world.land();
+                return Some(());
+            }
             let place = world.random.below(count as u64) as usize;
-            due.get(place).copied()?
+            let chosen = due.get(place).copied()?;
+            let is_slow = chosen < workers && world.happens(Fault::Slow);
+            let most = if is_slow { 2000 } else { 30 };
+            world.now = world.now.saturating_add(world.random.between(1, most));
+            world.land();
+            chosen
         };
-        let workers = self.workers.len();
         if chosen < workers {
             self.work(chosen)?;
         } else if chosen == workers {
@@ -153,10 +145,12 @@ impl<'a, L: Ledger, S: Steps, R: Wait + Drop> Daemon<'a, L, S, R> {
     pub(crate) fn work(&mut self, number: usize) -> Option<()> {
         {
             let mut world = self.world().try_borrow_mut().ok()?;
-            if world.happens(Fault::Held) {
-                let until = world.now.saturating_add(world.random.below(500_000));
-                world.hold(number, until);
-                return Some(());
+            for (fault, most) in [(Fault::Held, 500_000), (Fault::Stuck, 30_000_000)] {
+                if world.happens(fault) {
+                    let until = world.now.saturating_add(world.random.below(most));
+                    world.hold(number, until);
+                    return Some(());
+                }
             }
         }
         let mut worker = self.workers.get_mut(number)?.take()?;
@@ -227,15 +221,19 @@ impl<'a, L: Ledger, S: Steps, R: Wait + Drop> Daemon<'a, L, S, R> {
     /// Who has waited for longer than anybody may.
     pub(crate) fn look(&mut self, scenario: &Scenario) -> Option<()> {
         let world = self.world().try_borrow().ok()?;
-        let now = world.now;
         let remote = world.remote;
+        let slack = scenario.limit_ms.saturating_mul(1000);
+        let is_late = self.people.iter().any(|person| person.is_late(&world, slack));
+        let is_kept = self.people.iter().any(|person| person.is_kept(&world, slack));
         drop(world);
-        let is_late = self.people.iter().any(|person| {
-            let waited = person.waited(now) / 1000;
-            waited > scenario.limit_ms && person.is_local && person.role != Role::Slow
-        });
+        if self.desk.weight(self.host) > LOG_BYTES_MOST {
+            self.note(Some("the log is not taken out"));
+        }
         if is_late {
             self.note(Some("an answer took too long"));
+        }
+        if is_kept {
+            self.note(Some("a connection of no use is kept for too long"));
         }
         // One that waits for a place may be at each worker beside those that have one.
         let kept = scenario.conn_max / KEPT_SHARE;

@@ -5,9 +5,6 @@ use portmap_core::Entry;
 use portmap_record::{Record, RecordFault, Version, check, read_record};
 use std::alloc::Global;
 
-/// A file has no more bytes before its first entry.
-const HEADER_MOST: usize = 8192;
-
 /// What each connection was told, by the log.
 #[derive(Drop)]
 struct Told {
@@ -62,7 +59,7 @@ impl Told {
                 return Some("a peer has what it was not told");
             }
             let has = wire.received.len().saturating_add(wire.down.len());
-            if has < told.len() && wire.is_down_ended && !wire.is_up_ended && !wire.is_reset {
+            if has < told.len() && wire.is_ended_well {
                 return Some("a peer lacks what it was told");
             }
         }
@@ -70,24 +67,55 @@ impl Told {
     }
 }
 
-/// What is wrong with the files as a kill would have left them: cut anywhere, the whole entries of each are a run.
-fn judge_fronts(alloc: Global, world: &mut World) -> Option<Wrong> {
-    for file in &world.files {
-        let least = file.len().min(HEADER_MOST);
-        let cut = world.random.between(least as u64, file.len() as u64) as usize;
-        let front = file.get(..cut).unwrap_or(&[]);
-        let read = match read_record(alloc, front) {
-            Err(RecordFault::Truncated(at)) => {
-                read_record(alloc, front.get(..at as usize).unwrap_or(&[]))
-            }
-            read => read,
-        };
-        let is_run = read.is_ok_and(|record| check(alloc, &record).is_ok());
-        if !is_run && least == HEADER_MOST {
-            return Some("a file that was cut is no run");
+/// What a file has, as a run that goes on where the files before it have ended. None if it has no beginning: it was cut before that, or
+/// couldn't be begun.
+fn read_file(
+    alloc: Global,
+    file: &[u8],
+    next: &mut u64,
+    is_cut: bool,
+) -> Result<Option<Record>, Wrong> {
+    let read = match read_record(alloc, file) {
+        Err(RecordFault::Truncated(0)) if is_cut => return Ok(None),
+        Err(RecordFault::Truncated(place)) if is_cut => {
+            read_record(alloc, file.get(..place).unwrap_or(&[]))
         }
+        read => read,
+    };
+    let Ok(record) = read else {
+        return Err("a file is no record");
+    };
+    if check(alloc, &record).is_err() {
+        return Err("a file is no run");
     }
-    None
+    let first = match &record.version {
+        Version::One => 0,
+        Version::Two { first, .. } => *first,
+    };
+    if first != *next {
+        return Err("a file does not begin where the one before it ended");
+    }
+    *next = first.saturating_add(record.entries.len() as u64);
+    Ok(Some(record))
+}
+
+/// What is wrong with the files as a kill has left them: the last one is cut anywhere, since what was written last may be lost.
+fn judge_killed(alloc: Global, world: &mut World) -> Result<(), Wrong> {
+    let mut next = 0u64;
+    let count = world.killed.len();
+    for (number, file) in world.killed.iter().enumerate() {
+        let is_last = number.saturating_add(1) == count;
+        if file.is_empty() {
+            continue;
+        }
+        let size = if is_last {
+            world.random.below((file.len() as u64).saturating_add(1)) as usize
+        } else {
+            file.len()
+        };
+        read_file(alloc, file.get(..size).unwrap_or(&[]), &mut next, is_last)?;
+    }
+    Ok(())
 }
 
 /// What is wrong with a daemon that opened these connections in this order; the outer none is want of memory.
@@ -99,7 +127,10 @@ pub fn judge(alloc: Global, world: &mut World, opened: &[usize]) -> Option<Optio
     if world.is_disk_full != has_failed || world.told_failed > 1 {
         return Some(Some("a recording that fails is told once"));
     }
-    if let Some(wrong) = judge_fronts(alloc, world) {
+    if world.unaccepted > 0 && world.told_unaccepted == 0 {
+        return Some(Some("the operator is not told of what can't be accepted"));
+    }
+    if let Err(wrong) = judge_killed(alloc, world) {
         return Some(Some(wrong));
     }
     let mut next = 0u64;
@@ -109,31 +140,17 @@ pub fn judge(alloc: Global, world: &mut World, opened: &[usize]) -> Option<Optio
         opened: 0,
     };
     for file in &world.files {
-        // A file that couldn't be begun is empty.
         if has_failed && file.is_empty() {
             continue;
         }
-        let Ok(record) = read_record(alloc, file) else {
-            return Some(Some("a file is no record"));
-        };
-        if check(alloc, &record).is_err() {
-            return Some(Some("a file is no run"));
-        }
-        let first = match &record.version {
-            Version::One => 0,
-            Version::Two { first, .. } => *first,
-        };
-        if first != next {
-            return Some(Some("a file does not begin where the one before it ended"));
-        }
-        let Record {
-            config: _,
-            version: _,
-            entries,
-        } = record;
-        next = next.saturating_add(entries.len() as u64);
-        for entry in &entries {
-            told.note(alloc, opened, entry)?;
+        match read_file(alloc, file, &mut next, false) {
+            Err(wrong) => return Some(Some(wrong)),
+            Ok(None) => {}
+            Ok(Some(record)) => {
+                for entry in &record.entries {
+                    told.note(alloc, opened, entry)?;
+                }
+            }
         }
     }
     if has_failed {

@@ -1,6 +1,6 @@
 //! Nodes, tools and strangers: the peers of a daemon.
 use crate::weather::Fault;
-use crate::world::{LISTENERS, World};
+use crate::world::{Ending, LISTENERS, World};
 use std::alloc::Global;
 
 /// What somebody wants of a port mapper.
@@ -16,8 +16,12 @@ pub enum Role {
     Lister,
     /// Asks for all that is known.
     Dumper,
-    /// Asks for the list of names and reads it byte by byte.
+    /// Asks for the list of names and reads it late, or byte by byte.
     Slow,
+    /// Asks for the list of names, a byte each three seconds.
+    Plodder,
+    /// Asks for the list of names and reads nothing.
+    Unreading,
     /// Asks the port mapper to end.
     Killer,
     /// Asks for a node to be stopped.
@@ -84,14 +88,30 @@ pub struct Person {
     pub next_at: u64,
     request: Vec<u8>,
     sent: usize,
-    /// How often it has come.
+    /// When it came last, and how often it has come.
+    came_at: u64,
     times: u32,
+    /// A node that comes back has its name within so many microseconds.
+    pub patience: u64,
+    /// Who registers nothing comes as a multiple of so many microseconds has passed, together with all others, and nodes leave then.
+    pub burst: u64,
+    /// It holds its name for so many microseconds at most, most of the time.
+    pub hold_most: u64,
     /// It is owed nothing: it may be closed, or refused.
     pub is_lenient: bool,
 }
 
 /// A name that another node holds is refused within this time.
 const REFUSAL_US: u64 = 200_000;
+
+/// Who asks within so much time is owed an answer, however late that is seen.
+const PROMPT_US: u64 = 1_000_000;
+
+/// A connection that asks nothing, or reads nothing, is given up so soon: its timeout, a look and a second later.
+const GIVEN_UP_US: u64 = 6_500_000;
+
+/// A plodder sends a byte each so many microseconds.
+const PLODDER_US: u64 = 3_500_000;
 
 /// When the look comes at which those are late who came at the beginning.
 const TARDY_US: u64 = 6_850_000;
@@ -110,14 +130,22 @@ impl Person {
             next_at,
             request: Vec::new(alloc),
             sent: 0,
+            came_at: 0,
             times: 0,
+            patience: u64::MAX,
+            burst: 1,
+            hold_most: 0,
             is_lenient: false,
         }
     }
 
-    /// Whether it acts now: at its time, or since there is news of its connection.
-    pub fn is_due(&self, world: &World) -> bool {
-        self.stage != Stage::Gone && (self.next_at <= world.now || self.has_news(world))
+    /// From when on it acts: at its time, or since there is news of its connection.
+    pub fn due_at(&self, world: &World) -> Option<u64> {
+        match self.stage {
+            Stage::Gone => None,
+            _ if self.has_news(world) => Some(world.now),
+            _ => Some(self.next_at),
+        }
     }
 
     fn has_news(&self, world: &World) -> bool {
@@ -133,6 +161,34 @@ impl Person {
             Stage::Waiting(since) => now.saturating_sub(since),
             Stage::Away | Stage::Sending | Stage::Holding | Stage::Gone => 0,
         }
+    }
+
+    /// Whether the daemon has kept its connection for longer than that of one that asks nothing, or reads nothing, by more than this.
+    pub fn is_kept(&self, world: &World, slack: u64) -> bool {
+        let is_served = match self.role {
+            Role::Silent | Role::Unreading => false,
+            Role::Dripper => self.is_local,
+            _ => true,
+        };
+        let limit = GIVEN_UP_US.saturating_add(slack);
+        match self.wire.and_then(|wire| world.wires.get(wire)) {
+            Some(wire) if !wire.is_down_ended && !is_served => wire
+                .accepted
+                .is_some_and(|accepted| world.now.saturating_sub(accepted.1) > limit),
+            _ => false,
+        }
+    }
+
+    /// Whether it waits for an answer for longer than this, and the worker that has its connection was not held so long.
+    pub fn is_late(&self, world: &World, limit: u64) -> bool {
+        let reads = match self.role {
+            Role::Slow | Role::Unreading => false,
+            _ => self.is_local,
+        };
+        let wire = self.wire.and_then(|wire| world.wires.get(wire));
+        let worker = wire.and_then(|wire| wire.accepted).map(|accepted| accepted.0);
+        let since = world.held_until(worker).saturating_add(limit);
+        reads && world.now > since && self.waited(world.now) > limit
     }
 
     /// The name that it holds, or asks for.
@@ -161,7 +217,7 @@ impl Person {
                 request.extend_from_slice(&[0, 3, 0x73]).ok()?;
                 request.extend_from_slice(&name).ok()?;
             }
-            Role::Lister | Role::Slow | Role::Tardy => request
+            Role::Lister | Role::Slow | Role::Plodder | Role::Unreading | Role::Tardy => request
                 .extend_from_slice(&[0, 1, 0x6E])
                 .ok()?,
             Role::Dumper => request.extend_from_slice(&[0, 1, 0x64]).ok()?,
@@ -190,6 +246,12 @@ impl Person {
             self.next_at = world.now.saturating_add(1_000_000);
             return;
         }
+        if let Some(wire) = self.wire.and_then(|wire| world.wires.get_mut(wire)) {
+            if self.role == Role::Unreading {
+                wire.room = 1;
+            }
+        }
+        self.came_at = world.now;
         tally.connections = tally.connections.saturating_add(1);
         if self.times > 0 && self.role == Role::Node {
             tally.restarts = tally.restarts.saturating_add(1);
@@ -207,7 +269,7 @@ impl Person {
             left
         } else if self.role == Role::Tardy {
             left.min(2)
-        } else if self.role == Role::Dripper || world.happens(Fault::Dripped) {
+        } else if self.is_dripping() || world.happens(Fault::Dripped) {
             left.min(1)
         } else {
             left.min(world.random.between(1, 64) as usize)
@@ -218,7 +280,9 @@ impl Person {
         }
         self.sent = end;
         if self.sent < self.request.len() {
-            let most = if self.role == Role::Tardy {
+            let most = if self.role == Role::Plodder {
+                PLODDER_US
+            } else if self.role == Role::Tardy {
                 // Its time has begun with the first look, and is over at the look behind its end.
                 TARDY_US.saturating_sub(world.now).saturating_add(20_000)
             } else {
@@ -230,6 +294,9 @@ impl Person {
         }
         self.next_at = u64::MAX;
         self.stage = Stage::Waiting(world.now);
+        if self.asks_once() && world.happens(Fault::Shut) {
+            world.end(wire, Ending::Shut);
+        }
         match self.role {
             Role::Silent | Role::Babbler => self.hold(world),
             Role::Dripper => {
@@ -239,7 +306,15 @@ impl Person {
                 let _ = self.request.push(0);
                 self.next_at = world.now.saturating_add(world.random.below(400_000));
             }
-            Role::Slow => self.next_at = world.now.saturating_add(world.random.below(50_000)),
+            Role::Slow => {
+                let most = if world.random.happens(100) {
+                    3_000_000
+                } else {
+                    50_000
+                };
+                self.next_at = world.now.saturating_add(world.random.below(most));
+            }
+            Role::Unreading | Role::Plodder => {}
             Role::Node | Role::Rival | Role::Seeker | Role::Lister | Role::Dumper => {}
             Role::Killer | Role::Stopper | Role::Talker | Role::Tardy => {}
         }
@@ -251,24 +326,42 @@ impl Person {
         let most = if world.random.happens(100) {
             1_800_000_000
         } else {
-            2_000_000
+            self.hold_most
         };
-        self.next_at = world.now.saturating_add(world.random.below(most));
+        let next_at = world.now.saturating_add(world.random.below(most));
+        self.next_at = self.burst_after(next_at);
     }
 
     /// Leaves, to come back after so many microseconds at most.
     fn leave(&mut self, world: &mut World, most: u64) {
         if let Some(wire) = self.wire.take() {
             let is_reset = world.happens(Fault::Reset);
-            world.end(wire, is_reset);
+            world.end(wire, if is_reset { Ending::Reset } else { Ending::Gone });
         }
         self.stage = Stage::Away;
-        self.next_at = world.now.saturating_add(world.random.below(most));
+        let next_at = world.now.saturating_add(world.random.below(most));
+        self.next_at = match self.role {
+            Role::Node | Role::Rival | Role::Talker => next_at,
+            _ => self.burst_after(next_at),
+        };
+    }
+
+    /// When the next burst comes after this time; without bursts this time.
+    fn burst_after(&self, time: u64) -> u64 {
+        if self.burst > 1 {
+            (time / self.burst).saturating_add(1).saturating_mul(self.burst)
+        } else {
+            time
+        }
     }
 
     /// Reads what has come. What was wrong, if anything was.
     fn hear(&mut self, world: &mut World, number: usize, tally: &mut Tally) -> Option<Wrong> {
-        let most = if self.role == Role::Slow { 1 } else { 65_536 };
+        let most = match self.role {
+            Role::Slow => 1,
+            Role::Unreading => 0,
+            _ => 65_536,
+        };
         world.receive(number, most);
         let now = world.now;
         let (got, is_over, is_reset) = match world.wires.get(number) {
@@ -305,7 +398,9 @@ impl Person {
         if is_over || is_reset {
             tally.unanswered = tally.unanswered.saturating_add(1);
             let is_owed = got == 0 && !is_reset && self.is_local && !self.is_lenient;
-            let is_owed = is_owed && self.is_answered_by_all();
+            let is_prompt = since.saturating_sub(self.came_at) < PROMPT_US;
+            let is_in_time = is_prompt || self.role == Role::Plodder;
+            let is_owed = is_owed && is_in_time && self.is_answered_by_all();
             self.leave(world, 50_000);
             return if is_owed {
                 Some("closed without an answer")
@@ -323,10 +418,23 @@ impl Person {
     fn is_answered_by_all(&self) -> bool {
         match self.role {
             Role::Stopper | Role::Silent | Role::Dripper => false,
-            Role::Babbler | Role::Tardy => false,
+            Role::Babbler | Role::Tardy | Role::Unreading => false,
             Role::Node | Role::Rival | Role::Talker | Role::Seeker => true,
-            Role::Lister | Role::Dumper | Role::Slow | Role::Killer => true,
+            Role::Lister | Role::Dumper | Role::Slow | Role::Plodder | Role::Killer => true,
         }
+    }
+
+    /// Whether it asks for what is known, once.
+    fn asks_once(&self) -> bool {
+        match self.role {
+            Role::Seeker | Role::Lister | Role::Dumper => true,
+            _ => false,
+        }
+    }
+
+    /// Whether it sends byte by byte.
+    fn is_dripping(&self) -> bool {
+        self.role == Role::Dripper || self.role == Role::Plodder
     }
 
     /// Its connection has ended while it waited for nothing.
@@ -352,11 +460,16 @@ impl Person {
         match self.role {
             Role::Node | Role::Talker if result == Some(0) => {
                 tally.registrations = tally.registrations.saturating_add(1);
+                let is_late = self.waited(world.now) > self.patience;
                 self.hold(world);
                 if self.role == Role::Talker {
                     self.next_at = world.now;
                 }
-                None
+                if is_late {
+                    Some("a node waited too long for its name")
+                } else {
+                    None
+                }
             }
             Role::Node | Role::Talker => {
                 tally.refused = tally.refused.saturating_add(1);

@@ -47,14 +47,6 @@ impl Thread {
 }
 
 impl World {
-    /// Whether a thread has something to do: it doesn't wait, or its wait is over.
-    pub fn is_due(&self, number: usize) -> bool {
-        match self.due_at(number) {
-            Some(at) => at <= self.now,
-            None => false,
-        }
-    }
-
     /// From when on a thread has something to do.
     pub fn due_at(&self, number: usize) -> Option<u64> {
         let thread = self.threads.get(number)?;
@@ -73,6 +65,12 @@ impl World {
         Some(at.max(thread.held_until))
     }
 
+    /// How many streams are watched.
+    pub fn watched(&self) -> usize {
+        let threads = self.threads.iter();
+        threads.fold(0usize, |sum, thread| sum.saturating_add(thread.watched.len()))
+    }
+
     /// A thread waits until this time, unless it is woken.
     pub fn wait(&mut self, number: usize, until: u64) {
         if let Some(thread) = self.threads.get_mut(number) {
@@ -86,6 +84,14 @@ impl World {
         if let Some(thread) = self.threads.get_mut(number) {
             thread.held_until = until;
         }
+    }
+
+    /// Until when a worker is, or was, held; without one, until when all are.
+    pub fn held_until(&self, worker: Option<usize>) -> u64 {
+        let workers = self.threads.len().saturating_sub(1);
+        let held = self.threads.iter().take(workers).enumerate();
+        let held = held.filter(|(number, _)| worker.is_none_or(|worker| worker == *number));
+        held.map(|(_, thread)| thread.held_until).min().unwrap_or(0)
     }
 
     /// Ends the wait of a thread.
@@ -231,6 +237,9 @@ impl World {
 
     /// Has a thread's poll report a listener no more.
     pub fn leave(&mut self, number: usize, place: usize) {
+        if self.happens(Fault::Unleft) {
+            return;
+        }
         if let Some(thread) = self.threads.get_mut(number) {
             if let (Some(listens), Some(news)) = (
                 thread.listens.get_mut(place),
@@ -243,15 +252,22 @@ impl World {
     }
 
     /// The next connection that waits at a listener.
-    pub fn accept(&mut self, place: usize) -> io::Result<usize> {
+    pub fn accept(&mut self, thread: usize, place: usize) -> io::Result<usize> {
         if self.happens(Fault::Interrupted) {
             return Err(io::Error::from(ErrorKind::Interrupted));
         }
-        if self.happens(Fault::Exhausted) {
-            self.exhausted_until = self.now.saturating_add(self.random.below(200_000));
+        for (fault, kind) in [
+            (Fault::Exhausted, ErrorKind::Other),
+            (Fault::Unable, ErrorKind::OutOfMemory),
+        ] {
+            if self.happens(fault) {
+                self.exhausted_until = self.now.saturating_add(self.random.below(200_000));
+                self.exhausted_kind = kind;
+            }
         }
         if self.now < self.exhausted_until {
-            return Err(io::Error::from(ErrorKind::Other));
+            self.unaccepted = self.unaccepted.saturating_add(1);
+            return Err(io::Error::from(self.exhausted_kind));
         }
         let Some(number) = self
             .backlogs
@@ -264,8 +280,12 @@ impl World {
             self.reset(number);
             return Err(io::Error::from(ErrorKind::ConnectionAborted));
         }
-        if self.wires.get(number).is_some_and(|wire| !wire.is_local) {
-            self.remote = self.remote.saturating_add(1);
+        let now = self.now;
+        if let Some(wire) = self.wires.get_mut(number) {
+            wire.accepted = Some((thread, now));
+            if !wire.is_local {
+                self.remote = self.remote.saturating_add(1);
+            }
         }
         Ok(number)
     }

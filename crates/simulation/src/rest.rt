@@ -2,17 +2,22 @@
 use crate::daemon::Daemon;
 use crate::scenario::Scenario;
 use crate::steps::Steps;
+use crate::weather::Fault;
+use portmap_daemon::RunFault;
 use portmap_wire::{Line, read_names};
 use std::sync::Wait;
 use std::sync::ledger::Ledger;
 
 /// So many steps are made at most while time passes.
-const REST_STEPS: u32 = 60_000;
+const REST_STEPS: u32 = 200_000;
 
 /// At rest a request is answered within so many rounds.
 const ROUNDS: u32 = 20;
 
 const ROUND_US: u64 = 25_000;
+
+/// A connection that is as old may be given up for another one.
+const OLD_US: u64 = 3_000_000;
 
 /// A daemon that is to end has ended by then.
 const END_US: u64 = 200_000;
@@ -28,7 +33,7 @@ impl<'a, L: Ledger, S: Steps, R: Wait + Drop> Daemon<'a, L, S, R> {
         let until = self.world().try_borrow().ok()?.now.saturating_add(time);
         for _ in 0..REST_STEPS {
             self.step(due, until)?;
-            if self.world().try_borrow().ok()?.now >= until {
+            if self.has_ended() || self.world().try_borrow().ok()?.now >= until {
                 return Some(());
             }
         }
@@ -36,11 +41,31 @@ impl<'a, L: Ledger, S: Steps, R: Wait + Drop> Daemon<'a, L, S, R> {
         Some(())
     }
 
+    pub(crate) fn has_happened(&self, fault: Fault) -> Option<bool> {
+        let world = self.world().try_borrow().ok()?;
+        Some(world.weather.has_happened(fault))
+    }
+
     /// How often workers have polled.
     pub(crate) fn polls(&self) -> Option<u64> {
         let world = self.world().try_borrow().ok()?;
         let workers = world.threads.iter().take(self.workers.len());
         Some(workers.fold(0u64, |sum, thread| sum.saturating_add(thread.polls)))
+    }
+
+    /// At rest the log is taken out and written, and each connection that is open is watched.
+    pub(crate) fn rest(&mut self) -> Option<()> {
+        let is_written = !self.is_writing || self.queue.is_idle(self.host);
+        let is_out = self.desk.weight(self.host) == 0 && is_written;
+        let watched = self.world().try_borrow().ok()?.watched();
+        let holding = self.people.iter().filter(|person| person.holds()).count();
+        if !is_out {
+            self.note(Some("the log at rest is not taken out"));
+        }
+        if watched != holding {
+            self.note(Some("what is watched at rest is not what is open"));
+        }
+        Some(())
     }
 
     /// Opens a connection of this host, and sends these bytes.
@@ -113,7 +138,8 @@ impl<'a, L: Ledger, S: Steps, R: Wait + Drop> Daemon<'a, L, S, R> {
             };
             numbers.push(number).ok()?;
         }
-        self.hear(due, &numbers)?;
+        // So long that one could be given up for another one, if anybody still waited for a place.
+        self.pass(due, OLD_US)?;
         for number in &numbers {
             let mut world = self.world().try_borrow_mut().ok()?;
             world.send(*number, &[0x6E]);
@@ -147,12 +173,15 @@ impl<'a, L: Ledger, S: Steps, R: Wait + Drop> Daemon<'a, L, S, R> {
         if has_ended && !scenario.may_end {
             self.note(Some("it has ended"));
         }
-        self.is_ending = true;
         let until = {
             let mut world = self.world().try_borrow_mut().ok()?;
             world.calm();
             world.now.saturating_add(END_US)
         };
+        if !self.is_fault_right(scenario.may_end)? {
+            self.note(Some("it tells another reason than why it ends"));
+        }
+        self.is_ending = true;
         if !has_ended {
             self.shared.stop_all();
         }
@@ -168,5 +197,17 @@ impl<'a, L: Ledger, S: Steps, R: Wait + Drop> Daemon<'a, L, S, R> {
         }
         self.wrong = self.wrong.or(Some("it does not end"));
         Some(())
+    }
+
+    /// Whether the fault that a daemon tells, if it does, is what has happened.
+    fn is_fault_right(&self, may_end: bool) -> Option<bool> {
+        let is_deaf = self.has_happened(Fault::Deaf)?;
+        let is_starved = may_end && self.has_happened(Fault::Famine)?;
+        Some(match self.shared.fault() {
+            None => !is_deaf && !is_starved,
+            Some(RunFault::Poll) => is_deaf,
+            Some(RunFault::NoMemory) => is_starved || self.has_happened(Fault::Starved)?,
+            Some(RunFault::Listen(_)) => false,
+        })
     }
 }

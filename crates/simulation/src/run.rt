@@ -7,7 +7,7 @@ use crate::people::{NOBODY, Person, Role, Tally, Wrong};
 use crate::scenario::{Crowd, Scenario};
 use crate::steps::{Step, Stepped, Steps};
 use crate::system::{SimHost, SimSystem, SimWaker};
-use crate::weather::Counts;
+use crate::weather::{Counts, Fault};
 use crate::world::World;
 use portmap_book::{Book, Desk, PARTS, Seat};
 use portmap_core::Config;
@@ -24,13 +24,17 @@ use std::sync::ledger::{Blank, Ledger};
 /// How many milliseconds a connection may move no byte.
 const TIMEOUT_MS: u64 = 5000;
 
-/// So long connections that have ended are still on their way out, and so long they are at rest then.
+/// So long connections that have ended are still on their way out.
 const SETTLING_US: u64 = 10_000_000;
 
-const REST_US: u64 = 20_000_000;
+/// A worker polls no more than so often in an hour at rest: three times for each look, since the world's poll answers at once, and once
+/// more when the wait is over.
+const POLLS_MOST: u64 = 25_000;
 
-/// A worker polls no more than so often within the rest.
-const POLLS_AT_REST: u64 = 200;
+/// It has ended so long after memory is gone.
+const STARVED_US: u64 = 20_000_000;
+
+const HOUR_US: u64 = 3_600_000_000;
 
 /// A case: a seed, so many workers, and so many steps of a scenario.
 #[derive(Drop)]
@@ -70,22 +74,40 @@ impl<'a, L: Ledger, S: Steps, R: Wait + Drop> Daemon<'a, L, S, R> {
     /// All of a case: a storm, and the rest after it.
     fn run(&mut self, case: &Case<'_>) -> Option<()> {
         let mut due = Vec::new(self.alloc);
-        for _ in 0..case.steps {
+        let killed_at = {
+            let mut world = self.world().try_borrow_mut().ok()?;
+            world.random.below(u64::from(case.steps)) as u32
+        };
+        for step in 0..case.steps {
+            if step == killed_at {
+                self.world().try_borrow_mut().ok()?.kill()?;
+            }
             self.step(&mut due, u64::MAX)?;
             self.look(case.scenario)?;
             if self.wrong.is_some() || self.has_ended() {
                 return Some(());
             }
         }
+        if self.has_happened(Fault::Famine)? {
+            self.pass(&mut due, STARVED_US)?;
+            if self.has_ended() {
+                return Some(());
+            }
+            if case.scenario.may_end {
+                self.note(Some("it goes on though nothing gets through"));
+            }
+        }
         self.retire()?;
         self.pass(&mut due, SETTLING_US)?;
         let before = self.polls()?;
-        self.pass(&mut due, REST_US)?;
-        if self.polls()?.saturating_sub(before)
-            > POLLS_AT_REST.saturating_mul(self.workers.len() as u64)
-        {
+        let rest = case.scenario.rest_us;
+        self.pass(&mut due, rest)?;
+        let polls = self.polls()?.saturating_sub(before);
+        let most = POLLS_MOST.saturating_mul(self.workers.len() as u64);
+        if polls.saturating_mul(HOUR_US / rest) > most {
             self.note(Some("a worker does not sleep"));
         }
+        self.rest()?;
         self.list(&mut due)?;
         self.fill(&mut due, case.scenario.conn_max)
     }
@@ -191,6 +213,9 @@ fn people_of(alloc: Global, scenario: &Scenario, world: &mut World) -> Option<Ve
                 world.random.below(6) as u8
             };
             let mut person = Person::new(alloc, *role, *is_local, named, next_at);
+            person.patience = scenario.patience_us;
+            person.burst = scenario.burst_us;
+            person.hold_most = scenario.hold_us;
             person.is_lenient = !scenario.is_strict || (has_rivals && owns);
             people.push(person).ok()?;
         }

@@ -18,6 +18,14 @@ pub struct Scenario {
     pub known_max: u32,
     /// A file of the recording that has so many bytes is full.
     pub file_bytes_most: u64,
+    /// A node that comes back has its name within so many microseconds.
+    pub patience_us: u64,
+    /// Who registers nothing comes together with all others, each so many microseconds, and nodes leave then: so several workers accept.
+    pub burst_us: u64,
+    /// A node holds its name for so many microseconds at most, most of the time.
+    pub hold_us: u64,
+    /// So long the world is at rest after the storm, in microseconds.
+    pub rest_us: u64,
     /// Who waits on this host does so for so many milliseconds at most.
     pub limit_ms: u64,
     /// Each request of this host is answered, and each node that has left is let in again.
@@ -51,6 +59,20 @@ const TARDY: &[Crowd] = &[Crowd(Role::Tardy, 180, true), Crowd(Role::Seeker, 1, 
 
 const RIVALS: &[Crowd] = &[Crowd(Role::Node, 3, true), Crowd(Role::Rival, 4, true)];
 
+const HEAVY_LOAD: &[Crowd] = &[
+    Crowd(Role::Node, 20, true),
+    Crowd(Role::Lister, 100, true),
+    Crowd(Role::Seeker, 120, true),
+];
+
+const BESIEGED: &[Crowd] = &[Crowd(Role::Silent, 40, false), Crowd(Role::Seeker, 8, true)];
+
+const RIVALRY: &[Crowd] = &[
+    Crowd(Role::Node, 6, true),
+    Crowd(Role::Rival, 6, true),
+    Crowd(Role::Seeker, 40, true),
+];
+
 const STRANGERS: &[Crowd] = &[
     Crowd(Role::Silent, 12, false),
     Crowd(Role::Dripper, 12, false),
@@ -81,6 +103,27 @@ const READERS: &[Crowd] = &[
     Crowd(Role::Seeker, 2, true),
 ];
 
+const PLODDERS: &[Crowd] = &[
+    Crowd(Role::Plodder, 6, true),
+    Crowd(Role::Node, 2, true),
+    Crowd(Role::Dripper, 1, true),
+];
+
+const UNREADING: &[Crowd] = &[
+    Crowd(Role::Unreading, 6, true),
+    Crowd(Role::Unreading, 3, false),
+    Crowd(Role::Silent, 3, true),
+    Crowd(Role::Dripper, 3, false),
+    Crowd(Role::Node, 4, true),
+    Crowd(Role::Lister, 2, true),
+];
+
+const LOAD: &[Crowd] = &[
+    Crowd(Role::Node, 12, true),
+    Crowd(Role::Lister, 20, true),
+    Crowd(Role::Seeker, 40, true),
+];
+
 const NODES: &[Crowd] = &[Crowd(Role::Node, 12, true)];
 
 const KILLERS: &[Crowd] = &[
@@ -100,6 +143,10 @@ const USUAL: Scenario = Scenario {
     conn_max: 64,
     known_max: 64,
     file_bytes_most: PLENTY,
+    patience_us: u64::MAX,
+    burst_us: 1,
+    hold_us: 2_000_000,
+    rest_us: 20_000_000,
     limit_ms: 1000,
     is_strict: true,
     may_end: false,
@@ -122,8 +169,10 @@ pub const SCENARIOS: &[Scenario] = &[
         backlog_most: 3,
         limit_ms: 3000,
         chances: &[
+            (Fault::Unleft, 100),
             (Fault::Aborted, 30),
             (Fault::Exhausted, 20),
+            (Fault::Unable, 10),
             (Fault::Interrupted, 20),
         ],
         ..USUAL
@@ -136,18 +185,38 @@ pub const SCENARIOS: &[Scenario] = &[
     },
     Scenario {
         name: "threads",
+        people: LOAD,
+        conn_max: 512,
+        burst_us: 100_000,
+        hold_us: 30_000,
         chances: &[(Fault::Held, 5), (Fault::Late, 100)],
         limit_ms: 3000,
         ..USUAL
     },
     Scenario {
         name: "drips",
-        chances: &[(Fault::Dripped, 500)],
+        chances: &[(Fault::Dripped, 500), (Fault::Shut, 300)],
+        ..USUAL
+    },
+    Scenario {
+        name: "plodders",
+        people: PLODDERS,
         ..USUAL
     },
     Scenario {
         name: "resets",
-        chances: &[(Fault::Reset, 300), (Fault::Late, 50)],
+        chances: &[
+            (Fault::Reset, 300),
+            (Fault::Late, 50),
+            (Fault::Broken, 500),
+            (Fault::Interrupted, 100),
+        ],
+        ..USUAL
+    },
+    Scenario {
+        name: "losses",
+        chances: &[(Fault::Lost, 50)],
+        limit_ms: 4000,
         ..USUAL
     },
     Scenario {
@@ -191,8 +260,55 @@ pub const SCENARIOS: &[Scenario] = &[
         ..USUAL
     },
     Scenario {
+        name: "unreading",
+        people: UNREADING,
+        conn_max: 32,
+        ..USUAL
+    },
+    Scenario {
         name: "hours",
         people: NODES,
+        patience_us: 25_000,
+        rest_us: 3_600_000_000,
+        ..USUAL
+    },
+    Scenario {
+        name: "bursts",
+        people: LOAD,
+        conn_max: 512,
+        burst_us: 100_000,
+        hold_us: 30_000,
+        patience_us: 25_000,
+        ..USUAL
+    },
+    Scenario {
+        name: "besieged",
+        people: BESIEGED,
+        conn_max: 16,
+        burst_us: 2_000_000,
+        hold_us: 60_000_000,
+        limit_ms: 300,
+        ..USUAL
+    },
+    Scenario {
+        name: "loaded",
+        people: HEAVY_LOAD,
+        conn_max: 512,
+        chances: &[(Fault::Slow, 1000)],
+        burst_us: 100_000,
+        hold_us: 30_000,
+        limit_ms: 10_000,
+        ..USUAL
+    },
+    Scenario {
+        name: "stuck",
+        chances: &[(Fault::Stuck, 1)],
+        people: RIVALRY,
+        conn_max: 512,
+        burst_us: 100_000,
+        hold_us: 30_000,
+        is_strict: false,
+        limit_ms: 4000,
         ..USUAL
     },
     Scenario {
@@ -203,7 +319,7 @@ pub const SCENARIOS: &[Scenario] = &[
     Scenario {
         name: "stopped",
         people: LATE_COMERS,
-        chances: &[(Fault::Stopped, 5), (Fault::Late, 300)],
+        chances: &[(Fault::Stopped, 5), (Fault::Late, 200), (Fault::Lost, 200)],
         limit_ms: 30_000,
         ..USUAL
     },
@@ -227,13 +343,29 @@ pub const SCENARIOS: &[Scenario] = &[
         ..USUAL
     },
     Scenario {
+        name: "famine",
+        people: NODES,
+        chances: &[(Fault::Famine, 100)],
+        is_strict: false,
+        limit_ms: 10_000,
+        may_end: true,
+        ..USUAL
+    },
+    Scenario {
+        name: "scarce",
+        chances: &[(Fault::Famine, 100)],
+        is_strict: false,
+        limit_ms: 3000,
+        ..USUAL
+    },
+    Scenario {
         name: "stalls",
-        chances: &[(Fault::Stalled, 100), (Fault::Short, 50)],
+        chances: &[(Fault::Stalled, 700), (Fault::Short, 50)],
         ..USUAL
     },
     Scenario {
         name: "full",
-        chances: &[(Fault::Full, 200)],
+        chances: &[(Fault::Full, 1000)],
         ..USUAL
     },
     Scenario {
@@ -256,12 +388,12 @@ pub const SCENARIOS: &[Scenario] = &[
         chances: &[
             (Fault::Interrupted, 30),
             (Fault::Short, 50),
-            (Fault::Aborted, 5),
-            (Fault::Exhausted, 5),
-            (Fault::Unwatched, 10),
+            (Fault::Aborted, 15),
+            (Fault::Exhausted, 15),
+            (Fault::Unwatched, 15),
             (Fault::Late, 100),
             (Fault::Spurious, 10),
-            (Fault::Held, 3),
+            (Fault::Held, 5),
             (Fault::Dripped, 100),
             (Fault::Reset, 50),
         ],

@@ -3,7 +3,7 @@ use crate::weather::Fault;
 use crate::world::{LISTENERS, World};
 use portmap_daemon::{Host, Interest, Notice, RecordFile, Report, Stream, System, Wake};
 use std::alloc::Global;
-use std::cell::RefCell;
+use std::cell::{RefCell, RefMut};
 use std::io;
 use std::io::{ErrorKind, Read, Write};
 use std::net::{IpAddr, Ipv4Addr};
@@ -20,8 +20,12 @@ const OTHER: [u8; 4] = [10, 0, 0, 2];
 /// A world that all parts of a daemon share.
 pub type SharedWorld = Rc<RefCell<World>>;
 
-fn lost() -> io::Error {
-    io::Error::from(ErrorKind::Other)
+/// The world, for one call. Nobody has it for longer.
+fn borrow(world: &SharedWorld) -> io::Result<RefMut<'_, World>> {
+    match world.try_borrow_mut() {
+        Ok(world) => Ok(world),
+        Err(_) => Err(io::Error::from(ErrorKind::Other)),
+    }
 }
 
 /// The daemon's end of a connection.
@@ -62,19 +66,13 @@ impl Drop for SimStream {
 
 impl Read for SimStream {
     fn read(&mut self, buffer: &mut [u8]) -> io::Result<usize> {
-        match self.world.try_borrow_mut() {
-            Ok(mut world) => world.read(self.number, buffer),
-            Err(_) => Err(lost()),
-        }
+        borrow(&self.world)?.read(self.number, buffer)
     }
 }
 
 impl Write for SimStream {
     fn write(&mut self, bytes: &[u8]) -> io::Result<usize> {
-        match self.world.try_borrow_mut() {
-            Ok(mut world) => world.write(self.number, bytes),
-            Err(_) => Err(lost()),
-        }
+        borrow(&self.world)?.write(self.number, bytes)
     }
 
     fn flush(&mut self) -> io::Result<()> {
@@ -129,10 +127,7 @@ impl System for SimSystem {
     }
 
     fn report(&self, place: usize) -> Option<Report> {
-        match self.world.try_borrow() {
-            Ok(world) => world.report(self.thread, place),
-            Err(_) => None,
-        }
+        self.world.try_borrow().ok()?.report(self.thread, place)
     }
 
     fn is_full(&self) -> bool {
@@ -149,10 +144,7 @@ impl System for SimSystem {
         interest: Interest,
         _was_watched: bool,
     ) -> io::Result<()> {
-        match self.world.try_borrow_mut() {
-            Ok(mut world) => world.watch(self.thread, stream.number, key, interest),
-            Err(_) => Err(lost()),
-        }
+        borrow(&self.world)?.watch(self.thread, stream.number, key, interest)
     }
 
     fn listeners(&self) -> usize {
@@ -160,10 +152,7 @@ impl System for SimSystem {
     }
 
     fn listen(&mut self, place: usize) -> io::Result<()> {
-        match self.world.try_borrow_mut() {
-            Ok(mut world) => world.listen(self.thread, place),
-            Err(_) => Err(lost()),
-        }
+        borrow(&self.world)?.listen(self.thread, place)
     }
 
     fn leave(&mut self, place: usize) {
@@ -174,10 +163,8 @@ impl System for SimSystem {
 
     fn accept(&mut self, place: usize) -> io::Result<(SimStream, IpAddr)> {
         let shared = self.world.clone()?;
-        let Ok(mut world) = self.world.try_borrow_mut() else {
-            return Err(lost());
-        };
-        let number = world.accept(place)?;
+        let mut world = borrow(&self.world)?;
+        let number = world.accept(self.thread, place)?;
         let is_local = world.wires.get(number).is_some_and(|wire| wire.is_local);
         let peer = if is_local { OWN } else { OTHER };
         let stream = SimStream {
@@ -197,9 +184,7 @@ pub struct SimFile {
 
 impl Write for SimFile {
     fn write(&mut self, bytes: &[u8]) -> io::Result<usize> {
-        let Ok(mut world) = self.world.try_borrow_mut() else {
-            return Err(lost());
-        };
+        let mut world = borrow(&self.world)?;
         if world.happens(Fault::Interrupted) {
             return Err(io::Error::from(ErrorKind::Interrupted));
         }
@@ -215,7 +200,7 @@ impl Write for SimFile {
             bytes.len()
         };
         let Some(file) = world.files.get_mut(self.number) else {
-            return Err(lost());
+            return Err(io::Error::from(ErrorKind::Other));
         };
         for byte in bytes.iter().take(count) {
             file.push(*byte)?;
@@ -249,12 +234,10 @@ impl<R: Wait + Drop> Wait for SimHost<R> {}
 
 impl<R: Wait + Drop> Clock for SimHost<R> {
     fn monotonic(&self) -> io::Result<Duration> {
-        let Ok(mut world) = self.world.try_borrow_mut() else {
-            return Err(lost());
-        };
+        let mut world = borrow(&self.world)?;
         match world.time() {
             Some(time) => Ok(Duration::from_micros(time)),
-            None => Err(lost()),
+            None => Err(io::Error::from(ErrorKind::Other)),
         }
     }
 
@@ -270,9 +253,7 @@ impl<R: Wait + Drop> Host for SimHost<R> {
 
     fn make(&self, _path: &str) -> io::Result<SimFile> {
         let shared = self.world.clone()?;
-        let Ok(mut world) = self.world.try_borrow_mut() else {
-            return Err(lost());
-        };
+        let mut world = borrow(&self.world)?;
         let number = world.files.len();
         let file = world.new_file();
         world.files.push(file)?;
@@ -284,9 +265,11 @@ impl<R: Wait + Drop> Host for SimHost<R> {
 
     fn tell(&self, notice: Notice) {
         if let Ok(mut world) = self.world.try_borrow_mut() {
-            if notice == Notice::RecordingFailed {
-                world.told_failed = world.told_failed.saturating_add(1);
-            }
+            let told = match notice {
+                Notice::RecordingFailed => &mut world.told_failed,
+                Notice::CannotAccept => &mut world.told_unaccepted,
+            };
+            *told = told.saturating_add(1);
         }
     }
 

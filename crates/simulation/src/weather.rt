@@ -10,30 +10,46 @@ pub enum Fault {
     Short,
     /// The connection that is to be accepted has gone.
     Aborted,
-    /// No connection can be accepted for a while: descriptors have run out, or memory.
+    /// No connection can be accepted for a while: descriptors have run out.
     Exhausted,
+    /// The same for want of memory.
+    Unable,
     /// The poll refuses to report a stream, or a listener.
     Unwatched,
+    /// The poll goes on to report a listener that is left.
+    Unleft,
     /// What a peer does is seen some milliseconds later.
     Late,
+    /// What a peer does is seen up to three seconds later, since what told it was lost and is told again.
+    Lost,
     /// The process is stopped for up to ten seconds as it reads the clock.
     Stopped,
     /// A stream is reported of which there is no news.
     Spurious,
     /// A thread is held for up to half a second between two steps.
     Held,
+    /// A thread is held for up to half a minute.
+    Stuck,
+    /// A step takes up to two milliseconds.
+    Slow,
     /// The clock jumps forward by up to an hour.
     Jump,
     /// The clock can't be read for a while.
     Unread,
     /// No memory can be had for a while.
     Starved,
+    /// No memory can be had for a minute.
+    Famine,
     /// The disk takes nothing for up to three seconds.
     Stalled,
     /// The disk is full from now on.
     Full,
     /// A connection ends by a reset in place of an end.
     Reset,
+    /// A connection that was reset tells so as one that is broken.
+    Broken,
+    /// A peer sends no more behind its request, and reads on.
+    Shut,
     /// Bytes come one by one.
     Dripped,
     /// A poll fails.
@@ -41,22 +57,30 @@ pub enum Fault {
 }
 
 /// Each, with how it is told.
-pub const FAULTS: [(Fault, &str); 17] = [
+pub const FAULTS: [(Fault, &str); 25] = [
     (Fault::Interrupted, "interrupted"),
     (Fault::Short, "short"),
     (Fault::Aborted, "aborted"),
     (Fault::Exhausted, "exhausted"),
+    (Fault::Unable, "unable"),
     (Fault::Unwatched, "unwatched"),
+    (Fault::Unleft, "unleft"),
     (Fault::Late, "late"),
+    (Fault::Lost, "lost"),
     (Fault::Stopped, "stopped"),
     (Fault::Spurious, "spurious"),
     (Fault::Held, "held"),
+    (Fault::Stuck, "stuck"),
+    (Fault::Slow, "slow"),
     (Fault::Jump, "jumps"),
     (Fault::Unread, "unread"),
     (Fault::Starved, "starved"),
+    (Fault::Famine, "famine"),
     (Fault::Stalled, "stalled"),
     (Fault::Full, "full"),
     (Fault::Reset, "reset"),
+    (Fault::Broken, "broken"),
+    (Fault::Shut, "shut"),
     (Fault::Dripped, "dripped"),
     (Fault::Deaf, "deaf"),
 ];
@@ -65,7 +89,7 @@ pub const FAULTS: [(Fault, &str); 17] = [
 pub type Chances = &'static [(Fault, u32)];
 
 /// How often each has happened.
-pub type Counts = [u32; 17];
+pub type Counts = [u32; 25];
 
 /// The weather: what may happen, and how often each has.
 #[derive(Drop)]
@@ -78,7 +102,7 @@ impl Weather {
     pub fn new(chances: Chances) -> Weather {
         Weather {
             chances,
-            happened: [0; 17],
+            happened: [0; 25],
         }
     }
 
@@ -104,10 +128,14 @@ impl Weather {
         }
     }
 
+    /// Whether a fault has happened.
+    pub fn has_happened(&self, fault: Fault) -> bool {
+        let mut each = FAULTS.iter().zip(self.happened);
+        each.any(|(each, count)| each.0 == fault && count > 0)
+    }
+
     /// Whether each fault that may happen has.
     pub fn has_all_happened(&self, chances: Chances) -> bool {
-        FAULTS.iter().zip(self.happened).all(|(each, count)| {
-            count > 0 || !chances.iter().any(|chance| chance.0 == each.0)
-        })
+        chances.iter().all(|chance| self.has_happened(chance.0))
     }
 }

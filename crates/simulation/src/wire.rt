@@ -18,16 +18,22 @@ pub struct Wire {
     pub up: VecDeque<u8>,
     /// The peer sends no more.
     pub is_up_ended: bool,
+    /// The peer has gone: what is sent to it is answered by a reset.
+    pub is_gone: bool,
     /// What the daemon has sent, and the peer has not read.
     pub down: VecDeque<u8>,
     /// How many bytes may be underway to the peer.
     pub room: usize,
     /// The daemon has given the connection up: it sends no more.
     pub is_down_ended: bool,
+    /// It did so by an end, while the peer was there.
+    pub is_ended_well: bool,
     /// The peer has reset the connection, or the daemon has.
     pub is_reset: bool,
     /// What the peer has read.
     pub received: Vec<u8>,
+    /// The thread that has accepted it, and when.
+    pub accepted: Option<(usize, u64)>,
     pub watch: Option<Watch>,
     /// From when on the poll of who watches reports it; none if there is nothing that was not reported.
     pub news_at: Option<u64>,

@@ -13,14 +13,26 @@ use std::io::ErrorKind;
 /// How many listeners a daemon has.
 pub const LISTENERS: usize = 2;
 
+/// No famine begins before this time.
+const FAMINE_US: u64 = 1_300_000;
+
 /// What a peer has done, and the daemon can't see before this time.
 #[derive(Drop)]
 struct Flight {
     at: u64,
     number: usize,
     bytes: Vec<u8>,
-    is_end: bool,
-    is_reset: bool,
+    end: Option<Ending>,
+}
+
+/// How a peer ends its connection.
+#[derive(Clone, Copy, Debug, PartialEq, Eq)]
+pub enum Ending {
+    /// It sends no more, and reads on.
+    Shut,
+    /// It has gone.
+    Gone,
+    Reset,
 }
 
 /// A world. Times are in microseconds.
@@ -39,6 +51,7 @@ pub struct World {
     pub(crate) backlogs: Vec<VecDeque<usize>>,
     pub threads: Vec<Thread>,
     pub(crate) exhausted_until: u64,
+    pub(crate) exhausted_kind: ErrorKind,
     unread_until: u64,
     /// By how much the clock has jumped forward.
     pub jumped: u64,
@@ -48,8 +61,13 @@ pub struct World {
     /// How many connections of other hosts the daemon has.
     pub remote: u32,
     pub files: Vec<Vec<u8>>,
+    /// What was in them when the process was killed, if it had been.
+    pub killed: Vec<Vec<u8>>,
     /// How often the operator was told that the recording has failed.
     pub told_failed: u32,
+    /// How often a connection could not be accepted, and how often the operator was told that.
+    pub unaccepted: u32,
+    pub told_unaccepted: u32,
     /// No memory for the world itself.
     pub is_lost: bool,
 }
@@ -78,6 +96,7 @@ impl World {
             backlogs,
             threads: Vec::new(alloc),
             exhausted_until: 0,
+            exhausted_kind: ErrorKind::Other,
             unread_until: 0,
             jumped: 0,
             starved_until: 0,
@@ -85,7 +104,10 @@ impl World {
             is_disk_full: false,
             remote: 0,
             files: Vec::new(alloc),
+            killed: Vec::new(alloc),
             told_failed: 0,
+            unaccepted: 0,
+            told_unaccepted: 0,
             is_lost: false,
         };
         for _ in 0..threads {
@@ -120,6 +142,16 @@ impl World {
         }
     }
 
+    /// Keeps what is in the files, as a kill would leave it.
+    pub fn kill(&mut self) -> Option<()> {
+        self.killed.clear();
+        for file in &self.files {
+            let file = Vec::from_slice(self.alloc, file).ok()?;
+            self.killed.push(file).ok()?;
+        }
+        Some(())
+    }
+
     /// A file with nothing in it.
     pub fn new_file(&self) -> Vec<u8> {
         Vec::new(self.alloc)
@@ -138,11 +170,14 @@ impl World {
             is_local,
             up: VecDeque::new(self.alloc),
             is_up_ended: false,
+            is_gone: false,
             down: VecDeque::new(self.alloc),
             room,
             is_down_ended: false,
+            is_ended_well: false,
             is_reset: false,
             received: Vec::new(self.alloc),
+            accepted: None,
             watch: None,
             news_at: None,
             is_reported: false,
@@ -166,16 +201,18 @@ impl World {
 
     /// A peer sends bytes, ends its connection, or resets it: then it sends and reads no more.
     pub fn send(&mut self, number: usize, bytes: &[u8]) {
-        self.fly(number, bytes, false, false);
+        self.fly(number, bytes, None);
     }
 
-    pub fn end(&mut self, number: usize, is_reset: bool) {
-        self.fly(number, &[], true, is_reset);
+    pub fn end(&mut self, number: usize, ending: Ending) {
+        self.fly(number, &[], Some(ending));
     }
 
-    fn fly(&mut self, number: usize, bytes: &[u8], is_end: bool, is_reset: bool) {
+    fn fly(&mut self, number: usize, bytes: &[u8], end: Option<Ending>) {
         let delay = if self.happens(Fault::Late) {
             self.random.below(20_000)
+        } else if end.is_none() && self.happens(Fault::Lost) {
+            self.random.below(3_000_000)
         } else {
             0
         };
@@ -190,8 +227,7 @@ impl World {
             at: self.now.saturating_add(delay).max(least),
             number,
             bytes,
-            is_end,
-            is_reset,
+            end,
         };
         self.is_lost = self.is_lost || self.flights.push_back(flight).is_err();
         self.land();
@@ -218,11 +254,15 @@ impl World {
                     self.is_lost = true;
                 }
             }
-            wire.is_up_ended = wire.is_up_ended || flight.is_end;
-            if flight.is_reset {
+            wire.is_up_ended = wire.is_up_ended || flight.end.is_some();
+            wire.is_gone = wire.is_gone || flight.end == Some(Ending::Gone);
+            if flight.end == Some(Ending::Reset) {
                 wire.is_reset = true;
-                wire.up.clear();
                 wire.down.clear();
+                // What was there before is lost, or may still be read.
+                if self.random.happens(500) {
+                    wire.up.clear();
+                }
             }
         }
         self.note_news(number);
@@ -237,7 +277,7 @@ impl World {
     pub fn receive(&mut self, number: usize, most: usize) {
         let mut was_full = false;
         if let Some(wire) = self.wires.get_mut(number) {
-            was_full = !wire.is_writable();
+            was_full = most > 0 && !wire.is_writable();
             wire.has_peer_news = false;
             for _ in 0..most.min(wire.down.len()) {
                 if let Some(byte) = wire.down.pop_front() {
@@ -254,10 +294,26 @@ impl World {
 
     // ---- what the daemon's streams do
 
+    /// A call takes a moment, in which more may come.
+    fn pass_moment(&mut self) {
+        self.now = self.now.saturating_add(self.random.below(3));
+        self.land();
+    }
+
+    /// What a call on a connection tells that was reset.
+    fn reset_error(&mut self) -> io::Error {
+        io::Error::from(if self.happens(Fault::Broken) {
+            ErrorKind::BrokenPipe
+        } else {
+            ErrorKind::ConnectionReset
+        })
+    }
+
     /// Reads the bytes that have come.
     pub fn read(&mut self, number: usize, buffer: &mut [u8]) -> io::Result<usize>
         ensures { IfOk result (λ n. n ≤ length buffer.new) }
     {
+        self.pass_moment();
         if self.happens(Fault::Interrupted) {
             return Err(io::Error::from(ErrorKind::Interrupted));
         }
@@ -265,8 +321,8 @@ impl World {
             return Err(io::Error::from(ErrorKind::Other));
         };
         wire.is_reported = false;
-        if wire.is_reset {
-            return Err(io::Error::from(ErrorKind::ConnectionReset));
+        if wire.is_reset && wire.up.is_empty() {
+            return Err(self.reset_error());
         }
         if wire.up.is_empty() && !wire.is_up_ended {
             return Err(io::Error::from(ErrorKind::WouldBlock));
@@ -284,6 +340,7 @@ impl World {
     pub fn write(&mut self, number: usize, bytes: &[u8]) -> io::Result<usize>
         ensures { IfOk result (λ n. n ≤ length bytes.now) }
     {
+        self.pass_moment();
         if self.happens(Fault::Interrupted) {
             return Err(io::Error::from(ErrorKind::Interrupted));
         }
@@ -292,7 +349,7 @@ impl World {
             return Err(io::Error::from(ErrorKind::Other));
         };
         if wire.is_reset {
-            return Err(io::Error::from(ErrorKind::BrokenPipe));
+            return Err(self.reset_error());
         }
         let room = wire.room.saturating_sub(wire.down.len());
         if room == 0 {
@@ -306,6 +363,8 @@ impl World {
             }
         }
         wire.has_peer_news = true;
+        // Who has gone answers what comes by a reset.
+        wire.is_reset = wire.is_gone;
         Ok(count)
     }
 
@@ -321,6 +380,7 @@ impl World {
     pub fn close(&mut self, number: usize) {
         if let Some(wire) = self.wires.get_mut(number) {
             wire.is_down_ended = true;
+            wire.is_ended_well = !wire.is_up_ended && !wire.is_reset;
             wire.has_peer_news = true;
             if !wire.is_local {
                 self.remote = self.remote.saturating_sub(1);
@@ -358,6 +418,10 @@ impl World {
     pub fn has_memory(&mut self) -> bool {
         if self.happens(Fault::Starved) {
             self.starved_until = self.now.saturating_add(self.random.below(2_000_000));
+        }
+        // Not before there has been some memory.
+        if self.now > FAMINE_US && self.happens(Fault::Famine) {
+            self.starved_until = self.now.saturating_add(60_000_000);
         }
         self.now >= self.starved_until
     }
