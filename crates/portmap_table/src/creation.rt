@@ -1,5 +1,5 @@
 //! Which creation a node is given.
-ghost use Rattle.std.specs.Prelude.{◌≡◌, ◌↔◌, IsTrue};
+ghost use Rattle.std.specs.Prelude.{◌≡◌, ◌↔◌, ℕ, IsTrue, Some, None};
 ghost use Rattle.portmap_table.specs.declared.creation.TheConstants.{COUNTER_LEAST, SHORT_MOST};
 ghost use Rattle.portmap_table.specs.Creation.{IsCounter, IsLegalCreation, IsCreationFor, ChoiceIsLegal, choice, counter_after, short_choice, successor, wide_choice};
 
@@ -9,7 +9,7 @@ use portmap_wire::WIDE_VERSION;
 const SHORT_MOST: u32 = 3;
 
 /// The least number of the counter: the short creations are below it.
-pub(crate) const COUNTER_LEAST: u32 = SHORT_MOST + 1;
+pub const COUNTER_LEAST: u32 = SHORT_MOST + 1;
 
 /// A law: the numbers that definitions take from the code are those of this profile.
 pub fn numbers_are_the_profiles()
@@ -56,14 +56,14 @@ pub(crate) fn is_creation_for(high: u16, creation: u32) -> bool
 }
 
 /// Whether a name may get this creation from a node of this highest version, where the last one is remembered for it.
-pub fn is_legal(high: u16, last: Option<u32>, creation: u32) -> bool
+fn is_legal(high: u16, last: Option<u32>, creation: u32) -> bool
     ensures { IsTrue result ↔ IsLegalCreation high last creation }
 {
     is_creation_for(high, creation) && last != Some(creation)
 }
 
 /// A creation for a node of this highest version, whose name had the last one.
-pub(crate) fn choice(counter: u32, high: u16, last: Option<u32>) -> u32
+fn choice(counter: u32, high: u16, last: Option<u32>) -> u32
     requires { IsCounter counter }
     ensures exact { result ≡ choice counter high last }
     ensures legal { IsLegalCreation high last result }
@@ -72,6 +72,19 @@ pub(crate) fn choice(counter: u32, high: u16, last: Option<u32>) -> u32
         short_choice(last)
     } else {
         wide_choice(counter, last)
+    }
+}
+
+/// The creation that is wanted, where a node of this highest version may get it whose name had the last one; else the choice.
+pub fn creation_for(wanted: Option<u32>, counter: u32, high: u16, last: Option<u32>) -> u32
+    requires { IsCounter counter }
+    ensures wanted { (creation : ℕ) → wanted ≡ Some creation → IsLegalCreation high last creation → creation ≡ result }
+    ensures choice { wanted ≡ None → result ≡ choice counter high last }
+    ensures legal { IsLegalCreation high last result }
+{
+    match wanted {
+        Some(creation) if is_legal(high, last, creation) => creation,
+        _ => choice(counter, high, last),
     }
 }
 

@@ -15,7 +15,7 @@ mod row;
 mod standing;
 mod table;
 
-pub use creation::{choice_is_legal, is_legal, numbers_are_the_profiles};
+pub use creation::{COUNTER_LEAST, choice_is_legal, creation_for, numbers_are_the_profiles};
 pub use known::{Known, NameStore};
 pub use laws::{
     names_outlive_connections, newest_names_stand_last, none_is_refused_for_retired_names,

@@ -4,7 +4,7 @@ ghost use Rattle.portmap_table.specs.Creation.{IsCounter, IsLegalCreation};
 ghost use Rattle.portmap_table.specs.Rows.{AreKept, active_row, owner_of, owns_name, remembered, retired_name, retired_of};
 ghost use Rattle.portmap_table.specs.Table.{GivesOffer, new_table, offered, with_names, with_registration};
 
-use crate::creation::{COUNTER_LEAST, choice, counter_after};
+use crate::creation::{COUNTER_LEAST, counter_after, creation_for};
 use crate::known::Known;
 use crate::name_map::NameMap;
 use crate::row::{Retired, Row};
@@ -75,6 +75,14 @@ impl Table {
         &self.names
     }
 
+    /// What the next wide creation is taken from.
+    pub fn counter(&self) -> u32
+        ensures same { result ≡ self.now.counter }
+        ensures counter { IsCounter result }
+    {
+        self.counter
+    }
+
     /// The creation that a name would get from a node of this highest version, or why it would get none.
     pub fn offer(&self, name: &Name, high: u16) -> Result<u32, RegFault>
         ensures exact { result ≡ offered self.now name.now high }
@@ -84,7 +92,7 @@ impl Table {
         match self.names.standing(self.known_max, name) {
             Standing::Active => Err(RegFault::Taken),
             Standing::NoRoom => Err(RegFault::NoRoom),
-            Standing::Free(last) => Ok(choice(self.counter, high, last)),
+            Standing::Free(last) => Ok(creation_for(None, self.counter, high, last)),
         }
     }
 
