@@ -1,6 +1,5 @@
 pub mod Determined
 pub mod Fronts
-pub mod Judged
 pub mod Runs
 pub mod Ends
 pub mod Shown

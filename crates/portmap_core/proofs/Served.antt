@@ -1,72 +1,28 @@
--- What is served, as the code computes it: an answer before anything is changed, and then the change.
-use Rattle.std.proofs.Common.{◌≡◌, ℕ, Bool, true, false, not, cond, Option, Some, None, Result, Ok, Err, refl, sym, ap, subst, ◌∙◌}
-use Rattle.std.specs.Prelude.{IfOk, length, codes, ◌==◌, ◌||◌, if◌then◌else◌}
+-- What is served, as the code tells it before anything is changed.
+use Rattle.std.proofs.Common.{◌≡◌, ℕ, Bool, true, false, cond, List, Option, Some, None, refl, sym, ap, subst, ◌∙◌, inl, inr, Result}
+use Rattle.std.specs.Prelude.{IfOk, if◌then◌else◌}
+use Rattle.std.proofs.lemmas.Result.{IfOk-weaker}
+use Rattle.portmap_feed.specs.Stream.{Sight, More, Zero, TooLarge, Whole, body_in, first_request, kept}
+use Rattle.portmap_feed.proofs.StreamLaws.{first_request-kept, kept_more}
 use Rattle.portmap_wire.specs.Node.{Node}
+use Rattle.portmap_wire.specs.Reply.{alive_reply}
+use Rattle.portmap_wire.specs.Request.{Spells}
+use Rattle.portmap_wire.proofs.RequestLaws.{one_request}
 use Rattle.portmap_wire.specs.declared.request.Request.{Request}
-use Rattle.portmap_wire.specs.declared.request.Request.TheVariants.{Alive, Port, Dump, Kill, Stop}
-use Rattle.portmap_wire.specs.declared.request.Request.TheVariants as request
+use Rattle.portmap_wire.specs.declared.request.Request.TheVariants.{Alive}
 use Rattle.portmap_table.specs.Creation.{IsLegalCreation, choice}
-use Rattle.portmap_table.specs.Rows.{Names, is_active, is_full_for, owner_of, registered, with_room, remembered}
-use Rattle.portmap_table.specs.Table.{TableState, offered}
+use Rattle.portmap_table.specs.Rows.{Names, is_active, is_full_for, registered, remembered, standing, with_room}
 use Rattle.portmap_table.specs.declared.standing.Standing.{Standing}
 use Rattle.portmap_table.specs.declared.standing.Standing.TheVariants as how
-use Rattle.portmap_table.specs.declared.table.RegFault.{RegFault}
-use Rattle.portmap_table.specs.declared.table.RegFault.TheVariants as fault
 use Rattle.portmap_core.specs.declared.connection.Stage.TheVariants.{Holding}
-use Rattle.portmap_core.specs.declared.serve.Next.{Next}
+use Rattle.portmap_core.specs.declared.event.Fate.TheVariants.{Stay}
 use Rattle.portmap_core.specs.Config.{Configuration}
-use Rattle.portmap_core.specs.Serving.{Served, Serves, alive_served, closed, dump_served, halts, if_local, kill_served, registers, replied, served, stop_served, stops}
-use Rattle.portmap_core.specs.Next.{MayOffer, RegistersNone, Tells, alive_told, served_with, stopped_names}
-
--- ---- a request by which no name registers
-
--- it holds no name then, and the names after it follow from the slot that was stopped
-record IsOther (names : Names) (o : Served) : Type 0 where
-  pub holds : o.stage ≡ Holding → ⊥
-  pub change : stopped_names o.stopped names ≡ o.names
-
-other_remote : (names : Names) (local : Bool) (told : Served) → local ≡ false → IsOther names (if_local local names told)
-other_remote names true told e = absurd cc
-other_remote names false told e = record { holds = λ h. absurd cc; change = refl }
-
-other_local : (names : Names) (local : Bool) (told : Served) → IsOther names told → IsOther names (if_local local names told)
-other_local names true told h = h
-other_local names false told h = record { holds = λ h. absurd cc; change = refl }
-
-other_kill : (names : Names) (ends : Bool) → IsOther names (cond ends (halts names) (replied names (codes "NO")))
-other_kill names true = record { holds = λ h. absurd cc; change = refl }
-other_kill names false = record { holds = λ h. absurd cc; change = refl }
-
-other_stop : (names : Names) (strict : Bool) (owner : Option ℕ) → IsOther names (cond strict (closed names) (stops names owner))
-other_stop names true owner = record { holds = λ h. absurd cc; change = refl }
-other_stop names false None = record { holds = λ h. absurd cc; change = refl }
-other_stop names false (Some owner) = record { holds = λ h. absurd cc; change = refl }
-
-other : (cfg : Configuration) (names : Names) (local : Bool) (slot : ℕ) (request : Request) (creation : ℕ) → RegistersNone local request → IsOther names (served cfg names local slot request creation)
-other cfg names local slot (Alive g) creation none = other_remote names local (alive_served cfg names slot g creation) none
-other cfg names local slot (Port name) creation none = record { holds = λ h. absurd cc; change = refl }
-other cfg names local slot request.Names creation none = record { holds = λ h. absurd cc; change = refl }
-other cfg names local slot Dump creation none = other_local names local (dump_served cfg names) (record { holds = λ h. absurd cc; change = refl })
-other cfg names local slot Kill creation none = other_local names local (kill_served cfg names) (other_kill names (length names.active == 0 || cfg.relaxed))
-other cfg names local slot (Stop name) creation none = other_local names local (stop_served cfg names name) (other_stop names (not cfg.relaxed) (owner_of name names))
-
--- so the code serves it, by what it told and whom it stopped
-pub other_serves : (cfg : Configuration) (names after : Names) (local : Bool) (slot : ℕ) (request : Request) (next : Next) → RegistersNone local request → Tells next (served cfg names local slot request 0) → after ≡ stopped_names next.stopped names
-    → Serves cfg names local slot request (served_with next after)
-other_serves cfg names after local slot request next none tells change =
-    let o = served cfg names local slot request 0 in
-    let is = other cfg names local slot request 0 none in
-    record {
-      creation = 0;
-      legal = λ h. absurd (is.holds (ap (λ (w : Served). w.stage) (sym tells) ∙ h));
-      is = ap (served_with next) (change ∙ ap (λ (w : Served). stopped_names w.stopped names) tells ∙ is.change) ∙ tells;
-    }
+use Rattle.portmap_core.specs.Serving.{MayTake, Served, Serves, ServesBody, ToldAt, alive_served, awaits, registers, served}
+use Rattle.portmap_core.specs.Telling.{IsAllTold, MayRegister, Tells, TellsAll, served_by, shown_creation}
+use Rattle.portmap_core.specs.declared.serve.Told.{Told}
+use Rattle.portmap_core.proofs.Determined.{shows}
 
 -- ---- a registration, by how its name stands
-
-first : {X : Type 0} (b : Bool) (x y : X) → b ≡ true → cond b x y ≡ x
-first true x y e = refl
-first false x y e = absurd cc
 
 second : {X : Type 0} (b : Bool) (x y : X) → b ≡ false → cond b x y ≡ y
 second true x y e = absurd cc
@@ -75,107 +31,91 @@ second false x y e = refl
 abbrev stands : Bool → Bool → Option ℕ → Standing
 stands taken full last = if taken then how.Active else if full then how.NoRoom else how.Free last
 
-is_taken : (taken full : Bool) (last : Option ℕ) → stands taken full last ≡ how.Active → taken ≡ true
-is_taken true full last e = refl
-is_taken false true last e = absurd cc
-is_taken false false last e = absurd cc
-
-is_full : (taken full : Bool) (last : Option ℕ) → stands taken full last ≡ how.NoRoom → (taken ≡ false) × (full ≡ true)
-is_full true full last e = absurd cc
-is_full false true last e = (refl, refl)
-is_full false false last e = absurd cc
-
 is_free : (taken full : Bool) (last free : Option ℕ) → stands taken full last ≡ how.Free free → (taken ≡ false) × (full ≡ false) × (free ≡ last)
 is_free true full last free e = absurd cc
 is_free false true last free e = absurd cc
 is_free false false last free e = (refl, refl, let same : free ≡ last = cc in same)
 
--- what a name is offered is what it may be told
-record IsTold (cfg : Configuration) (names : Names) (slot : ℕ) (g : Node) (offer : Result ℕ RegFault) : Type 0 where
-  pub creation : ℕ
-  pub legal : (alive_told cfg.known_max names slot g offer).stage ≡ Holding → IsLegalCreation g.high (remembered g.name names) creation
-  pub is : alive_told cfg.known_max names slot g offer ≡ alive_served cfg names slot g creation
+-- ---- a request
 
-is_told : (cfg : Configuration) (names : Names) (slot : ℕ) (g : Node) (offer : Result ℕ RegFault) → MayOffer cfg.known_max names g offer → IsTold cfg names slot g offer
-is_told cfg names slot g (Ok creation) may =
-    let free = is_free (is_active g.name names) (is_full_for cfg.known_max g.name names) (remembered g.name names) may.0 may.1 in
-    record {
-      creation = creation;
-      legal = λ h. subst (λ (last : Option ℕ). IsLegalCreation g.high last creation) free.2 may.2;
-      is = sym (second (is_active g.name names) _ _ free.0 ∙ second (is_full_for cfg.known_max g.name names) _ _ free.1);
-    }
-is_told cfg names slot g (Err fault.Taken) may = record {
-  creation = 0;
-  legal = λ h. absurd cc;
-  is = sym (first (is_active g.name names) _ _ (is_taken (is_active g.name names) (is_full_for cfg.known_max g.name names) (remembered g.name names) may));
+-- it is told so whatever creation it would have
+pub all_alike : (cfg : Configuration) (names : Names) (local : Bool) (slot : ℕ) (request : Request) (wanted : Option ℕ) (o : Served) → ((creation : ℕ) → o ≡ served cfg names local slot request creation) → (o.stage ≡ Holding → MayTake names request 0)
+    → IsAllTold (Serves cfg names local slot request) wanted o
+all_alike cfg names local slot request wanted o is legal = record {
+  told = record { creation = 0; legal = legal; is = is 0 };
+  only = λ other p e. p.is ∙ sym (is p.creation);
 }
-is_told cfg names slot g (Err fault.NoRoom) may =
-    let full = is_full (is_active g.name names) (is_full_for cfg.known_max g.name names) (remembered g.name names) may in
-    record {
-      creation = 0;
-      legal = λ h. absurd cc;
-      is = sym (second (is_active g.name names) _ _ full.0 ∙ first (is_full_for cfg.known_max g.name names) _ _ full.1);
-    }
-is_told cfg names slot g (Err fault.NoMemory) may = absurd may
 
--- the names after it
-pub change_given : (known_max : ℕ) (names after : Names) (slot creation : ℕ) (g : Node) (offer : Result ℕ RegFault) → offer ≡ Ok creation → after ≡ registered g creation slot (with_room known_max g.name names) → after ≡ (alive_told known_max names slot g offer).names
-change_given known_max names after slot creation g offer e is = is ∙ ap (λ (o : Result ℕ RegFault). (alive_told known_max names slot g o).names) (sym e)
+pub tells_alike : {E : Type 0} (cfg : Configuration) (names : Names) (local : Bool) (request : Request) (wanted : Option ℕ) (counter : ℕ) (o : Served) (result : Result Told E) → ((slot creation : ℕ) → o ≡ served cfg names local slot request creation) → MayTake names request 0
+    → IfOk result (λ told. Tells cfg names told o) → IfOk result (λ told. (bytes : List ℕ) → TellsAll (λ slot. Serves cfg names local slot request) cfg names bytes wanted counter told)
+tells_alike cfg names local request wanted counter o result is legal =
+    IfOk-weaker result (λ told. Tells cfg names told o) (λ told. (bytes : List ℕ) → TellsAll (λ slot. Serves cfg names local slot request) cfg names bytes wanted counter told)
+    (λ told h bytes. (λ slot. all_alike cfg names local slot request wanted (served_by cfg names slot bytes told) (λ creation. h.0 slot bytes ∙ is slot creation) (λ _. legal), h.1 wanted counter))
 
-pub change_none : (known_max : ℕ) (names : Names) (slot : ℕ) (g : Node) (offer : Result ℕ RegFault) → ((creation : ℕ) → offer ≡ Ok creation → ⊥) → names ≡ (alive_told known_max names slot g offer).names
-change_none known_max names slot g (Ok creation) never = absurd (never creation refl)
-change_none known_max names slot g (Err f) never = refl
+-- a registration of a name that is free
+pub may_register : (known_max : ℕ) (names : Names) (g : Node) (wanted last : Option ℕ) (counter creation : ℕ) → standing known_max g.name names ≡ how.Free last → IsLegalCreation g.high last creation → (wanted ≡ None → creation ≡ choice counter g.high last)
+    → MayRegister known_max names wanted counter g creation
+may_register known_max names g wanted last counter creation stands legal chosen =
+    let free = is_free (is_active g.name names) (is_full_for known_max g.name names) (remembered g.name names) last stands in
+    record { active = free.0; room = free.1; legal = subst (λ (o : Option ℕ). IsLegalCreation g.high o creation) free.2 legal; chosen = λ none. chosen none ∙ ap (choice counter g.high) free.2 }
 
-pub alive_serves : (cfg : Configuration) (names after : Names) (slot : ℕ) (g : Node) (offer : Result ℕ RegFault) (next : Next) → MayOffer cfg.known_max names g offer → Tells next (alive_told cfg.known_max names slot g offer) → after ≡ (alive_told cfg.known_max names slot g offer).names
-    → Serves cfg names true slot (Alive g) (served_with next after)
-alive_serves cfg names after slot g offer next may tells change =
-    let told = is_told cfg names slot g offer may in
-    record { creation = told.creation; legal = λ h. told.legal (ap (λ (w : Served). w.stage) (sym tells) ∙ h); is = ap (served_with next) change ∙ tells ∙ told.is }
+pub all_free : (cfg : Configuration) (names : Names) (slot : ℕ) (g : Node) (wanted last : Option ℕ) (counter creation : ℕ) (reply : List ℕ) → standing cfg.known_max g.name names ≡ how.Free last → MayRegister cfg.known_max names wanted counter g creation
+    → ((other : ℕ) → wanted ≡ Some other → IsLegalCreation g.high last other → other ≡ creation) → reply ≡ alive_reply g.high 0 creation
+    → IsAllTold (Serves cfg names true slot (Alive g)) wanted (record { reply = reply; fate = Stay; stage = Holding; names = registered g creation slot (with_room cfg.known_max g.name names); stopped = None })
+all_free cfg names slot g wanted last counter creation reply stands may picked said =
+    let free = is_free (is_active g.name names) (is_full_for cfg.known_max g.name names) (remembered g.name names) last stands in
+    let to : (c : ℕ) → alive_served cfg names slot g c ≡ registers cfg.known_max names slot g c = λ c. second (is_active g.name names) _ _ may.active ∙ second (is_full_for cfg.known_max g.name names) _ _ may.room in
+    rw said (record {
+      told = record { creation = creation; legal = λ h. may.legal; is = sym (to creation) };
+      only = λ other p e.
+          let told = p.is ∙ to p.creation in
+          let legal : IsLegalCreation g.high (remembered g.name names) p.creation = p.legal (ap (λ (w : Served). w.stage) told) in
+          let shown = sym e ∙ ap (λ (w : Served). shown_creation w.reply) told ∙ shows g.high p.creation legal.range in
+          told ∙ ap (registers cfg.known_max names slot g) (picked p.creation shown (subst (λ (w : Option ℕ). IsLegalCreation g.high w p.creation) (sym free.2) legal));
+    })
 
--- what is served is what its name may be offered
-pub record WasOffered (cfg : Configuration) (names : Names) (slot : ℕ) (g : Node) (o : Served) : Type 0 where
-  pub offer : Result ℕ RegFault
-  pub may : MayOffer cfg.known_max names g offer
-  pub is : o ≡ alive_told cfg.known_max names slot g offer
+-- ---- a body
 
-offered_by : (cfg : Configuration) (names : Names) (slot : ℕ) (g : Node) (o : Served) (taken full : Bool) → is_active g.name names ≡ taken → is_full_for cfg.known_max g.name names ≡ full → Serves cfg names true slot (Alive g) o → WasOffered cfg names slot g o
-offered_by cfg names slot g o true full e f p = record {
-  offer = Err fault.Taken;
-  may = first (is_active g.name names) _ _ e;
-  is = p.is ∙ first (is_active g.name names) _ _ e;
+pub all_spelled : (cfg : Configuration) (names : Names) (local : Bool) (slot : ℕ) (body : List ℕ) (request : Request) (wanted : Option ℕ) (o : Served) → Spells body request → IsAllTold (Serves cfg names local slot request) wanted o → IsAllTold (ServesBody cfg names local slot body) wanted o
+all_spelled cfg names local slot body request wanted o spells all = record {
+  told = inl (record { request = request; spells = spells; serves = all.told });
+  only = λ other p e. elim p [
+    | inl q ↦ all.only other (subst (λ (r : Request). Serves cfg names local slot r other) (one_request body q.request request q.spells spells) q.serves) e
+    | inr q ↦ absurd (q.malformed request spells)
+  ];
 }
-offered_by cfg names slot g o false true e f p = record {
-  offer = Err fault.NoRoom;
-  may = second (is_active g.name names) _ _ e ∙ first (is_full_for cfg.known_max g.name names) _ _ f;
-  is = p.is ∙ second (is_active g.name names) _ _ e ∙ first (is_full_for cfg.known_max g.name names) _ _ f;
-}
-offered_by cfg names slot g o false false e f p =
-    let is : o ≡ registers cfg.known_max names slot g p.creation = p.is ∙ second (is_active g.name names) _ _ e ∙ second (is_full_for cfg.known_max g.name names) _ _ f in
+
+pub tells_spelled : {E : Type 0} (cfg : Configuration) (names : Names) (local : Bool) (body : List ℕ) (request : Request) (wanted : Option ℕ) (counter : ℕ) (result : Result Told E) → Spells body request
+    → IfOk result (λ told. (bytes : List ℕ) → TellsAll (λ slot. Serves cfg names local slot request) cfg names bytes wanted counter told) → IfOk result (λ told. (bytes : List ℕ) → TellsAll (λ slot. ServesBody cfg names local slot body) cfg names bytes wanted counter told)
+tells_spelled cfg names local body request wanted counter result spells =
+    IfOk-weaker result (λ told. (bytes : List ℕ) → TellsAll (λ slot. Serves cfg names local slot request) cfg names bytes wanted counter told) (λ told. (bytes : List ℕ) → TellsAll (λ slot. ServesBody cfg names local slot body) cfg names bytes wanted counter told)
+    (λ told h bytes. (λ slot. all_spelled cfg names local slot body request wanted (served_by cfg names slot bytes told) spells ((h bytes).0 slot), (h bytes).1))
+
+-- ---- all that was sent
+
+pub tells_whole : {E : Type 0} (cfg : Configuration) (names : Names) (local : Bool) (received body : List ℕ) (sight : Sight) (wanted : Option ℕ) (counter : ℕ) (result : Result Told E) → Some body ≡ body_in sight
+    → IfOk result (λ told. (bytes : List ℕ) → TellsAll (λ slot. ServesBody cfg names local slot body) cfg names bytes wanted counter told) → IfOk result (λ told. TellsAll (λ slot. ToldAt cfg names local slot received sight) cfg names received wanted counter told)
+tells_whole cfg names local received body More wanted counter result is = absurd cc
+tells_whole cfg names local received body Zero wanted counter result is = absurd cc
+tells_whole cfg names local received body (TooLarge n) wanted counter result is = absurd cc
+tells_whole cfg names local received body (Whole whole) wanted counter result is =
+    let one : body ≡ whole = cc in
+    IfOk-weaker result (λ told. (bytes : List ℕ) → TellsAll (λ slot. ServesBody cfg names local slot body) cfg names bytes wanted counter told) (λ told. TellsAll (λ slot. ToldAt cfg names local slot received (Whole whole)) cfg names received wanted counter told)
+    (λ told h. subst (λ (b : List ℕ). TellsAll (λ slot. ServesBody cfg names local slot b) cfg names received wanted counter told) one (h received))
+
+-- what a feed keeps of it tells as much
+told_kept : (cfg : Configuration) (names : Names) (local : Bool) (slot : ℕ) (feed all : List ℕ) (sight : Sight) (o : Served) → (sight ≡ More → feed ≡ all) → ToldAt cfg names local slot feed sight o → ToldAt cfg names local slot all sight o
+told_kept cfg names local slot feed all More o same p = p ∙ ap (awaits names) (same refl)
+told_kept cfg names local slot feed all Zero o same p = p
+told_kept cfg names local slot feed all (TooLarge n) o same p = p
+told_kept cfg names local slot feed all (Whole body) o same p = p
+
+pub all_kept : (cfg : Configuration) (names : Names) (near local : Bool) (slot : ℕ) (feed all : List ℕ) (wanted : Option ℕ) (o : Served) → near ≡ local → feed ≡ kept all → IsAllTold (ToldAt cfg names near slot feed (first_request feed)) wanted o → IsAllTold (ToldAt cfg names local slot all (first_request all)) wanted o
+all_kept cfg names near local slot feed all wanted o alike is told =
+    let sight : first_request feed ≡ first_request all = ap first_request is ∙ first_request-kept all in
+    let same = λ (more : first_request all ≡ More). is ∙ kept_more all more in
+    let here = subst (λ (sight : Sight). IsAllTold (ToldAt cfg names local slot feed sight) wanted o) sight (subst (λ (l : Bool). IsAllTold (ToldAt cfg names l slot feed (first_request feed)) wanted o) alike told) in
     record {
-      offer = Ok p.creation;
-      may = (remembered g.name names, second (is_active g.name names) _ _ e ∙ second (is_full_for cfg.known_max g.name names) _ _ f, p.legal (ap (λ (w : Served). w.stage) is));
-      is = is;
+      told = told_kept cfg names local slot feed all (first_request all) o same here.told;
+      only = λ other p e. here.only other (told_kept cfg names local slot all feed (first_request all) other (λ more. sym (same more)) p) e;
     }
-
-pub was_offered : (cfg : Configuration) (names : Names) (slot : ℕ) (g : Node) (o : Served) → Serves cfg names true slot (Alive g) o → WasOffered cfg names slot g o
-was_offered cfg names slot g o p = offered_by cfg names slot g o (is_active g.name names) (is_full_for cfg.known_max g.name names) refl refl p
-
--- ---- what a table offers
-
-offers_by : (known_max : ℕ) (names : Names) (g : Node) (taken full : Bool) (made : ℕ) (offer : Result ℕ RegFault) → is_active g.name names ≡ taken → is_full_for known_max g.name names ≡ full → offer ≡ (if taken then Err fault.Taken else if full then Err fault.NoRoom else Ok made)
-    → IfOk offer (IsLegalCreation g.high (remembered g.name names)) → MayOffer known_max names g offer
-offers_by known_max names g true full made offer e f is legal = rw is (first (is_active g.name names) _ _ e)
-offers_by known_max names g false true made offer e f is legal = rw is (second (is_active g.name names) _ _ e ∙ first (is_full_for known_max g.name names) _ _ f)
-offers_by known_max names g false false made offer e f is legal =
-    let fit = subst (λ (o : Result ℕ RegFault). IfOk o (IsLegalCreation g.high (remembered g.name names))) is legal in
-    rw is (remembered g.name names, second (is_active g.name names) _ _ e ∙ second (is_full_for known_max g.name names) _ _ f, fit)
-
-offers : (t : TableState) (g : Node) (offer : Result ℕ RegFault) → offer ≡ offered t g.name g.high → IfOk offer (IsLegalCreation g.high (remembered g.name t.names)) → MayOffer t.known_max t.names g offer
-offers t g offer is legal = offers_by t.known_max t.names g (is_active g.name t.names) (is_full_for t.known_max g.name t.names) (choice t.counter g.high (remembered g.name t.names)) offer refl refl is legal
-
--- so the code serves a registration, by what its table offered
-pub offer_serves : (cfg : Configuration) (t : TableState) (after : Names) (slot : ℕ) (g : Node) (offer : Result ℕ RegFault) (next : Next) → t.known_max ≡ cfg.known_max → offer ≡ offered t g.name g.high → IfOk offer (IsLegalCreation g.high (remembered g.name t.names))
-    → Tells next (alive_told t.known_max t.names slot g offer) → after ≡ (alive_told t.known_max t.names slot g offer).names → Serves cfg t.names true slot (Alive g) (served_with next after)
-offer_serves cfg t after slot g offer next limit is legal tells change =
-    alive_serves cfg t.names after slot g offer next (subst (λ (m : ℕ). MayOffer m t.names g offer) limit (offers t g offer is legal)) (subst (λ (m : ℕ). Tells next (alive_told m t.names slot g offer)) limit tells)
-    (subst (λ (m : ℕ). after ≡ (alive_told m t.names slot g offer).names) limit change)

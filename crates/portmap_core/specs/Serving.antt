@@ -47,8 +47,11 @@ awaits names received = record { reply = []; fate = Stay; stage = Waiting receiv
 abbrev pub names_line_of : Row → Line
 names_line_of row = record { name = row.reg.name; port = row.reg.port }
 
+abbrev pub list_of : ℕ → rows.Names → List ℕ
+list_of port names = names_reply port (list_map names_line_of names.active)
+
 abbrev pub names_served : Configuration → rows.Names → Served
-names_served cfg names = replied names (names_reply cfg.port (list_map names_line_of names.active))
+names_served cfg names = replied names (list_of cfg.port names)
 
 abbrev pub port_served : rows.Names → List ℕ → Served
 port_served names name = replied names (port2_reply (option_map (λ row. row.reg) (rows.active_row name names)))

@@ -1,5 +1,6 @@
 //! An open connection, and where it stands.
 ghost use Rattle.std.specs.Prelude.{◌≡◌};
+ghost use Rattle.portmap_core.specs.Held.{stage_held};
 ghost use Rattle.portmap_core.specs.State.{phase_of_stage};
 
 use portmap_feed::Feed;
@@ -39,6 +40,19 @@ impl Stage {
             Stage::Waiting(_) => Phase::Waiting,
             Stage::Holding => Phase::Holding,
             Stage::Done => Phase::Done,
+        }
+    }
+}
+
+impl Phase {
+    /// With what was sent so far, where it waits.
+    pub(crate) fn stage(self, feed: Feed) -> Stage
+        ensures { result ≡ stage_held self feed }
+    {
+        match self {
+            Phase::Waiting => Stage::Waiting(feed),
+            Phase::Holding => Stage::Holding,
+            Phase::Done => Stage::Done,
         }
     }
 }

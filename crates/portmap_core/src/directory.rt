@@ -1,14 +1,15 @@
 //! The table of names, with the list that was made of it last.
-ghost use Rattle.std.specs.Prelude.{◌≡◌, false, map as list_map, Ok, IfOk, OnOk, OnErr};
-ghost use Rattle.portmap_wire.specs.List.{names_reply};
-ghost use Rattle.portmap_table.specs.Creation.{IsLegalCreation};
-ghost use Rattle.portmap_table.specs.Rows.{owns_name, remembered, retired_of};
-ghost use Rattle.portmap_table.specs.Table.{new_table, offered, with_names, with_registration};
-ghost use Rattle.portmap_core.specs.Serving.{names_line_of};
+ghost use Rattle.std.specs.Prelude.{◌≡◌, false, None, IfOk, IfSome, OnOk, OnErr};
+ghost use Rattle.portmap_table.specs.Creation.{IsCounter};
+ghost use Rattle.portmap_table.specs.Rows.{owns_name, retired_of};
+ghost use Rattle.portmap_table.specs.Table.{new_table, with_names};
+ghost use Rattle.portmap_core.specs.Serving.{list_of};
+ghost use Rattle.portmap_core.specs.Telling.{MayMake, names_after};
 
-use crate::serve::names_text;
-use portmap_table::{NameMap, RegFault, Table};
-use portmap_wire::{Name, NoMemory, Reg};
+use crate::config::Config;
+use crate::serve::Change;
+use portmap_table::{NameMap, Table};
+use portmap_wire::NoMemory;
 use std::alloc::Global;
 use std::marker::Model;
 
@@ -22,16 +23,15 @@ pub(crate) struct Directory {
 }
 
 impl Model for Directory {
-    ghost use Rattle.std.specs.Prelude.{◌≡◌, map as list_map, IfSome};
-    ghost use Rattle.portmap_wire.specs.List.{names_reply};
+    ghost use Rattle.std.specs.Prelude.{◌≡◌, IfSome};
     ghost use Rattle.portmap_table.specs.Table.{TableState};
-    ghost use Rattle.portmap_core.specs.Serving.{names_line_of};
+    ghost use Rattle.portmap_core.specs.Serving.{list_of};
 
     ghost Value = { TableState };
 
     ghost view = { λ d. d.table };
 
-    ghost invariant = { λ d. IfSome d.list (λ list. list.1.items ≡ names_reply list.0 (list_map names_line_of d.table.names.active)) };
+    ghost invariant = { λ d. IfSome d.list (λ list. list.1.items ≡ list_of list.0 d.table.names) };
 }
 
 impl Directory {
@@ -50,24 +50,52 @@ impl Directory {
         self.table.names()
     }
 
-    /// The creation that a name would get from a node of this highest version, or why it would get none.
-    pub(crate) fn offer(&self, name: &Name, high: u16) -> Result<u32, RegFault>
-        ensures exact { result ≡ offered self.now name.now high }
-        ensures legal { IfOk result (λ c. IsLegalCreation high (remembered name.now self.now.names) c) }
+    /// What the next creation is taken from.
+    pub(crate) fn counter(&self) -> u32
+        ensures same { result ≡ self.now.counter }
+        ensures counter { IsCounter result }
     {
-        self.table.offer(name, high)
+        self.table.counter()
     }
 
-    /// Registers a name for the connection in this slot, with the creation that it is offered.
-    pub(crate) fn admit(&mut self, reg: Reg, creation: u32, slot: u64) -> Result<(), NoMemory>
-        requires offered { offered self.old reg.name reg.high ≡ Ok creation }
-        requires legal { IsLegalCreation reg.high (remembered reg.name self.old.names) creation }
+    /// The list of the active names of a port mapper on this port, where it was kept.
+    pub(crate) fn list(&self, port: u16) -> Option<&[u8]>
+        ensures { IfSome result (λ list. list.now ≡ list_of port self.now.names) }
+    {
+        match &self.list {
+            Some((of, list)) if *of == port => Some(list.as_slice()),
+            _ => None,
+        }
+    }
+
+    /// What was told to the connection in this slot is so: for want of memory nothing changes.
+    pub(crate) fn commit(
+        &mut self,
+        alloc: Global,
+        config: &Config,
+        slot: u64,
+        reply: &[u8],
+        change: Change,
+    ) -> Result<(), NoMemory>
+        requires may { MayMake config.now self.old.names None self.old.counter reply.now change }
+        requires limit { self.old.known_max ≡ config.now.known_max }
         requires slot { owns_name slot self.old.names ≡ false }
-        ensures ok { OnOk result (self.new ≡ with_registration self.old reg slot creation) }
+        ensures ok { OnOk result (self.new.names ≡ names_after config.now.known_max slot change self.old.names) }
+        ensures limit { self.new.known_max ≡ self.old.known_max }
         ensures err { OnErr result (self.new ≡ self.old) }
     {
-        self.table.admit(reg, creation, slot)?;
-        self.list = None;
+        match change {
+            Change::Nothing => {}
+            Change::Listed => {
+                let kept = Vec::from_slice(alloc, reply).ok();
+                self.list = kept.map(|list| (config.port, list));
+            }
+            Change::Register { reg, creation } => {
+                self.table.admit(reg, creation, slot)?;
+                self.list = None;
+            }
+            Change::Retire(owner) => self.retire(owner),
+        }
         Ok(())
     }
 
@@ -78,21 +106,5 @@ impl Directory {
         if self.table.retire(slot) {
             self.list = None;
         }
-    }
-
-    /// The answer to NAMES_REQ of a port mapper on this port.
-    pub(crate) fn names_reply(&mut self, alloc: Global, port: u16) -> Result<Vec<u8>, NoMemory>
-        ensures text { IfOk result (λ v. v.items ≡ names_reply port (list_map names_line_of self.old.names.active)) }
-        ensures same { self.new ≡ self.old }
-    {
-        if let Some((of, list)) = &self.list {
-            if *of == port {
-                return list.clone();
-            }
-        }
-        let list = names_text(alloc, port, self.table.names())?;
-        // Where there is no memory for two it is made anew the next time.
-        self.list = list.clone().ok().map(|kept| (port, kept));
-        Ok(list)
     }
 }

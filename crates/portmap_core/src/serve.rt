@@ -1,51 +1,74 @@
-//! What a waiting connection is told, and what becomes of the names, as functions over their parts.
-ghost use Rattle.std.specs.Prelude.{◌≡◌, ℕ, ◌++◌, true, false, None, IfOk, IfErr, OnOk, OnErr, map as list_map};
+//! What a waiting connection is told, and what then changes, as functions that change nothing.
+ghost use Rattle.std.specs.Prelude.{◌≡◌, ℕ, List, ◌++◌, true, IfOk, IfSome, map as list_map};
 ghost use Rattle.std.specs.List.{flat_map};
 ghost use Rattle.portmap_feed.specs.Stream.{first_request};
-ghost use Rattle.portmap_wire.specs.List.{names_reply, dump_line, dump_reply};
+ghost use Rattle.portmap_feed.specs.Seen.{seen_of};
+ghost use Rattle.portmap_wire.specs.List.{dump_line, dump_reply};
 ghost use Rattle.portmap_wire.specs.declared.request.Request.TheVariants.{Alive};
-ghost use Rattle.portmap_table.specs.Creation.{IsCreationFor};
-ghost use Rattle.portmap_table.specs.Rows.{Names, owns_name};
-ghost use Rattle.portmap_core.specs.Config.{Configuration};
-ghost use Rattle.portmap_core.specs.declared.connection.Stage.TheVariants.{Done};
+ghost use Rattle.portmap_table.specs.Creation.{IsCounter};
+ghost use Rattle.portmap_core.specs.declared.connection.Phase.TheVariants.{Done};
 ghost use Rattle.portmap_core.specs.declared.event.Fate.TheVariants.{Close};
-ghost use Rattle.portmap_core.specs.Serving.{Serves, ServesBody, ToldAt, active_line, dump_lines, dump_served, kill_served, names_line_of, names_served, port_served, retired_line, served, stop_served};
-ghost use Rattle.portmap_core.specs.Next.{RegistersNone, Tells, alive_told, served_with};
+ghost use Rattle.portmap_core.specs.declared.serve.Change.TheVariants.{Nothing};
+ghost use Rattle.portmap_core.specs.Serving.{Serves, ServesBody, ToldAt, active_line, dump_lines, dump_served, kill_served, list_of, names_served, port_served, retired_line, stop_served};
+ghost use Rattle.portmap_core.specs.Telling.{Tells, TellsAll, stopped_by};
 
 use crate::config::Config;
-use crate::connection::Stage;
-use crate::directory::Directory;
+use crate::connection::Phase;
 use crate::event::Fate;
 use portmap_feed::{Feed, Seen};
-use portmap_table::{Known, RegFault};
+use portmap_table::{Known, Standing, creation_for};
 use portmap_wire::{
     DUMP_LINE_REST, ListReply, Malformed, NAMES_LINE_REST, Name, NoMemory, Reg, Request,
     read_request, write_alive, write_port2,
 };
 use std::alloc::Global;
 
-/// The stage that comes next, with the reply and the fate that go with it.
+/// What becomes of the names by what is told.
 #[derive(Drop)]
-pub(crate) struct Next {
-    pub(crate) stage: Stage,
+pub(crate) enum Change {
+    /// Nothing.
+    Nothing,
+    /// Nothing, and the reply is the list of the active names.
+    Listed,
+    /// A name registers, with this creation.
+    Register { reg: Reg, creation: u32 },
+    /// The name that this slot owns retires, and its connection is done.
+    Retire(u64),
+}
+
+impl Change {
+    /// The slot of another connection, whose name it retires.
+    pub(crate) fn stopped(&self) -> Option<u64>
+        ensures { result ≡ stopped_by self.now }
+    {
+        match self {
+            Change::Nothing | Change::Listed | Change::Register { .. } => None,
+            Change::Retire(owner) => Some(*owner),
+        }
+    }
+}
+
+/// What a connection is told, and what goes with it.
+#[derive(Drop)]
+pub(crate) struct Told {
+    pub(crate) phase: Phase,
     pub(crate) reply: Vec<u8>,
     pub(crate) fate: Fate,
-    /// The slot of another connection, which owns its name no longer.
-    pub(crate) stopped: Option<u64>,
+    pub(crate) change: Change,
 }
 
 /// A reply, and a close.
-pub(crate) fn replied(reply: Vec<u8>) -> Next
+fn replied(reply: Vec<u8>) -> Told
     ensures text { result.reply.items ≡ reply.items }
     ensures fate { result.fate ≡ Close }
-    ensures stage { result.stage ≡ Done }
-    ensures stopped { result.stopped ≡ None }
+    ensures phase { result.phase ≡ Done }
+    ensures change { result.change ≡ Nothing }
 {
-    Next {
-        stage: Stage::Done,
+    Told {
+        phase: Phase::Done,
         reply,
         fate: Fate::Close,
-        stopped: None,
+        change: Change::Nothing,
     }
 }
 
@@ -72,8 +95,8 @@ fn retired_room<N: Known>(names: &N, rest: usize) -> usize {
 }
 
 /// NAMES_REQ: a line for each active name, in order of registration.
-pub(crate) fn names_text<N: Known>(alloc: Global, port: u16, names: &N) -> Result<Vec<u8>, NoMemory>
-    ensures { IfOk result (λ v. v.items ≡ names_reply port (list_map names_line_of (N.names names.now).active)) }
+fn names_text<N: Known>(alloc: Global, port: u16, names: &N) -> Result<Vec<u8>, NoMemory>
+    ensures { IfOk result (λ v. v.items ≡ list_of port (N.names names.now)) }
 {
     let room = active_room(names, NAMES_LINE_REST);
     let mut reply = ListReply::with_room(alloc, port, room)?;
@@ -87,15 +110,31 @@ pub(crate) fn names_text<N: Known>(alloc: Global, port: u16, names: &N) -> Resul
     Ok(reply.into_bytes())
 }
 
-fn list<N: Known>(alloc: Global, config: &Config, names: &N) -> Result<Next, NoMemory>
-    ensures { IfOk result (λ next. Tells next (names_served config.now (N.names names.now))) }
+/// The list as it was kept, where it was, else as it is made.
+fn list<N: Known>(
+    alloc: Global,
+    config: &Config,
+    names: &N,
+    kept: Option<&[u8]>,
+) -> Result<Told, NoMemory>
+    requires { IfSome kept (λ list. list.now ≡ list_of config.now.port (N.names names.now)) }
+    ensures { IfOk result (λ told. Tells config.now (N.names names.now) told (names_served config.now (N.names names.now))) }
 {
-    Ok(replied(names_text(alloc, config.port, names)?))
+    let reply = match kept {
+        Some(list) => Vec::from_slice(alloc, list)?,
+        None => names_text(alloc, config.port, names)?,
+    };
+    Ok(Told {
+        phase: Phase::Done,
+        reply,
+        fate: Fate::Close,
+        change: Change::Listed,
+    })
 }
 
 /// PORT_PLEASE2_REQ.
-fn port<N: Known>(alloc: Global, names: &N, name: &Name) -> Result<Next, NoMemory>
-    ensures { IfOk result (λ next. Tells next (port_served (N.names names.now) name.now)) }
+fn port<N: Known>(alloc: Global, config: &Config, names: &N, name: &Name) -> Result<Told, NoMemory>
+    ensures { IfOk result (λ told. Tells config.now (N.names names.now) told (port_served (N.names names.now) name.now)) }
 {
     let found = names.find(name).map(|row| &row.reg);
     Ok(replied(write_port2(alloc, found)?))
@@ -138,30 +177,30 @@ fn dump_text<N: Known>(alloc: Global, port: u16, names: &N) -> Result<Vec<u8>, N
     Ok(dump_retired(active, names)?.into_bytes())
 }
 
-fn dump<N: Known>(alloc: Global, config: &Config, names: &N) -> Result<Next, NoMemory>
-    ensures { IfOk result (λ next. Tells next (dump_served config.now (N.names names.now))) }
+fn dump<N: Known>(alloc: Global, config: &Config, names: &N) -> Result<Told, NoMemory>
+    ensures { IfOk result (λ told. Tells config.now (N.names names.now) told (dump_served config.now (N.names names.now))) }
 {
     Ok(replied(dump_text(alloc, config.port, names)?))
 }
 
 /// KILL_REQ.
-fn kill<N: Known>(alloc: Global, config: &Config, names: &N) -> Result<Next, NoMemory>
-    ensures { IfOk result (λ next. Tells next (kill_served config.now (N.names names.now))) }
+fn kill<N: Known>(alloc: Global, config: &Config, names: &N) -> Result<Told, NoMemory>
+    ensures { IfOk result (λ told. Tells config.now (N.names names.now) told (kill_served config.now (N.names names.now))) }
 {
     if names.active_len() > 0 && !config.relaxed {
         return Ok(replied(Vec::from_slice(alloc, b"NO")?));
     }
-    Ok(Next {
-        stage: Stage::Done,
+    Ok(Told {
+        phase: Phase::Done,
         reply: Vec::from_slice(alloc, b"OK")?,
         fate: Fate::Halt,
-        stopped: None,
+        change: Change::Nothing,
     })
 }
 
 /// STOP_REQ.
-fn stop<N: Known>(alloc: Global, config: &Config, names: &N, name: &Name) -> Result<Next, NoMemory>
-    ensures { IfOk result (λ next. Tells next (stop_served config.now (N.names names.now) name.now)) }
+fn stop<N: Known>(alloc: Global, config: &Config, names: &N, name: &Name) -> Result<Told, NoMemory>
+    ensures { IfOk result (λ told. Tells config.now (N.names names.now) told (stop_served config.now (N.names names.now) name.now)) }
 {
     if !config.relaxed {
         return Ok(replied(Vec::new(alloc)));
@@ -169,200 +208,127 @@ fn stop<N: Known>(alloc: Global, config: &Config, names: &N, name: &Name) -> Res
     let Some(owner) = names.owner(name) else {
         return Ok(replied(Vec::from_slice(alloc, b"NOEXIST")?));
     };
-    Ok(Next {
-        stage: Stage::Done,
+    Ok(Told {
+        phase: Phase::Done,
         reply: Vec::from_slice(alloc, b"STOPPED")?,
         fate: Fate::Close,
-        stopped: Some(owner),
+        change: Change::Retire(owner),
     })
 }
 
-/// ALIVE2_REQ of a local peer, by what its name is offered.
-pub(crate) fn alive(
-    alloc: Global,
-    reg: &Reg,
-    offer: Result<u32, RegFault>,
-) -> Result<Next, NoMemory>
-    requires { IfOk offer (λ creation. IsCreationFor reg.now.high creation) }
-    ensures { IfOk result (λ next. (known_max : ℕ) (names : Names) (slot : ℕ) → Tells next (alive_told known_max names slot reg.now offer)) }
-{
-    match offer {
-        Ok(creation) => Ok(Next {
-            stage: Stage::Holding,
-            reply: write_alive(alloc, reg.high, 0, creation)?,
-            fate: Fate::Stay,
-            stopped: None,
-        }),
-        Err(RegFault::Taken) => Ok(replied(write_alive(alloc, reg.high, 1, 0)?)),
-        Err(RegFault::NoRoom) => Ok(replied(write_alive(alloc, reg.high, 2, 0)?)),
-        Err(RegFault::NoMemory) => Err(NoMemory),
-    }
-}
-
-/// What any other request is told. Nothing is changed yet, so that for want of memory nothing is.
-pub(crate) fn told<N: Known>(
+/// ALIVE2_REQ of a local peer.
+fn alive<N: Known>(
     alloc: Global,
     config: &Config,
     names: &N,
+    reg: Reg,
+    wanted: Option<u32>,
+    counter: u32,
+) -> Result<Told, NoMemory>
+    requires { IsCounter counter }
+    ensures { IfOk result (λ told. (bytes : List ℕ) → TellsAll (λ slot. Serves config.now (N.names names.now) true slot (Alive reg)) config.now (N.names names.now) bytes wanted counter told) }
+{
+    let last = match names.standing(config.known_max, &reg.name) {
+        Standing::Active => return Ok(replied(write_alive(alloc, reg.high, 1, 0)?)),
+        Standing::NoRoom => return Ok(replied(write_alive(alloc, reg.high, 2, 0)?)),
+        Standing::Free(last) => last,
+    };
+    let creation = creation_for(wanted, counter, reg.high, last);
+    Ok(Told {
+        phase: Phase::Holding,
+        reply: write_alive(alloc, reg.high, 0, creation)?,
+        fate: Fate::Stay,
+        change: Change::Register { reg, creation },
+    })
+}
+
+/// What a request is told.
+fn tell_request<N: Known>(
+    alloc: Global,
+    config: &Config,
+    names: &N,
+    kept: Option<&[u8]>,
     local: bool,
-    request: &Request,
-) -> Result<Next, NoMemory>
-    requires { RegistersNone local request.now }
-    ensures { IfOk result (λ next. (slot creation : ℕ) → Tells next (served config.now (N.names names.now) local slot request.now creation)) }
+    request: Request,
+    wanted: Option<u32>,
+    counter: u32,
+) -> Result<Told, NoMemory>
+    requires list { IfSome kept (λ list. list.now ≡ list_of config.now.port (N.names names.now)) }
+    requires counter { IsCounter counter }
+    ensures { IfOk result (λ told. (bytes : List ℕ) → TellsAll (λ slot. Serves config.now (N.names names.now) local slot request) config.now (N.names names.now) bytes wanted counter told) }
 {
     match request {
-        Request::Names => list(alloc, config, names),
-        Request::Port(name) => port(alloc, names, name),
+        Request::Names => list(alloc, config, names, kept),
+        Request::Port(name) => port(alloc, config, names, &name),
         Request::Dump if local => dump(alloc, config, names),
         Request::Kill if local => kill(alloc, config, names),
-        Request::Stop(name) if local => stop(alloc, config, names, name),
+        Request::Stop(name) if local => stop(alloc, config, names, &name),
+        Request::Alive(reg) if local => alive(alloc, config, names, reg, wanted, counter),
         Request::Dump | Request::Kill | Request::Stop(_) | Request::Alive(_) => {
             Ok(replied(Vec::new(alloc)))
         }
     }
 }
 
-/// What the machine tells a request, as `told` does: the list of names is the one that was kept, if one was.
-fn told_by(
+/// What a whole body is told.
+fn tell_body<N: Known>(
     alloc: Global,
     config: &Config,
-    table: &mut Directory,
+    names: &N,
+    kept: Option<&[u8]>,
     local: bool,
-    request: &Request,
-) -> Result<Next, NoMemory>
-    requires { RegistersNone local request.now }
-    ensures ok { IfOk result (λ next. (slot creation : ℕ) → Tells next (served config.now table.old.names local slot request.now creation)) }
-    ensures same { table.new ≡ table.old }
-{
-    match request {
-        Request::Names => Ok(replied(table.names_reply(alloc, config.port)?)),
-        Request::Port(_) | Request::Dump | Request::Kill | Request::Stop(_) | Request::Alive(_) =>
-            told(alloc, config, table.names(), local, request),
-    }
-}
-
-/// What is told, with its reply once more. The copy is made before anything is changed, so that for want of memory nothing is.
-fn with_copy(next: Next) -> Result<(Next, Vec<u8>), NoMemory>
-    ensures same { IfOk result (λ r. r.0 ≡ next) }
-    ensures again { IfOk result (λ r. r.1.items ≡ r.0.reply.items) }
-{
-    let again = next.reply.clone()?;
-    Ok((next, again))
-}
-
-/// What a registration of a local peer is told, with its reply once more. Its name registers, where it is free.
-fn register(
-    alloc: Global,
-    table: &mut Directory,
-    slot: u64,
-    reg: Reg,
-) -> Result<(Next, Vec<u8>), NoMemory>
-    requires { owns_name slot table.old.names ≡ false }
-    ensures ok { IfOk result (λ r. (cfg : Configuration) → table.old.known_max ≡ cfg.known_max → Serves cfg table.old.names true slot (Alive reg) (served_with r.0 table.new.names)) }
-    ensures again { IfOk result (λ r. r.1.items ≡ r.0.reply.items) }
-    ensures limit { table.new.known_max ≡ table.old.known_max }
-    ensures err { OnErr result (table.new ≡ table.old) }
-{
-    let offer = table.offer(&reg.name, reg.high);
-    let told = with_copy(alive(alloc, &reg, offer)?)?;
-    let Ok(creation) = offer else {
-        return Ok(told);
-    };
-    table.admit(reg, creation, slot)?;
-    Ok(told)
-}
-
-/// What any other request is told, with its reply once more, and what becomes of the names.
-fn answer(
-    alloc: Global,
-    config: &Config,
-    table: &mut Directory,
-    local: bool,
-    request: &Request,
-) -> Result<(Next, Vec<u8>), NoMemory>
-    requires { RegistersNone local request.now }
-    ensures ok { IfOk result (λ r. (slot : ℕ) → Serves config.now table.old.names local slot request.now (served_with r.0 table.new.names)) }
-    ensures again { IfOk result (λ r. r.1.items ≡ r.0.reply.items) }
-    ensures limit { table.new.known_max ≡ table.old.known_max }
-    ensures err { OnErr result (table.new ≡ table.old) }
-{
-    let told = with_copy(told_by(alloc, config, table, local, request)?)?;
-    if let Some(owner) = told.0.stopped {
-        table.retire(owner);
-    }
-    Ok(told)
-}
-
-/// What a whole body is told, with the reply once more.
-fn serve(
-    alloc: Global,
-    config: &Config,
-    table: &mut Directory,
-    local: bool,
-    slot: u64,
     body: &[u8],
-) -> Result<(Next, Vec<u8>), NoMemory>
-    requires free { owns_name slot table.old.names ≡ false }
-    requires limit { table.old.known_max ≡ config.now.known_max }
-    ensures ok { IfOk result (λ r. ServesBody config.now table.old.names local slot body.now (served_with r.0 table.new.names)) }
-    ensures again { IfOk result (λ r. r.1.items ≡ r.0.reply.items) }
-    ensures limit { table.new.known_max ≡ table.old.known_max }
-    ensures err { OnErr result (table.new ≡ table.old) }
+    wanted: Option<u32>,
+    counter: u32,
+) -> Result<Told, NoMemory>
+    requires list { IfSome kept (λ list. list.now ≡ list_of config.now.port (N.names names.now)) }
+    requires counter { IsCounter counter }
+    ensures { IfOk result (λ told. (bytes : List ℕ) → TellsAll (λ slot. ServesBody config.now (N.names names.now) local slot body.now) config.now (N.names names.now) bytes wanted counter told) }
 {
     match read_request(alloc, body) {
-        Ok(Request::Alive(reg)) if local => register(alloc, table, slot, reg),
-        Ok(request) => answer(alloc, config, table, local, &request),
+        Ok(request) => tell_request(alloc, config, names, kept, local, request, wanted, counter),
         Err(Malformed::NoMemory) => Err(NoMemory),
         Err(
             Malformed::Short
             | Malformed::UnknownTag
             | Malformed::LengthsDisagree
             | Malformed::Name(_),
-        ) => Ok((replied(Vec::new(alloc)), Vec::new(alloc))),
+        ) => Ok(replied(Vec::new(alloc))),
     }
 }
 
-/// What a piece does to a waiting connection, with the reply once more. For want of memory it gives the feed back as it was.
-pub(crate) fn advance(
+/// What a waiting connection is told by what it sent in all, and what is seen of that. Nothing is changed yet. A name that registers gets
+/// the creation that is wanted, where it may, else the one that comes next by this counter. The list of names is the one that was kept, if
+/// one was.
+pub(crate) fn tell<N: Known>(
     alloc: Global,
     config: &Config,
-    table: &mut Directory,
+    names: &N,
+    kept: Option<&[u8]>,
     local: bool,
-    slot: u64,
-    mut feed: Feed,
-    piece: &[u8],
-) -> Result<(Next, Vec<u8>), Feed>
-    requires free { owns_name slot table.old.names ≡ false }
-    requires limit { table.old.known_max ≡ config.now.known_max }
-    ensures ok { IfOk result (λ r. ToldAt config.now table.old.names local slot (feed ++ piece.now) (first_request (feed ++ piece.now)) (served_with r.0 table.new.names)) }
-    ensures again { IfOk result (λ r. r.1.items ≡ r.0.reply.items) }
-    ensures limit { table.new.known_max ≡ table.old.known_max }
-    ensures err { IfErr result (λ back. (back ≡ feed) × (table.new ≡ table.old)) }
+    feed: &Feed,
+    seen: Seen,
+    wanted: Option<u32>,
+    counter: u32,
+) -> Result<Told, NoMemory>
+    requires seen { seen ≡ seen_of (first_request feed.now) }
+    requires list { IfSome kept (λ list. list.now ≡ list_of config.now.port (N.names names.now)) }
+    requires counter { IsCounter counter }
+    ensures { IfOk result (λ told. TellsAll (λ slot. ToldAt config.now (N.names names.now) local slot feed.now (first_request feed.now)) config.now (N.names names.now) feed.now wanted counter told) }
 {
-    let before = feed.kept().len();
-    match feed.push(piece) {
-        Err(_) => Err(feed),
-        Ok(Seen::More) => {
-            let next = Next {
-                stage: Stage::Waiting(feed),
-                reply: Vec::new(alloc),
-                fate: Fate::Stay,
-                stopped: None,
-            };
-            Ok((next, Vec::new(alloc)))
-        }
-        Ok(Seen::Bad(_)) => Ok((replied(Vec::new(alloc)), Vec::new(alloc))),
-        Ok(Seen::Whole) => {
+    match seen {
+        Seen::More => Ok(Told {
+            phase: Phase::Waiting,
+            reply: Vec::new(alloc),
+            fate: Fate::Stay,
+            change: Change::Nothing,
+        }),
+        Seen::Bad(_) => Ok(replied(Vec::new(alloc))),
+        Seen::Whole => {
             let Some(body) = feed.body() else {
                 unreachable!()
             };
-            match serve(alloc, config, table, local, slot, body) {
-                Ok(told) => Ok(told),
-                Err(_) => {
-                    feed.cut(before);
-                    Err(feed)
-                }
-            }
+            tell_body(alloc, config, names, kept, local, body, wanted, counter)
         }
     }
 }
