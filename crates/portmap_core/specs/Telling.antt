@@ -24,6 +24,13 @@ names_after known_max slot Listed names = names
 names_after known_max slot (Register g creation) names = rows.registered g creation slot (rows.with_room known_max g.name names)
 names_after known_max slot (Retire owner) names = rows.retired_of owner names
 
+-- a name that would register for this slot may not
+abbrev pub AdmitsNone : ℕ → ℕ → Change → rows.Names → Type 0
+AdmitsNone known_max slot Nothing names = ⊥
+AdmitsNone known_max slot Listed names = ⊥
+AdmitsNone known_max slot (Register g creation) names = rows.MayAdmit known_max g.name slot names → ⊥
+AdmitsNone known_max slot (Retire owner) names = ⊥
+
 -- the slot of another connection, whose name it retires
 abbrev pub stopped_by : Change → Option ℕ
 stopped_by Nothing = None

@@ -3,4 +3,3 @@ pub mod Rows
 pub mod Places
 pub mod Table
 pub mod Laws
-pub mod Store

@@ -1,6 +1,6 @@
 -- The names that a port mapper knows: the active ones, each with its registration, and the retired ones. ERTS User's
 -- Guide, EPMD Protocol: a registration lasts as long as its connection. What is remembered of old names: profile.
-use Rattle.std.specs.Prelude.{ℕ, ◌+◌, ◌≤◌, ◌<◌, ◌^◌, Bool, not, nat_le, ◌&&◌, ◌||◌, List, [], ◌∷◌, ◌++◌, length, map, drop, remove, position, find, Option, Some, None, is_some, option_map, slice_get, ◌==◌, All, if◌then◌else◌}
+use Rattle.std.specs.Prelude.{◌≡◌, ℕ, ◌+◌, ◌≤◌, ◌<◌, ◌^◌, Bool, false, not, nat_le, ◌&&◌, ◌||◌, List, [], ◌∷◌, ◌++◌, length, map, drop, remove, position, find, Option, Some, None, is_some, option_map, slice_get, ◌==◌, All, if◌then◌else◌}
 use Rattle.std.specs.List.{IsDistinct}
 use Rattle.std.specs.Cmp.Lexicographic.{pointwise}
 use Rattle.portmap_wire.specs.Node.{Node}
@@ -77,6 +77,13 @@ owner_of name names = option_map (λ row. row.slot) (active_row name names)
 
 abbrev pub owns_name : ℕ → Names → Bool
 owns_name slot names = is_some (position (λ row. row.slot == slot) names.active)
+
+-- a name may become active for a slot: it is not, there is room for it, and the slot owns none
+pub record MayAdmit (known_max : ℕ) (name : List ℕ) (slot : ℕ) (names : Names) : Type 0 where
+  pub active : is_active name names ≡ false
+  pub room : is_full_for known_max name names ≡ false
+  pub owner : owns_name slot names ≡ false
+  pub few : known_len names ≤ known_max
 
 -- ---- changing
 

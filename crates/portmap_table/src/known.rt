@@ -1,6 +1,6 @@
 //! What is asked of names.
-ghost use Rattle.std.specs.Prelude.{◌≡◌, length, option_copied, option_map, slice_get, IfOk, OnErr, OnOk};
-ghost use Rattle.portmap_table.specs.Rows.{Names, active_row, is_active, owner_of, owns_name, registered, retired_name, retired_of, standing, with_room};
+ghost use Rattle.std.specs.Prelude.{◌≡◌, true, false, length, option_copied, option_map, slice_get, Ok, IfOk, OnErr, OnOk};
+ghost use Rattle.portmap_table.specs.Rows.{MayAdmit, Names, active_row, is_active, owner_of, owns_name, registered, retired_name, retired_of, standing, with_room};
 
 use crate::row::{Retired, Row};
 use crate::standing::Standing;
@@ -53,9 +53,18 @@ pub trait Known {
 /// Names that can change.
 pub trait NameStore: Known {
     /// A name becomes active, with this creation, and is owned by the connection in this slot. Where it is new and as many are known
-    /// as may be, the one retired longest is forgotten.
-    fn admit(&mut self, known_max: u32, reg: Reg, creation: u32, slot: u64) -> Result<(), NoMemory>
-        ensures ok { OnOk result (Self.names self.new ≡ registered reg creation slot (with_room known_max reg.name (Self.names self.old))) }
+    /// as may be, the one retired longest is forgotten. False where that can't be kept: only where a name or a slot would stand twice, or
+    /// too many are known.
+    fn admit(
+        &mut self,
+        known_max: u32,
+        reg: Reg,
+        creation: u32,
+        slot: u64,
+    ) -> Result<bool, NoMemory>
+        ensures ok { result ≡ Ok true → Self.names self.new ≡ registered reg creation slot (with_room known_max reg.name (Self.names self.old)) }
+        ensures no { result ≡ Ok false → MayAdmit known_max reg.name slot (Self.names self.old) → ⊥ }
+        ensures same { result ≡ Ok false → Self.names self.new ≡ Self.names self.old }
         ensures err { OnErr result (Self.names self.new ≡ Self.names self.old) };
 
     /// Retires the name that a slot owns, and says whether it owned one.

@@ -9,7 +9,6 @@ mod known;
 mod laws;
 mod name_lists;
 mod name_map;
-mod names;
 mod place;
 mod row;
 mod standing;
@@ -23,7 +22,6 @@ pub use laws::{
 };
 pub use name_lists::NameLists;
 pub use name_map::NameMap;
-pub use names::Names;
 pub use row::{Old, Retired, Row};
 pub use standing::Standing;
 pub use table::{RegFault, Table};

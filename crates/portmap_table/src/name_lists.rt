@@ -1,7 +1,7 @@
 //! Names that are known, as plain lists.
-ghost use Rattle.std.specs.Prelude.{◌≡◌, ◌↔◌, IsTrue, All, length, drop, option_copied, option_map, slice_get, Some, None, IfOk, IfSome, Ok, OnOk, OnErr, position, [], ◌∷◌, ◌++◌, ◌<◌, ◌≤◌, ◌^◌, vec_len, vec_capacity};
+ghost use Rattle.std.specs.Prelude.{◌≡◌, ◌↔◌, IsTrue, All, true, false, length, drop, option_copied, option_map, slice_get, Some, None, IfOk, IfSome, Ok, OnOk, OnErr, position, [], ◌∷◌, ◌++◌, ◌<◌, ◌≤◌, ◌^◌, vec_len, vec_capacity};
 ghost use Rattle.portmap_table.specs.Creation.{IsCreationFor};
-ghost use Rattle.portmap_table.specs.Rows.{AreKept, active_row, is_active, no_names, owner_of, owns_name, old_name, registered, remembered, retired_at, retired_name, retired_of, same_name, standing, with_room, without_at};
+ghost use Rattle.portmap_table.specs.Rows.{AreKept, MayAdmit, active_row, is_active, no_names, owner_of, owns_name, old_name, registered, remembered, retired_at, retired_name, retired_of, same_name, standing, with_room, without_at};
 
 use crate::copies::{copy_active, copy_retired, same_active, same_retired};
 use crate::creation::is_creation_for;
@@ -202,7 +202,7 @@ impl NameStore for NameLists {
         reg: Reg,
         creation: u32,
         slot: u64,
-    ) -> Result<(), NoMemory> {
+    ) -> Result<bool, NoMemory> {
         make_room(&mut self.active, &mut self.retired)?;
         let is_new = !self.is_active(&reg.name) && self.remembered(&reg.name).is_none();
         if is_new && self.active.len() + self.retired.len() >= known_max as usize {
@@ -214,7 +214,7 @@ impl NameStore for NameLists {
             slot,
         };
         enter(&mut self.active, &mut self.retired, row);
-        Ok(())
+        Ok(true)
     }
 
     /// Memory is asked for before anything changes.

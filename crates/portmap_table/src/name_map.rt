@@ -1,12 +1,12 @@
 //! The names that are known, active and retired, each found without a walk.
-ghost use Rattle.std.specs.Prelude.{◌≡◌, ◌==◌, ℕ, ◌+◌, ◌<◌, ◌≤◌, ◌^◌, false, length, map, find, position, remove, nat_eq, option_copied, option_map, slice_get, vec_len, vec_capacity, IfSome, IfOk, OnOk, OnErr, IsTrue, IsSome, Some, None, ◌++◌, ◌∷◌, []};
+ghost use Rattle.std.specs.Prelude.{◌≡◌, ◌==◌, ℕ, ◌+◌, ◌<◌, ◌≤◌, ◌^◌, true, false, Ok, length, map, find, position, remove, nat_eq, option_copied, option_map, slice_get, vec_len, vec_capacity, IfSome, IfOk, OnOk, OnErr, IsTrue, IsSome, Some, None, ◌++◌, ◌∷◌, []};
 ghost use Rattle.indexmap.specs.IndexMap.{IsUnchanged, get, spare};
 ghost use Rattle.portmap_table.specs.declared.row.Row.{Row};
 ghost use Rattle.portmap_table.specs.Places.{HasEach, IsNew, IsRetiredAt, TakesPlace, active_entry};
-ghost use Rattle.portmap_table.specs.Rows.{active_row, is_active, is_full_for, known_len, no_names, old_name, owner_of, owns_name, registered, retired_name, retired_of, standing, with_room};
+ghost use Rattle.portmap_table.specs.Rows.{MayAdmit, active_row, is_active, is_full_for, known_len, no_names, old_name, owner_of, owns_name, registered, retired_name, retired_of, standing, with_room};
 
 use crate::entries::{Entries, Kept};
-use crate::known::Known;
+use crate::known::{Known, NameStore};
 use crate::row::{Retired, Row};
 use crate::standing::Standing;
 use indexmap::IndexMap;
@@ -131,7 +131,7 @@ fn make_room(
 
 impl NameMap {
     /// None is known. It takes no memory.
-    pub(crate) fn new(alloc: Global) -> NameMap
+    pub fn new(alloc: Global) -> NameMap
         ensures { result ≡ no_names }
     {
         NameMap {
@@ -155,6 +155,7 @@ impl NameMap {
         ensures room { IsTrue result → is_full_for known_max name.now self.now ≡ false }
         ensures slot { IsTrue result → owns_name slot self.now ≡ false }
         ensures few { IsTrue result → known_len self.now ≤ known_max }
+        ensures no { result ≡ false → MayAdmit known_max name.now slot self.now → ⊥ }
     {
         let is_free = match self.standing(known_max, name) {
             Standing::Free(_) => true,
@@ -245,5 +246,25 @@ impl Known for NameMap {
     fn retired_at(&self, i: usize) -> Option<Retired<'_>> {
         let place = self.retired.get(i)?;
         self.entries.retired(*place as usize)
+    }
+}
+
+impl NameStore for NameMap {
+    fn admit(
+        &mut self,
+        known_max: u32,
+        reg: Reg,
+        creation: u32,
+        slot: u64,
+    ) -> Result<bool, NoMemory> {
+        if !self.may_admit(known_max, &reg.name, slot) {
+            return Ok(false);
+        }
+        NameMap::admit(self, known_max, reg, creation, slot)?;
+        Ok(true)
+    }
+
+    fn retire(&mut self, slot: u64) -> Result<bool, NoMemory> {
+        Ok(NameMap::retire(self, slot))
     }
 }
