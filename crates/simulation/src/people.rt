@@ -347,7 +347,7 @@ impl Person {
     }
 
     /// When the next burst comes after this time; without bursts this time.
-    fn burst_after(&self, time: u64) -> u64 {
+    pub fn burst_after(&self, time: u64) -> u64 {
         if self.burst > 1 {
             (time / self.burst).saturating_add(1).saturating_mul(self.burst)
         } else {
@@ -425,7 +425,7 @@ impl Person {
     }
 
     /// Whether it asks for what is known, once.
-    fn asks_once(&self) -> bool {
+    pub fn asks_once(&self) -> bool {
         match self.role {
             Role::Seeker | Role::Lister | Role::Dumper => true,
             _ => false,
@@ -443,9 +443,14 @@ impl Person {
             Role::Node | Role::Rival | Role::Talker => self.stage == Stage::Holding,
             _ => false,
         };
+        let sends = self.role == Role::Plodder && self.stage == Stage::Sending;
         self.leave(world, 50_000);
-        if holds && !is_reset && !self.is_lenient {
+        if is_reset || self.is_lenient {
+            None
+        } else if holds {
             Some("a registered connection was closed")
+        } else if sends {
+            Some("a connection was given up that sends")
         } else {
             None
         }

@@ -216,6 +216,9 @@ fn people_of(alloc: Global, scenario: &Scenario, world: &mut World) -> Option<Ve
             person.patience = scenario.patience_us;
             person.burst = scenario.burst_us;
             person.hold_most = scenario.hold_us;
+            if person.asks_once() {
+                person.next_at = person.burst_after(next_at);
+            }
             person.is_lenient = !scenario.is_strict || (has_rivals && owns);
             people.push(person).ok()?;
         }

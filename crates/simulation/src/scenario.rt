@@ -65,7 +65,11 @@ const HEAVY_LOAD: &[Crowd] = &[
     Crowd(Role::Seeker, 120, true),
 ];
 
-const BESIEGED: &[Crowd] = &[Crowd(Role::Silent, 40, false), Crowd(Role::Seeker, 8, true)];
+const BESIEGED: &[Crowd] = &[
+    Crowd(Role::Silent, 40, false),
+    Crowd(Role::Plodder, 2, true),
+    Crowd(Role::Seeker, 8, true),
+];
 
 const RIVALRY: &[Crowd] = &[
     Crowd(Role::Node, 6, true),
@@ -287,7 +291,7 @@ pub const SCENARIOS: &[Scenario] = &[
         conn_max: 16,
         burst_us: 2_000_000,
         hold_us: 60_000_000,
-        limit_ms: 300,
+        limit_ms: 40,
         ..USUAL
     },
     Scenario {
