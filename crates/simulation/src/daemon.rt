@@ -14,6 +14,9 @@ use std::sync::ledger::Ledger;
 /// One place of so many is kept for this host.
 const KEPT_SHARE: u32 = 8;
 
+/// For so long a connection may move no byte.
+pub(crate) const TIMEOUT_US: u64 = 5_000_000;
+
 /// The most bytes that the log takes, by its own reckoning.
 const LOG_BYTES_MOST: u64 = 400_000;
 
@@ -40,6 +43,8 @@ pub struct Daemon<'a, L: Ledger, S: Steps, R: Wait + Drop> {
     pub(crate) opened: Vec<usize>,
     pub(crate) people: Vec<Person>,
     pub(crate) tally: Tally,
+    /// How many connections were given up before their time was over.
+    pub(crate) given_up: u32,
     pub(crate) wrong: Option<Wrong>,
     /// The daemon is to end, or has ended: nobody is owed anything.
     pub(crate) is_ending: bool,
@@ -161,8 +166,8 @@ impl<'a, L: Ledger, S: Steps, R: Wait + Drop> Daemon<'a, L, S, R> {
                 self.opened.push(fresh).ok()?;
             }
         }
-        if worker.source().is_unfair() && self.is_strict {
-            self.note(Some("one was told late of whom there was news"));
+        if let Some((late, has_news)) = worker.source().take_late() {
+            self.judge_late(late, has_news)?;
         }
         if goes_on {
             *self.workers.get_mut(number)? = Some(worker);
@@ -170,6 +175,25 @@ impl<'a, L: Ledger, S: Steps, R: Wait + Drop> Daemon<'a, L, S, R> {
             let seat = worker.leave();
             self.shared.end_worker(number, seat.count());
             self.seats.push(seat).ok()?;
+        }
+        Some(())
+    }
+
+    /// A connection was told late: its time is over, or it is given up for another one, and nobody is while there is news of him.
+    fn judge_late(&mut self, late: usize, has_news: bool) -> Option<()> {
+        let world = self.world().try_borrow().ok()?;
+        let accepted = world.wires.get(late)?.accepted?.1;
+        let is_over = world.now.saturating_add(world.jumped).saturating_sub(accepted) >= TIMEOUT_US;
+        let wanting = world.wanting;
+        drop(world);
+        if !is_over {
+            self.given_up = self.given_up.saturating_add(1);
+        }
+        if self.is_strict && has_news {
+            self.note(Some("one was told late of whom there was news"));
+        }
+        if self.is_strict && self.given_up > wanting {
+            self.note(Some("a connection was given up for no one"));
         }
         Some(())
     }

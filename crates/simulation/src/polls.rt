@@ -283,9 +283,19 @@ impl World {
         let now = self.now;
         if let Some(wire) = self.wires.get_mut(number) {
             wire.accepted = Some((thread, now));
-            if !wire.is_local {
-                self.remote = self.remote.saturating_add(1);
+            let (local, remote) = (self.local as usize, self.remote as usize);
+            // Some places are kept for this host, and half of those that it leaves are others' at least.
+            let left = self.places.saturating_sub(local);
+            let kept = if wire.is_local { 0 } else { (self.places / 8).min(left / 2) };
+            if remote >= left.saturating_sub(kept) {
+                self.wanting = self.wanting.saturating_add(1);
             }
+            let taken = if wire.is_local {
+                &mut self.local
+            } else {
+                &mut self.remote
+            };
+            *taken = taken.saturating_add(1);
         }
         Ok(number)
     }

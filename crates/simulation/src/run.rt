@@ -1,7 +1,7 @@
 //! A daemon that serves people in a world.
 ghost use Rattle.std.specs.Prelude.{◌≡◌};
 
-use crate::daemon::{Daemon, SimWorker};
+use crate::daemon::{Daemon, SimWorker, TIMEOUT_US};
 use crate::judge::judge;
 use crate::people::{NOBODY, Person, Role, Tally, Wrong};
 use crate::scenario::{Crowd, Scenario};
@@ -20,9 +20,6 @@ use std::mem;
 use std::rc::Rc;
 use std::sync::Wait;
 use std::sync::ledger::{Blank, Ledger};
-
-/// How many milliseconds a connection may move no byte.
-const TIMEOUT_MS: u64 = 5000;
 
 /// So long connections that have ended are still on their way out.
 const SETTLING_US: u64 = 10_000_000;
@@ -163,6 +160,7 @@ impl<'a, L: Ledger, S: Steps, R: Wait + Drop> Daemon<'a, L, S, R> {
             opened: Vec::new(alloc),
             people,
             tally: NOBODY,
+            given_up: 0,
             wrong: None,
             is_ending: false,
             is_strict: case.scenario.is_strict,
@@ -237,7 +235,7 @@ fn sources_of<'a, L: Ledger, R: Wait + Drop>(
         let thread = number as usize;
         let world = around.host.world.clone().ok()?;
         let system = SimSystem { world, thread };
-        let sockets = Sockets::new(alloc, thread, system, TIMEOUT_MS).ok()?;
+        let sockets = Sockets::new(alloc, thread, system, TIMEOUT_US / 1000).ok()?;
         let source = SocketSource::new(around.host, alloc, around.desk, around.shared, sockets)?;
         sources.push(Stepped::new(source)).ok()?;
     }
@@ -312,7 +310,8 @@ pub fn run_case<L: Ledger, R: Wait + Drop>(
         backlog_most,
         ..
     } = case.scenario;
-    let world = World::new(alloc, case.seed, *chances, threads, *backlog_most)?;
+    let mut world = World::new(alloc, case.seed, *chances, threads, *backlog_most)?;
+    world.places = case.scenario.conn_max as usize;
     let world = Rc::new(alloc, RefCell::new(world)).ok()?;
     let host = SimHost { rt, world };
     at_desk::<L, R>(&host, alloc, blank, case)

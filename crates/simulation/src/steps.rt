@@ -23,8 +23,8 @@ pub struct Stepped<'a, L: Ledger, R: Wait + Drop> {
     fresh: Option<usize>,
     /// What it told last.
     told: Option<Turn>,
-    /// It has told one late of which there was news.
-    is_unfair: bool,
+    /// The connection that it told last as late, and whether there was news of it.
+    late: Option<(usize, bool)>,
 }
 
 impl<'a, L: Ledger, R: Wait + Drop> Stepped<'a, L, R> {
@@ -34,7 +34,7 @@ impl<'a, L: Ledger, R: Wait + Drop> Stepped<'a, L, R> {
             source,
             fresh: None,
             told: None,
-            is_unfair: false,
+            late: None,
         }
     }
 }
@@ -52,11 +52,10 @@ impl<L: Ledger, R: Wait + Drop> Source for Stepped<'_, L, R> {
             };
         }
         if let Turn::Late(key) = turn {
-            let has_news = match self.source.link(key) {
-                Some(link) => link.stream().has_news(),
-                None => false,
+            self.late = match self.source.link(key) {
+                Some(link) => Some((link.stream().number(), link.stream().has_news())),
+                None => None,
             };
-            self.is_unfair = self.is_unfair || has_news;
         }
         turn
     }
@@ -78,8 +77,8 @@ pub trait Steps: Source + Drop {
     /// What it told last.
     fn told(&self) -> Option<Turn>;
 
-    /// Whether it has told one late of which there was news.
-    fn is_unfair(&self) -> bool;
+    /// The connection that it told last as late, and whether there was news of it, once.
+    fn take_late(&mut self) -> Option<(usize, bool)>;
 }
 
 impl<L: Ledger, R: Wait + Drop> Steps for Stepped<'_, L, R> {
@@ -91,7 +90,7 @@ impl<L: Ledger, R: Wait + Drop> Steps for Stepped<'_, L, R> {
         self.told
     }
 
-    fn is_unfair(&self) -> bool {
-        self.is_unfair
+    fn take_late(&mut self) -> Option<(usize, bool)> {
+        self.late.take()
     }
 }

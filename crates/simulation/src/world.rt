@@ -58,8 +58,12 @@ pub struct World {
     starved_until: u64,
     pub stalled_until: u64,
     pub is_disk_full: bool,
-    /// How many connections of other hosts the daemon has.
+    /// How many connections of other hosts the daemon has, and of this one.
     pub remote: u32,
+    pub local: u32,
+    /// How many places the daemon has, and how many connections came as there was none for them.
+    pub places: usize,
+    pub wanting: u32,
     pub files: Vec<Vec<u8>>,
     /// What was in them when the process was killed, if it had been.
     pub killed: Vec<Vec<u8>>,
@@ -103,6 +107,9 @@ impl World {
             stalled_until: 0,
             is_disk_full: false,
             remote: 0,
+            local: 0,
+            places: 0,
+            wanting: 0,
             files: Vec::new(alloc),
             killed: Vec::new(alloc),
             told_failed: 0,
@@ -382,9 +389,12 @@ impl World {
             wire.is_down_ended = true;
             wire.is_ended_well = !wire.is_up_ended && !wire.is_reset;
             wire.has_peer_news = true;
-            if !wire.is_local {
-                self.remote = self.remote.saturating_sub(1);
-            }
+            let taken = if wire.is_local {
+                &mut self.local
+            } else {
+                &mut self.remote
+            };
+            *taken = taken.saturating_sub(1);
             if let Some(watch) = wire.watch.take() {
                 if let Some(thread) = self.threads.get_mut(watch.thread) {
                     thread.watched.retain(|watched| *watched != number);
