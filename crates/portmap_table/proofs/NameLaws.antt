@@ -12,10 +12,9 @@ use Rattle.std.proofs.lemmas.List.Sorted.{IsPermutation-append_left}
 use Rattle.std.proofs.lemmas.Map.Keys.{IsDistinct-IsPermutation, IsDistinct-head}
 use Rattle.std.proofs.lemmas.Option.{slice_get_within, slice_get-get_or, get_or_from_slice_get}
 use Rattle.portmap_table.specs.declared.row.Row.{Row}
-use Rattle.portmap_table.specs.Rows.{name_of, RetiredName, Names, same_name, is_active, active_row, retired_row, without_at, old_name, retired_of, retired_at, retired_last, is_full_for, is_known, known_len, remembered, without_oldest}
+use Rattle.portmap_table.specs.Rows.{name_of, RetiredName, Names, same_name, is_active, active_row, retired_row, without_at, old_name, retired_of, retired_at, retired_last, is_known, known_len, without_oldest}
 use Rattle.std.proofs.lemmas.List.{nil_from_length}
 use Rattle.std.specs.Prelude.{option_map}
-use Rattle.portmap_table.specs.Creation.{IsLegalCreation}
 use Rattle.portmap_table.specs.Laws.{row_of, ActiveNamesStay, KnownNamesCostNone, LastCreationsAreRemembered, NoneIsRefusedForRetiredNames, ReturningNamesGetAnother, OldestMakesRoom, RegisteredNamesAreActive, NamesOutliveConnections, OthersStayAtRegistration, OthersStayAtRetirement, RegisteredNamesStandLast, RetiredNamesStandLast, RetiredNamesStay, RoomCostsNone}
 use Rattle.portmap_table.proofs.Distinct.{keys_moved}
 use Rattle.portmap_table.proofs.Finding.{is_none, find-push, find-push_other, find-remove, find-differs, position-find, first_part, second_part}
