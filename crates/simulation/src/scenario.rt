@@ -310,7 +310,7 @@ pub const SCENARIOS: &[Scenario] = &[
         people: RIVALRY,
         conn_max: 512,
         burst_us: 100_000,
-        hold_us: 30_000,
+        hold_us: 5_000_000,
         is_strict: false,
         limit_ms: 4000,
         ..USUAL
