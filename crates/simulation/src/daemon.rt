@@ -17,8 +17,8 @@ const KEPT_SHARE: u32 = 8;
 /// For so long a connection may move no byte.
 pub(crate) const TIMEOUT_US: u64 = 5_000_000;
 
-/// The most bytes that the log takes, by its own reckoning.
-const LOG_BYTES_MOST: u64 = 400_000;
+/// The most bytes that the log takes for each thread, by its own reckoning: a second's pieces of links that are read slowly.
+const LOG_BYTES_MOST: u64 = 600_000;
 
 /// A worker of the daemon in the world.
 pub type SimWorker<'a, L, S, R> = Worker<'a, L, S, Open, SimHost<R>>;
@@ -75,13 +75,23 @@ impl<'a, L: Ledger, S: Steps, R: Wait + Drop> Daemon<'a, L, S, R> {
             return world.due_at(actor);
         }
         if actor == count {
-            return if self.drained.is_none() { world.due_at(actor) } else { None };
+            return if self.drained.is_none() {
+                world.due_at(actor)
+            } else {
+                None
+            };
         }
         if actor == count.saturating_add(1) {
             let has_work = self.is_writing && !self.queue.is_idle(self.host);
-            return if has_work { Some(world.stalled_until) } else { None };
+            return if has_work {
+                Some(world.stalled_until)
+            } else {
+                None
+            };
         }
-        let person = self.people.get(actor.saturating_sub(count).saturating_sub(2))?;
+        let person = self
+            .people
+            .get(actor.saturating_sub(count).saturating_sub(2))?;
         person.due_at(world)
     }
 
@@ -90,7 +100,11 @@ impl<'a, L: Ledger, S: Steps, R: Wait + Drop> Daemon<'a, L, S, R> {
         due.clear();
         let world = self.world().try_borrow().ok()?;
         let mut next = world.lands_at().unwrap_or(u64::MAX);
-        let count = self.workers.len().saturating_add(2).saturating_add(self.people.len());
+        let count = self
+            .workers
+            .len()
+            .saturating_add(2)
+            .saturating_add(self.people.len());
         for actor in 0..count {
             match self.due_at(&world, actor) {
                 Some(at) if at <= world.now => due.push(actor).ok()?,
@@ -183,7 +197,11 @@ impl<'a, L: Ledger, S: Steps, R: Wait + Drop> Daemon<'a, L, S, R> {
     fn judge_late(&mut self, late: usize, has_news: bool) -> Option<()> {
         let world = self.world().try_borrow().ok()?;
         let accepted = world.wires.get(late)?.accepted?.1;
-        let is_over = world.now.saturating_add(world.jumped).saturating_sub(accepted) >= TIMEOUT_US;
+        let is_over = world
+            .now
+            .saturating_add(world.jumped)
+            .saturating_sub(accepted)
+            >= TIMEOUT_US;
         let wanting = world.wanting;
         drop(world);
         if !is_over {
@@ -247,10 +265,16 @@ impl<'a, L: Ledger, S: Steps, R: Wait + Drop> Daemon<'a, L, S, R> {
         let world = self.world().try_borrow().ok()?;
         let remote = world.remote;
         let slack = scenario.limit_ms.saturating_mul(1000);
-        let is_late = self.people.iter().any(|person| person.is_late(&world, slack));
-        let is_kept = self.people.iter().any(|person| person.is_kept(&world, slack));
+        let is_late = self
+            .people
+            .iter()
+            .any(|person| person.is_late(&world, slack));
+        let is_kept = self
+            .people
+            .iter()
+            .any(|person| person.is_kept(&world, slack));
         drop(world);
-        if self.desk.weight(self.host) > LOG_BYTES_MOST {
+        if self.desk.weight(self.host) / LOG_BYTES_MOST > self.workers.len() as u64 {
             self.note(Some("the log is not taken out"));
         }
         if is_late {

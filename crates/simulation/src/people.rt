@@ -93,7 +93,7 @@ pub struct Person {
     times: u32,
     /// A node that comes back has its name within so many microseconds.
     pub patience: u64,
-    /// Who registers nothing comes as a multiple of so many microseconds has passed, together with all others, and nodes leave then.
+    /// Who asks comes as a multiple of so many microseconds has passed, together with all others who do, and nodes leave then.
     pub burst: u64,
     /// It holds its name for so many microseconds at most, most of the time.
     pub hold_most: u64,
@@ -186,7 +186,9 @@ impl Person {
             _ => self.is_local,
         };
         let wire = self.wire.and_then(|wire| world.wires.get(wire));
-        let worker = wire.and_then(|wire| wire.accepted).map(|accepted| accepted.0);
+        let worker = wire
+            .and_then(|wire| wire.accepted)
+            .map(|accepted| accepted.0);
         let since = world.held_until(worker).saturating_add(limit);
         reads && world.now > since && self.waited(world.now) > limit
     }
@@ -336,12 +338,20 @@ impl Person {
     fn leave(&mut self, world: &mut World, most: u64) {
         if let Some(wire) = self.wire.take() {
             let is_reset = world.happens(Fault::Reset);
-            world.end(wire, if is_reset { Ending::Reset } else { Ending::Gone });
+            world.end(
+                wire,
+                if is_reset {
+                    Ending::Reset
+                } else {
+                    Ending::Gone
+                },
+            );
         }
         self.stage = Stage::Away;
         let next_at = world.now.saturating_add(world.random.below(most));
         self.next_at = match self.role {
             Role::Node | Role::Rival | Role::Talker => next_at,
+            Role::Silent => self.burst_after(next_at).saturating_add(self.burst / 4),
             _ => self.burst_after(next_at),
         };
     }
@@ -349,7 +359,9 @@ impl Person {
     /// When the next burst comes after this time; without bursts this time.
     pub fn burst_after(&self, time: u64) -> u64 {
         if self.burst > 1 {
-            (time / self.burst).saturating_add(1).saturating_mul(self.burst)
+            (time / self.burst)
+                .saturating_add(1)
+                .saturating_mul(self.burst)
         } else {
             time
         }

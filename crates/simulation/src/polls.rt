@@ -68,7 +68,10 @@ impl World {
     /// How many streams are watched.
     pub fn watched(&self) -> usize {
         let threads = self.threads.iter();
-        threads.fold(0usize, |sum, thread| sum.saturating_add(thread.watched.len()))
+        threads.fold(
+            0usize,
+            |sum, thread| sum.saturating_add(thread.watched.len()),
+        )
     }
 
     /// A thread waits until this time, unless it is woken.
@@ -286,16 +289,19 @@ impl World {
             let (local, remote) = (self.local as usize, self.remote as usize);
             // Some places are kept for this host, and half of those that it leaves are others' at least.
             let left = self.places.saturating_sub(local);
-            let kept = if wire.is_local { 0 } else { (self.places / 8).min(left / 2) };
+            let kept = if wire.is_local {
+                0
+            } else {
+                (self.places / 8).min(left / 2)
+            };
             if remote >= left.saturating_sub(kept) {
                 self.wanting = self.wanting.saturating_add(1);
             }
-            let taken = if wire.is_local {
-                &mut self.local
+            if wire.is_local {
+                self.local = self.local.saturating_add(1);
             } else {
-                &mut self.remote
-            };
-            *taken = taken.saturating_add(1);
+                self.remote = self.remote.saturating_add(1);
+            }
         }
         Ok(number)
     }

@@ -73,10 +73,10 @@ impl<'a, L: Ledger, S: Steps, R: Wait + Drop> Daemon<'a, L, S, R> {
         let mut due = Vec::new(self.alloc);
         let killed_at = {
             let mut world = self.world().try_borrow_mut().ok()?;
-            world.random.below(u64::from(case.steps)) as u32
+            world.random.below(u64::from(case.steps))
         };
         for step in 0..case.steps {
-            if step == killed_at {
+            if u64::from(step) == killed_at {
                 self.world().try_borrow_mut().ok()?.kill()?;
             }
             self.step(&mut due, u64::MAX)?;
@@ -101,7 +101,7 @@ impl<'a, L: Ledger, S: Steps, R: Wait + Drop> Daemon<'a, L, S, R> {
         self.pass(&mut due, rest)?;
         let polls = self.polls()?.saturating_sub(before);
         let most = POLLS_MOST.saturating_mul(self.workers.len() as u64);
-        if polls.saturating_mul(HOUR_US / rest) > most {
+        if polls.saturating_mul(HOUR_US) > most.saturating_mul(rest) {
             self.note(Some("a worker does not sleep"));
         }
         self.rest()?;

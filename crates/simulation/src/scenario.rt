@@ -20,7 +20,8 @@ pub struct Scenario {
     pub file_bytes_most: u64,
     /// A node that comes back has its name within so many microseconds.
     pub patience_us: u64,
-    /// Who registers nothing comes together with all others, each so many microseconds, and nodes leave then: so several workers accept.
+    /// Who asks comes together with all others who do, each so many microseconds, and nodes leave then: so several workers accept. Who
+    /// asks nothing comes a quarter of that later.
     pub burst_us: u64,
     /// A node holds its name for so many microseconds at most, most of the time.
     pub hold_us: u64,
@@ -312,7 +313,7 @@ pub const SCENARIOS: &[Scenario] = &[
         burst_us: 100_000,
         hold_us: 5_000_000,
         is_strict: false,
-        limit_ms: 4000,
+        limit_ms: 10_000,
         ..USUAL
     },
     Scenario {

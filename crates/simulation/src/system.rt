@@ -265,11 +265,14 @@ impl<R: Wait + Drop> Host for SimHost<R> {
 
     fn tell(&self, notice: Notice) {
         if let Ok(mut world) = self.world.try_borrow_mut() {
-            let told = match notice {
-                Notice::RecordingFailed => &mut world.told_failed,
-                Notice::CannotAccept => &mut world.told_unaccepted,
-            };
-            *told = told.saturating_add(1);
+            match notice {
+                Notice::RecordingFailed => {
+                    world.told_failed = world.told_failed.saturating_add(1);
+                }
+                Notice::CannotAccept => {
+                    world.told_unaccepted = world.told_unaccepted.saturating_add(1);
+                }
+            }
         }
     }
 

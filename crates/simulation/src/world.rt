@@ -389,12 +389,11 @@ impl World {
             wire.is_down_ended = true;
             wire.is_ended_well = !wire.is_up_ended && !wire.is_reset;
             wire.has_peer_news = true;
-            let taken = if wire.is_local {
-                &mut self.local
+            if wire.is_local {
+                self.local = self.local.saturating_sub(1);
             } else {
-                &mut self.remote
-            };
-            *taken = taken.saturating_sub(1);
+                self.remote = self.remote.saturating_sub(1);
+            }
             if let Some(watch) = wire.watch.take() {
                 if let Some(thread) = self.threads.get_mut(watch.thread) {
                     thread.watched.retain(|watched| *watched != number);
