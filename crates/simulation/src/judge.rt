@@ -118,8 +118,13 @@ fn judge_killed(alloc: Global, world: &mut World) -> Result<(), Wrong> {
     Ok(())
 }
 
-/// What is wrong with a daemon that opened these connections in this order; the outer none is want of memory.
-pub fn judge(alloc: Global, world: &mut World, opened: &[usize]) -> Option<Option<Wrong>> {
+/// What is wrong with a daemon that opened these connections in this order and made so many acts; the outer none is want of memory.
+pub fn judge(
+    alloc: Global,
+    world: &mut World,
+    opened: &[usize],
+    acts: u64,
+) -> Option<Option<Wrong>> {
     if world.is_lost {
         return None;
     }
@@ -155,6 +160,9 @@ pub fn judge(alloc: Global, world: &mut World, opened: &[usize]) -> Option<Optio
     }
     if has_failed {
         return Some(None);
+    }
+    if next != acts {
+        return Some(Some("acts are missing in the recording"));
     }
     Some(told.find(world, opened))
 }

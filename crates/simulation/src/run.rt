@@ -177,11 +177,11 @@ impl<'a, L: Ledger, S: Steps, R: Wait + Drop> Daemon<'a, L, S, R> {
     /// What it came to, once it has ended.
     fn outcome(&mut self, case: &Case<'_>) -> Option<Outcome> {
         let mut world = self.world().try_borrow_mut().ok()?;
-        let found = judge(self.alloc, &mut world, &self.opened)?;
         let acts = self
             .seats
             .iter()
             .fold(0u64, |sum, seat| sum.saturating_add(seat.count()));
+        let found = judge(self.alloc, &mut world, &self.opened, acts)?;
         let weather = &world.weather;
         Some(Outcome {
             wrong: self.wrong.or(found),
