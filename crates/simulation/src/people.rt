@@ -18,7 +18,7 @@ pub enum Role {
     Dumper,
     /// Asks for the list of names and reads it late, or byte by byte.
     Slow,
-    /// Asks for the list of names, a byte each three seconds.
+    /// Asks for the list of names, a byte each three and a half seconds.
     Plodder,
     /// Asks for the list of names and reads nothing.
     Unreading,

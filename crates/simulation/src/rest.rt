@@ -53,16 +53,20 @@ impl<'a, L: Ledger, S: Steps, R: Wait + Drop> Daemon<'a, L, S, R> {
         Some(workers.fold(0u64, |sum, thread| sum.saturating_add(thread.polls)))
     }
 
+    /// How many people hold a name.
+    fn holding(&self) -> usize {
+        self.people.iter().filter(|person| person.holds()).count()
+    }
+
     /// At rest the log is taken out and written, and each connection that is open is watched.
     pub(crate) fn rest(&mut self) -> Option<()> {
         let is_written = !self.is_writing || self.queue.is_idle(self.host);
         let is_out = self.desk.weight(self.host) == 0 && is_written;
         let watched = self.world().try_borrow().ok()?.watched();
-        let holding = self.people.iter().filter(|person| person.holds()).count();
         if !is_out {
             self.note(Some("the log at rest is not taken out"));
         }
-        if watched != holding {
+        if watched != self.holding() {
             self.note(Some("what is watched at rest is not what is open"));
         }
         Some(())
@@ -125,9 +129,8 @@ impl<'a, L: Ledger, S: Steps, R: Wait + Drop> Daemon<'a, L, S, R> {
 
     /// Each place that nobody holds at rest can be had, and each such connection is answered.
     pub(crate) fn fill(&mut self, due: &mut Vec<usize>, conn_max: u32) -> Option<()> {
-        let held = self.people.iter().filter(|person| person.holds()).count();
         let mut numbers = Vec::new(self.alloc);
-        for _ in held..conn_max as usize {
+        for _ in self.holding()..conn_max as usize {
             let number = match self.open(&[0, 1]) {
                 Some(number) => number,
                 None => {
