@@ -30,6 +30,7 @@ LIB = $(DESTDIR)$(PREFIX)/lib/epmd-proved
 BIN = $(DESTDIR)$(PREFIX)/bin
 UNITS = $(DESTDIR)$(PREFIX)/lib/systemd/system
 MAN = $(DESTDIR)$(PREFIX)/share/man/man1
+DOC = $(DESTDIR)$(PREFIX)/share/doc/epmd-proved
 TOOLS = epmd-log epmd-metrics epmd-prune
 SERVICES = epmd-proved.service epmd-proved-prune.service epmd-proved-prune.timer
 
@@ -41,10 +42,11 @@ install: build/epmd
 	for tool in $(TOOLS); do install contrib/$$tool $(BIN) || exit 1; done
 	for unit in $(SERVICES); do sed 's|/usr/local/|$(PREFIX)/|g' contrib/$$unit > $(UNITS)/$$unit || exit 1; done
 	sed 's|/usr/local/|$(PREFIX)/|g' docs/epmd.1 > $(MAN)/epmd.1
+	install -D -m 644 README.md $(DOC)/README.md
 
 # Removes what `install` puts there.
 uninstall:
-	rm -rf $(LIB)
+	rm -rf $(LIB) $(DOC)
 	rm -f $(BIN)/epmd $(addprefix $(BIN)/,$(TOOLS)) $(addprefix $(UNITS)/,$(SERVICES)) $(MAN)/epmd.1
 
 # A package for Debian, in build.
