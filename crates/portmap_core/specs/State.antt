@@ -26,10 +26,10 @@ empty_state = record { names = no_names; connections = map.empty; halted = false
 abbrev pub state_of : Names → ConnectionMap → Bool → State
 state_of names connections halted = record { names = names; connections = connections; halted = halted }
 
--- names that are kept as a map, or as lists
-abbrev pub names_kept : Result Names Names → Names
-names_kept (Ok names) = names
-names_kept (Err names) = names
+-- a state that is kept in one of two ways
+abbrev pub state_kept : Result State State → State
+state_kept (Ok s) = s
+state_kept (Err s) = s
 
 -- the state with this connection at a slot
 abbrev pub with_connection : State → ℕ → Connection → State
