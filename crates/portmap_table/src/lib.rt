@@ -1,4 +1,13 @@
 //! The names that a port mapper knows, active and retired, and the creations that it gives.
+//!
+//! What the crates above may build on, beside the clauses themselves:
+//! - Always: no name is known twice, no slot owns two, no more are known than may be, creations are in range.
+//! - `offer`: what `register` would give. `register` and `admit`, which has the creation already, ask that the slot owns no active name; where the
+//!   name is not known and as many are known as may be, the one retired longest is forgotten. Looks and `retire` take no memory.
+//! - `Known` is what may be asked of names; its `standing` tells by one look whether a name is active, is one too many, or is free, and the creation
+//!   that is remembered for it then. `NameStore` has `admit` and `retire` beside it. `NameMap` finds names without a walk; `NameLists` are any names as
+//!   plain lists, where a name or a slot may stand twice. `NameMap::of`: these names, exactly where none is known twice, no slot owns two, and no more
+//!   are known than may be; `NameLists::are_kept`: the same where creations are in range too.
 #![tactic(auto)]
 
 mod copies;
