@@ -1,0 +1,44 @@
+-- What is told of answers.
+use Rattle.std.specs.Prelude.{◌≡◌, ℕ, ◌+◌, ◌≤◌, ℤ, List, length, take, drop, Option, Some, None, Result, Ok, Err}
+use Rattle.portmap_wire.specs.Node.{Node}
+use Rattle.portmap_wire.specs.declared.reply_reading.AliveReply.{AliveReply}
+use Rattle.portmap_wire.specs.declared.reply_reading.AliveReply.TheVariants.{Given, Refused}
+use Rattle.portmap_wire.specs.declared.reply_reading.ReplyFault.{ReplyFault}
+use Rattle.portmap_client_c.specs.Status.{reply_status}
+use Rattle.portmap_client_c.specs.Writing.{node_of}
+use Rattle.portmap_client_c.specs.declared.node.EpmdAlive.{EpmdAlive}
+use Rattle.portmap_client_c.specs.declared.node.EpmdFound.{EpmdFound}
+use Rattle.portmap_client_c.specs.declared.node.EpmdText.{EpmdText}
+use Rattle.portmap_client_c.specs.declared.status.TheConstants.{EPMD_OK, EPMD_REFUSED, EPMD_NOT_REGISTERED}
+
+-- what was said to a registration
+abbrev pub TellsAlive : Result AliveReply ReplyFault → EpmdAlive → EpmdAlive → ℤ → Type 0
+TellsAlive (Ok (Given creation)) old new status = (status ≡ EPMD_OK) × (new ≡ record { creation = creation; code = 0 })
+TellsAlive (Ok (Refused code)) old new status = (status ≡ EPMD_REFUSED) × (new ≡ record { creation = 0; code = code })
+TellsAlive (Err fault) old new status = (status ≡ reply_status fault) × (new ≡ old)
+
+-- ---- texts in bytes
+
+-- the bytes of a text
+abbrev pub text_in : List ℕ → EpmdText → List ℕ
+text_in bytes text = take text.size (drop text.at bytes)
+
+-- a node whose name begins at a place, and whose extra bytes begin so many behind its name
+pub record PlacesIn (at between : ℕ) (g : Node) (found : EpmdFound) : Type 0 where
+  pub node : g ≡ node_of found.node g.name g.extra
+  pub name_at : found.name.at ≡ at
+  pub name_size : found.name.size ≡ length g.name
+  pub extra_at : found.extra.at ≡ at + length g.name + between
+  pub extra_size : found.extra.size ≡ length g.extra
+
+-- a node whose texts lie in these bytes
+pub record IsFoundIn (bytes : List ℕ) (g : Node) (found : EpmdFound) : Type 0 where
+  pub node : g ≡ node_of found.node (text_in bytes found.name) (text_in bytes found.extra)
+  pub name : found.name.at + found.name.size ≤ length bytes
+  pub extra : found.extra.at + found.extra.size ≤ length bytes
+
+-- what was said to a look-up
+abbrev pub TellsFound : List ℕ → Result (Option Node) ReplyFault → EpmdFound → EpmdFound → ℤ → Type 0
+TellsFound bytes (Ok (Some g)) old new status = (status ≡ EPMD_OK) × IsFoundIn bytes g new
+TellsFound bytes (Ok None) old new status = (status ≡ EPMD_NOT_REGISTERED) × (new ≡ old)
+TellsFound bytes (Err fault) old new status = (status ≡ reply_status fault) × (new ≡ old)

@@ -1,0 +1,4 @@
+pub mod Status
+pub mod Writing
+pub mod Answers
+pub mod Lists

@@ -1,0 +1,43 @@
+-- The lines of a list, one after another.
+use Rattle.std.specs.Prelude.{◌≡◌, ◌≢◌, ℕ, ◌+◌, ◌≤◌, ℤ, List, [], ◌∷◌, ◌++◌, length, drop}
+use Rattle.portmap_wire.specs.ListReading.{HasNoNewline, HasNoReading, IsStrange, ReadsLine}
+use Rattle.portmap_wire.specs.declared.list.Line.{Line}
+use Rattle.portmap_wire.specs.declared.list_reading.ListFault.{ListFault}
+use Rattle.portmap_wire.specs.declared.list_reading.ListFault.TheVariants as fault
+use Rattle.portmap_client_c.specs.Answers.{text_in}
+use Rattle.portmap_client_c.specs.declared.node.EpmdLine.{EpmdLine}
+use Rattle.portmap_client_c.specs.declared.status.TheConstants.{EPMD_STRANGE_LINE, EPMD_NO_MEMORY}
+
+-- the line in these bytes
+abbrev pub line_in : List ℕ → EpmdLine → Line
+line_in bytes line = record { name = text_in bytes line.name; port = line.port }
+
+-- a line, ended by byte 10, stands between these places
+pub record IsNextLine (bytes : List ℕ) (at next : ℕ) (line : EpmdLine) : Type 0 where
+  pub front : List ℕ
+  pub text_is : drop at bytes ≡ front ++ 10 ∷ drop next bytes
+  pub reads : ReadsLine front (line_in bytes line)
+  pub next_is : next ≡ at + length front + 1
+  pub name_from : at ≤ line.name.at
+  pub name_to : line.name.at + line.name.size ≤ next
+
+-- a text is this one, ended by its only byte 10
+pub record IsOneLine (text front : List ℕ) : Type 0 where
+  pub text_is : text ≡ front ++ 10 ∷ []
+  pub front_is : HasNoNewline front
+
+-- why a text is not read as a line
+abbrev pub IsReadingFault : List ℕ → ListFault → Type 0
+IsReadingFault front fault.NoMemory = (line : Line) × ReadsLine front line
+IsReadingFault front fault.Short = HasNoReading front
+IsReadingFault front (fault.StrangeLine at) = HasNoReading front
+
+-- a text begins with a line, ended by byte 10
+abbrev pub HasLine : List ℕ → Type 0
+HasLine text = (front : List ℕ) × (after : List ℕ) × (line : Line) × (text ≡ front ++ 10 ∷ after) × ReadsLine front line
+
+-- why no line was read
+pub record IsLineFault (text : List ℕ) (status : ℤ) : Type 0 where
+  pub strange : status ≡ EPMD_STRANGE_LINE → IsStrange text
+  pub memory : status ≡ EPMD_NO_MEMORY → HasLine text
+  pub no_other : status ≢ EPMD_STRANGE_LINE → status ≡ EPMD_NO_MEMORY

@@ -1,0 +1,79 @@
+-- Requests in the caller's buffer.
+use Rattle.std.specs.Prelude.{◌≡◌, ◌≢◌, ◌↔◌, ℕ, ◌+◌, ◌<◌, ℤ, nat_lt, if◌then◌else◌, List, ◌++◌, length, drop, Result, Ok, Err, IsOk, IfOk}
+use Rattle.portmap_wire.specs.Node.{Node}
+use Rattle.portmap_wire.specs.Request.{sent}
+use Rattle.portmap_wire.specs.RequestReading.{name_in}
+use Rattle.portmap_wire.specs.declared.name.NameFault.{NameFault}
+use Rattle.portmap_wire.specs.declared.request.TheConstants.{BODY_MOST}
+use Rattle.portmap_wire.specs.declared.request.Request.{Request}
+use Rattle.portmap_wire.specs.declared.request.Request.TheVariants.{Alive}
+use Rattle.portmap_client_c.specs.Status.{name_status}
+use Rattle.portmap_client_c.specs.declared.node.EpmdNode.{EpmdNode}
+use Rattle.portmap_client_c.specs.declared.status.TheConstants.{EPMD_OK, EPMD_EXTRA_TOO_LONG, EPMD_BUFFER_TOO_SMALL, EPMD_NO_MEMORY}
+use Rattle.portmap_client_c.specs.declared.writing.Unmade.{Unmade}
+use Rattle.portmap_client_c.specs.declared.writing.Unmade.TheVariants.{Refused, NoMemory}
+
+-- ---- which request is asked for
+
+-- the node of these numbers and texts
+abbrev pub node_of : EpmdNode → List ℕ → List ℕ → Node
+node_of n name extra = record { port = n.port; kind = n.kind; proto = n.protocol; high = n.highest; low = n.lowest; name = name; extra = extra }
+
+-- what the name is of, or the status of why these bytes are no name
+abbrev pub with_name : {X : Type 0} → (List ℕ → Result X ℤ) → Result (List ℕ) NameFault → Result X ℤ
+with_name make (Ok name) = make name
+with_name make (Err fault) = Err (name_status fault)
+
+-- a request that is a name behind its first byte
+abbrev pub named_said : (List ℕ → Request) → List ℕ → Result Request ℤ
+named_said make bytes = with_name (λ name. Ok (make name)) (name_in bytes)
+
+abbrev pub fitting : Node → Result Node ℤ
+fitting g = if nat_lt BODY_MOST (13 + length g.name + length g.extra) then Err EPMD_EXTRA_TOO_LONG else Ok g
+
+abbrev pub node_said : EpmdNode → List ℕ → List ℕ → Result Node ℤ
+node_said n bytes extra = with_name (λ name. fitting (node_of n name extra)) (name_in bytes)
+
+abbrev pub to_alive : Result Node ℤ → Result Request ℤ
+to_alive (Ok g) = Ok (Alive g)
+to_alive (Err fault) = Err fault
+
+abbrev pub alive_said : EpmdNode → List ℕ → List ℕ → Result Request ℤ
+alive_said n bytes extra = to_alive (node_said n bytes extra)
+
+-- what was made is what is asked for, or there was no memory for it: so many bytes, as a request is sent
+abbrev pub MakesAs : {X : Type 0} → (X → ℕ → Type 0) → Result X Unmade → Result X ℤ → Type 0
+MakesAs Takes (Ok x) said = said ≡ Ok x
+MakesAs Takes (Err (Refused status)) said = said ≡ Err status
+MakesAs Takes (Err (NoMemory size)) said = IsOk said × IfOk said (λ x. Takes x size)
+
+abbrev pub Makes : Result Request Unmade → Result Request ℤ → Type 0
+Makes = MakesAs (λ request size. size ≡ length (sent request))
+
+abbrev pub MakesNode : Result Node Unmade → Result Node ℤ → Type 0
+MakesNode = MakesAs (λ g size. size ≡ length (sent (Alive g)))
+
+-- the same of a name, of which so many bytes stand beside it
+abbrev pub MakesName : ℕ → Result (List ℕ) Unmade → Result (List ℕ) NameFault → Type 0
+MakesName beside made said = MakesAs (λ name size. size ≡ length name + beside) made (with_name (λ name. Ok name) said)
+
+-- ---- what is written of it
+
+-- these bytes in a buffer, whole at its front or none of them, and how many they are
+pub record Puts (bytes old new : List ℕ) (size : ℕ) (status : ℤ) : Type 0 where
+  pub size_is : size ≡ length bytes
+  pub whole : status ≡ EPMD_OK → new ≡ bytes ++ drop (length bytes) old
+  pub small : (status ≡ EPMD_BUFFER_TOO_SMALL) ↔ (length old < length bytes)
+  pub none : status ≢ EPMD_OK → new ≡ old
+  pub no_other : status ≢ EPMD_OK → status ≢ EPMD_BUFFER_TOO_SMALL → status ≡ EPMD_NO_MEMORY
+
+-- none of so many bytes, for which there was no memory: a buffer that is too small is told first
+pub record Spares (old : List ℕ) (size told : ℕ) (status : ℤ) : Type 0 where
+  pub size_is : told ≡ size
+  pub small : (status ≡ EPMD_BUFFER_TOO_SMALL) ↔ (length old < size)
+  pub no_other : status ≢ EPMD_BUFFER_TOO_SMALL → status ≡ EPMD_NO_MEMORY
+
+-- a request as it is sent, or why there is none
+abbrev pub Writes : Result Request ℤ → List ℕ → List ℕ → ℕ → ℤ → Type 0
+Writes (Ok request) old new size status = Puts (sent request) old new size status
+Writes (Err fault) old new size status = (status ≡ fault) × (new ≡ old) × (size ≡ 0)

@@ -1,0 +1,9 @@
+//! The client of the port mapper for programs in C, and in whatever calls C: `include/epmd_client.h` says how each call is used.
+//! Each calls `portmap_wire` or `portmap_client`, and its clauses are theirs in numbers and bytes. No memory is kept after a call.
+#![tactic(auto)]
+
+mod answers;
+mod lists;
+mod node;
+mod status;
+mod writing;

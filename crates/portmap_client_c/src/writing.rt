@@ -1,0 +1,231 @@
+//! Requests into the caller's buffer. `size` is set to how many bytes the request takes, also where the buffer is too small for it, and
+//! then nothing is written; it is set to 0 where the request can't be spelled.
+ghost use Rattle.std.specs.Prelude.{◌≡◌, ◌+◌, ◌≤◌, ◌^◌, ℤ, Ok, Result, length};
+ghost use Rattle.portmap_wire.specs.Request.{sent};
+ghost use Rattle.portmap_wire.specs.RequestReading.{name_in};
+ghost use Rattle.portmap_wire.specs.declared.request.Request.{Request};
+ghost use Rattle.portmap_wire.specs.declared.request.Request.TheVariants as request;
+ghost use Rattle.portmap_client_c.specs.Writing.{Makes, MakesName, MakesNode, Puts, Spares, Writes, alive_said, named_said, node_said};
+
+use crate::node::EpmdNode;
+use crate::status::{
+    EPMD_BUFFER_TOO_SMALL, EPMD_EXTRA_TOO_LONG, EPMD_NO_MEMORY, EPMD_OK, name_status,
+};
+use portmap_wire::{BODY_MOST, ExtraFault, Name, NameFault, Reg, Request, write_request};
+use std::alloc::Global;
+
+/// Why no request was made.
+#[derive(Clone, Copy)]
+pub(crate) enum Unmade {
+    /// It can't be spelled: the status that says why.
+    Refused(i32),
+    /// There was no memory for it; as it is sent it takes so many bytes.
+    NoMemory(usize),
+}
+
+/// Puts bytes at the front of a buffer, and tells how many they are.
+pub(crate) fn put(bytes: &[u8], out: &mut [u8], size: &mut usize) -> i32
+    ensures puts { Puts bytes.now out.old out.new size.new result }
+{
+    *size = bytes.len();
+    if out.len() < bytes.len() {
+        return EPMD_BUFFER_TOO_SMALL;
+    }
+    out[..bytes.len()].copy_from_slice(bytes);
+    EPMD_OK
+}
+
+/// Tells of bytes for which there was no memory how many they are.
+pub(crate) fn spare(bytes: usize, out: &[u8], size: &mut usize) -> i32
+    ensures { Spares out.now bytes size.new result }
+{
+    *size = bytes;
+    if out.len() < bytes {
+        EPMD_BUFFER_TOO_SMALL
+    } else {
+        EPMD_NO_MEMORY
+    }
+}
+
+/// How many bytes a request takes as it is sent.
+fn sent_size(request: &Request) -> usize
+    ensures { result ≡ length (sent request.now) }
+{
+    match request {
+        Request::Alive(reg) => 15 + reg.name.bytes().len() + reg.extra.len(),
+        Request::Port(name) | Request::Stop(name) => 3 + name.bytes().len(),
+        Request::Names | Request::Dump | Request::Kill => 3,
+    }
+}
+
+/// Writes a request.
+fn write(alloc: Global, request: &Request, out: &mut [u8], size: &mut usize) -> i32
+    ensures { Puts (sent request.now) out.old out.new size.new result }
+{
+    match write_request(alloc, request) {
+        Ok(bytes) => put(&bytes, out, size),
+        Err(_) => spare(sent_size(request), out, size),
+    }
+}
+
+/// Writes the request that is asked for, as far as it was made.
+fn write_made(alloc: Global, made: Result<Request, Unmade>, out: &mut [u8], size: &mut usize) -> i32
+    ensures { (said : Result Request ℤ) → Makes made said → Writes said out.old out.new size.new result }
+{
+    match made {
+        Ok(request) => write(alloc, &request, out, size),
+        Err(Unmade::NoMemory(bytes)) => spare(bytes, out, size),
+        Err(Unmade::Refused(status)) => {
+            *size = 0;
+            status
+        }
+    }
+}
+
+/// The name that these bytes are, for a request that takes so many bytes beside it.
+fn made_name(alloc: Global, bytes: &[u8], beside: usize) -> Result<Name, Unmade>
+    requires { beside ≤ 2 ^ 63 + 15 }
+    ensures { MakesName beside result (name_in bytes.now) }
+{
+    match Name::read(alloc, bytes) {
+        Ok(name) => Ok(name),
+        Err(NameFault::NoMemory) => Err(Unmade::NoMemory(bytes.len() + beside)),
+        Err(fault) => Err(Unmade::Refused(name_status(fault))),
+    }
+}
+
+/// PORT_PLEASE2_REQ for the name that these bytes are.
+fn made_lookup(alloc: Global, name: &[u8]) -> Result<Request, Unmade>
+    ensures { Makes result (named_said request.Port name.now) }
+{
+    match made_name(alloc, name, 3) {
+        Ok(name) => Ok(Request::Port(name)),
+        Err(unmade) => Err(unmade),
+    }
+}
+
+/// STOP_REQ for the name that these bytes are.
+fn made_stop(alloc: Global, name: &[u8]) -> Result<Request, Unmade>
+    ensures { Makes result (named_said request.Stop name.now) }
+{
+    match made_name(alloc, name, 3) {
+        Ok(name) => Ok(Request::Stop(name)),
+        Err(unmade) => Err(unmade),
+    }
+}
+
+/// What a node registers, of these numbers and texts.
+pub(crate) fn made_node(
+    alloc: Global,
+    node: &EpmdNode,
+    name: &[u8],
+    extra: &[u8],
+) -> Result<Reg, Unmade>
+    ensures { MakesNode result (node_said node.now name.now extra.now) }
+{
+    let name = match made_name(alloc, name, 15 + extra.len()) {
+        Ok(name) => name,
+        Err(Unmade::NoMemory(bytes)) if bytes > BODY_MOST as usize + 2 => {
+            return Err(Unmade::Refused(EPMD_EXTRA_TOO_LONG));
+        }
+        Err(unmade) => return Err(unmade),
+    };
+    let size = 15 + name.bytes().len() + extra.len();
+    match Reg::new(
+        alloc,
+        node.port,
+        node.kind,
+        node.protocol,
+        node.highest,
+        node.lowest,
+        name,
+        extra,
+    ) {
+        Ok(reg) => Ok(reg),
+        Err(ExtraFault::TooLong) => Err(Unmade::Refused(EPMD_EXTRA_TOO_LONG)),
+        Err(ExtraFault::NoMemory) => Err(Unmade::NoMemory(size)),
+    }
+}
+
+/// ALIVE2_REQ for such a node.
+fn made_registration(
+    alloc: Global,
+    node: &EpmdNode,
+    name: &[u8],
+    extra: &[u8],
+) -> Result<Request, Unmade>
+    ensures { Makes result (alive_said node.now name.now extra.now) }
+{
+    match made_node(alloc, node, name, extra) {
+        Ok(reg) => Ok(Request::Alive(reg)),
+        Err(unmade) => Err(unmade),
+    }
+}
+
+/// NAMES_REQ as it is sent.
+#[unsafe(no_mangle)]
+pub extern "C" fn epmd_write_names(alloc: Global, out: &mut [u8], size: &mut usize) -> i32
+    ensures { Writes (Ok request.Names) out.old out.new size.new result }
+{
+    write(alloc, &Request::Names, out, size)
+}
+
+/// DUMP_REQ as it is sent.
+#[unsafe(no_mangle)]
+pub extern "C" fn epmd_write_dump(alloc: Global, out: &mut [u8], size: &mut usize) -> i32
+    ensures { Writes (Ok request.Dump) out.old out.new size.new result }
+{
+    write(alloc, &Request::Dump, out, size)
+}
+
+/// KILL_REQ as it is sent.
+#[unsafe(no_mangle)]
+pub extern "C" fn epmd_write_kill(alloc: Global, out: &mut [u8], size: &mut usize) -> i32
+    ensures { Writes (Ok request.Kill) out.old out.new size.new result }
+{
+    write(alloc, &Request::Kill, out, size)
+}
+
+/// PORT_PLEASE2_REQ as it is sent.
+#[unsafe(no_mangle)]
+pub extern "C" fn epmd_write_lookup(
+    alloc: Global,
+    name: &[u8],
+    out: &mut [u8],
+    size: &mut usize,
+) -> i32
+    ensures { Writes (named_said request.Port name.now) out.old out.new size.new result }
+{
+    let made = made_lookup(alloc, name);
+    write_made(alloc, made, out, size)
+}
+
+/// STOP_REQ as it is sent.
+#[unsafe(no_mangle)]
+pub extern "C" fn epmd_write_stop(
+    alloc: Global,
+    name: &[u8],
+    out: &mut [u8],
+    size: &mut usize,
+) -> i32
+    ensures { Writes (named_said request.Stop name.now) out.old out.new size.new result }
+{
+    let made = made_stop(alloc, name);
+    write_made(alloc, made, out, size)
+}
+
+/// ALIVE2_REQ as it is sent.
+#[unsafe(no_mangle)]
+pub extern "C" fn epmd_write_register(
+    alloc: Global,
+    node: &EpmdNode,
+    name: &[u8],
+    extra: &[u8],
+    out: &mut [u8],
+    size: &mut usize,
+) -> i32
+    ensures { Writes (alive_said node.now name.now extra.now) out.old out.new size.new result }
+{
+    let made = made_registration(alloc, node, name, extra);
+    write_made(alloc, made, out, size)
+}
