@@ -1,6 +1,6 @@
 # `make epmd`, `make run` and `make test` need `rt`, the command of the Rattle toolchain, on the path, and nothing else.
-# `make install` and `make deb` need it only where build/epmd is missing; `make bench` needs `cc`, and another port mapper;
-# `make faults` needs `gcc` and `python3` too, and `make check-contrib` needs `python3` alone.
+# `make install` and `make deb` need it only where build/epmd or the client for C is missing; `make bench` needs `cc`, and another
+# port mapper; `make client` needs `cc` and binutils too, `make faults` `gcc` and `python3`, and `make check-contrib` `python3` alone.
 
 PREFIX = /usr/local
 
@@ -10,7 +10,7 @@ OTHER = /usr/bin/epmd
 # The crates of tests that refuse memory.
 REFUSING = tests_wire tests_machine tests_book tests_client tests_record
 
-.PHONY: run epmd install uninstall deb check-contrib quick test bench faults
+.PHONY: run epmd client install uninstall deb check-contrib quick test bench faults
 
 # Builds the proved daemon and serves on port 4369.
 run: epmd
@@ -24,17 +24,27 @@ epmd:
 build/epmd:
 	@$(MAKE) --no-print-directory epmd
 
+# Proves the client for C, and leaves the archive, the shared library and the header in build.
+client:
+	@contrib/build-client
+
+build/libepmd_client.a build/libepmd_client.so &:
+	@$(MAKE) --no-print-directory client
+
 # Puts the program, the wrapper that is called `epmd`, what reads recordings and figures, the manual page and the units in their places
-# below DESTDIR and PREFIX.
+# below DESTDIR and PREFIX, and the client for C with its header, its manual page and its file for pkg-config.
 LIB = $(DESTDIR)$(PREFIX)/lib/epmd-proved
 BIN = $(DESTDIR)$(PREFIX)/bin
 UNITS = $(DESTDIR)$(PREFIX)/lib/systemd/system
 MAN = $(DESTDIR)$(PREFIX)/share/man/man1
 DOC = $(DESTDIR)$(PREFIX)/share/doc/epmd-proved
+MAN3 = $(DESTDIR)$(PREFIX)/share/man/man3
+CLIENT = $(DESTDIR)$(PREFIX)/lib
+INCLUDE = $(DESTDIR)$(PREFIX)/include
 TOOLS = epmd-log epmd-metrics epmd-prune
 SERVICES = epmd-proved.service epmd-proved-prune.service epmd-proved-prune.timer
 
-install: build/epmd
+install: build/epmd build/libepmd_client.a build/libepmd_client.so
 	install -D build/epmd $(LIB)/epmd
 	mkdir -p $(BIN) $(UNITS) $(MAN)
 	sed 's/@VERSION@/$(shell cat VERSION)/' contrib/epmd > $(BIN)/epmd
@@ -43,17 +53,26 @@ install: build/epmd
 	for unit in $(SERVICES); do sed 's|/usr/local/|$(PREFIX)/|g' contrib/$$unit > $(UNITS)/$$unit || exit 1; done
 	sed 's|/usr/local/|$(PREFIX)/|g' docs/epmd.1 > $(MAN)/epmd.1
 	install -D -m 644 README.md $(DOC)/README.md
+	mkdir -p $(CLIENT)/pkgconfig $(INCLUDE) $(MAN3)
+	install -m 644 build/libepmd_client.a $(CLIENT)
+	install -m 644 build/libepmd_client.so $(CLIENT)/libepmd_client.so.0
+	ln -sf libepmd_client.so.0 $(CLIENT)/libepmd_client.so
+	install -m 644 include/epmd_client.h $(INCLUDE)
+	sed 's|/usr/local|$(PREFIX)|; s/@VERSION@/$(shell cat VERSION)/' contrib/epmd_client.pc > $(CLIENT)/pkgconfig/epmd_client.pc
+	install -m 644 docs/epmd_client.3 $(MAN3)
 
 # Removes what `install` puts there.
 uninstall:
 	rm -rf $(LIB) $(DOC)
 	rm -f $(BIN)/epmd $(addprefix $(BIN)/,$(TOOLS)) $(addprefix $(UNITS)/,$(SERVICES)) $(MAN)/epmd.1
+	rm -f $(CLIENT)/libepmd_client.* $(CLIENT)/pkgconfig/epmd_client.pc $(INCLUDE)/epmd_client.h $(MAN3)/epmd_client.3
 
 # A package for Debian, in build.
-deb: build/epmd
+deb: build/epmd build/libepmd_client.a build/libepmd_client.so
 	contrib/deb
 
-# Tests what is in contrib, with python3 and no port mapper.
+# Tests what is in contrib, with python3 and no port mapper; the client for C where it is in build, with cc, rustc and a port mapper where
+# they are there.
 check-contrib:
 	python3 -B -m unittest discover -s contrib/tests
 

@@ -57,6 +57,10 @@ MakesNode = MakesAs (λ g size. size ≡ length (sent (Alive g)))
 abbrev pub MakesName : ℕ → Result (List ℕ) Unmade → Result (List ℕ) NameFault → Type 0
 MakesName beside made said = MakesAs (λ name size. size ≡ length name + beside) made (with_name (λ name. Ok name) said)
 
+abbrev pub unmade_status : Unmade → ℤ
+unmade_status (Refused status) = status
+unmade_status (NoMemory size) = EPMD_NO_MEMORY
+
 -- ---- what is written of it
 
 -- these bytes in a buffer, whole at its front or none of them, and how many they are

@@ -3,6 +3,8 @@
 #![tactic(auto)]
 
 mod answers;
+mod calls;
+mod descriptor;
 mod lists;
 mod node;
 mod status;

@@ -1,10 +1,11 @@
 //! What each call answers, as numbers: one table, which the header has too.
 ghost use Rattle.std.specs.Prelude.{◌≡◌, pos};
-ghost use Rattle.portmap_client_c.specs.Status.{extra_status, line_status, name_status, reply_status};
+ghost use Rattle.portmap_client_c.specs.Status.{client_status, line_status, name_status, reply_status};
 ghost use Rattle.portmap_client_c.specs.declared.status.TheConstants.{EPMD_OK, EPMD_NAME_EMPTY, EPMD_NAME_TOO_LONG, EPMD_NAME_BAD_BYTE, EPMD_EXTRA_TOO_LONG, EPMD_SHORT, EPMD_BAD_TAG, EPMD_STRANGE, EPMD_REFUSED, EPMD_NOT_REGISTERED};
 ghost use Rattle.portmap_client_c.specs.declared.status.TheConstants.{EPMD_STRANGE_LINE, EPMD_LIST_END, EPMD_WRITE, EPMD_READ, EPMD_TOO_MANY_TURNS, EPMD_TOO_LONG, EPMD_NO_EXIST, EPMD_NOT_ALLOWED, EPMD_BUFFER_TOO_SMALL, EPMD_NO_MEMORY};
 
-use portmap_wire::{ExtraFault, ListFault, NameFault, ReplyFault};
+use portmap_client::ClientFault;
+use portmap_wire::{ListFault, NameFault, ReplyFault};
 
 pub(crate) const EPMD_OK: i32 = 0;
 
@@ -74,16 +75,6 @@ pub(crate) fn name_status(fault: NameFault) -> i32
     }
 }
 
-/// What a call answers where its extra bytes are refused.
-pub(crate) fn extra_status(fault: ExtraFault) -> i32
-    ensures { result ≡ extra_status fault }
-{
-    match fault {
-        ExtraFault::TooLong => EPMD_EXTRA_TOO_LONG,
-        ExtraFault::NoMemory => EPMD_NO_MEMORY,
-    }
-}
-
 /// What a call answers to bytes that are no reply.
 pub(crate) fn reply_status(fault: ReplyFault) -> i32
     ensures { result ≡ reply_status fault }
@@ -103,5 +94,22 @@ pub(crate) fn line_status(fault: ListFault) -> i32
     match fault {
         ListFault::Short | ListFault::StrangeLine(_) => EPMD_STRANGE_LINE,
         ListFault::NoMemory => EPMD_NO_MEMORY,
+    }
+}
+
+/// What a call over a descriptor answers where it failed.
+pub(crate) fn client_status(fault: ClientFault) -> i32
+    ensures { result ≡ client_status fault }
+{
+    match fault {
+        ClientFault::Write => EPMD_WRITE,
+        ClientFault::Read => EPMD_READ,
+        ClientFault::TooManyTurns => EPMD_TOO_MANY_TURNS,
+        ClientFault::Short => EPMD_SHORT,
+        ClientFault::BadTag(_) => EPMD_BAD_TAG,
+        ClientFault::Refused(_) => EPMD_REFUSED,
+        ClientFault::Strange => EPMD_STRANGE,
+        ClientFault::TooLong => EPMD_TOO_LONG,
+        ClientFault::NoMemory => EPMD_NO_MEMORY,
     }
 }

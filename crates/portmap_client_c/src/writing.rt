@@ -1,11 +1,11 @@
 //! Requests into the caller's buffer. `size` is set to how many bytes the request takes, also where the buffer is too small for it, and
 //! then nothing is written; it is set to 0 where the request can't be spelled.
-ghost use Rattle.std.specs.Prelude.{◌≡◌, ◌+◌, ◌≤◌, ◌^◌, ℤ, Ok, Result, length};
+ghost use Rattle.std.specs.Prelude.{◌≡◌, ◌≢◌, ◌+◌, ◌≤◌, ◌^◌, ◌++◌, ℤ, Ok, Result, length};
 ghost use Rattle.portmap_wire.specs.Request.{sent};
 ghost use Rattle.portmap_wire.specs.RequestReading.{name_in};
 ghost use Rattle.portmap_wire.specs.declared.request.Request.{Request};
 ghost use Rattle.portmap_wire.specs.declared.request.Request.TheVariants as request;
-ghost use Rattle.portmap_client_c.specs.Writing.{Makes, MakesName, MakesNode, Puts, Spares, Writes, alive_said, named_said, node_said};
+ghost use Rattle.portmap_client_c.specs.Writing.{unmade_status, Makes, MakesName, MakesNode, Puts, Spares, Writes, alive_said, named_said, node_said};
 
 use crate::node::EpmdNode;
 use crate::status::{
@@ -23,15 +23,27 @@ pub(crate) enum Unmade {
     NoMemory(usize),
 }
 
-/// Puts bytes at the front of a buffer, and tells how many they are.
-pub(crate) fn put(bytes: &[u8], out: &mut [u8], size: &mut usize) -> i32
-    ensures puts { Puts bytes.now out.old out.new size.new result }
+/// What a call answers that has none to make.
+pub(crate) fn unmade_status(unmade: Unmade) -> i32
+    ensures { result ≡ unmade_status unmade }
 {
-    *size = bytes.len();
-    if out.len() < bytes.len() {
+    match unmade {
+        Unmade::Refused(status) => status,
+        Unmade::NoMemory(_) => EPMD_NO_MEMORY,
+    }
+}
+
+/// Puts two texts, one behind the other, at the front of a buffer.
+pub(crate) fn put(head: &[u8], tail: &[u8], out: &mut [u8]) -> i32
+    ensures puts { Puts (head.now ++ tail.now) out.old out.new (length head.now + length tail.now) result }
+    ensures memory { result ≢ EPMD_NO_MEMORY }
+{
+    let size = head.len() + tail.len();
+    if out.len() < size {
         return EPMD_BUFFER_TOO_SMALL;
     }
-    out[..bytes.len()].copy_from_slice(bytes);
+    out[..head.len()].copy_from_slice(head);
+    out[head.len()..size].copy_from_slice(tail);
     EPMD_OK
 }
 
@@ -63,7 +75,10 @@ fn write(alloc: Global, request: &Request, out: &mut [u8], size: &mut usize) -> 
     ensures { Puts (sent request.now) out.old out.new size.new result }
 {
     match write_request(alloc, request) {
-        Ok(bytes) => put(&bytes, out, size),
+        Ok(bytes) => {
+            *size = bytes.len();
+            put(&bytes, &[], out)
+        }
         Err(_) => spare(sent_size(request), out, size),
     }
 }
@@ -83,7 +98,7 @@ fn write_made(alloc: Global, made: Result<Request, Unmade>, out: &mut [u8], size
 }
 
 /// The name that these bytes are, for a request that takes so many bytes beside it.
-fn made_name(alloc: Global, bytes: &[u8], beside: usize) -> Result<Name, Unmade>
+pub(crate) fn made_name(alloc: Global, bytes: &[u8], beside: usize) -> Result<Name, Unmade>
     requires { beside ≤ 2 ^ 63 + 15 }
     ensures { MakesName beside result (name_in bytes.now) }
 {

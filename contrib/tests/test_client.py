@@ -1,0 +1,159 @@
+"""The client for C: its header beside the source, and each example beside our port mapper and another one, where they are there."""
+import glob
+import os
+import re
+import shutil
+import socket
+import subprocess
+import sys
+import tempfile
+import time
+import unittest
+
+TOP = os.path.join(os.path.dirname(os.path.abspath(__file__)), "..", "..")
+BUILD = os.path.join(TOP, "build")
+CLIENT = os.path.join(TOP, "contrib", "client")
+LIBRARY = os.path.join(BUILD, "libepmd_client.so")
+TYPES = {"u8": "uint8_t", "u16": "uint16_t", "u32": "uint32_t", "usize": "size_t", "EpmdText": "struct epmd_text", "EpmdNode": "struct epmd_node"}
+
+
+def text(*path):
+    with open(os.path.join(TOP, *path), encoding="utf-8") as file:
+        return file.read()
+
+
+def constant(crate, module, name):
+    return int(re.search(rf"const {name}: \w+ = ([\d_]+);", text("crates", crate, "src", module)).group(1).replace("_", ""))
+
+
+class Header(unittest.TestCase):
+    """The numbers and the fields of the header are those of the source."""
+
+    HEADER = text("include", "epmd_client.h")
+
+    def test_the_statuses_are_those_of_the_source(self):
+        source = re.findall(r"const (EPMD_\w+): i32 = (\d+);", text("crates", "portmap_client_c", "src", "status.rt"))
+        self.assertEqual(re.findall(r"^    (EPMD_\w+) = (\d+)", self.HEADER, re.M), source)
+        self.assertEqual([int(number) for _, number in source], list(range(len(source))))
+
+    def test_the_limits_are_those_of_the_source(self):
+        body = constant("portmap_wire", "request.rt", "BODY_MOST")
+        limits = {"NAME": constant("portmap_wire", "name.rt", "NAME_MOST"), "BODY": body, "REQUEST": body + 2,
+                  "LIST": constant("portmap_client", "exchange.rt", "LIST_MOST")}
+        self.assertEqual({name: int(number) for name, number in re.findall(r"#define EPMD_(\w+)_MOST (\d+)", self.HEADER)}, limits)
+
+    def test_the_fields_are_those_of_the_source(self):
+        source = re.findall(r"pub struct (\w+) \{(.*?)\n\}", text("crates", "portmap_client_c", "src", "node.rt"), re.S)
+        wanted = {"epmd_" + name[4:].lower(): [(TYPES[kind], field) for field, kind in re.findall(r"pub (\w+): (\w+)", fields)] for name, fields in source}
+        found = re.findall(r"^struct (\w+) \{(.*?)^\};", self.HEADER, re.S | re.M)
+        self.assertEqual({name: re.findall(r"^    ((?:struct )?\w+) (\w+);", fields, re.M) for name, fields in found}, wanted)
+
+    def test_each_call_is_declared(self):
+        sources = [text(path) for path in glob.glob(os.path.join(TOP, "crates", "portmap_client_c", "src", "*.rt"))]
+        exported = {name for source in sources for name in re.findall(r'pub extern "C" fn (\w+)', source)}
+        self.assertEqual(set(re.findall(r"^(?:int32_t|size_t) (epmd_\w+)\(", self.HEADER, re.M)), exported)
+
+
+def free_port():
+    with socket.create_server(("127.0.0.1", 0)) as listener:
+        return listener.getsockname()[1]
+
+
+class Mapper:
+    """A port mapper of its own."""
+
+    def __init__(self, program):
+        self.port = free_port()
+        self.process = subprocess.Popen([program, "-port", str(self.port)], stdout=subprocess.DEVNULL, stderr=subprocess.DEVNULL)
+        for _ in range(100):
+            try:
+                socket.create_connection(("127.0.0.1", self.port)).close()
+                return
+            except OSError:
+                time.sleep(0.05)
+        raise AssertionError(f"{program} does not listen")
+
+    def end(self):
+        self.process.kill()
+        self.process.wait(10)
+
+
+def missing(*reasons):
+    """Says once why examples are not run."""
+    for absent, reason in reasons:
+        if absent:
+            print(f"test_client: not run: {reason}", file=sys.stderr)
+            return reason
+    return None
+
+
+@unittest.skipIf(missing((not os.path.exists(LIBRARY), "no build/libepmd_client.so, which `make client` makes")), "no library")
+class Examples(unittest.TestCase):
+    """Each example registers a node, which others find as long as its process runs."""
+
+    @classmethod
+    def setUpClass(cls):
+        cls.folder = tempfile.TemporaryDirectory()
+        cls.mappers = [program for program in [os.path.join(BUILD, "epmd"), *glob.glob("/usr/lib/erlang/erts-*/bin/epmd")[:1]] if os.path.exists(program)]
+        missing((len(cls.mappers) < 2, f"beside {2 - len(cls.mappers)} of build/epmd and the port mapper of erlang-base"))
+
+    @classmethod
+    def tearDownClass(cls):
+        cls.folder.cleanup()
+
+    def built(self, *words):
+        if missing((not shutil.which(words[0]), f"no {words[0]}")):
+            self.skipTest(words[0])
+        out = os.path.join(self.folder.name, self.id())
+        done = subprocess.run([*words, "-o", out], capture_output=True, text=True, timeout=120)
+        self.assertEqual((done.returncode, done.stderr), (0, ""))
+        return [out]
+
+    def told(self, example, *words):
+        done = subprocess.run([*example, *words], capture_output=True, text=True, timeout=60, env=self.env)
+        self.assertEqual(done.stderr, "")
+        return done.returncode, done.stdout
+
+    def comes(self, example, words, wanted):
+        for _ in range(100):
+            if self.told(example, *words) == wanted:
+                return
+            time.sleep(0.05)
+        self.assertEqual(self.told(example, *words), wanted)
+
+    def registers(self, example, port, end):
+        process = subprocess.Popen([*example, "register", port, "node", "5000"], stdin=subprocess.PIPE, stdout=subprocess.PIPE, text=True, env=self.env)
+        with process:
+            self.assertRegex(process.stdout.readline(), r"^creation [1-9]\d*\n$")
+            self.assertEqual(self.told(example, "lookup", port, "node"), (0, "node at port 5000, kind 72, versions 5 to 6, 0 extra bytes\n"))
+            self.assertEqual(self.told(example, "names", port), (0, "node at port 5000\n"))
+            self.assertEqual(self.told(example, "register", port, "node", "5001"), (1, "refused 1\n"))
+            end(process)
+        self.comes(example, ["lookup", port, "node"], (0, "not registered\n"))
+        self.assertEqual(self.told(example, "names", port), (0, ""))
+
+    def runs(self, example):
+        self.env = {**os.environ, "EPMD_CLIENT": LIBRARY}
+        for program in self.mappers:
+            with self.subTest(mapper=program):
+                mapper = Mapper(program)
+                try:
+                    self.assertEqual(self.told(example, "lookup", str(mapper.port), "node"), (0, "not registered\n"))
+                    self.registers(example, str(mapper.port), lambda process: process.stdin.close())
+                    self.registers(example, str(mapper.port), lambda process: process.kill())
+                finally:
+                    mapper.end()
+
+    def test_c(self):
+        archive = os.path.join(BUILD, "libepmd_client.a")
+        self.runs(self.built("cc", "-Wall", "-Wextra", "-Wpedantic", "-Werror", "-I", BUILD, os.path.join(CLIENT, "example.c"), archive))
+
+    def test_rust(self):
+        self.runs(self.built("rustc", os.path.join(CLIENT, "example.rs"), "-L", BUILD, "-l", "static=epmd_client"))
+
+    def test_python(self):
+        self.runs([sys.executable, os.path.join(CLIENT, "example.py")])
+
+
+if __name__ == "__main__":
+    unittest.main()

@@ -1,0 +1,100 @@
+-- Calls over a connected socket, which tells no bytes: what each promises over any stream, at one that tells none.
+use Rattle.std.specs.Prelude.{◌≡◌, ℕ, ℤ, ◌+◌, false, List, [], ◌++◌, Option, Some, None, Result, Ok, Err}
+use Rattle.std.specs.declared.vec.Vec.{Vec}
+use Rattle.std.specs.declared.alloc.Global.{Global}
+use Rattle.portmap_wire.specs.List.{names_reply}
+use Rattle.portmap_wire.specs.Node.{Node}
+use Rattle.portmap_wire.specs.Reply.{be4}
+use Rattle.portmap_wire.specs.declared.list.Line.{Line}
+use Rattle.portmap_wire.specs.declared.request.Request.TheVariants.{Alive, Port, Names, Dump}
+use Rattle.portmap_wire.specs.declared.request.Request.TheVariants as request
+use Rattle.portmap_client.specs.Answer.{SaysCreation, SaysDump, SaysFound, SaysKill, SaysNames, SaysStop}
+use Rattle.portmap_client.specs.Exchange.{Calls, StreamView}
+use Rattle.portmap_client.specs.declared.fault.ClientFault.{ClientFault}
+use Rattle.portmap_client.specs.declared.fault.ClientFault.TheVariants as client
+use Rattle.portmap_client.specs.declared.outcome.Kill.{Kill}
+use Rattle.portmap_client.specs.declared.outcome.Kill.TheVariants as kill
+use Rattle.portmap_client.specs.declared.outcome.Stop.{Stop}
+use Rattle.portmap_client.specs.declared.outcome.Stop.TheVariants as stop
+use Rattle.portmap_client_c.specs.Answers.{PlacesIn}
+use Rattle.portmap_client_c.specs.Status.{client_status}
+use Rattle.portmap_client_c.specs.Writing.{Puts}
+use Rattle.portmap_client_c.specs.declared.node.EpmdAlive.{EpmdAlive}
+use Rattle.portmap_client_c.specs.declared.node.EpmdFound.{EpmdFound}
+use Rattle.portmap_client_c.specs.declared.status.TheConstants.{EPMD_OK, EPMD_NOT_REGISTERED, EPMD_NO_EXIST, EPMD_NOT_ALLOWED}
+
+-- a stream that tells no bytes, and was asked nothing yet
+abbrev pub unasked : StreamView
+unasked = record { left = None; held = None; pulls = []; puts = []; broken = false }
+
+-- the calls over such a stream, by how they leave it and what they answer
+abbrev pub Registers : Node → StreamView → Result ℕ ClientFault → Type 0
+Registers g after answer = Calls (Alive g) SaysCreation unasked after answer
+
+abbrev pub LooksUp : List ℕ → StreamView → Result (Option Node) ClientFault → Type 0
+LooksUp name after answer = Calls (Port name) SaysFound unasked after answer
+
+abbrev pub ListsNames : StreamView → Result (ℕ × Vec Line Global) ClientFault → Type 0
+ListsNames after answer = Calls Names SaysNames unasked after answer
+
+abbrev pub Dumps : StreamView → Result (ℕ × Vec ℕ Global) ClientFault → Type 0
+Dumps after answer = Calls Dump SaysDump unasked after answer
+
+abbrev pub Kills : StreamView → Result Kill ClientFault → Type 0
+Kills after answer = Calls request.Kill SaysKill unasked after answer
+
+abbrev pub Stops : List ℕ → StreamView → Result Stop ClientFault → Type 0
+Stops name after answer = Calls (request.Stop name) SaysStop unasked after answer
+
+-- such a call was made, and this is told of its answer
+pub record Asks {X : Type 0} (Called : StreamView → Result X ClientFault → Type 0) (Tells : Result X ClientFault → Type 0) : Type 0 where
+  pub answer : Result X ClientFault
+  pub after : StreamView
+  pub called : Called after answer
+  pub tells : Tells answer
+
+-- what is asked for, where that can be spelled
+abbrev pub IfSaid : {X : Type 0} → Result X ℤ → (X → Type 0) → (ℤ → Type 0) → Type 0
+IfSaid (Ok x) Asked Refused = Asked x
+IfSaid (Err status) Asked Refused = Refused status
+
+-- ---- what is told
+
+abbrev pub kill_status : Result Kill ClientFault → ℤ
+kill_status (Ok kill.Killed) = EPMD_OK
+kill_status (Ok kill.NotAllowed) = EPMD_NOT_ALLOWED
+kill_status (Err fault) = client_status fault
+
+abbrev pub stop_status : Result Stop ClientFault → ℤ
+stop_status (Ok stop.Stopped) = EPMD_OK
+stop_status (Ok stop.NoExist) = EPMD_NO_EXIST
+stop_status (Ok stop.NotAllowed) = EPMD_NOT_ALLOWED
+stop_status (Err fault) = client_status fault
+
+-- a registration that failed is told by its status, and the result that refused it
+abbrev pub alive_after : ClientFault → EpmdAlive → EpmdAlive
+alive_after (client.Refused code) alive = record { creation = 0; code = code }
+alive_after fault alive = alive
+
+abbrev pub TellsCreation : Result ℕ ClientFault → EpmdAlive → EpmdAlive → ℤ → Type 0
+TellsCreation (Ok creation) old new status = (status ≡ EPMD_OK) × (new ≡ record { creation = creation; code = 0 })
+TellsCreation (Err fault) old new status = (status ≡ client_status fault) × (new ≡ alive_after fault old)
+
+-- a node, whose texts are put into a buffer, the extra bytes behind the name
+pub record TellsNode (g : Node) (old new : List ℕ) (found : EpmdFound) (status : ℤ) : Type 0 where
+  pub places : PlacesIn 0 0 g found
+  pub texts : Puts (g.name ++ g.extra) old new (found.name.size + found.extra.size) status
+
+abbrev pub TellsLookup : Result (Option Node) ClientFault → List ℕ → List ℕ → EpmdFound → EpmdFound → ℤ → Type 0
+TellsLookup (Ok (Some g)) old new was is status = TellsNode g old new is status
+TellsLookup (Ok None) old new was is status = (status ≡ EPMD_NOT_REGISTERED) × (new ≡ old) × (is ≡ was)
+TellsLookup (Err fault) old new was is status = (status ≡ client_status fault) × (new ≡ old) × (is ≡ was)
+
+-- a list, as a port mapper spells it
+abbrev pub TellsNames : Result (ℕ × Vec Line Global) ClientFault → List ℕ → List ℕ → ℕ → ℤ → Type 0
+TellsNames (Ok list) old new size status = Puts (names_reply list.0 list.1.items) old new size status
+TellsNames (Err fault) old new size status = (status ≡ client_status fault) × (new ≡ old) × (size ≡ 0)
+
+abbrev pub TellsDump : Result (ℕ × Vec ℕ Global) ClientFault → List ℕ → List ℕ → ℕ → ℤ → Type 0
+TellsDump (Ok dump) old new size status = Puts (be4 dump.0 ++ dump.1.items) old new size status
+TellsDump (Err fault) old new size status = (status ≡ client_status fault) × (new ≡ old) × (size ≡ 0)

@@ -1,0 +1,194 @@
+//! Calls over a connected socket, each over one of its own. No clause can say what a socket gave and took: they say which request was
+//! asked, and that what is told is what an answer says that was read no further than its end.
+ghost use Rattle.std.specs.Prelude.{◌≡◌, ◌≢◌, ◌++◌, List, ℕ, ℤ, Ok, IfOk, length};
+ghost use Rattle.portmap_wire.specs.List.{names_reply};
+ghost use Rattle.portmap_wire.specs.RequestReading.{name_in};
+ghost use Rattle.portmap_client_c.specs.Calls.{Asks, Dumps, IfSaid, Kills, ListsNames, LooksUp, Registers, Stops, TellsCreation, TellsDump, TellsLookup, TellsNames, TellsNode, alive_after, kill_status, stop_status};
+ghost use Rattle.portmap_client_c.specs.Writing.{node_said, with_name};
+ghost use Rattle.portmap_client_c.specs.declared.status.TheConstants.{EPMD_NO_MEMORY};
+
+use crate::answers::found_at;
+use crate::descriptor::Descriptor;
+use crate::node::{EpmdAlive, EpmdFound, EpmdNode};
+use crate::status::{
+    EPMD_NO_EXIST, EPMD_NO_MEMORY, EPMD_NOT_ALLOWED, EPMD_NOT_REGISTERED, EPMD_OK, client_status,
+};
+use crate::writing::{made_name, made_node, put, unmade_status};
+use portmap_client::{ClientFault, Kill, Registration, Stop, dump, kill, lookup, names, stop};
+use portmap_wire::{Line, NoMemory, Reg, put_names_line};
+use std::alloc::Global;
+
+/// What is told of a registration that failed, beside its status.
+fn alive_after(fault: ClientFault, alive: EpmdAlive) -> EpmdAlive
+    ensures { result ≡ alive_after fault alive }
+{
+    match fault {
+        ClientFault::Refused(code) => EpmdAlive { creation: 0, code },
+        ClientFault::Write
+        | ClientFault::Read
+        | ClientFault::TooManyTurns
+        | ClientFault::Short
+        | ClientFault::BadTag(_)
+        | ClientFault::Strange
+        | ClientFault::TooLong
+        | ClientFault::NoMemory => alive,
+    }
+}
+
+/// Registers a node. The name stays registered until the socket is closed.
+#[unsafe(no_mangle)]
+pub extern "C" fn epmd_register(
+    alloc: Global,
+    socket: i32,
+    node: &EpmdNode,
+    name: &[u8],
+    extra: &[u8],
+    alive: &mut EpmdAlive,
+) -> i32
+    ensures told { result ≢ EPMD_NO_MEMORY → IfSaid (node_said node.now name.now extra.now)
+        (λ g. Asks (Registers g) (λ answer. TellsCreation answer alive.old alive.new result))
+        (λ status. (result ≡ status) × (alive.new ≡ alive.old)) }
+    ensures memory { result ≡ EPMD_NO_MEMORY → alive.new ≡ alive.old }
+{
+    let reg = match made_node(alloc, node, name, extra) {
+        Ok(reg) => reg,
+        Err(unmade) => return unmade_status(unmade),
+    };
+    match Registration::make(alloc, Descriptor::new(socket), &reg) {
+        Ok(registration) => {
+            *alive = EpmdAlive {
+                creation: registration.creation(),
+                code: 0,
+            };
+            EPMD_OK
+        }
+        Err((fault, _)) => {
+            *alive = alive_after(fault, *alive);
+            client_status(fault)
+        }
+    }
+}
+
+/// Puts the texts of a node into a buffer, and tells where they lie there.
+fn tell_node(reg: &Reg, texts: &mut [u8], found: &mut EpmdFound) -> i32
+    ensures told { TellsNode reg.now texts.old texts.new found.new result }
+    ensures memory { result ≢ EPMD_NO_MEMORY }
+{
+    *found = found_at(reg, 0, 0);
+    put(reg.name.bytes(), &reg.extra, texts)
+}
+
+/// Asks what is registered under a name. The node's name and its extra bytes come to the front of `texts`.
+#[unsafe(no_mangle)]
+pub extern "C" fn epmd_lookup(
+    alloc: Global,
+    socket: i32,
+    name: &[u8],
+    texts: &mut [u8],
+    found: &mut EpmdFound,
+) -> i32
+    ensures told { result ≢ EPMD_NO_MEMORY → IfSaid (with_name (λ n. Ok n) (name_in name.now))
+        (λ n. Asks (LooksUp n) (λ answer. TellsLookup answer texts.old texts.new found.old found.new result))
+        (λ status. (result ≡ status) × (texts.new ≡ texts.old) × (found.new ≡ found.old)) }
+    ensures memory { result ≡ EPMD_NO_MEMORY → (texts.new ≡ texts.old) × (found.new ≡ found.old) }
+{
+    let name = match made_name(alloc, name, 0) {
+        Ok(name) => name,
+        Err(unmade) => return unmade_status(unmade),
+    };
+    match lookup(alloc, &mut Descriptor::new(socket), &name) {
+        Ok(Some(reg)) => tell_node(&reg, texts, found),
+        Ok(None) => EPMD_NOT_REGISTERED,
+        Err(fault) => client_status(fault),
+    }
+}
+
+/// The answer to NAMES_REQ that tells this port and these lines.
+fn list_bytes(alloc: Global, port: u32, lines: &[Line]) -> Result<Vec<u8>, NoMemory>
+    ensures { IfOk result (λ v. v.items ≡ names_reply port lines.now) }
+{
+    let mut out = Vec::from_slice(alloc, &port.to_be_bytes())?;
+    for line in lines {
+        put_names_line(&mut out, &line.name, line.port)?;
+    }
+    Ok(out)
+}
+
+/// Asks for the port mapper's own port and the registered names with their ports: the answer to NAMES_REQ comes to the front of `out`.
+#[unsafe(no_mangle)]
+pub extern "C" fn epmd_names(alloc: Global, socket: i32, out: &mut [u8], size: &mut usize) -> i32
+    ensures told { result ≢ EPMD_NO_MEMORY → Asks ListsNames (λ answer. TellsNames answer out.old out.new size.new result) }
+    ensures memory { result ≡ EPMD_NO_MEMORY → (out.new ≡ out.old) × (size.new ≡ 0) }
+{
+    *size = 0;
+    match names(alloc, &mut Descriptor::new(socket)) {
+        Ok((port, lines)) => match list_bytes(alloc, port, &lines) {
+            Ok(bytes) => {
+                *size = bytes.len();
+                put(&bytes, &[], out)
+            }
+            Err(_) => EPMD_NO_MEMORY,
+        },
+        Err(fault) => client_status(fault),
+    }
+}
+
+/// Asks for the port mapper's own port and for the text of all that it knows: the answer to DUMP_REQ comes to the front of `out`.
+#[unsafe(no_mangle)]
+pub extern "C" fn epmd_dump(alloc: Global, socket: i32, out: &mut [u8], size: &mut usize) -> i32
+    ensures told { result ≢ EPMD_NO_MEMORY → Asks Dumps (λ answer. TellsDump answer out.old out.new size.new result) }
+    ensures memory { result ≡ EPMD_NO_MEMORY → (out.new ≡ out.old) × (size.new ≡ 0) }
+{
+    *size = 0;
+    match dump(alloc, &mut Descriptor::new(socket)) {
+        Ok((port, text)) => {
+            *size = 4 + text.len();
+            put(&port.to_be_bytes(), &text, out)
+        }
+        Err(fault) => client_status(fault),
+    }
+}
+
+/// What a port mapper said to KILL_REQ.
+fn kill_status(answer: Result<Kill, ClientFault>) -> i32
+    ensures { result ≡ kill_status answer }
+{
+    match answer {
+        Ok(Kill::Killed) => EPMD_OK,
+        Ok(Kill::NotAllowed) => EPMD_NOT_ALLOWED,
+        Err(fault) => client_status(fault),
+    }
+}
+
+/// What a port mapper said to STOP_REQ.
+fn stop_status(answer: Result<Stop, ClientFault>) -> i32
+    ensures { result ≡ stop_status answer }
+{
+    match answer {
+        Ok(Stop::Stopped) => EPMD_OK,
+        Ok(Stop::NoExist) => EPMD_NO_EXIST,
+        Ok(Stop::NotAllowed) => EPMD_NOT_ALLOWED,
+        Err(fault) => client_status(fault),
+    }
+}
+
+/// Asks the port mapper to end.
+#[unsafe(no_mangle)]
+pub extern "C" fn epmd_kill(alloc: Global, socket: i32) -> i32
+    ensures { Asks Kills (λ answer. result ≡ kill_status answer) }
+{
+    kill_status(kill(alloc, &mut Descriptor::new(socket)))
+}
+
+/// Asks the port mapper to end the registration of a name.
+#[unsafe(no_mangle)]
+pub extern "C" fn epmd_stop(alloc: Global, socket: i32, name: &[u8]) -> i32
+    ensures { result ≢ EPMD_NO_MEMORY → IfSaid (with_name (λ n. Ok n) (name_in name.now))
+        (λ n. Asks (Stops n) (λ answer. result ≡ stop_status answer))
+        (λ status. result ≡ status) }
+{
+    match made_name(alloc, name, 0) {
+        Ok(name) => stop_status(stop(alloc, &mut Descriptor::new(socket), &name)),
+        Err(unmade) => unmade_status(unmade),
+    }
+}

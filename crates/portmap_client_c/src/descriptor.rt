@@ -1,0 +1,106 @@
+//! A connected socket as a device.
+ghost use Rattle.std.specs.Prelude.{◌≡◌, ◌<◌, [], None, false, length, IfOk, pos};
+ghost use Rattle.portmap_link.specs.Device.{PullConsumes, PutAppends};
+
+use portmap_link::{Device, Input, Output, Past, Pull, Put, pull_from, put_from};
+use std::io;
+
+/// A connected socket of the caller's, by its number. It stays open.
+#[derive(Drop)]
+pub(crate) struct Descriptor {
+    number: i32,
+    failed: bool,
+    pulls: Past<Pull>,
+    puts: Past<Put>,
+}
+
+/// What a call of the system told that moved so many bytes, or none where it failed.
+fn told(count: isize) -> io::Result<usize>
+    ensures { IfOk result (λ n. count ≡ pos n) }
+{
+    if count < 0 {
+        return Err(io::Error::from_raw_os_error(os::errno()));
+    }
+    Ok(count as usize)
+}
+
+/// Reads once.
+fn read_from(number: i32, buffer: &mut [u8]) -> Pull
+    requires { 0 < length buffer.old }
+    ensures { PullConsumes None None result buffer.new }
+{
+    pull_from(told(libc::read(number, buffer)))
+}
+
+/// Writes once. Where the peer reads no more the call fails, and no signal is raised.
+fn write_to(number: i32, bytes: &[u8]) -> Put
+    requires { 0 < length bytes.now }
+    ensures { PutAppends None None result bytes.now }
+{
+    let count = unsafe { libc::net::send(number, bytes, libc::net::MSG_NOSIGNAL) };
+    put_from(told(count))
+}
+
+impl Descriptor {
+    /// A device that was asked nothing yet.
+    pub(crate) fn new(number: i32) -> Descriptor
+        ensures whole { result.failed ≡ false }
+        ensures pulls { result.pulls ≡ [] }
+        ensures puts { result.puts ≡ [] }
+    {
+        Descriptor {
+            number,
+            failed: false,
+            pulls: Past::new(),
+            puts: Past::new(),
+        }
+    }
+}
+
+impl Device for Descriptor {
+    ghost use Rattle.std.specs.Prelude.{None};
+
+    ghost left = { λ _. None };
+
+    ghost held = { λ _. None };
+
+    ghost pulls = { λ d. d.pulls };
+
+    ghost puts = { λ d. d.puts };
+
+    ghost broken = { λ d. d.failed };
+}
+
+impl Input for Descriptor {
+    fn pull(&mut self, buffer: &mut [u8]) -> Pull {
+        let answer = if self.failed {
+            Pull::Fault
+        } else {
+            read_from(self.number, buffer)
+        };
+        self.failed = answer == Pull::Fault;
+        self.pulls.note(&answer);
+        answer
+    }
+
+    fn failed(&self) -> bool {
+        self.failed
+    }
+}
+
+impl Output for Descriptor {
+    fn put(&mut self, bytes: &[u8]) -> Put {
+        let answer = if self.failed {
+            Put::Fault
+        } else {
+            write_to(self.number, bytes)
+        };
+        self.failed = answer == Put::Fault;
+        self.puts.note(&answer);
+        answer
+    }
+
+    fn failed(&self) -> bool {
+        self.failed
+    }
+}
