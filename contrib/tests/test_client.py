@@ -13,6 +13,7 @@ import unittest
 TOP = os.path.join(os.path.dirname(os.path.abspath(__file__)), "..", "..")
 BUILD = os.path.join(TOP, "build")
 CLIENT = os.path.join(TOP, "contrib", "client")
+BY_HAND = os.path.join(TOP, "crates", "epmd", "by-hand")
 LIBRARY = os.path.join(BUILD, "libepmd_client.so")
 TYPES = {"u8": "uint8_t", "u16": "uint16_t", "u32": "uint32_t", "usize": "size_t", "EpmdText": "struct epmd_text", "EpmdNode": "struct epmd_node"}
 
@@ -153,6 +154,21 @@ class Examples(unittest.TestCase):
 
     def test_python(self):
         self.runs([sys.executable, os.path.join(CLIENT, "example.py")])
+
+    def test_each_call_tells_what_is_wanted(self):
+        program = self.built("cc", "-I", BUILD, os.path.join(BY_HAND, "client_rounds.c"), os.path.join(BUILD, "libepmd_client.a"))
+        for mapper in self.mappers:
+            with self.subTest(mapper=mapper):
+                mapper = Mapper(mapper)
+                try:
+                    done = subprocess.run([*program, str(mapper.port), "3"], capture_output=True, text=True, timeout=60)
+                finally:
+                    mapper.end()
+                self.assertRegex(done.stdout, r"^\d+ calls, 0 wrong\n$")
+
+    def test_answers_are_read_as_by_another_reader(self):
+        done = subprocess.run([sys.executable, os.path.join(BY_HAND, "client_answers.py"), "3000"], capture_output=True, text=True, timeout=60)
+        self.assertEqual((done.returncode, done.stderr), (0, ""), done.stdout)
 
 
 if __name__ == "__main__":

@@ -174,26 +174,26 @@ def changed(chance, data):
 
 
 def first_other(library, own, cases):
-    """The first case of which the two tell different things, how many there were, and how many were whole."""
-    count = whole = 0
+    """The first case of which the two tell different things, how many there were, and how many were read without a fault."""
+    count = read = 0
     for data in cases:
         count += 1
         told, wanted = library(data), own(data)
-        whole += wanted[1] in (OK, LIST_END)
+        read += wanted[1] in (OK, LIST_END)
         if told != wanted:
-            return f"{data.hex()}: {told}, not {wanted}", count, whole
-    return None, count, whole
+            return f"{data.hex()}: {told}, not {wanted}", count, read
+    return None, count, read
 
 
 def main(most="100000"):
     for name, (library, own, answers) in ANSWERS.items():
-        other, count, whole = first_other(library, own, (data[:size] for data in answers for size in range(len(data) + 1)))
-        say(other is None, f"{name}: {count} fronts, {whole} of them whole: {other or 'the same'}:")
+        other, count, read = first_other(library, own, (data[:size] for data in answers for size in range(len(data) + 1)))
+        say(other is None, f"{name}: {count} fronts, {read} of them read: {other or 'the same'}:")
     chance = random.Random(49)
     for name, (library, own, answers) in ANSWERS.items():
         share = int(most) // len(ANSWERS) + 1
-        other, count, whole = first_other(library, own, (changed(chance, chance.choice(answers)) for _ in range(share)))
-        say(other is None, f"{name}: {count} changed answers, {whole} of them whole: {other or 'the same'}:")
+        other, count, read = first_other(library, own, (changed(chance, chance.choice(answers)) for _ in range(share)))
+        say(other is None, f"{name}: {count} changed answers, {read} of them read: {other or 'the same'}:")
     end()
 
 

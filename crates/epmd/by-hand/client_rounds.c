@@ -128,6 +128,11 @@ static void sockets(void) {
     OVER("", 0, check(epmd_kill(peer) == EPMD_NOT_ALLOWED, "kill, silence"););
     OVER("NOEXIST", 7, check(epmd_stop(peer, name, 1) == EPMD_NO_EXIST, "stop"););
     check(epmd_kill(-1) == EPMD_WRITE, "no socket");
+    int pair[2];
+    if (socketpair(AF_UNIX, SOCK_STREAM, 0, pair)) abort();
+    close(pair[1]);
+    check(epmd_kill(pair[0]) == EPMD_WRITE, "a peer that has left, and no SIGPIPE");
+    close(pair[0]);
     free(name), free(none), free(texts), free(list);
 }
 
@@ -136,6 +141,14 @@ static int32_t connected(int port) {
     int peer = socket(AF_INET, SOCK_STREAM, 0);
     if (connect(peer, (struct sockaddr *)&to, sizeof to)) abort();
     return peer;
+}
+
+// A peer that says nothing, at a socket that does not block.
+static void silence(void) {
+    int pair[2];
+    if (socketpair(AF_UNIX, SOCK_STREAM | SOCK_NONBLOCK, 0, pair)) abort();
+    check(epmd_kill(pair[0]) == EPMD_TOO_MANY_TURNS, "silence");
+    close(pair[0]), close(pair[1]);
 }
 
 static void real(int port) {
@@ -156,7 +169,10 @@ int main(int count, char **words) {
         requests();
         answers();
         sockets();
-        if (round % 100 == 0) real(atoi(words[1]));
+        if (round % 100 == 0) {
+            silence();
+            real(atoi(words[1]));
+        }
     }
     printf("%lu calls, %lu wrong\n", calls, wrong);
     return wrong != 0;
