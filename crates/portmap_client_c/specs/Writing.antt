@@ -1,5 +1,6 @@
 -- Requests in the caller's buffer.
-use Rattle.std.specs.Prelude.{◌≡◌, ◌≢◌, ◌↔◌, ℕ, ◌+◌, ◌<◌, ℤ, nat_lt, if◌then◌else◌, List, ◌++◌, length, drop, Result, Ok, Err, IsOk, IfOk}
+use Rattle.std.specs.Prelude.{◌≡◌, ◌≢◌, ◌↔◌, ℕ, ◌+◌, ◌<◌, ℤ, nat_lt, if◌then◌else◌, List, ◌++◌, length, drop}
+use Rattle.std.specs.Prelude.{Result, Ok, Err, IsOk, IfOk}
 use Rattle.portmap_wire.specs.Node.{Node}
 use Rattle.portmap_wire.specs.Request.{sent}
 use Rattle.portmap_wire.specs.RequestReading.{name_in}
@@ -72,7 +73,7 @@ pub record Puts (bytes old new : List ℕ) (size : ℕ) (status : ℤ) : Type 0 
   pub no_other : status ≢ EPMD_OK → status ≢ EPMD_BUFFER_TOO_SMALL → status ≡ EPMD_NO_MEMORY
 
 -- none of so many bytes, for which there was no memory: a buffer that is too small is told first
-pub record Spares (old : List ℕ) (size told : ℕ) (status : ℤ) : Type 0 where
+pub record LacksMemory (old : List ℕ) (size told : ℕ) (status : ℤ) : Type 0 where
   pub size_is : told ≡ size
   pub small : (status ≡ EPMD_BUFFER_TOO_SMALL) ↔ (length old < size)
   pub no_other : status ≢ EPMD_BUFFER_TOO_SMALL → status ≡ EPMD_NO_MEMORY

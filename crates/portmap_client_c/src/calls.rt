@@ -3,7 +3,8 @@
 ghost use Rattle.std.specs.Prelude.{◌≡◌, ◌≢◌, ◌++◌, List, ℕ, ℤ, Ok, IfOk, length};
 ghost use Rattle.portmap_wire.specs.List.{names_reply};
 ghost use Rattle.portmap_wire.specs.RequestReading.{name_in};
-ghost use Rattle.portmap_client_c.specs.Calls.{Asks, Dumps, IfSaid, Kills, ListsNames, LooksUp, Registers, Stops, TellsCreation, TellsDump, TellsLookup, TellsNames, TellsNode, alive_after, kill_status, stop_status};
+ghost use Rattle.portmap_client_c.specs.Calls.{Asks, Dumps, IfSaid, Kills, ListsNames, LooksUp, Registers, Stops};
+ghost use Rattle.portmap_client_c.specs.Calls.{TellsCreation, TellsDump, TellsLookup, TellsNames, TellsNode, alive_after, kill_status, stop_status};
 ghost use Rattle.portmap_client_c.specs.Writing.{node_said, with_name};
 ghost use Rattle.portmap_client_c.specs.declared.status.TheConstants.{EPMD_NO_MEMORY};
 

@@ -1,5 +1,6 @@
 //! The two lists of names in the caller's bytes, which are all that the port mapper sent.
-ghost use Rattle.std.specs.Prelude.{◌≡◌, ◌≢◌, ◌↔◌, ◌+◌, ◌<◌, ◌≤◌, ◌++◌, ℕ, List, drop, length, max, position, slice_index_or, IfSome, IfNone, IfOk, IfErr};
+ghost use Rattle.std.specs.Prelude.{◌≡◌, ◌≢◌, ◌↔◌, ◌+◌, ◌<◌, ◌≤◌, ◌++◌, ℕ, List, drop, length, max, position, slice_index_or};
+ghost use Rattle.std.specs.Prelude.{IfSome, IfNone, IfOk, IfErr};
 ghost use Rattle.portmap_wire.specs.Reply.{be4};
 ghost use Rattle.portmap_wire.specs.ListReading.{IsStrange, ReadsLine, is_newline};
 ghost use Rattle.portmap_client_c.specs.Status.{line_status};
@@ -106,7 +107,8 @@ pub extern "C" fn epmd_read_names_line(
     ensures strange { result ≡ EPMD_STRANGE_LINE → IsStrange (drop (max 4 at.old) bytes.now) }
     // Memory is asked for last, and none is kept.
     ensures memory { result ≡ EPMD_NO_MEMORY → HasLine (drop (max 4 at.old) bytes.now) }
-    ensures no_other { result ≢ EPMD_OK → result ≢ EPMD_SHORT → result ≢ EPMD_STRANGE_LINE → result ≢ EPMD_LIST_END → result ≡ EPMD_NO_MEMORY }
+    ensures no_other { result ≢ EPMD_OK → result ≢ EPMD_SHORT → result ≢ EPMD_STRANGE_LINE → result ≢ EPMD_LIST_END
+        → result ≡ EPMD_NO_MEMORY }
     ensures unchanged { result ≢ EPMD_OK → (at.new ≡ at.old) × (line.new ≡ line.old) }
 {
     if bytes.len() < HEAD {

@@ -1,8 +1,12 @@
 //! What each call answers, as numbers: one table, which the header has too.
 ghost use Rattle.std.specs.Prelude.{◌≡◌, pos};
 ghost use Rattle.portmap_client_c.specs.Status.{client_status, line_status, name_status, reply_status};
-ghost use Rattle.portmap_client_c.specs.declared.status.TheConstants.{EPMD_OK, EPMD_NAME_EMPTY, EPMD_NAME_TOO_LONG, EPMD_NAME_BAD_BYTE, EPMD_EXTRA_TOO_LONG, EPMD_SHORT, EPMD_BAD_TAG, EPMD_STRANGE, EPMD_REFUSED, EPMD_NOT_REGISTERED};
-ghost use Rattle.portmap_client_c.specs.declared.status.TheConstants.{EPMD_STRANGE_LINE, EPMD_LIST_END, EPMD_WRITE, EPMD_READ, EPMD_TOO_MANY_TURNS, EPMD_TOO_LONG, EPMD_NO_EXIST, EPMD_NOT_ALLOWED, EPMD_BUFFER_TOO_SMALL, EPMD_NO_MEMORY};
+ghost use Rattle.portmap_client_c.specs.declared.status.TheConstants.{EPMD_OK, EPMD_NAME_EMPTY, EPMD_NAME_TOO_LONG};
+ghost use Rattle.portmap_client_c.specs.declared.status.TheConstants.{EPMD_NAME_BAD_BYTE, EPMD_EXTRA_TOO_LONG, EPMD_SHORT};
+ghost use Rattle.portmap_client_c.specs.declared.status.TheConstants.{EPMD_BAD_TAG, EPMD_STRANGE, EPMD_REFUSED, EPMD_NOT_REGISTERED};
+ghost use Rattle.portmap_client_c.specs.declared.status.TheConstants.{EPMD_STRANGE_LINE, EPMD_LIST_END, EPMD_WRITE, EPMD_READ};
+ghost use Rattle.portmap_client_c.specs.declared.status.TheConstants.{EPMD_TOO_MANY_TURNS, EPMD_TOO_LONG, EPMD_NO_EXIST};
+ghost use Rattle.portmap_client_c.specs.declared.status.TheConstants.{EPMD_NOT_ALLOWED, EPMD_BUFFER_TOO_SMALL, EPMD_NO_MEMORY};
 
 use portmap_client::ClientFault;
 use portmap_wire::{ListFault, NameFault, ReplyFault};

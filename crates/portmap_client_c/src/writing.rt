@@ -5,7 +5,7 @@ ghost use Rattle.portmap_wire.specs.Request.{sent};
 ghost use Rattle.portmap_wire.specs.RequestReading.{name_in};
 ghost use Rattle.portmap_wire.specs.declared.request.Request.{Request};
 ghost use Rattle.portmap_wire.specs.declared.request.Request.TheVariants as request;
-ghost use Rattle.portmap_client_c.specs.Writing.{unmade_status, Makes, MakesName, MakesNode, Puts, Spares, Writes, alive_said, named_said, node_said};
+ghost use Rattle.portmap_client_c.specs.Writing.{LacksMemory, Makes, MakesName, MakesNode, Puts, Writes, alive_said, named_said, node_said, unmade_status};
 
 use crate::node::EpmdNode;
 use crate::status::{
@@ -48,8 +48,8 @@ pub(crate) fn put(head: &[u8], tail: &[u8], out: &mut [u8]) -> i32
 }
 
 /// Tells of bytes for which there was no memory how many they are.
-pub(crate) fn spare(bytes: usize, out: &[u8], size: &mut usize) -> i32
-    ensures { Spares out.now bytes size.new result }
+pub(crate) fn lack_memory(bytes: usize, out: &[u8], size: &mut usize) -> i32
+    ensures { LacksMemory out.now bytes size.new result }
 {
     *size = bytes;
     if out.len() < bytes {
@@ -79,7 +79,7 @@ fn write(alloc: Global, request: &Request, out: &mut [u8], size: &mut usize) -> 
             *size = bytes.len();
             put(&bytes, &[], out)
         }
-        Err(_) => spare(sent_size(request), out, size),
+        Err(_) => lack_memory(sent_size(request), out, size),
     }
 }
 
@@ -89,7 +89,7 @@ fn write_made(alloc: Global, made: Result<Request, Unmade>, out: &mut [u8], size
 {
     match made {
         Ok(request) => write(alloc, &request, out, size),
-        Err(Unmade::NoMemory(bytes)) => spare(bytes, out, size),
+        Err(Unmade::NoMemory(bytes)) => lack_memory(bytes, out, size),
         Err(Unmade::Refused(status)) => {
             *size = 0;
             status
