@@ -23,35 +23,39 @@ use Rattle.portmap_client_c.specs.declared.node.EpmdAlive.{EpmdAlive}
 use Rattle.portmap_client_c.specs.declared.node.EpmdFound.{EpmdFound}
 use Rattle.portmap_client_c.specs.declared.status.TheConstants.{EPMD_OK, EPMD_NOT_REGISTERED, EPMD_NO_EXIST, EPMD_NOT_ALLOWED}
 
+-- the calls, by what they leave of a stream and what they answer
+abbrev pub Registers : Node → StreamView → StreamView → Result ℕ ClientFault → Type 0
+Registers g old new answer = Calls (Alive g) SaysCreation old new answer
+
+abbrev pub LooksUp : List ℕ → StreamView → StreamView → Result (Option Node) ClientFault → Type 0
+LooksUp name old new answer = Calls (Port name) SaysFound old new answer
+
+abbrev pub ListsNames : StreamView → StreamView → Result (ℕ × Vec Line Global) ClientFault → Type 0
+ListsNames old new answer = Calls Names SaysNames old new answer
+
+abbrev pub Dumps : StreamView → StreamView → Result (ℕ × Vec ℕ Global) ClientFault → Type 0
+Dumps old new answer = Calls Dump SaysDump old new answer
+
+abbrev pub Kills : StreamView → StreamView → Result Kill ClientFault → Type 0
+Kills old new answer = Calls request.Kill SaysKill old new answer
+
+abbrev pub Stops : List ℕ → StreamView → StreamView → Result Stop ClientFault → Type 0
+Stops name old new answer = Calls (request.Stop name) SaysStop old new answer
+
+-- such a call was made, and this is told of its answer
+pub record Asks {X : Type 0} (Called : StreamView → StreamView → Result X ClientFault → Type 0) (old new : StreamView) (Tells : Result X ClientFault → Type 0) : Type 0 where
+  pub answer : Result X ClientFault
+  pub called : Called old new answer
+  pub tells : Tells answer
+
 -- a stream that tells no bytes, and was asked nothing yet
 abbrev pub unasked : StreamView
 unasked = record { left = None; held = None; pulls = []; puts = []; broken = false }
 
--- the calls over such a stream, by how they leave it and what they answer
-abbrev pub Registers : Node → StreamView → Result ℕ ClientFault → Type 0
-Registers g after answer = Calls (Alive g) SaysCreation unasked after answer
-
-abbrev pub LooksUp : List ℕ → StreamView → Result (Option Node) ClientFault → Type 0
-LooksUp name after answer = Calls (Port name) SaysFound unasked after answer
-
-abbrev pub ListsNames : StreamView → Result (ℕ × Vec Line Global) ClientFault → Type 0
-ListsNames after answer = Calls Names SaysNames unasked after answer
-
-abbrev pub Dumps : StreamView → Result (ℕ × Vec ℕ Global) ClientFault → Type 0
-Dumps after answer = Calls Dump SaysDump unasked after answer
-
-abbrev pub Kills : StreamView → Result Kill ClientFault → Type 0
-Kills after answer = Calls request.Kill SaysKill unasked after answer
-
-abbrev pub Stops : List ℕ → StreamView → Result Stop ClientFault → Type 0
-Stops name after answer = Calls (request.Stop name) SaysStop unasked after answer
-
--- such a call was made, and this is told of its answer
-pub record Asks {X : Type 0} (Called : StreamView → Result X ClientFault → Type 0) (Tells : Result X ClientFault → Type 0) : Type 0 where
-  pub answer : Result X ClientFault
+-- such a call was made over such a stream
+pub record AsksOnce {X : Type 0} (Called : StreamView → StreamView → Result X ClientFault → Type 0) (Tells : Result X ClientFault → Type 0) : Type 0 where
   pub after : StreamView
-  pub called : Called after answer
-  pub tells : Tells answer
+  pub asks : Asks Called unasked after Tells
 
 -- what is asked for, where that can be spelled
 abbrev pub IfSaid : {X : Type 0} → Result X ℤ → (X → Type 0) → (ℤ → Type 0) → Type 0

@@ -1,21 +1,21 @@
-//! Calls over a connected socket, each over one of its own. No clause can say what a socket gave and took: they say which request was
-//! asked, and that what is told is what an answer says that was read no further than its end.
+//! Calls over any stream, as C has them.
 ghost use Rattle.std.specs.Prelude.{◌≡◌, ◌≢◌, ◌++◌, List, ℕ, ℤ, Ok, IfOk, length};
 ghost use Rattle.portmap_wire.specs.List.{names_reply};
 ghost use Rattle.portmap_wire.specs.RequestReading.{name_in};
+ghost use Rattle.portmap_client.specs.Exchange.{view};
 ghost use Rattle.portmap_client_c.specs.Calls.{Asks, Dumps, IfSaid, Kills, ListsNames, LooksUp, Registers, Stops};
 ghost use Rattle.portmap_client_c.specs.Calls.{TellsCreation, TellsDump, TellsLookup, TellsNames, TellsNode, alive_after, kill_status, stop_status};
 ghost use Rattle.portmap_client_c.specs.Writing.{node_said, with_name};
 ghost use Rattle.portmap_client_c.specs.declared.status.TheConstants.{EPMD_NO_MEMORY};
 
 use crate::answers::found_at;
-use crate::descriptor::Descriptor;
 use crate::node::{EpmdAlive, EpmdFound, EpmdNode};
 use crate::status::{
     EPMD_NO_EXIST, EPMD_NO_MEMORY, EPMD_NOT_ALLOWED, EPMD_NOT_REGISTERED, EPMD_OK, client_status,
 };
 use crate::writing::{made_name, made_node, put, unmade_status};
-use portmap_client::{ClientFault, Kill, Registration, Stop, dump, kill, lookup, names, stop};
+use portmap_client::{ClientFault, Kill, Registration, Stop};
+use portmap_link::{Input, Output};
 use portmap_wire::{Line, NoMemory, Reg, put_names_line};
 use std::alloc::Global;
 
@@ -36,36 +36,36 @@ fn alive_after(fault: ClientFault, alive: EpmdAlive) -> EpmdAlive
     }
 }
 
-/// Registers a node. The name stays registered until the socket is closed.
-#[unsafe(no_mangle)]
-pub extern "C" fn epmd_register(
+/// Registers a node, and hands the stream back.
+pub(crate) fn register<S: Input + Output>(
     alloc: Global,
-    socket: i32,
+    stream: S,
     node: &EpmdNode,
     name: &[u8],
     extra: &[u8],
     alive: &mut EpmdAlive,
-) -> i32
-    ensures told { result ≢ EPMD_NO_MEMORY → IfSaid (node_said node.now name.now extra.now)
-        (λ g. Asks (Registers g) (λ answer. TellsCreation answer alive.old alive.new result))
-        (λ status. (result ≡ status) × (alive.new ≡ alive.old)) }
-    ensures memory { result ≡ EPMD_NO_MEMORY → alive.new ≡ alive.old }
+) -> (i32, S)
+    ensures told { let seen = view S.left S.held S.pulls S.puts S.broken in
+        result.0 ≢ EPMD_NO_MEMORY → IfSaid (node_said node.now name.now extra.now)
+        (λ g. Asks (Registers g) (seen stream) (seen result.1) (λ answer. TellsCreation answer alive.old alive.new result.0))
+        (λ status. (result.0 ≡ status) × (alive.new ≡ alive.old)) }
+    ensures memory { result.0 ≡ EPMD_NO_MEMORY → alive.new ≡ alive.old }
 {
     let reg = match made_node(alloc, node, name, extra) {
         Ok(reg) => reg,
-        Err(unmade) => return unmade_status(unmade),
+        Err(unmade) => return (unmade_status(unmade), stream),
     };
-    match Registration::make(alloc, Descriptor::new(socket), &reg) {
+    match Registration::make(alloc, stream, &reg) {
         Ok(registration) => {
             *alive = EpmdAlive {
                 creation: registration.creation(),
                 code: 0,
             };
-            EPMD_OK
+            (EPMD_OK, registration.leave())
         }
-        Err((fault, _)) => {
+        Err((fault, stream)) => {
             *alive = alive_after(fault, *alive);
-            client_status(fault)
+            (client_status(fault), stream)
         }
     }
 }
@@ -80,16 +80,16 @@ fn tell_node(reg: &Reg, texts: &mut [u8], found: &mut EpmdFound) -> i32
 }
 
 /// Asks what is registered under a name. The node's name and its extra bytes come to the front of `texts`.
-#[unsafe(no_mangle)]
-pub extern "C" fn epmd_lookup(
+pub(crate) fn lookup<S: Input + Output>(
     alloc: Global,
-    socket: i32,
+    stream: &mut S,
     name: &[u8],
     texts: &mut [u8],
     found: &mut EpmdFound,
 ) -> i32
-    ensures told { result ≢ EPMD_NO_MEMORY → IfSaid (with_name (λ n. Ok n) (name_in name.now))
-        (λ n. Asks (LooksUp n) (λ answer. TellsLookup answer texts.old texts.new found.old found.new result))
+    ensures told { let seen = view S.left S.held S.pulls S.puts S.broken in
+        result ≢ EPMD_NO_MEMORY → IfSaid (with_name (λ n. Ok n) (name_in name.now))
+        (λ n. Asks (LooksUp n) (seen stream.old) (seen stream.new) (λ answer. TellsLookup answer texts.old texts.new found.old found.new result))
         (λ status. (result ≡ status) × (texts.new ≡ texts.old) × (found.new ≡ found.old)) }
     ensures memory { result ≡ EPMD_NO_MEMORY → (texts.new ≡ texts.old) × (found.new ≡ found.old) }
 {
@@ -97,7 +97,7 @@ pub extern "C" fn epmd_lookup(
         Ok(name) => name,
         Err(unmade) => return unmade_status(unmade),
     };
-    match lookup(alloc, &mut Descriptor::new(socket), &name) {
+    match portmap_client::lookup(alloc, stream, &name) {
         Ok(Some(reg)) => tell_node(&reg, texts, found),
         Ok(None) => EPMD_NOT_REGISTERED,
         Err(fault) => client_status(fault),
@@ -116,13 +116,18 @@ fn list_bytes(alloc: Global, port: u32, lines: &[Line]) -> Result<Vec<u8>, NoMem
 }
 
 /// Asks for the port mapper's own port and the registered names with their ports: the answer to NAMES_REQ comes to the front of `out`.
-#[unsafe(no_mangle)]
-pub extern "C" fn epmd_names(alloc: Global, socket: i32, out: &mut [u8], size: &mut usize) -> i32
-    ensures told { result ≢ EPMD_NO_MEMORY → Asks ListsNames (λ answer. TellsNames answer out.old out.new size.new result) }
+pub(crate) fn names<S: Input + Output>(
+    alloc: Global,
+    stream: &mut S,
+    out: &mut [u8],
+    size: &mut usize,
+) -> i32
+    ensures told { let seen = view S.left S.held S.pulls S.puts S.broken in
+        result ≢ EPMD_NO_MEMORY → Asks ListsNames (seen stream.old) (seen stream.new) (λ answer. TellsNames answer out.old out.new size.new result) }
     ensures memory { result ≡ EPMD_NO_MEMORY → (out.new ≡ out.old) × (size.new ≡ 0) }
 {
     *size = 0;
-    match names(alloc, &mut Descriptor::new(socket)) {
+    match portmap_client::names(alloc, stream) {
         Ok((port, lines)) => match list_bytes(alloc, port, &lines) {
             Ok(bytes) => {
                 *size = bytes.len();
@@ -135,13 +140,18 @@ pub extern "C" fn epmd_names(alloc: Global, socket: i32, out: &mut [u8], size: &
 }
 
 /// Asks for the port mapper's own port and for the text of all that it knows: the answer to DUMP_REQ comes to the front of `out`.
-#[unsafe(no_mangle)]
-pub extern "C" fn epmd_dump(alloc: Global, socket: i32, out: &mut [u8], size: &mut usize) -> i32
-    ensures told { result ≢ EPMD_NO_MEMORY → Asks Dumps (λ answer. TellsDump answer out.old out.new size.new result) }
+pub(crate) fn dump<S: Input + Output>(
+    alloc: Global,
+    stream: &mut S,
+    out: &mut [u8],
+    size: &mut usize,
+) -> i32
+    ensures told { let seen = view S.left S.held S.pulls S.puts S.broken in
+        result ≢ EPMD_NO_MEMORY → Asks Dumps (seen stream.old) (seen stream.new) (λ answer. TellsDump answer out.old out.new size.new result) }
     ensures memory { result ≡ EPMD_NO_MEMORY → (out.new ≡ out.old) × (size.new ≡ 0) }
 {
     *size = 0;
-    match dump(alloc, &mut Descriptor::new(socket)) {
+    match portmap_client::dump(alloc, stream) {
         Ok((port, text)) => {
             *size = 4 + text.len();
             put(&port.to_be_bytes(), &text, out)
@@ -174,22 +184,22 @@ fn stop_status(answer: Result<Stop, ClientFault>) -> i32
 }
 
 /// Asks the port mapper to end.
-#[unsafe(no_mangle)]
-pub extern "C" fn epmd_kill(alloc: Global, socket: i32) -> i32
-    ensures { Asks Kills (λ answer. result ≡ kill_status answer) }
+pub(crate) fn kill<S: Input + Output>(alloc: Global, stream: &mut S) -> i32
+    ensures { let seen = view S.left S.held S.pulls S.puts S.broken in
+        Asks Kills (seen stream.old) (seen stream.new) (λ answer. result ≡ kill_status answer) }
 {
-    kill_status(kill(alloc, &mut Descriptor::new(socket)))
+    kill_status(portmap_client::kill(alloc, stream))
 }
 
 /// Asks the port mapper to end the registration of a name.
-#[unsafe(no_mangle)]
-pub extern "C" fn epmd_stop(alloc: Global, socket: i32, name: &[u8]) -> i32
-    ensures { result ≢ EPMD_NO_MEMORY → IfSaid (with_name (λ n. Ok n) (name_in name.now))
-        (λ n. Asks (Stops n) (λ answer. result ≡ stop_status answer))
+pub(crate) fn stop<S: Input + Output>(alloc: Global, stream: &mut S, name: &[u8]) -> i32
+    ensures { let seen = view S.left S.held S.pulls S.puts S.broken in
+        result ≢ EPMD_NO_MEMORY → IfSaid (with_name (λ n. Ok n) (name_in name.now))
+        (λ n. Asks (Stops n) (seen stream.old) (seen stream.new) (λ answer. result ≡ stop_status answer))
         (λ status. result ≡ status) }
 {
     match made_name(alloc, name, 0) {
-        Ok(name) => stop_status(stop(alloc, &mut Descriptor::new(socket), &name)),
+        Ok(name) => stop_status(portmap_client::stop(alloc, stream, &name)),
         Err(unmade) => unmade_status(unmade),
     }
 }

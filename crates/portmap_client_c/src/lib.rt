@@ -7,5 +7,6 @@ mod calls;
 mod descriptor;
 mod lists;
 mod node;
+mod sockets;
 mod status;
 mod writing;

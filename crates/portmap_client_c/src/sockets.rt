@@ -1,0 +1,86 @@
+//! Calls over a connected socket, each over one of its own. No clause can say what a socket gave and took: they say which request was
+//! asked, and that what is told is what an answer says that was read no further than its end. What was written and read over a stream
+//! that tells its bytes is said of each call's body, in `calls`.
+ghost use Rattle.std.specs.Prelude.{◌≡◌, ◌≢◌, Ok};
+ghost use Rattle.portmap_wire.specs.RequestReading.{name_in};
+ghost use Rattle.portmap_client_c.specs.Calls.{AsksOnce, Dumps, IfSaid, Kills, ListsNames, LooksUp, Registers, Stops};
+ghost use Rattle.portmap_client_c.specs.Calls.{TellsCreation, TellsDump, TellsLookup, TellsNames, kill_status, stop_status};
+ghost use Rattle.portmap_client_c.specs.Writing.{node_said, with_name};
+ghost use Rattle.portmap_client_c.specs.declared.status.TheConstants.{EPMD_NO_MEMORY};
+
+use crate::calls::{dump, kill, lookup, names, register, stop};
+use crate::descriptor::Descriptor;
+use crate::node::{EpmdAlive, EpmdFound, EpmdNode};
+use std::alloc::Global;
+
+/// Registers a node. The name stays registered until the socket is closed.
+#[unsafe(no_mangle)]
+pub extern "C" fn epmd_register(
+    alloc: Global,
+    socket: i32,
+    node: &EpmdNode,
+    name: &[u8],
+    extra: &[u8],
+    alive: &mut EpmdAlive,
+) -> i32
+    ensures told { result ≢ EPMD_NO_MEMORY → IfSaid (node_said node.now name.now extra.now)
+        (λ g. AsksOnce (Registers g) (λ answer. TellsCreation answer alive.old alive.new result))
+        (λ status. (result ≡ status) × (alive.new ≡ alive.old)) }
+    ensures memory { result ≡ EPMD_NO_MEMORY → alive.new ≡ alive.old }
+{
+    let (status, _) = register(alloc, Descriptor::new(socket), node, name, extra, alive);
+    status
+}
+
+/// Asks what is registered under a name. The node's name and its extra bytes come to the front of `texts`.
+#[unsafe(no_mangle)]
+pub extern "C" fn epmd_lookup(
+    alloc: Global,
+    socket: i32,
+    name: &[u8],
+    texts: &mut [u8],
+    found: &mut EpmdFound,
+) -> i32
+    ensures told { result ≢ EPMD_NO_MEMORY → IfSaid (with_name (λ n. Ok n) (name_in name.now))
+        (λ n. AsksOnce (LooksUp n) (λ answer. TellsLookup answer texts.old texts.new found.old found.new result))
+        (λ status. (result ≡ status) × (texts.new ≡ texts.old) × (found.new ≡ found.old)) }
+    ensures memory { result ≡ EPMD_NO_MEMORY → (texts.new ≡ texts.old) × (found.new ≡ found.old) }
+{
+    lookup(alloc, &mut Descriptor::new(socket), name, texts, found)
+}
+
+/// Asks for the port mapper's own port and the registered names with their ports: the answer to NAMES_REQ comes to the front of `out`.
+#[unsafe(no_mangle)]
+pub extern "C" fn epmd_names(alloc: Global, socket: i32, out: &mut [u8], size: &mut usize) -> i32
+    ensures told { result ≢ EPMD_NO_MEMORY → AsksOnce ListsNames (λ answer. TellsNames answer out.old out.new size.new result) }
+    ensures memory { result ≡ EPMD_NO_MEMORY → (out.new ≡ out.old) × (size.new ≡ 0) }
+{
+    names(alloc, &mut Descriptor::new(socket), out, size)
+}
+
+/// Asks for the port mapper's own port and for the text of all that it knows: the answer to DUMP_REQ comes to the front of `out`.
+#[unsafe(no_mangle)]
+pub extern "C" fn epmd_dump(alloc: Global, socket: i32, out: &mut [u8], size: &mut usize) -> i32
+    ensures told { result ≢ EPMD_NO_MEMORY → AsksOnce Dumps (λ answer. TellsDump answer out.old out.new size.new result) }
+    ensures memory { result ≡ EPMD_NO_MEMORY → (out.new ≡ out.old) × (size.new ≡ 0) }
+{
+    dump(alloc, &mut Descriptor::new(socket), out, size)
+}
+
+/// Asks the port mapper to end.
+#[unsafe(no_mangle)]
+pub extern "C" fn epmd_kill(alloc: Global, socket: i32) -> i32
+    ensures { AsksOnce Kills (λ answer. result ≡ kill_status answer) }
+{
+    kill(alloc, &mut Descriptor::new(socket))
+}
+
+/// Asks the port mapper to end the registration of a name.
+#[unsafe(no_mangle)]
+pub extern "C" fn epmd_stop(alloc: Global, socket: i32, name: &[u8]) -> i32
+    ensures { result ≢ EPMD_NO_MEMORY → IfSaid (with_name (λ n. Ok n) (name_in name.now))
+        (λ n. AsksOnce (Stops n) (λ answer. result ≡ stop_status answer))
+        (λ status. result ≡ status) }
+{
+    stop(alloc, &mut Descriptor::new(socket), name)
+}
