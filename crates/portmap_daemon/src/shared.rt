@@ -30,13 +30,13 @@ pub struct WorkerState<W: Wake> {
 }
 
 impl<W: Wake> WorkerState<W> {
-    /// A worker that has not begun, whose poll this waker ends.
+    /// A worker that has not begun, whose poll this waker ends. Until it has polled it is busy since the daemon began.
     pub fn new(waker: W) -> WorkerState<W> {
         WorkerState {
             waker,
             pending: AtomicU64::new(0),
             epoch: AtomicU64::new(NO_CONNECTIONS),
-            busy_since: AtomicU64::new(IDLE),
+            busy_since: AtomicU64::new(0),
             served: AtomicU64::new(0),
         }
     }
@@ -200,7 +200,7 @@ impl<W: Wake> Shared<W> {
     }
 
     /// Whether a connection has ended unanswered since that was last taken.
-    pub(crate) fn is_unanswered(&self) -> bool {
+    pub fn is_unanswered(&self) -> bool {
         self.unanswered.load(Ordering::SeqCst)
     }
 
