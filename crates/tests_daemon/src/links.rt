@@ -1,10 +1,12 @@
 //! A stream as a link: what its calls say to a source that is told of news once.
-use portmap_daemon::Link;
+use mio::net;
+use portmap_daemon::{Link, Stream};
 use portmap_link::{Input, Output, Pull, Put};
 use portmap_testing::bytes::{ALIVE_A, NAMES, PORT_A};
 use portmap_testing::streams::{Giving, Script, Told, scripted};
 use std::alloc::Global;
 use std::io::ErrorKind;
+use std::net::{IpAddr, Ipv4Addr, TcpListener, TcpStream};
 use std::test::Fail;
 
 /// What is called.
@@ -128,5 +130,23 @@ fn a_first_piece_that_registers_a_name_is_kept_back(rt: HostRuntime) -> Result<(
 fn a_link_of_another_host_gives_all_at_once(rt: HostRuntime) -> Result<(), Fail> {
     let mut link = Link::new(rt.alloc(), giving(ALIVE_A), false, 0);
     assert!(rt; gives(&mut link, ALIVE_A));
+    Ok(())
+}
+
+/// This host has this address too, and who connects there has another one.
+const SECOND: [u8; 4] = [127, 0, 0, 2];
+
+/// The own address of a connection that was accepted there.
+fn own_of_accepted(rt: &HostRuntime) -> Result<Option<IpAddr>, Fail> {
+    let address = Ipv4Addr::from(SECOND);
+    let listener = TcpListener::bind(rt, (address, 14_442))?;
+    let _peer = TcpStream::connect(rt, (address, 14_442))?;
+    let (stream, _) = listener.accept()?;
+    Ok(net::TcpStream::from_std(stream).own_ip())
+}
+
+#[test]
+fn a_connection_tells_its_own_address(rt: HostRuntime) -> Result<(), Fail> {
+    assert_eq!(rt; own_of_accepted(&rt)?, Some(IpAddr::from(SECOND)));
     Ok(())
 }
