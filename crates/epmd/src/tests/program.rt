@@ -5,6 +5,7 @@ ghost use Rattle.epmd.specs.Meaning.{CanServe};
 use crate::words::{Action, Command, WordFault};
 use crate::{asked, connect, perform, since_1970, stand_in};
 use portmap_daemon::Host;
+use portmap_link::Writing;
 use portmap_testing::cases::{Case, all_hold};
 use portmap_testing::peers::sent;
 use portmap_testing::sessions::{SESSION, changed};
@@ -240,15 +241,33 @@ const SERVES: &[&[u8]] = &[
 
 const LISTS: &[&[u8]] = &[b"epmd", b"-port", b"14451", b"-names"];
 
+const LISTED: &[u8] = b"epmd: up and running on port 14451 with data:\n";
+
 const ENDS: &[&[u8]] = &[b"epmd", b"-kill", b"-port", b"14451"];
 
-/// What commands tell at the port of a daemon: the statuses of a list and of a kill.
-fn statuses<
+/// Whether a command of these words writes a text that begins so, and its status is 0.
+fn tells<
     R: Net + Host<File = File> + Threads + Wait + Clock + Clone + Drop + Send + Sync + 'static,
->(rt: &HostRuntime, host: &R) -> Result<(u8, u8), WordFault> {
-    let lists = command_of(rt.alloc(), LISTS)?;
-    let ends = command_of(rt.alloc(), ENDS)?;
-    Ok((perform(rt, host, &lists), perform(rt, host, &ends)))
+>(
+    rt: &HostRuntime,
+    host: &R,
+    words: &'static [&'static [u8]],
+    text: &[u8],
+) -> Result<bool, WordFault> {
+    let command = command_of(rt.alloc(), words)?;
+    let mut output = Writing::new(Vec::new(rt.alloc()));
+    let status = perform(rt, host, &command, &mut output);
+    Ok(status == 0 && output.into_inner().starts_with(text))
+}
+
+/// Whether commands tell at the port of a daemon what they are asked for: a list, and then a kill.
+fn are_told<
+    R: Net + Host<File = File> + Threads + Wait + Clock + Clone + Drop + Send + Sync + 'static,
+>(rt: &HostRuntime, host: &R) -> Result<(bool, bool), WordFault> {
+    Ok((
+        tells(rt, host, LISTS, LISTED)?,
+        tells(rt, host, ENDS, b"Killed\n")?,
+    ))
 }
 
 #[test]
@@ -257,17 +276,17 @@ fn a_daemon_and_its_commands_meet_at_the_port_of_their_words(rt: HostRuntime) ->
     let before = since_1970(&rt);
     let (status, (given, told)) = thread::join(
         &rt,
-        || perform(&rt, &rt, &serves),
-        || (creation(&rt, 14_451), statuses(&rt, &rt)),
+        || perform(&rt, &rt, &serves, &mut Writing::new(rt.stdout())),
+        || (creation(&rt, 14_451), are_told(&rt, &rt)),
     );
     assert!(rt; is_between(given, before, since_1970(&rt)));
     assert!(rt; status == 0 && is_done(&told));
     Ok(())
 }
 
-fn is_done(told: &Result<(u8, u8), WordFault>) -> bool {
+fn is_done(told: &Result<(bool, bool), WordFault>) -> bool {
     match told {
-        Ok((0, 0)) => true,
+        Ok((true, true)) => true,
         Ok(_) | Err(_) => false,
     }
 }
@@ -277,7 +296,8 @@ fn status_of<
     R: Net + Host<File = File> + Threads + Wait + Clock + Clone + Drop + Send + Sync + 'static,
 >(rt: &HostRuntime, host: &R, words: &'static [&'static [u8]]) -> Result<u8, Fail> {
     let command = command_of(rt.alloc(), words)?;
-    Ok(perform(rt, host, &command))
+    let mut output = Writing::new(rt.stdout());
+    Ok(perform(rt, host, &command, &mut output))
 }
 
 const CHECK: &[&[u8]] = &[b"epmd", b"-check", b"judged"];
