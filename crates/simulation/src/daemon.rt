@@ -17,6 +17,9 @@ const KEPT_SHARE: u32 = 8;
 /// For so long a connection may move no byte.
 pub(crate) const TIMEOUT_US: u64 = 5_000_000;
 
+/// For so long a thread hangs.
+const HUNG_US: u64 = 30_000_000;
+
 /// The most bytes that the log takes for each thread, by its own reckoning: a second's pieces of links that are read slowly.
 const LOG_BYTES_MOST: u64 = 600_000;
 
@@ -164,6 +167,11 @@ impl<'a, L: Ledger, S: Steps, R: Wait + Drop> Daemon<'a, L, S, R> {
     pub(crate) fn work(&mut self, number: usize) -> Option<()> {
         {
             let mut world = self.world().try_borrow_mut().ok()?;
+            if !world.weather.has_happened(Fault::Hung) && world.happens(Fault::Hung) {
+                let until = world.now.saturating_add(HUNG_US);
+                world.hold(number, until);
+                return Some(());
+            }
             for (fault, most) in [(Fault::Held, 500_000), (Fault::Stuck, 30_000_000)] {
                 if world.happens(fault) {
                     let until = world.now.saturating_add(world.random.below(most));
@@ -174,7 +182,11 @@ impl<'a, L: Ledger, S: Steps, R: Wait + Drop> Daemon<'a, L, S, R> {
         }
         let mut worker = self.workers.get_mut(number)?.take()?;
         let before = worker.acts();
+        let was_unanswered = self.shared.is_unanswered();
         let goes_on = worker.turn();
+        if !was_unanswered && self.shared.is_unanswered() {
+            self.judge_unanswered()?;
+        }
         if let Some(fresh) = worker.source().take_fresh() {
             if worker.acts() > before {
                 self.opened.push(fresh).ok()?;
@@ -189,6 +201,17 @@ impl<'a, L: Ledger, S: Steps, R: Wait + Drop> Daemon<'a, L, S, R> {
             let seat = worker.leave();
             self.shared.end_worker(number, seat.count());
             self.seats.push(seat).ok()?;
+        }
+        Some(())
+    }
+
+    /// A connection has ended unanswered, as none had since that was last looked into: who takes the log out is to do so now.
+    fn judge_unanswered(&mut self) -> Option<()> {
+        let world = self.world().try_borrow().ok()?;
+        let is_due = world.due_at(self.workers.len())? <= world.now;
+        drop(world);
+        if !is_due {
+            self.note(Some("an end without an answer is not looked into"));
         }
         Some(())
     }

@@ -34,7 +34,7 @@ pub enum Role {
     Babbler,
     /// Registers a name of its own and goes on sending.
     Talker,
-    /// Asks for the list of names, and says the last of that about when its time is over.
+    /// Asks for the list of names, and says the last of that about when its time is over, or with all others where there are bursts.
     Tardy,
 }
 
@@ -97,6 +97,8 @@ pub struct Person {
     pub burst: u64,
     /// It holds its name for so many microseconds at most, most of the time.
     pub hold_most: u64,
+    /// Who goes on sending sends so many bytes at once.
+    pub talk_most: usize,
     /// It is owed nothing: it may be closed, or refused.
     pub is_lenient: bool,
 }
@@ -115,6 +117,9 @@ const PLODDER_US: u64 = 3_500_000;
 
 /// When the look comes at which those are late who came at the beginning.
 const TARDY_US: u64 = 6_850_000;
+
+/// What a talker says.
+const TALK: &[u8] = &[0x61; 1000];
 
 /// What was wrong.
 pub type Wrong = &'static str;
@@ -135,6 +140,7 @@ impl Person {
             patience: u64::MAX,
             burst: 1,
             hold_most: 0,
+            talk_most: 0,
             is_lenient: false,
         }
     }
@@ -292,6 +298,9 @@ impl Person {
             };
             let least = most.saturating_sub(20_000);
             self.next_at = world.now.saturating_add(world.random.between(least, most));
+            if self.role == Role::Tardy && self.burst > 1 {
+                self.next_at = self.burst_after(world.now);
+            }
             return;
         }
         self.next_at = u64::MAX;
@@ -350,7 +359,7 @@ impl Person {
         self.stage = Stage::Away;
         let next_at = world.now.saturating_add(world.random.below(most));
         self.next_at = match self.role {
-            Role::Node | Role::Rival | Role::Talker => next_at,
+            Role::Node | Role::Rival | Role::Talker | Role::Tardy => next_at,
             Role::Silent => self.burst_after(next_at).saturating_add(self.burst / 4),
             _ => self.burst_after(next_at),
         };
@@ -530,7 +539,7 @@ impl Person {
         match self.stage {
             Stage::Sending => self.say(world, number),
             Stage::Holding if self.role == Role::Talker => {
-                world.send(number, b"abc");
+                world.send(number, TALK.get(..self.talk_most).unwrap_or(TALK));
                 self.next_at = world.now.saturating_add(world.random.below(200));
                 if world.random.happens(2) {
                     self.leave(world, 1000);

@@ -214,6 +214,7 @@ fn people_of(alloc: Global, scenario: &Scenario, world: &mut World) -> Option<Ve
             person.patience = scenario.patience_us;
             person.burst = scenario.burst_us;
             person.hold_most = scenario.hold_us;
+            person.talk_most = scenario.talk_bytes;
             if person.asks_once() {
                 person.next_at = person.burst_after(next_at);
             }

@@ -25,6 +25,8 @@ pub struct Scenario {
     pub burst_us: u64,
     /// A node holds its name for so many microseconds at most, most of the time.
     pub hold_us: u64,
+    /// Who goes on sending sends so many bytes at once.
+    pub talk_bytes: usize,
     /// So long the world is at rest after the storm, in microseconds.
     pub rest_us: u64,
     /// Who waits on this host does so for so many milliseconds at most.
@@ -72,6 +74,12 @@ const BESIEGED: &[Crowd] = &[
     Crowd(Role::Seeker, 8, true),
 ];
 
+const ENCAMPED: &[Crowd] = &[
+    Crowd(Role::Silent, 4, false),
+    Crowd(Role::Node, 3, true),
+    Crowd(Role::Seeker, 2, true),
+];
+
 const RIVALRY: &[Crowd] = &[
     Crowd(Role::Node, 6, true),
     Crowd(Role::Rival, 6, true),
@@ -100,6 +108,8 @@ const TALKERS: &[Crowd] = &[
     Crowd(Role::Node, 3, true),
     Crowd(Role::Seeker, 3, true),
 ];
+
+const CRESTS: &[Crowd] = &[Crowd(Role::Node, 12, true), Crowd(Role::Tardy, 250, true)];
 
 const READERS: &[Crowd] = &[
     Crowd(Role::Node, 12, true),
@@ -151,6 +161,7 @@ const USUAL: Scenario = Scenario {
     patience_us: u64::MAX,
     burst_us: 1,
     hold_us: 2_000_000,
+    talk_bytes: 3,
     rest_us: 20_000_000,
     limit_ms: 1000,
     is_strict: true,
@@ -180,6 +191,13 @@ pub const SCENARIOS: &[Scenario] = &[
             (Fault::Unable, 10),
             (Fault::Interrupted, 20),
         ],
+        ..USUAL
+    },
+    Scenario {
+        name: "exhausted",
+        people: RESTARTS,
+        chances: &[(Fault::Exhausted, 20), (Fault::Unable, 10)],
+        limit_ms: 3000,
         ..USUAL
     },
     Scenario {
@@ -259,6 +277,31 @@ pub const SCENARIOS: &[Scenario] = &[
         ..USUAL
     },
     Scenario {
+        name: "shouters",
+        people: TALKERS,
+        talk_bytes: 1000,
+        ..USUAL
+    },
+    Scenario {
+        name: "crests",
+        people: CRESTS,
+        chances: &[(Fault::Slow, 1000)],
+        conn_max: 512,
+        burst_us: 1_000_000,
+        hold_us: 300_000,
+        limit_ms: 10_000,
+        ..USUAL
+    },
+    Scenario {
+        name: "hung",
+        people: RIVALS,
+        chances: &[(Fault::Hung, 2)],
+        hold_us: 5_000_000,
+        is_strict: false,
+        limit_ms: 4000,
+        ..USUAL
+    },
+    Scenario {
         name: "readers",
         people: READERS,
         chances: &[(Fault::Short, 100), (Fault::Interrupted, 50)],
@@ -296,6 +339,15 @@ pub const SCENARIOS: &[Scenario] = &[
         ..USUAL
     },
     Scenario {
+        name: "encamped",
+        people: ENCAMPED,
+        conn_max: 7,
+        burst_us: 2_000_000,
+        hold_us: 60_000_000,
+        limit_ms: 210,
+        ..USUAL
+    },
+    Scenario {
         name: "loaded",
         people: HEAVY_LOAD,
         conn_max: 512,
@@ -326,6 +378,13 @@ pub const SCENARIOS: &[Scenario] = &[
         people: LATE_COMERS,
         chances: &[(Fault::Stopped, 5), (Fault::Late, 200), (Fault::Lost, 200)],
         limit_ms: 30_000,
+        ..USUAL
+    },
+    Scenario {
+        name: "frozen",
+        people: NODES,
+        chances: &[(Fault::Stopped, 100), (Fault::Late, 200)],
+        limit_ms: 1_000_000,
         ..USUAL
     },
     Scenario {
@@ -370,7 +429,7 @@ pub const SCENARIOS: &[Scenario] = &[
     },
     Scenario {
         name: "full",
-        chances: &[(Fault::Full, 1000)],
+        chances: &[(Fault::Full, 400)],
         ..USUAL
     },
     Scenario {

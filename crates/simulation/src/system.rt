@@ -188,13 +188,15 @@ impl Write for SimFile {
         if world.happens(Fault::Interrupted) {
             return Err(io::Error::from(ErrorKind::Interrupted));
         }
-        if world.happens(Fault::Full) {
-            world.is_disk_full = true;
-        }
         if world.is_disk_full {
             return Err(io::Error::from(ErrorKind::StorageFull));
         }
-        let count = if world.happens(Fault::Short) {
+        let count = if world.happens(Fault::Full) {
+            world.is_disk_full = true;
+            // There is room for some more.
+            let room = world.random.below(bytes.len() as u64) as usize;
+            room.min(bytes.len())
+        } else if world.happens(Fault::Short) {
             bytes.len().min(1)
         } else {
             bytes.len()

@@ -30,6 +30,8 @@ pub enum Fault {
     Held,
     /// A thread is held for up to half a minute.
     Stuck,
+    /// One thread hangs for half a minute, once.
+    Hung,
     /// A step takes up to two milliseconds.
     Slow,
     /// The clock jumps forward by up to an hour.
@@ -57,7 +59,7 @@ pub enum Fault {
 }
 
 /// Each, with how it is told.
-pub const FAULTS: [(Fault, &str); 25] = [
+pub const FAULTS: [(Fault, &str); 26] = [
     (Fault::Interrupted, "interrupted"),
     (Fault::Short, "short"),
     (Fault::Aborted, "aborted"),
@@ -71,6 +73,7 @@ pub const FAULTS: [(Fault, &str); 25] = [
     (Fault::Spurious, "spurious"),
     (Fault::Held, "held"),
     (Fault::Stuck, "stuck"),
+    (Fault::Hung, "hung"),
     (Fault::Slow, "slow"),
     (Fault::Jump, "jumps"),
     (Fault::Unread, "unread"),
@@ -89,7 +92,7 @@ pub const FAULTS: [(Fault, &str); 25] = [
 pub type Chances = &'static [(Fault, u32)];
 
 /// How often each has happened.
-pub type Counts = [u32; 25];
+pub type Counts = [u32; 26];
 
 /// The weather: what may happen, and how often each has.
 #[derive(Drop)]
@@ -102,7 +105,7 @@ impl Weather {
     pub fn new(chances: Chances) -> Weather {
         Weather {
             chances,
-            happened: [0; 25],
+            happened: [0; 26],
         }
     }
 
