@@ -245,6 +245,15 @@ const LISTED: &[u8] = b"epmd: up and running on port 14451 with data:\n";
 
 const ENDS: &[&[u8]] = &[b"epmd", b"-kill", b"-port", b"14451"];
 
+/// The status of a command, whose text goes to standard output.
+fn shown<
+    R: Net + Host<File = File> + Threads + Wait + Clock + Clone + Drop + Send + Sync + 'static,
+>(rt: &HostRuntime, host: &R, command: &Command) -> u8
+    requires { CanServe command.now }
+{
+    perform(rt, host, command, &mut Writing::new(rt.stdout()))
+}
+
 /// Whether a command of these words writes a text that begins so, and its status is 0.
 fn tells<
     R: Net + Host<File = File> + Threads + Wait + Clock + Clone + Drop + Send + Sync + 'static,
@@ -276,7 +285,7 @@ fn a_daemon_and_its_commands_meet_at_the_port_of_their_words(rt: HostRuntime) ->
     let before = since_1970(&rt);
     let (status, (given, told)) = thread::join(
         &rt,
-        || perform(&rt, &rt, &serves, &mut Writing::new(rt.stdout())),
+        || shown(&rt, &rt, &serves),
         || (creation(&rt, 14_451), are_told(&rt, &rt)),
     );
     assert!(rt; is_between(given, before, since_1970(&rt)));
@@ -296,8 +305,7 @@ fn status_of<
     R: Net + Host<File = File> + Threads + Wait + Clock + Clone + Drop + Send + Sync + 'static,
 >(rt: &HostRuntime, host: &R, words: &'static [&'static [u8]]) -> Result<u8, Fail> {
     let command = command_of(rt.alloc(), words)?;
-    let mut output = Writing::new(rt.stdout());
-    Ok(perform(rt, host, &command, &mut output))
+    Ok(shown(rt, host, &command))
 }
 
 const CHECK: &[&[u8]] = &[b"epmd", b"-check", b"judged"];
