@@ -9,4 +9,6 @@ mod lists;
 mod node;
 mod sockets;
 mod status;
+#[cfg(test)]
+mod tests;
 mod writing;

@@ -6,7 +6,7 @@ ghost use Rattle.portmap_daemon.specs.Peers.{is_local_by};
 use crate::Turn;
 use crate::host::Host;
 use crate::limits::{PLACE_TIMEOUT_MS, ROOM_BACKOFF_MS};
-use crate::link::{Held, Link};
+use crate::link::{OpenLink, Link};
 use crate::peer::{is_local_by, own_ip};
 use crate::quota::{Candidate, goes_before, spares_local};
 use crate::shared::NO_NEWS;
@@ -103,7 +103,7 @@ impl<L: Ledger, S: System, R: Host + Wait + Clock> SocketSource<'_, L, S, R> {
         }
         self.queue.reserve(self.links.len().saturating_add(1)).ok()?;
         let link = Link::new(self.alloc, newcomer.stream, local, self.now);
-        let key = self.links.insert(Held { link }).ok()?;
+        let key = self.links.insert(OpenLink { link }).ok()?;
         let _ = self.queue.push_back(key);
         Some(Turn::Fresh {
             key: key as u64,
@@ -158,7 +158,7 @@ impl<L: Ledger, S: System, R: Host + Wait + Clock> SocketSource<'_, L, S, R> {
         }
         let mut first: Option<Candidate> = None;
         for key in 0..self.links.capacity() {
-            if let Some(Held { link }) = self.links.get(key) {
+            if let Some(OpenLink { link }) = self.links.get(key) {
                 let candidate = Candidate {
                     is_local: link.is_local,
                     came: link.came,

@@ -366,16 +366,16 @@ impl<S: Stream> Link<S> {
 
 /// A link that a worker holds. However it is given up, a peer that doesn't have all of its answer sees that: its connection ends by a
 /// reset in place of an end.
-pub(crate) struct Held<S: Stream> {
+pub(crate) struct OpenLink<S: Stream> {
     pub(crate) link: Link<S>,
 }
 
-impl<S: Stream> Drop for Held<S> {
+impl<S: Stream> Drop for OpenLink<S> {
     fn drop(mut self) {
         if self.link.is_unsent() {
             self.link.stream.reset();
         }
-        let Held { link: _link } = self;
+        let OpenLink { link: _link } = self;
     }
 }
 

@@ -7,7 +7,7 @@ use portmap_link::NoMemory;
 use std::alloc::Global;
 use std::rt::Clock;
 use std::sync::atomic::{AtomicBool, AtomicU64, Ordering};
-use std::time::Instant;
+use std::time::Duration;
 
 /// A worker that waits at its poll is busy since then.
 pub(crate) const IDLE: u64 = u64::MAX;
@@ -71,8 +71,8 @@ pub struct Shared<W: Wake> {
     pub(crate) workers: Vec<WorkerState<W>>,
     /// Ends the wait of the thread that takes out the log.
     drain: W,
-    /// When the daemon began, if the clock can be read.
-    begun: Option<Instant>,
+    /// When the daemon began, by the clock that only goes on; if it could not be read, when that began.
+    begun: Duration,
     pub(crate) quota: Quota,
     /// How many workers accept connections: the first ones, at least one.
     pub(crate) acceptors: AtomicU64,
@@ -99,7 +99,7 @@ impl<W: Wake> Shared<W> {
         Shared {
             workers,
             drain,
-            begun: Instant::now(rt).ok(),
+            begun: rt.monotonic().unwrap_or(Duration::ZERO),
             quota: Quota::new(places),
             acceptors: AtomicU64::new(1),
             epoch: AtomicU64::new(0),
@@ -115,7 +115,7 @@ impl<W: Wake> Shared<W> {
 
     /// The microseconds since the daemon began; none if the clock can't be read.
     pub(crate) fn time_us<R: Clock>(&self, rt: &R) -> Option<u64> {
-        let time = self.begun.as_ref()?.elapsed(rt).ok()?;
+        let time = rt.monotonic().ok()?.saturating_sub(self.begun);
         u64::try_from(time.as_micros()).ok()
     }
 

@@ -9,7 +9,7 @@ use crate::limits::{
     BACKLOG_MOST, EVENTS_MOST, IDLE_TIMEOUT_MS, LOG_BYTES_HEAVY, LOOK_INTERVAL_MS, POLLS_MOST,
     RESTS_MOST, SHORT_TIMEOUT_MS, TURNS_MOST, WEIGH_BYTES,
 };
-use crate::link::{Held, Link};
+use crate::link::{OpenLink, Link};
 use crate::listener::Listeners;
 use crate::pending::Pending;
 use crate::shared::{IDLE, NO_CONNECTIONS, NO_NEWS, News, Shared, WorkerState};
@@ -47,7 +47,7 @@ pub struct SocketSource<'a, L: Ledger, S: System, R: Host + Wait + Clock> {
     /// What the others know of this worker.
     pub(crate) state: &'a WorkerState<S::Waker>,
     pub(crate) sockets: Sockets<S>,
-    pub(crate) links: Slab<Held<S::Stream>>,
+    pub(crate) links: Slab<OpenLink<S::Stream>>,
     /// The links of which there is something to tell, in the order in which it came.
     pub(crate) queue: VecDeque<usize>,
     /// The links that rest, in the order in which they began to.
