@@ -28,12 +28,12 @@ def all_come_and_go(path):
         refused, early = 0, 0
         for i in range(NAMES):
             refused += not comes_and_goes(daemon.port, b"n%06d" % i)
-            if i == 2 * KNOWN:
+            if i == 4 * KNOWN:
                 early = daemon.kb("VmRSS")
         time.sleep(0.5)
         late = daemon.kb("VmRSS")
         say(not refused, f"Of {NAMES} others, one after another, {refused} are refused.")
-        say(late <= early * APART, f"{early} KB of memory after {2 * KNOWN} of them, {late} KB at the end.")
+        say(late <= early * APART, f"{early} KB of memory after {4 * KNOWN} of them, {late} KB at the end.")
         lines = [line.split() for line in ask(daemon.port, b"d")[4:].splitlines()]
         active = [line[2] for line in lines if line[0] == b"active"]
         old = [line[2] for line in lines if line[0] != b"active"]

@@ -7,6 +7,7 @@ use Rattle.epmd.specs.Addresses.{AreListening, anywhere}
 use Rattle.epmd.specs.Words.{Asked, Serve, Item, Port, Addresses, Timeout, Workers, Begins, Spells, last_by, port_of, addresses_of, timeout_of, workers_of}
 use Rattle.epmd.specs.Meaning.{Holds, Completes, IsPort, IsCommand, SaysCommand}
 use Rattle.epmd.specs.declared.plan.Plan.{Plan}
+use Rattle.epmd.specs.declared.plan.TheConstants.{TIMEOUT, WORKERS}
 use Rattle.epmd.specs.declared.words.Command.{Command}
 use Rattle.epmd.specs.declared.words.Env.{Env}
 use Rattle.epmd.proofs.Listening.{are_listening}
@@ -24,8 +25,8 @@ is_command items plan env command h c = record {
   port = subst (λ (o : Option ℕ). IsPort o (option_map string_bytes env.port) command.port) h.port c.port;
   relaxed = c.relaxed ∙ ap (λ (b : Bool). b || env.relaxed) h.relaxed;
   addresses = c.addresses ∙ ap (λ (o : Option (List (List ℕ))). unwrap_or o (anywhere ∷ [])) h.addresses;
-  timeout = c.timeout ∙ ap (λ (o : Option ℕ). unwrap_or o 60) h.timeout;
-  workers = c.workers ∙ ap (λ (o : Option ℕ). unwrap_or o 4) h.workers;
+  timeout = c.timeout ∙ ap (λ (o : Option ℕ). unwrap_or o TIMEOUT) h.timeout;
+  workers = c.workers ∙ ap (λ (o : Option ℕ). unwrap_or o WORKERS) h.workers;
   debug = c.debug ∙ h.debug;
   recording = ap (option_map string_bytes) c.recording ∙ h.recording;
 }
@@ -77,10 +78,10 @@ pub says_port : (words : List (List ℕ)) (env : Env) (command : Command) → Sa
 says_port words env command s = port_fits (last_by port_of s.0) (option_map string_bytes env.port) command.port (last_fits port_of (IsWithin 1 65535) begins_port words s.0 s.1) s.2.port
 
 pub says_timeout : (words : List (List ℕ)) (env : Env) (command : Command) → SaysCommand words env command → IsWithin 1 86400 command.timeout
-says_timeout words env command s = subst (IsWithin 1 86400) (sym s.2.timeout) (usual_fits (IsWithin 1 86400) (last_by timeout_of s.0) 60 (last_fits timeout_of (IsWithin 1 86400) begins_timeout words s.0 s.1) (omega arith, omega arith))
+says_timeout words env command s = subst (IsWithin 1 86400) (sym s.2.timeout) (usual_fits (IsWithin 1 86400) (last_by timeout_of s.0) TIMEOUT (last_fits timeout_of (IsWithin 1 86400) begins_timeout words s.0 s.1) (omega arith, omega arith))
 
 pub says_workers : (words : List (List ℕ)) (env : Env) (command : Command) → SaysCommand words env command → IsWithin 1 64 command.workers
-says_workers words env command s = subst (IsWithin 1 64) (sym s.2.workers) (usual_fits (IsWithin 1 64) (last_by workers_of s.0) 4 (last_fits workers_of (IsWithin 1 64) begins_workers words s.0 s.1) (omega arith, omega arith))
+says_workers words env command s = subst (IsWithin 1 64) (sym s.2.workers) (usual_fits (IsWithin 1 64) (last_by workers_of s.0) WORKERS (last_fits workers_of (IsWithin 1 64) begins_workers words s.0 s.1) (omega arith, omega arith))
 
 pub says_addresses : (words : List (List ℕ)) (env : Env) (command : Command) → SaysCommand words env command → AreListening command.addresses.items
 says_addresses words env command s = subst AreListening (sym s.2.addresses) (usual_fits AreListening (last_by addresses_of s.0) (anywhere ∷ []) (last_fits addresses_of AreListening begins_addresses words s.0 s.1) (inl refl))

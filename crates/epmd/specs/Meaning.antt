@@ -11,6 +11,7 @@ use Rattle.epmd.specs.declared.words.WordFault.TheVariants.{Unknown, MissingValu
 use Rattle.epmd.specs.declared.words.Command.{Command}
 use Rattle.epmd.specs.declared.words.Env.{Env}
 use Rattle.epmd.specs.declared.plan.Plan.{Plan}
+use Rattle.epmd.specs.declared.plan.TheConstants.{TIMEOUT, WORKERS}
 
 -- ---- what words have said so far
 
@@ -43,7 +44,7 @@ pub record Adds (item : Item) (old new : Plan) : Type 0 where
 abbrev pub IsPort : Option ℕ → Option (List ℕ) → ℕ → Type 0
 IsPort (Some number) text port = port ≡ number
 IsPort None (Some text) port = WritesWithin 1 65535 text port
-IsPort None None port = port ≡ 4369
+IsPort None None port = port ≡ actions.PORT
 
 -- the command that these items make in this environment
 pub record IsCommand (items : List Item) (env : Env) (command : Command) : Type 0 where
@@ -52,8 +53,8 @@ pub record IsCommand (items : List Item) (env : Env) (command : Command) : Type 
   pub port : IsPort (last_by port_of items) (option_map string_bytes env.port) command.port
   pub relaxed : command.relaxed ≡ (list_any is_relaxed items || env.relaxed)
   pub addresses : command.addresses.items ≡ unwrap_or (last_by addresses_of items) (anywhere ∷ [])
-  pub timeout : command.timeout ≡ unwrap_or (last_by timeout_of items) 60
-  pub workers : command.workers ≡ unwrap_or (last_by workers_of items) 4
+  pub timeout : command.timeout ≡ unwrap_or (last_by timeout_of items) TIMEOUT
+  pub workers : command.workers ≡ unwrap_or (last_by workers_of items) WORKERS
   pub debug : command.debug ≡ list_any is_debug items
   pub recording : option_map string_bytes command.recording ≡ last_by recording_of items
 
@@ -63,8 +64,8 @@ pub record Completes (plan : Plan) (env : Env) (command : Command) : Type 0 wher
   pub port : IsPort plan.port (option_map string_bytes env.port) command.port
   pub relaxed : command.relaxed ≡ (plan.relaxed || env.relaxed)
   pub addresses : command.addresses.items ≡ unwrap_or (option_map (λ addresses. addresses.items) plan.addresses) (anywhere ∷ [])
-  pub timeout : command.timeout ≡ unwrap_or plan.timeout 60
-  pub workers : command.workers ≡ unwrap_or plan.workers 4
+  pub timeout : command.timeout ≡ unwrap_or plan.timeout TIMEOUT
+  pub workers : command.workers ≡ unwrap_or plan.workers WORKERS
   pub debug : command.debug ≡ plan.debug
   pub recording : command.recording ≡ plan.recording
 

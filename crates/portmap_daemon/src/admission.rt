@@ -6,7 +6,7 @@ ghost use Rattle.portmap_daemon.specs.Peers.{is_local_by};
 use crate::Turn;
 use crate::host::Host;
 use crate::limits::{PLACE_TIMEOUT_MS, ROOM_BACKOFF_MS};
-use crate::link::{OpenLink, Link};
+use crate::link::{Link, OpenLink};
 use crate::peer::{is_local_by, own_ip};
 use crate::quota::{Candidate, goes_before, spares_local};
 use crate::shared::NO_NEWS;

@@ -9,7 +9,7 @@ use crate::limits::{
     BACKLOG_MOST, EVENTS_MOST, IDLE_TIMEOUT_MS, LOG_BYTES_HEAVY, LOOK_INTERVAL_MS, POLLS_MOST,
     RESTS_MOST, SHORT_TIMEOUT_MS, TURNS_MOST, WEIGH_BYTES,
 };
-use crate::link::{OpenLink, Link};
+use crate::link::{Link, OpenLink};
 use crate::listener::Listeners;
 use crate::pending::Pending;
 use crate::shared::{IDLE, NO_CONNECTIONS, NO_NEWS, News, Shared, WorkerState};
