@@ -8,7 +8,7 @@ PREFIX = /usr/local
 OTHER = /usr/bin/epmd
 
 # The crates of tests that refuse memory.
-REFUSING = tests_wire tests_machine tests_book tests_client tests_record
+REFUSING = tests_book
 
 .PHONY: run epmd client install uninstall deb check-contrib quick test bench faults
 
@@ -81,19 +81,21 @@ bench: build/epmd
 	cc -O2 -Wall -Wextra -pthread -o build/bench bench/bench.c
 	./build/bench $(OTHER) build/epmd
 
-# A first look, in minutes: compiles and runs the tests with nothing proved. Not those of the daemon: unproved, a byte costs a hundred
-# times as much, and a client of theirs runs into its timeout.
+# A first look, in minutes: compiles and runs the tests and the stories with nothing proved. Not those of the daemon: unproved, a byte
+# costs a hundred times as much, and a client of theirs runs into its timeout.
 quick:
-	@for crate in tests_wire tests_machine tests_book tests_client tests_record epmd; do \
+	@for crate in tests_machine tests_book tests_client tests_record epmd; do \
 	    echo "$$crate, with nothing proved:"; (cd crates/$$crate && rt try --test) || exit 1; done
+	@echo "stories, with nothing proved:"; cd crates/stories && rt try -- $$(grep -v ^large args | sed s,^,data/,)
 
 # The gate: every proof from nothing, the must-fail edits, the tests, and the program as two compilers build it.
 test:
 	rt ci
 
-# Refuses each request for memory, and has each call of the system fail, one in each run: in the tests of `refusals`, and in the
-# daemon. It takes minutes once both are built.
+# Refuses each request for memory, and has each call of the system fail, one in each run: in the tests of `refusals` and in the
+# stories, and in the daemon. It takes minutes once all are built.
 faults: epmd
+	(cd crates/stories && rt run) && python3 faults/rows.py crates/stories/out/stories crates/stories
 	for crate in $(REFUSING); do \
 	    (cd crates/$$crate && rt test -- refusals) && python3 faults/rows.py crates/$$crate/out/$${crate}_tests || exit 1; done
 	python3 faults/calls.py build/epmd

@@ -12,26 +12,6 @@ pub enum Kept {
     Late(u64, Fate),
 }
 
-/// The entries of `SESSION`.
-pub const ENTRIES: &[Kept] = &[
-    Kept::Connected(true, 0),
-    Kept::Piece(
-        0,
-        &[
-            0, 0x0E, 0x78, 0x13, 0x88, 0x4D, 0, 0, 6, 0, 5, 0, 1, 0x61, 0, 0,
-        ],
-        &[0x76, 0, 0, 0, 0, 4],
-        Fate::Stay,
-    ),
-    Kept::Connected(true, 1),
-    Kept::Piece(
-        1,
-        &[0, 2, 0x7A, 0x61],
-        &[0x77, 0, 0x13, 0x88, 0x4D, 0, 0, 6, 0, 5, 0, 1, 0x61, 0, 0],
-        Fate::Close,
-    ),
-];
-
 /// Whether this entry is so.
 pub fn is_kept(entry: &Entry, kept: &Kept) -> bool {
     match (entry, kept) {

@@ -25,12 +25,6 @@ pub const SINGLE: Plan = Plan { most: 1, ..STEADY };
 
 pub const PAIRS: Plan = Plan { most: 2, ..STEADY };
 
-/// Later without end.
-pub const NEVER: Plan = Plan {
-    later: &[(0, usize::MAX)],
-    ..STEADY
-};
-
 /// What one call is to do.
 #[derive(Clone, Copy)]
 enum Turn {

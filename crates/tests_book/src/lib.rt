@@ -1,8 +1,6 @@
-//! What no clause says of the book: workers on one table, logs that are sealed, gathered, or taken out from their front on.
+//! What no story shows of the book: workers on one table, and what is gathered of segments and tickets.
 #![tactic(auto)]
 
-#[cfg(test)]
-mod advance;
 #[cfg(test)]
 mod desk;
 #[cfg(test)]

@@ -1,9 +1,6 @@
-//! Calls over memory and over sockets, with the bytes of worked examples of the protocol.
-mod commands;
+//! Calls over memory without end, and over sockets.
 mod example;
-mod lists;
-mod look_ups;
-mod registrations;
+mod long_lists;
 mod sockets;
 
 use portmap_wire::Line;

@@ -1,10 +1,8 @@
-//! What no clause says of the client and of the devices below it: calls over memory and over sockets, one connection served, and
-//! devices that fail.
+//! What no story shows of the client and of the devices below it: lists without end, calls over sockets, and the adapters of readers and
+//! writers.
 #![tactic(auto)]
 
 #[cfg(test)]
 mod client;
 #[cfg(test)]
 mod link;
-#[cfg(test)]
-mod refusals;

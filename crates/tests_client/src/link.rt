@@ -1,4 +1,2 @@
-//! What devices and the adapters of readers and writers answer, what flushes write, and one connection served.
+//! What the adapters of readers and writers answer.
 mod adapters;
-mod flushes;
-mod once;

@@ -9,7 +9,7 @@ use portmap_record::{
     write_beginning, write_entries, write_header,
 };
 use portmap_testing::cases::{Case, all_hold, is_so};
-use portmap_testing::sessions::{SESSION, UPGRADED, changed};
+use portmap_testing::sessions::{SESSION, UPGRADED};
 use portmap_testing::tape::{Plan, STEADY, Tape};
 use std::alloc::Global;
 use std::test::Fail;
@@ -68,9 +68,8 @@ fn are_numbered_parts(alloc: Global, session: &Record) -> Result<bool, Fail> {
 }
 
 fn has_parts(alloc: Global) -> Result<bool, Fail> {
-    let bytes = changed(alloc, 0, &[])?;
-    let session = read_record(alloc, &bytes)?;
-    Ok(are_parts(alloc, &session, &bytes)? && are_numbered_parts(alloc, &session)?)
+    let session = read_record(alloc, &SESSION)?;
+    Ok(are_parts(alloc, &session, &SESSION)? && are_numbered_parts(alloc, &session)?)
 }
 
 #[test]

@@ -1,15 +1,7 @@
-//! What no clause says of recorded sessions: their bytes, worked out by hand from the format, and what is told of them.
+//! What no story shows of recorded sessions: their laws, and long sessions from device to device.
 #![tactic(auto)]
 
 #[cfg(test)]
-mod playing;
+mod laws;
 #[cfg(test)]
-mod record;
-#[cfg(test)]
-mod refusals;
-#[cfg(test)]
-mod remote;
-#[cfg(test)]
-mod starts;
-#[cfg(test)]
-mod transcript;
+mod long;

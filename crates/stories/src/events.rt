@@ -1,0 +1,115 @@
+//! Events, answers and entries in the words of a transcript.
+use crate::words::{Digits, bytes, number};
+use anyhow::{Result, bail};
+use portmap_core::{Answer, Entry, Event, Fate, Refusal};
+use std::alloc::Global;
+
+/// The event that words tell of.
+pub fn event(alloc: Global, words: &[&str]) -> Result<Event> {
+    Ok(match *words {
+        ["connect", whence] => Event::Connect {
+            local: is_local(whence)?,
+        },
+        ["piece", slot, "get", piece] => Event::Piece {
+            slot: number(slot)?,
+            bytes: bytes(alloc, piece)?,
+        },
+        ["close", slot] => Event::Close {
+            slot: number(slot)?,
+        },
+        ["fault", slot] => Event::Fault {
+            slot: number(slot)?,
+        },
+        ["late", slot] => Event::Late {
+            slot: number(slot)?,
+        },
+        _ => bail!("no such act"),
+    })
+}
+
+/// The entry that words tell of.
+pub fn entry(alloc: Global, words: &[&str]) -> Result<Entry> {
+    Ok(match *words {
+        ["connect", slot, whence] => Entry::Connected {
+            local: is_local(whence)?,
+            slot: number(slot)?,
+        },
+        ["piece", slot, "get", piece, "say", reply, then] => Entry::Piece {
+            slot: number(slot)?,
+            bytes: bytes(alloc, piece)?,
+            reply: bytes(alloc, reply)?,
+            fate: fate(then)?,
+        },
+        ["close", slot] => Entry::Closed {
+            slot: number(slot)?,
+        },
+        ["fault", slot] => Entry::Faulted {
+            slot: number(slot)?,
+        },
+        ["late", slot, then] => Entry::Late {
+            slot: number(slot)?,
+            fate: fate(then)?,
+        },
+        _ => bail!("no such entry"),
+    })
+}
+
+/// Whether a word is for this host, and not for another one.
+pub fn is_local(word: &str) -> Result<bool> {
+    match word {
+        "local" => Ok(true),
+        "remote" => Ok(false),
+        _ => bail!("neither local nor remote: {word}"),
+    }
+}
+
+fn fate(word: &str) -> Result<Fate> {
+    match word {
+        "stay" => Ok(Fate::Stay),
+        "close" => Ok(Fate::Close),
+        "halt" => Ok(Fate::Halt),
+        _ => bail!("no fate: {word}"),
+    }
+}
+
+fn word_of(fate: Fate) -> &'static str {
+    match fate {
+        Fate::Stay => "stay",
+        Fate::Close => "close",
+        Fate::Halt => "halt",
+    }
+}
+
+/// The words for what comes of an act. One who is late is told a fate alone; memory is never refused to one who goes.
+pub fn came_of(alloc: Global, act: &str, outcome: &Result<Answer, Refusal>) -> Result<String> {
+    let is_late = act.starts_with("late");
+    let goes = act.starts_with("close") || act.starts_with("fault");
+    Ok(match outcome {
+        Ok(Answer::Connected(slot)) => format!(in alloc; "{slot}")?,
+        Ok(Answer::Said { bytes, fate }) if is_late && bytes.is_empty() => String::from_str(
+            alloc,
+            word_of(*fate),
+        )?,
+        Ok(Answer::Said { bytes, fate }) => format!(in alloc;
+            "say {} {}",
+            Digits(bytes),
+            word_of(*fate)
+        )?,
+        Ok(Answer::Gone) => String::from_str(alloc, "gone")?,
+        Err(Refusal::NoMemory) if goes => bail!("memory is refused to one who goes"),
+        Err(refusal) => format!(in alloc; "{refusal:?}")?,
+    })
+}
+
+/// The line of a transcript for an act that was answered.
+pub fn line(alloc: Global, number: u64, words: &[&str], came: &str) -> Result<String> {
+    Ok(match *words {
+        ["connect", whence] => format!(in alloc; "{number} connect {came} {whence}\n")?,
+        ["piece", slot, "get", piece] => format!(in alloc;
+            "{number} piece {slot} get {piece} {came}\n"
+        )?,
+        ["late", slot] => format!(in alloc; "{number} late {slot} {came}\n")?,
+        [act, slot] => format!(in alloc; "{number} {act} {slot}\n")?,
+        _ => bail!("no such act"),
+    })
+}

@@ -1,0 +1,77 @@
+//! Requests as they come on a stream, in pieces.
+use crate::words::{Digits, bytes, number};
+use anyhow::{Result, bail};
+use portmap_feed::{Feed, Seen};
+use portmap_testing::marks::{begin, end};
+use std::alloc::Global;
+
+/// What has come of one stream: in the pieces of a story, and byte by byte.
+#[derive(Drop)]
+pub struct Pieces {
+    whole: Feed,
+    single: Feed,
+}
+
+impl Pieces {
+    pub fn new(alloc: Global) -> Pieces {
+        Pieces {
+            whole: Feed::new(alloc),
+            single: Feed::new(alloc),
+        }
+    }
+
+    /// Whether as much is kept of the pieces as of the bytes one by one.
+    pub fn stands(&self) -> bool {
+        self.whole.kept() == self.single.kept() && self.whole.body() == self.single.body()
+    }
+
+    /// What comes of an act: what is seen, kept and lent as the body.
+    pub fn came(&mut self, alloc: Global, words: &[&str]) -> Result<String> {
+        let seen = match *words {
+            ["push", piece] => self.push(alloc, &bytes(alloc, piece)?)?,
+            ["cut", len] => self.cut(number(len)?)?,
+            _ => bail!("no such act"),
+        };
+        let Some(seen) = seen else {
+            return Ok(String::from_str(alloc, "NoMemory")?)
+        };
+        if !self.stands() {
+            bail!("it is kept otherwise byte by byte");
+        }
+        let kept = Digits(self.whole.kept());
+        match self.whole.body() {
+            Some(body) => Ok(format!(in alloc; "{seen:?} kept {kept} body {}", Digits(body))?),
+            None => Ok(format!(in alloc; "{seen:?} kept {kept}")?),
+        }
+    }
+
+    /// What is seen of a piece, none where memory is refused: that is only before the length is known.
+    fn push(&mut self, alloc: Global, piece: &[u8]) -> Result<Option<Seen>> {
+        let is_known = self.whole.kept().len() >= 2;
+        begin(alloc);
+        let seen = self.whole.push(piece);
+        end(alloc);
+        if seen.is_err() && is_known {
+            bail!("memory was asked for once the length was known");
+        }
+        let Ok(seen) = seen else { return Ok(None) };
+        let mut last = self.single.push(&[]);
+        for byte in piece {
+            last = self.single.push(&[*byte]);
+        }
+        if last != Ok(seen) {
+            bail!("it is seen otherwise byte by byte");
+        }
+        Ok(Some(seen))
+    }
+
+    /// What is seen once all but the first bytes are taken back.
+    fn cut(&mut self, len: usize) -> Result<Option<Seen>> {
+        if self.whole.kept().len() < len || self.single.kept().len() < len {
+            bail!("fewer bytes are kept");
+        }
+        self.whole.cut(len);
+        self.single.cut(len);
+        Ok(self.whole.push(&[]).ok())
+    }
+}

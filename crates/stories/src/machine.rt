@@ -1,0 +1,358 @@
+//! The machine with its log, and what follows it: a plain state, a replay, and at the end a run and a recording.
+use crate::events::{came_of, entry, event, line};
+use crate::recording::{is_recorded, recorded_part};
+use crate::run::{Told, runs_so};
+use crate::states::is_built_again;
+use crate::words::{Digits, bytes, joined, name, number, yes};
+use anyhow::{Result, bail};
+use portmap_book::{ActFault, Book, Segment, Ticket, gather};
+use portmap_core::{
+    Answer, Config, Core, Entry, Event, Ip, Refusal, Replay, State, is_local, name_to_register,
+};
+use portmap_testing::marks::{begin, end};
+use std::alloc::Global;
+use std::mem;
+
+/// A machine with its log, and what follows it.
+#[derive(Drop)]
+pub struct Machine {
+    book: Book,
+    first: u32,
+    state: State,
+    replay: Replay,
+    told: Vec<Told>,
+    /// The transcript of the log, and of how many entries it is.
+    lines: String,
+    lines_told: u64,
+    kept: State,
+    /// The number of who hands in what comes next.
+    worker: u32,
+    /// Whether the oldest entry is taken out behind each event.
+    is_followed: bool,
+    /// What was sealed, and what those were told who handed in events.
+    segments: Vec<Segment>,
+    tickets: Vec<Ticket>,
+}
+
+/// What a port mapper is set to where a story does not say it.
+const USUAL: (bool, u32, u32, u32) = (false, 1024, 4096, 4);
+
+impl Machine {
+    pub fn new(alloc: Global) -> Result<Machine> {
+        let (relaxed, conn_max, known_max, first) = USUAL;
+        match Config::new(4369, relaxed, conn_max, known_max) {
+            Ok(config) => Machine::of(alloc, config, first, State::empty(alloc)),
+            Err(_) => bail!("no settings"),
+        }
+    }
+
+    fn of(alloc: Global, config: Config, first: u32, kept: State) -> Result<Machine> {
+        Ok(Machine {
+            book: Book::new(alloc, config, first)?,
+            first,
+            state: State::empty(alloc),
+            replay: Replay::new(alloc),
+            told: Vec::new(alloc),
+            lines: String::new(alloc),
+            lines_told: 0,
+            kept,
+            worker: 1,
+            is_followed: false,
+            segments: Vec::new(alloc),
+            tickets: Vec::new(alloc),
+        })
+    }
+
+    /// What comes of an act.
+    pub fn came(&mut self, alloc: Global, words: &[&str]) -> Result<String> {
+        let act = words.first().copied().unwrap_or("");
+        match act {
+            "with" => self.set(alloc, words),
+            "keep" => self.keep(alloc),
+            "as" | "follow" => self.turn(alloc, words),
+            "seal" | "segment" => self.sealed(alloc, words),
+            "advance" => self.advanced(alloc),
+            "may" => self.may(alloc, words),
+            "connect" | "piece" | "close" | "fault" | "late" => self.event(alloc, words),
+            _ => self.look(alloc, words),
+        }
+    }
+
+    /// Begins anew with these settings, or says why they are none.
+    fn set(&mut self, alloc: Global, words: &[&str]) -> Result<String> {
+        let is_relaxed = setting(words, "with")? == "relaxed";
+        let conn_max = number(setting(words, "conn")?)?;
+        let known_max = number(setting(words, "known")?)?;
+        match Config::new(4369, is_relaxed, conn_max, known_max) {
+            Ok(config) => self.begin_anew(alloc, config, number(setting(words, "first")?)?),
+            Err(fault) => Ok(format!(in alloc; "{fault:?}")?),
+        }
+    }
+
+    /// Begins anew, once what was before has ended well.
+    fn begin_anew(&mut self, alloc: Global, config: Config, first: u32) -> Result<String> {
+        self.ended(alloc)?;
+        *self = Machine::of(alloc, config, first, self.kept.try_copy(alloc)?)?;
+        if *self.book.core().config() != config {
+            bail!("it is set otherwise");
+        }
+        Ok(String::new(alloc))
+    }
+
+    /// Keeps the state as it is.
+    fn keep(&mut self, alloc: Global) -> Result<String> {
+        self.kept = self.book.core().state(alloc)?;
+        Ok(String::new(alloc))
+    }
+
+    /// Turns to another worker, or has the base follow.
+    fn turn(&mut self, alloc: Global, words: &[&str]) -> Result<String> {
+        match *words {
+            ["as", worker] => self.worker = number(worker)?,
+            ["follow"] => self.is_followed = true,
+            _ => bail!("no such act"),
+        }
+        Ok(String::new(alloc))
+    }
+
+    /// What is seen of it, or of what is handed in.
+    fn look(&self, alloc: Global, words: &[&str]) -> Result<String> {
+        let core = self.book.core();
+        let is_so = match *words {
+            ["open"] => return Ok(format!(in alloc; "{}", core.connections())?),
+            ["is", slot] => return phase(alloc, core, number(slot)?),
+            ["asks", piece] => return asked(alloc, &bytes(alloc, piece)?),
+            ["halted"] => core.halted(),
+            ["active", word] => core.is_active(&name(alloc, word)?),
+            ["kept"] => core.state(alloc)?.same(&self.kept),
+            ["local", peer, own] => is_local(address(alloc, peer)?, address(alloc, own)?),
+            _ => bail!("no such act"),
+        };
+        Ok(String::from_str(alloc, yes(is_so))?)
+    }
+
+    /// Whether an entry may be recorded next. The state stays as it is.
+    fn may(&self, alloc: Global, words: &[&str]) -> Result<String> {
+        let entry = entry(alloc, words.get(1..).unwrap_or(&[]))?;
+        Ok(String::from_str(alloc, yes(self.moves(alloc, &entry)?))?)
+    }
+
+    /// Whether copies of the state and of the replay move by an entry.
+    fn moves(&self, alloc: Global, entry: &Entry) -> Result<bool> {
+        let config = self.book.core().config();
+        let mut state = self.state.try_copy(alloc)?;
+        let moved = state.step(alloc, config, entry)?;
+        if !moved && !state.same(&self.state) {
+            bail!("a state moves by what may not be");
+        }
+        if Replay::of(alloc, &self.state)?.step(alloc, config, entry)? != moved {
+            bail!("a replay says otherwise");
+        }
+        Ok(moved)
+    }
+
+    /// What is answered to an event, which the plain state and the replay follow.
+    fn event(&mut self, alloc: Global, words: &[&str]) -> Result<String> {
+        let act = joined(alloc, words)?;
+        let came = self.answered(alloc, act.as_str(), words)?;
+        if came.as_str() != "NoMemory" {
+            self.shown(alloc, words, came.as_str())?;
+            let told = Told {
+                act,
+                came: came.clone()?,
+            };
+            self.told.push(told)?;
+        }
+        Ok(came)
+    }
+
+    /// The words for what is answered to an event.
+    fn answered(&mut self, alloc: Global, act: &str, words: &[&str]) -> Result<String> {
+        let outcome = self.acted(alloc, event(alloc, words)?)?;
+        came_of(alloc, act, &outcome)
+    }
+
+    /// Adds the line of an event that was logged to the transcript, and its ticket; where entries are taken out as they come, this one
+    /// is.
+    fn shown(&mut self, alloc: Global, words: &[&str], came: &str) -> Result<()> {
+        if self.book.log().len() as u64 == self.lines_told {
+            return Ok(());
+        }
+        let line = line(alloc, self.lines_told, words, came)?;
+        let words: Vec<&str> = line.as_str().split_whitespace().skip(1).collect(alloc)?;
+        self.tickets.push(Ticket {
+            place: self.book.count().saturating_sub(1),
+            entry: entry(alloc, &words)?,
+        })?;
+        self.lines.push_str(line.as_str())?;
+        self.lines_told = self.lines_told.saturating_add(1);
+        if self.is_followed && !self.advanced(alloc)?.as_str().starts_with("1 0 ") {
+            bail!("its entry is not taken out");
+        }
+        Ok(())
+    }
+
+    /// The place of the first entry that is sealed, and how many are; or the bytes of their record, which begins there.
+    fn sealed(&mut self, alloc: Global, words: &[&str]) -> Result<String> {
+        let (first, len) = (self.book.first(), self.book.log().len());
+        begin(alloc);
+        let sealed = self.book.seal(alloc);
+        end(alloc);
+        let Ok(segment) = sealed else {
+            if (self.book.first(), self.book.log().len()) != (first, len) {
+                bail!("a refusal has taken entries");
+            }
+            return Ok(String::from_str(alloc, "NoMemory")?);
+        };
+        if !self.book.log().is_empty() || !segment.after.same(&self.state) || !self.stands(alloc)? {
+            bail!("it is sealed otherwise");
+        }
+        let told = format!(in alloc; "first {} entries {}", segment.first, segment.entries.len())?;
+        let lines = mem::replace(&mut self.lines, String::new(alloc));
+        self.lines_told = 0;
+        let (segment, bytes) = recorded_part(alloc, segment, lines.as_str())?;
+        self.segments.push(segment)?;
+        Ok(if words == ["segment"].as_slice() {
+            bytes
+        } else {
+            told
+        })
+    }
+
+    /// How many entries are taken out of the log's front, how many are left, and how many were before the log in all.
+    fn advanced(&mut self, alloc: Global) -> Result<String> {
+        let (mut gone, mut makers) = (Vec::new(alloc), Vec::new(alloc));
+        self.book.advance(alloc, &mut gone, &mut makers);
+        if gone.len() != makers.len() || !self.stands(alloc)? {
+            bail!("it is taken out otherwise");
+        }
+        self.lines = String::new(alloc);
+        self.lines_told = self.book.log().len() as u64;
+        Ok(format!(in alloc;
+            "{} {} {}",
+            gone.len(),
+            self.book.log().len(),
+            self.book.first()
+        )?)
+    }
+
+    /// What the book answers to an event: at the next place of its log. The plain state and the replay move by its entry.
+    fn acted(&mut self, alloc: Global, event: Event) -> Result<Result<Answer, Refusal>> {
+        let Machine {
+            book,
+            state,
+            replay,
+            worker,
+            ..
+        } = self;
+        let count = book.count();
+        begin(alloc);
+        let acted = book.act(alloc, *worker, event);
+        end(alloc);
+        let answer = match acted {
+            Ok((place, answer)) if place == count => answer,
+            Err(ActFault::Refused(refusal)) => return Ok(Err(refusal)),
+            _ => bail!("it is logged at another place"),
+        };
+        let Some(entry) = book.log().last() else {
+            bail!("it is not logged")
+        };
+        let config = book.core().config();
+        if !state.step(alloc, config, entry)? || !replay.step(alloc, config, entry)? {
+            bail!("a plain state does not follow");
+        }
+        Ok(Ok(answer))
+    }
+
+    /// Whether it stands as the plain state does that follows it, and its log leads there from its base.
+    pub fn stands(&self, alloc: Global) -> Result<bool> {
+        let book = &self.book;
+        let mut replayed = Replay::of(alloc, book.base())?;
+        for entry in book.log() {
+            if !replayed.step(alloc, book.core().config(), entry)? {
+                return Ok(false);
+            }
+        }
+        let is_counted = book.count() == book.first().saturating_add(book.log().len() as u64);
+        let is_led = replayed.into_state(alloc)?.same(&self.state);
+        Ok(is_counted && is_led && book.core().state(alloc)?.same(&self.state))
+    }
+
+    /// What is wrong at the end, if anything is.
+    pub fn ended(&mut self, alloc: Global) -> Result<()> {
+        self.is_one_state(alloc)?;
+        let config = *self.book.core().config();
+        runs_so(alloc, config, self.first, &self.told, &self.state)?;
+        self.is_gathered(alloc)?;
+        if self.book.first() > 0 {
+            return Ok(());
+        }
+        is_recorded(alloc, &self.book, self.lines.as_str())
+    }
+
+    /// Fails unless all that followed it has come to the same state, and so does a machine of its parts.
+    fn is_one_state(&mut self, alloc: Global) -> Result<()> {
+        if !self.stands(alloc)? || !self.is_replayed(alloc)? {
+            bail!("the machine stands otherwise than what followed it");
+        }
+        if !is_built_again(alloc, self.book.core().config(), &self.state)? {
+            bail!("its state is not that of its parts");
+        }
+        Ok(())
+    }
+
+    /// Whether the replay has come to the same state. None is left of it.
+    fn is_replayed(&mut self, alloc: Global) -> Result<bool> {
+        let replay = mem::replace(&mut self.replay, Replay::new(alloc));
+        Ok(replay.into_state(alloc)?.same(&self.state))
+    }
+
+    /// Fails unless the tickets of all acts are the log, where nothing was taken out of it but as segments. None are left.
+    fn is_gathered(&mut self, alloc: Global) -> Result<()> {
+        let tickets = mem::replace(&mut self.tickets, Vec::new(alloc));
+        if self.book.first() > 0 && self.segments.is_empty() {
+            return Ok(());
+        }
+        match gather(alloc, &self.segments, &self.book, tickets) {
+            Ok(()) => Ok(()),
+            Err(fault) => bail!("its tickets are not the log: {fault:?}"),
+        }
+    }
+}
+
+/// What is set, as the word behind its name.
+fn setting<'a>(words: &[&'a str], wanted: &str) -> Result<&'a str> {
+    for pair in words.chunks(2) {
+        match *pair {
+            [name, value] if name == wanted => return Ok(value),
+            _ => {}
+        }
+    }
+    bail!("it is not set: {wanted}")
+}
+
+/// Where a connection stands; `-` where it is not open.
+fn phase(alloc: Global, core: &Core, slot: u64) -> Result<String> {
+    match core.phase(slot) {
+        Some(phase) => Ok(format!(in alloc; "{phase:?}")?),
+        None => Ok(String::from_str(alloc, "-")?),
+    }
+}
+
+/// The name that a piece asks to register; `-` where it asks for none.
+fn asked(alloc: Global, piece: &[u8]) -> Result<String> {
+    match name_to_register(alloc, piece) {
+        Some(name) => Ok(format!(in alloc; "{}", Digits(name.bytes()))?),
+        None => Ok(String::from_str(alloc, "-")?),
+    }
+}
+
+/// The address of these bytes.
+fn address(alloc: Global, word: &str) -> Result<Ip> {
+    let bytes = bytes(alloc, word)?;
+    match (bytes.as_slice().try_into(), bytes.as_slice().try_into()) {
+        (Ok(four), _) => Ok(Ip::V4(four)),
+        (_, Ok(sixteen)) => Ok(Ip::V6(sixteen)),
+        _ => bail!("no address: {word}"),
+    }
+}

@@ -1,0 +1,55 @@
+//! The answers to a registration and to a look-up as bytes.
+use crate::requests::Fields;
+use crate::words::{Digits, bytes, number};
+use anyhow::{Result, bail};
+use portmap_wire::{
+    WIDE_VERSION, alive_missing, port2_missing, read_alive, read_port2, write_alive, write_port2,
+};
+use std::alloc::Global;
+
+/// How a registration is answered to a node of this highest version.
+pub fn registered(alloc: Global, high: &str, code: &str, creation: &str) -> Result<String> {
+    let (high, creation) = (number::<u16>(high)?, number::<u32>(creation)?);
+    if high < WIDE_VERSION && creation > 0xFFFF {
+        bail!("a creation of more than 2 bytes");
+    }
+    let reply = write_alive(alloc, high, number(code)?, creation)?;
+    Ok(format!(in alloc; "{}", Digits(&reply))?)
+}
+
+/// What an answer to a registration says.
+pub fn read_registered(alloc: Global, reply: &str) -> Result<String> {
+    match read_alive(&bytes(alloc, reply)?) {
+        Ok(says) => Ok(format!(in alloc; "{says:?}")?),
+        Err(fault) => Ok(format!(in alloc; "{fault:?}")?),
+    }
+}
+
+/// What an answer to a look-up says, and how that is written; or its fault.
+pub fn read_found(alloc: Global, reply: &str) -> Result<String> {
+    let found = match read_port2(alloc, &bytes(alloc, reply)?) {
+        Ok(found) => found,
+        Err(fault) => return Ok(format!(in alloc; "{fault:?}")?),
+    };
+    let written = write_port2(alloc, found.as_ref())?;
+    match &found {
+        Some(reg) => Ok(format!(in alloc; "{} sent {}", Fields(reg), Digits(&written))?),
+        None => Ok(format!(in alloc; "None sent {}", Digits(&written))?),
+    }
+}
+
+/// How many bytes are missing at least of each front of an answer to a registration, or to a look-up, of none of its bytes to all of them.
+pub fn missing(alloc: Global, reply: &str, to_registration: bool) -> Result<String> {
+    let reply = bytes(alloc, reply)?;
+    let mut counts = String::new(alloc);
+    for len in 0..=reply.len() {
+        let front = reply.get(..len).unwrap_or(&[]);
+        let count = if to_registration {
+            alive_missing(front)
+        } else {
+            port2_missing(front)
+        };
+        write!(counts, "{count} ")?;
+    }
+    Ok(String::from_str(alloc, counts.as_str().trim_end())?)
+}

@@ -1,0 +1,107 @@
+//! Names, registrations and requests as bytes.
+use crate::words::{Digits, bytes, number, yes};
+use anyhow::{Result, bail};
+use portmap_wire::{
+    Name, Reg, Request, read_request, write_lookup, write_registration, write_request, write_stop,
+};
+use std::alloc::{AllocError, Global};
+use std::fmt;
+
+/// The fields of a registration.
+#[derive(Clone, Copy)]
+pub struct Fields<'a>(pub &'a Reg);
+
+impl<'a> fmt::Display for Fields<'a> {
+    fn fmt<W: fmt::Write>(&self, f: &mut fmt::Formatter<W>) -> fmt::Result {
+        let reg = self.0;
+        let (name, extra) = (Digits(reg.name.bytes()), Digits(&reg.extra));
+        write!(
+            f,
+            "{} {} {} {} {} {name} {extra}",
+            reg.port, reg.kind, reg.proto, reg.high, reg.low
+        )
+    }
+}
+
+/// The bytes of a name's copy, or why these are no name.
+pub fn named(alloc: Global, word: &str) -> Result<String> {
+    match Name::read(alloc, &bytes(alloc, word)?) {
+        Ok(name) => {
+            let copy = name.try_copy(alloc)?;
+            Ok(format!(in alloc; "{}", Digits(copy.bytes()))?)
+        }
+        Err(fault) => Ok(format!(in alloc; "{fault:?}")?),
+    }
+}
+
+/// What a body asks, with a registration's fields by its copy.
+fn asks(alloc: Global, request: &Request) -> Result<String, AllocError> {
+    match request {
+        Request::Alive(reg) => format!(in alloc; "Alive {}", Fields(&reg.try_copy(alloc)?)),
+        Request::Port(name) => format!(in alloc; "Port {}", Digits(name.bytes())),
+        Request::Stop(name) => format!(in alloc; "Stop {}", Digits(name.bytes())),
+        Request::Names => String::from_str(alloc, "Names"),
+        Request::Dump => String::from_str(alloc, "Dump"),
+        Request::Kill => String::from_str(alloc, "Kill"),
+    }
+}
+
+/// How a request is sent, by the call for its kind alone.
+fn sent(alloc: Global, request: &Request) -> Result<Vec<u8>, AllocError> {
+    match request {
+        Request::Alive(reg) => write_registration(alloc, reg),
+        Request::Port(name) => write_lookup(alloc, name),
+        Request::Stop(name) => write_stop(alloc, name),
+        Request::Names | Request::Dump | Request::Kill => write_request(alloc, request),
+    }
+}
+
+/// What a body asks and how that is sent, or why it is no request.
+pub fn asked(alloc: Global, word: &str) -> Result<String> {
+    let request = match read_request(alloc, &bytes(alloc, word)?) {
+        Ok(request) => request,
+        Err(fault) => return Ok(format!(in alloc; "{fault:?}")?),
+    };
+    let written = write_request(alloc, &request)?;
+    if sent(alloc, &request)?.as_slice() != written.as_slice() {
+        bail!("it is sent in two ways");
+    }
+    Ok(format!(in alloc; "{} sent {}", asks(alloc, &request)?, Digits(&written))?)
+}
+
+/// Whether two bodies ask of equal names, or register equal nodes.
+pub fn are_equal(alloc: Global, one: &str, other: &str) -> Result<String> {
+    let one = read(alloc, one)?;
+    let other = read(alloc, other)?;
+    let are_equal = match (&one, &other) {
+        (Request::Port(name), Request::Port(wanted)) => name == wanted,
+        (Request::Alive(reg), Request::Alive(wanted)) => reg == wanted,
+        _ => bail!("no two look-ups or registrations"),
+    };
+    Ok(String::from_str(alloc, yes(are_equal))?)
+}
+
+fn read(alloc: Global, word: &str) -> Result<Request> {
+    match read_request(alloc, &bytes(alloc, word)?) {
+        Ok(request) => Ok(request),
+        Err(fault) => bail!("no request: {fault:?}"),
+    }
+}
+
+/// How a normal node that speaks versions 5 to 6 registers, or why its extra bytes are too many.
+pub fn node(alloc: Global, port: &str, name: &str, extra: &str) -> Result<String> {
+    let name = crate::words::name(alloc, name)?;
+    match Reg::new(
+        alloc,
+        number(port)?,
+        77,
+        0,
+        6,
+        5,
+        name,
+        &bytes(alloc, extra)?,
+    ) {
+        Ok(reg) => Ok(format!(in alloc; "{}", Digits(&write_registration(alloc, &reg)?))?),
+        Err(fault) => Ok(format!(in alloc; "{fault:?}")?),
+    }
+}

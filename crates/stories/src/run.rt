@@ -1,0 +1,118 @@
+//! All events of a story at once, as one run.
+use crate::events::{came_of, event};
+use anyhow::{Result, bail};
+use portmap_core::{Answer, Config, Core, Event, NoMemory, Refusal, State};
+use portmap_testing::marks::{begin, end};
+use std::alloc::Global;
+
+/// An event, and what came of it.
+#[derive(Drop)]
+pub struct Told {
+    pub act: String,
+    pub came: String,
+}
+
+/// What a run tells of its events.
+type Results = Vec<(Event, Result<Answer, Refusal>)>;
+
+/// Fails unless a run over the events of a story answers them as they were answered one by one, and ends in the same state. What
+/// memory is refused to is skipped.
+pub fn runs_so(
+    alloc: Global,
+    config: Config,
+    first: u32,
+    told: &[Told],
+    state: &State,
+) -> Result<()> {
+    let (results, ran) = ran(alloc, config, first, told)?;
+    let (is_whole, other) = followed(alloc, config, first, told, results)?;
+    if !ran.same(&other) || (is_whole && !ran.same(state)) {
+        bail!("a run ends in another state");
+    }
+    Ok(())
+}
+
+/// What a run tells of all events, and the state that it ends in.
+fn ran(alloc: Global, config: Config, first: u32, told: &[Told]) -> Result<(Results, State)> {
+    let mut core = Core::new(alloc, config, first)?;
+    let results = results_of(alloc, &mut core, told)?;
+    Ok((results, core.state(alloc)?))
+}
+
+/// What a run tells of all events. One that is refused as a whole has changed nothing, and is made once more.
+fn results_of(alloc: Global, core: &mut Core, told: &[Told]) -> Result<Results> {
+    match tried(alloc, core, events_of(alloc, told)?) {
+        Ok(results) => Ok(results),
+        Err(_) => Ok(core.run(alloc, events_of(alloc, told)?)?),
+    }
+}
+
+/// What a run tells of these events, to which memory may be refused.
+fn tried(alloc: Global, core: &mut Core, events: Vec<Event>) -> Result<Results, NoMemory> {
+    begin(alloc);
+    let results = core.run(alloc, events);
+    end(alloc);
+    results
+}
+
+fn events_of(alloc: Global, told: &[Told]) -> Result<Vec<Event>> {
+    let mut events = Vec::new(alloc);
+    for one in told {
+        let words: Vec<&str> = one.act.as_str().split_whitespace().collect(alloc)?;
+        events.push(event(alloc, &words)?)?;
+    }
+    Ok(events)
+}
+
+/// Whether memory was refused to none of the events. Another machine, which is told all others, answers the same, and ends in this state.
+fn followed(
+    alloc: Global,
+    config: Config,
+    first: u32,
+    told: &[Told],
+    results: Results,
+) -> Result<(bool, State)> {
+    let mut other = Core::new(alloc, config, first)?;
+    let is_whole = follows(alloc, &mut other, told, results)?;
+    Ok((is_whole, other.state(alloc)?))
+}
+
+/// Whether memory was refused to none of the events, which another machine answers the same.
+fn follows(alloc: Global, other: &mut Core, told: &[Told], results: Results) -> Result<bool> {
+    let mut is_whole = true;
+    for (one, (event, result)) in told.iter().zip(results) {
+        is_whole = answers(alloc, other, one, event, result, is_whole)?;
+    }
+    Ok(is_whole)
+}
+
+/// The same of one event, behind those of which it is said.
+fn answers(
+    alloc: Global,
+    other: &mut Core,
+    one: &Told,
+    event: Event,
+    outcome: Result<Answer, Refusal>,
+    is_whole: bool,
+) -> Result<bool> {
+    let came = came_of(alloc, one.act.as_str(), &outcome)?;
+    if came.as_str() == "NoMemory" {
+        return Ok(false);
+    }
+    if came.as_str() != came_again(alloc, other, one, event)?.as_str() {
+        bail!(
+            "a machine answers {} otherwise than a run",
+            one.act.as_str()
+        );
+    }
+    if is_whole && came.as_str() != one.came.as_str() {
+        bail!("a run answers {} otherwise", one.act.as_str());
+    }
+    Ok(is_whole)
+}
+
+/// What comes of an event that another machine is told.
+fn came_again(alloc: Global, other: &mut Core, one: &Told, event: Event) -> Result<String> {
+    let again = other.event(alloc, event);
+    came_of(alloc, one.act.as_str(), &again)
+}

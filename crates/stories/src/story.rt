@@ -1,0 +1,145 @@
+//! A story: what it shows, what comes in turn, and what is wanted.
+use crate::part::Part;
+use crate::words::Names;
+use anyhow::{Result, bail};
+use std::alloc::Global;
+
+/// A story that is being told.
+#[derive(Drop)]
+pub struct Story {
+    name: String,
+    part: Part,
+    holds: bool,
+}
+
+/// How a story has ended.
+#[derive(Drop)]
+pub enum Ended {
+    /// There was none.
+    Nameless,
+    /// The story of this name holds.
+    Well(String),
+    /// A line of it was wrong, and told.
+    Badly,
+    /// This is wrong at its end.
+    Wrong(String),
+}
+
+impl Story {
+    /// What stands before the first story of a file.
+    pub fn none(alloc: Global) -> Story {
+        Story {
+            name: String::new(alloc),
+            part: Part::None,
+            holds: true,
+        }
+    }
+
+    /// The story that a line begins, if it begins one: by the part that it is about, and what it shows.
+    pub fn begun(alloc: Global, line: &str) -> Result<Option<Story>> {
+        let Some((word, name)) = line.split_once(' ') else {
+            return Ok(None);
+        };
+        let Some(part) = Part::begun(alloc, word)? else {
+            return Ok(None);
+        };
+        Ok(Some(Story {
+            name: String::from_str(alloc, name)?,
+            part,
+            holds: true,
+        }))
+    }
+
+    /// What is wrong with a line, if anything is: one that begins with `times 1 9` is told for each number from 1 to 9, which stands
+    /// there as `$`.
+    pub fn wrong(
+        &mut self,
+        alloc: Global,
+        names: &mut Names,
+        line: &str,
+    ) -> Result<Option<String>> {
+        if line.is_empty() || line.starts_with('#') {
+            return Ok(None);
+        }
+        let Some((from, until, line)) = times(line) else {
+            return self.once(alloc, names, line);
+        };
+        for step in 0..=from.abs_diff(until) {
+            let place = if from <= until {
+                from.saturating_add(step)
+            } else {
+                from.saturating_sub(step)
+            };
+            let place = format!(in alloc; "{place}")?;
+            let line = line.replace(alloc, "$", place.as_str())?;
+            let wrong = self.once(alloc, names, line.as_str())?;
+            if wrong.is_some() {
+                return Ok(wrong);
+            }
+        }
+        Ok(None)
+    }
+
+    /// What is wrong with a line that is told once, if anything is.
+    fn once(&mut self, alloc: Global, names: &mut Names, line: &str) -> Result<Option<String>> {
+        let line = names.spelled(alloc, line)?;
+        let (act, wanted) = line
+            .as_str()
+            .split_once(" -> ")
+            .unwrap_or((line.as_str(), ""));
+        let wrong = match self.came(alloc, names, act) {
+            Ok(None) => return Ok(None),
+            Ok(Some(came)) if came.as_str() == wanted => return Ok(None),
+            Ok(Some(came)) => format!(in alloc; "wanted {wanted} came {came}")?,
+            Err(error) => format!(in alloc; "wanted {wanted} came no answer: {error}")?,
+        };
+        self.holds = false;
+        Ok(Some(wrong))
+    }
+
+    /// What comes of an act; behind `maybe` it may be nothing, where memory is refused to it.
+    fn came(&mut self, alloc: Global, names: &mut Names, act: &str) -> Result<Option<String>> {
+        let words: Vec<&str> = act.split_whitespace().collect(alloc)?;
+        match *words.as_slice() {
+            ["let", name, ref value @ ..] => {
+                names.put(alloc, name, value)?;
+                Ok(Some(String::new(alloc)))
+            }
+            ["maybe", ref words @ ..] => self.tried(alloc, words),
+            _ => match self.tried(alloc, &words)? {
+                Some(came) => Ok(Some(came)),
+                None => Ok(Some(self.part.came(alloc, &words)?)),
+            },
+        }
+    }
+
+    /// What comes of an act, unless memory is refused to it: then nothing has changed.
+    fn tried(&mut self, alloc: Global, words: &[&str]) -> Result<Option<String>> {
+        let came = self.part.came(alloc, words)?;
+        if !came.as_str().contains("NoMemory") {
+            return Ok(Some(came));
+        }
+        if !self.part.stands(alloc)? {
+            bail!("a refusal has changed something");
+        }
+        Ok(None)
+    }
+
+    /// How it has ended.
+    pub fn ended(self, alloc: Global) -> Result<Ended> {
+        let Story { name, part, holds } = self;
+        Ok(match part.ended(alloc) {
+            Ok(()) if !holds => Ended::Badly,
+            Ok(()) if name.is_empty() => Ended::Nameless,
+            Ok(()) => Ended::Well(name),
+            Err(error) => Ended::Wrong(format!(in alloc; "{name}: {error}")?),
+        })
+    }
+}
+
+/// From where to where a line is told, and the line.
+fn times(line: &str) -> Option<(u32, u32, &str)> {
+    let (from, rest) = line.strip_prefix("times ")?.split_once(' ')?;
+    let (until, line) = rest.split_once(' ')?;
+    Some((from.parse::<u32>().ok()?, until.parse::<u32>().ok()?, line))
+}

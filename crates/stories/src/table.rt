@@ -1,0 +1,203 @@
+//! The names that a port mapper knows: its table, and the two ways in which names are kept.
+use crate::words::{Digits, name, number, told, yes};
+use anyhow::{Result, bail};
+use portmap_table::{Known, NameLists, NameStore, RegFault, Row, Table};
+use portmap_testing::marks::{begin, end};
+use portmap_wire::{Name, Reg};
+use std::alloc::Global;
+
+/// The node of this name and this highest version, as each is registered here.
+fn node(alloc: Global, word: &str, high: &str) -> Result<Reg> {
+    match Reg::new(
+        alloc,
+        40_000,
+        77,
+        0,
+        number(high)?,
+        5,
+        name(alloc, word)?,
+        &[7],
+    ) {
+        Ok(reg) => Ok(reg),
+        Err(fault) => bail!("no node: {fault:?}"),
+    }
+}
+
+/// A name, its slot and its creation, by a copy of its row.
+fn row(alloc: Global, row: &Row) -> Result<String> {
+    let Row {
+        reg,
+        creation,
+        slot,
+    } = row.try_copy(alloc)?;
+    if (reg.port, reg.kind, reg.proto, reg.low) != (40_000, 77, 0, 5)
+        || reg.extra.as_slice() != [7].as_slice()
+    {
+        bail!("a node that was not registered so");
+    }
+    Ok(format!(in alloc; " {} {slot} {creation}", Digits(reg.name.bytes()))?)
+}
+
+/// The active names, each with its slot and its creation, and the retired ones, each with its creation.
+fn known<K: Known>(alloc: Global, names: &K) -> Result<String> {
+    let mut told = String::from_str(alloc, "active")?;
+    for place in 0..names.active_len() {
+        let Some(active) = names.active_at(place) else {
+            bail!("fewer names are active")
+        };
+        told.push_str(row(alloc, active)?.as_str())?;
+    }
+    told.push_str(" retired")?;
+    for place in 0..names.retired_len() {
+        let Some(old) = names.retired_at(place) else {
+            bail!("fewer names are retired")
+        };
+        let old = old.try_copy(alloc)?.try_copy(alloc)?;
+        if old.port != 40_000 {
+            bail!("a retired node that was not registered so");
+        }
+        write!(told, " {} {}", Digits(old.name.bytes()), old.creation)?;
+    }
+    Ok(told)
+}
+
+/// The slot that owns a name; `-` where the name is not active.
+fn owner<K: Known>(alloc: Global, names: &K, word: &str) -> Result<String> {
+    let name = name(alloc, word)?;
+    let owner = names.owner(&name);
+    if names.find(&name).map(|row| row.slot) != owner || names.is_active(&name) != owner.is_some() {
+        bail!("its row has another slot");
+    }
+    match owner {
+        Some(slot) => Ok(format!(in alloc; "{slot}")?),
+        None => Ok(String::from_str(alloc, "-")?),
+    }
+}
+
+/// What is asked of names, however they are kept.
+fn asked<K: Known>(alloc: Global, names: &K, words: &[&str]) -> Result<String> {
+    match *words {
+        ["knows"] => known(alloc, names),
+        ["owner", name] => owner(alloc, names, name),
+        ["counts"] => Ok(format!(in alloc; "{} {}", names.active_len(), names.retired_len())?),
+        ["retired", place] => match names.retired_at(number(place)?) {
+            Some(old) => Ok(format!(in alloc; "{} {}", Digits(old.name.bytes()), old.creation)?),
+            None => bail!("fewer names are retired"),
+        },
+        _ => bail!("no such act"),
+    }
+}
+
+/// What comes of an act on a table.
+pub fn came(alloc: Global, table: &mut Table, words: &[&str]) -> Result<String> {
+    match *words {
+        ["with", "known", known_max, "first", first] => {
+            *table = Table::new(alloc, number(known_max)?, number(first)?)?;
+            Ok(String::new(alloc))
+        }
+        ["offer", word, high] => Ok(told(alloc, table.offer(&name(alloc, word)?, number(high)?))?),
+        ["register", word, high, slot] => registered(
+            alloc,
+            table,
+            node(alloc, word, high)?,
+            number(slot)?,
+        ),
+        ["retire", slot] => retired(alloc, table, number(slot)?),
+        _ => asked(alloc, table.names(), words),
+    }
+}
+
+/// What is answered to a registration. Where it is refused, the name is offered the same as before, and as many names are known.
+fn registered(alloc: Global, table: &mut Table, reg: Reg, slot: u64) -> Result<String> {
+    if table.holds(slot) {
+        bail!("the slot owns a name");
+    }
+    let (name, high) = (reg.name.try_copy(alloc)?, reg.high);
+    let before = stands(table, &name, high);
+    begin(alloc);
+    let answer = table.register(reg, slot);
+    end(alloc);
+    if answer.is_err() && (table.holds(slot) || stands(table, &name, high) != before) {
+        bail!("a refusal has changed the table");
+    }
+    Ok(told(alloc, answer)?)
+}
+
+/// What a name is offered, how many names are active and retired, and what the next creation is taken from.
+fn stands(table: &Table, name: &Name, high: u16) -> (Result<u32, RegFault>, usize, usize, u32) {
+    (
+        table.offer(name, high),
+        table.active_len(),
+        table.retired_len(),
+        table.counter(),
+    )
+}
+
+/// Whether the name that a slot owns is retired, for which no memory is wanted.
+fn retired(alloc: Global, table: &mut Table, slot: u64) -> Result<String> {
+    begin(alloc);
+    let is_retired = table.retire(slot);
+    end(alloc);
+    Ok(String::from_str(alloc, yes(is_retired))?)
+}
+
+/// What comes of an act on names that can change, however they are kept.
+pub fn came_of_names<N: NameStore>(alloc: Global, names: &mut N, words: &[&str]) -> Result<String> {
+    match *words {
+        ["admit", known_max, word, high, creation, slot] => {
+            let reg = node(alloc, word, high)?;
+            let admitted = names.admit(number(known_max)?, reg, number(creation)?, number(slot)?)?;
+            Ok(String::from_str(alloc, yes(admitted))?)
+        }
+        ["retire", slot] => Ok(String::from_str(alloc, yes(names.retire(number(slot)?)?))?),
+        _ => asked(alloc, names, words),
+    }
+}
+
+/// Names as lists, and a copy of them as they were.
+#[derive(Drop)]
+pub struct Lists {
+    names: NameLists,
+    copy: NameLists,
+}
+
+impl Lists {
+    pub fn new(alloc: Global) -> Lists {
+        Lists {
+            names: NameLists::new(alloc),
+            copy: NameLists::new(alloc),
+        }
+    }
+
+    /// What comes of an act.
+    pub fn came(&mut self, alloc: Global, words: &[&str]) -> Result<String> {
+        match *words {
+            ["anew"] => self.names = NameLists::new(alloc),
+            ["copy"] => self.copy = self.names.try_copy(alloc)?,
+            ["same"] => return Ok(String::from_str(alloc, yes(self.is_same()?))?),
+            ["kept", known_max] => return self.kept(alloc, number(known_max)?),
+            _ => return came_of_names(alloc, &mut self.names, words),
+        }
+        Ok(String::new(alloc))
+    }
+
+    /// Whether the names are those of the copy.
+    fn is_same(&self) -> Result<bool> {
+        let is_same = self.names.same(&self.copy);
+        if self.copy.same(&self.names) != is_same {
+            bail!("it is another answer the other way round");
+        }
+        Ok(is_same)
+    }
+
+    /// Whether a port mapper that may know so many names can have come to them: then a map has them too.
+    fn kept(&self, alloc: Global, known_max: u32) -> Result<String> {
+        let Some(map) = self.names.are_kept(alloc, known_max)? else {
+            return Ok(String::from_str(alloc, yes(false))?);
+        };
+        if !NameLists::copy_of(alloc, &map)?.same(&self.names) {
+            bail!("the map has other names");
+        }
+        Ok(String::from_str(alloc, yes(true))?)
+    }
+}

@@ -1,0 +1,26 @@
+//! Requests and replies as bytes.
+use crate::lists::{read_dumped, read_listed, written_dump, written_names};
+use crate::replies::{missing, read_found, read_registered, registered};
+use crate::requests::{are_equal, asked, named, node};
+use anyhow::{Result, bail};
+use std::alloc::Global;
+
+/// What comes of an act.
+pub fn came(alloc: Global, words: &[&str]) -> Result<String> {
+    match *words {
+        ["name", name] => named(alloc, name),
+        ["request", body] => asked(alloc, body),
+        ["equal", one, other] => are_equal(alloc, one, other),
+        ["node", port, name, extra] => node(alloc, port, name, extra),
+        ["alive", high, code, creation] => registered(alloc, high, code, creation),
+        ["read", "alive", reply] => read_registered(alloc, reply),
+        ["read", "port2", reply] => read_found(alloc, reply),
+        ["missing", "alive", reply] => missing(alloc, reply, true),
+        ["missing", "port2", reply] => missing(alloc, reply, false),
+        ["names", port, ref lines @ ..] => written_names(alloc, port, lines),
+        ["read", "names", reply] => read_listed(alloc, reply),
+        ["dump", port, ref lines @ ..] => written_dump(alloc, port, lines),
+        ["read", "dump", reply] => read_dumped(alloc, reply),
+        _ => bail!("no such act"),
+    }
+}
