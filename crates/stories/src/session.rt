@@ -184,8 +184,11 @@ fn is_judged(alloc: Global, bytes: &[u8]) -> Result<()> {
 /// How many entries these bytes are the record of, by which they are written again; or their fault.
 fn counted(alloc: Global, bytes: &[u8]) -> Result<String> {
     begin(alloc);
-    let session = read_record(alloc, bytes);
+    let mut session = read_record(alloc, bytes);
     end(alloc);
+    if matches!(&session, Err(RecordFault::NoMemory)) {
+        session = read_record(alloc, bytes);
+    }
     let session = match session {
         Ok(session) => session,
         Err(fault) => return Ok(format!(in alloc; "{fault:?}")?),
