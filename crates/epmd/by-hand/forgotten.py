@@ -9,7 +9,7 @@ KNOWN = 4096
 STAY = [b"stay%02d" % i for i in range(50)]
 NAMES = 100_000
 TURNS = 3000  # Of each measure.
-APART = 1.1  # How much larger memory may be at the end than once all places are taken.
+APART = 1.3  # How much larger memory may be at the end than once all places are taken: what the C library keeps comes and goes.
 
 
 def comes_and_goes(port, name):
