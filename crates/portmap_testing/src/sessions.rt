@@ -1,4 +1,6 @@
 //! Recorded sessions, byte for byte as the format spells them, and what is told of them.
+use std::alloc::Global;
+use std::test::Fail;
 
 /// Port 4369, not relaxed, two connections and two names at most: a node registers `a`, and another one looks it up.
 pub const SESSION: [u8; 109] = [
@@ -85,3 +87,16 @@ pub const WRONG_LOOK_UP_LINES: &[u8] = b"0 connect 0 local
 3 piece 1 get 00027a61 say 770013884d00000600050001610001 close
 broken at entry 3
 ";
+
+/// `SESSION` with these bytes from this place on.
+pub fn changed(alloc: Global, at: usize, bytes: &[u8]) -> Result<Vec<u8>, Fail> {
+    let mut all = Vec::with_capacity(alloc, SESSION.len())?;
+    for (place, byte) in SESSION.iter().enumerate() {
+        let new = match place.checked_sub(at) {
+            Some(index) => bytes.get(index).unwrap_or(byte),
+            None => byte,
+        };
+        all.push(*new)?;
+    }
+    Ok(all)
+}

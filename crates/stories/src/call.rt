@@ -231,7 +231,7 @@ fn served(alloc: Global, words: &[&str]) -> Result<String> {
     let mut input = Tape::new(alloc, &sent, plan(input)?);
     let mut output = Tape::new(alloc, &[], plan(output)?);
     let ended = ended(alloc, &mut input, &mut output, number(turns)?)?;
-    if act == "pulls" {
+    if act == "pulls" && ended.as_str() != "NoMemory" {
         return Ok(format!(in alloc; "{}", input.calls)?);
     }
     Ok(format!(in alloc; "{ended} {}", Digits(&output.sink))?)
