@@ -95,14 +95,17 @@ int accept4(int fd, struct sockaddr *a, socklen_t *n, int flags) {
 ssize_t recv(int fd, void *p, size_t n, int f) { return fails_at(RECEIVE, fd) ? -1 : REAL(recv)(fd, p, n, f); }
 ssize_t send(int fd, const void *p, size_t n, int f) { return fails_at(SEND, fd) ? -1 : REAL(send)(fd, p, n, f); }
 int epoll_create1(int flags) { return fails(POLL_MAKE) ? -1 : REAL(epoll_create1)(flags); }
+// EEXIST says that the poll tells of it already, so it is made to.
 int epoll_ctl(int fd, int what, int of, struct epoll_event *e) {
-    if (what != EPOLL_CTL_DEL && fails(POLL_CHANGE)) return -1;
+    int error = what != EPOLL_CTL_DEL && fails(POLL_CHANGE) ? errno : 0;
+    if (error && error != EEXIST) return -1;
     int done = REAL(epoll_ctl)(fd, what, of, e);
     if (of >= 0 && of < FILES) {
         watched[of].poll = what == EPOLL_CTL_DEL || done ? 0 : fd;
         if (e) watched[of].what = *e;
     }
-    return done;
+    if (error) errno = error;
+    return error ? -1 : done;
 }
 int epoll_wait(int fd, struct epoll_event *e, int n, int patience) {
     return fails(POLL_WAIT) ? -1 : REAL(epoll_wait)(fd, e, n, patience);
