@@ -226,10 +226,10 @@ impl<'a, L: Ledger, S: Steps, R: Wait + Drop> Daemon<'a, L, S, R> {
             .saturating_sub(accepted)
             >= TIMEOUT_US;
         // Without a clock a daemon can't tell when time is over.
-        let is_told = !world.weather.has_happened(Fault::Unread);
+        let has_clock = !world.weather.has_happened(Fault::Unread);
         let wanting = world.wanting;
         drop(world);
-        if is_told && !is_over {
+        if has_clock && !is_over {
             self.given_up = self.given_up.saturating_add(1);
         }
         if self.is_strict && has_news {

@@ -1,6 +1,6 @@
 //! Calls of a client, one connection served, and bytes that wait for a device.
 use crate::devices::plan;
-use crate::requests::Fields;
+use crate::requests::{Fields, registration};
 use crate::words::{Digits, bytes, name, number};
 use anyhow::{Result, bail};
 use portmap_client::{ClientFault, Registration, dump, kill, lookup, names, stop};
@@ -59,7 +59,8 @@ impl Calls {
         let mut tape = Tape::new(alloc, &self.answer, self.plan);
         tape.sink.reserve(10_000)?;
         let says = if let ["register", port, name, extra] = *words {
-            let (says, after) = registered(alloc, tape, &node(alloc, port, name, extra)?)?;
+            let reg = registration(alloc, number(port)?, 6, name, &bytes(alloc, extra)?)?;
+            let (says, after) = registered(alloc, tape, &reg)?;
             tape = after;
             says
         } else {
@@ -117,23 +118,6 @@ impl Calls {
     }
 }
 
-/// What a normal node of this port, name and extra bytes registers, which speaks versions 5 to 6.
-fn node(alloc: Global, port: &str, word: &str, extra: &str) -> Result<Reg> {
-    match Reg::new(
-        alloc,
-        number(port)?,
-        77,
-        0,
-        6,
-        5,
-        name(alloc, word)?,
-        &bytes(alloc, extra)?,
-    ) {
-        Ok(reg) => Ok(reg),
-        Err(fault) => bail!("no node: {fault:?}"),
-    }
-}
-
 /// The creation that a registration gives, or why it gives none, and its stream.
 fn registered<'a>(alloc: Global, tape: Tape<'a>, node: &Reg) -> Result<(String, Tape<'a>)> {
     begin(alloc);
@@ -178,7 +162,10 @@ fn asked(alloc: Global, tape: &mut Tape<'_>, words: &[&str]) -> Result<String> {
 }
 
 /// What is said, up to where memory may be refused; or why nothing is.
-fn shown<T: Debug + Drop, E: Debug + Drop>(alloc: Global, says: Result<T, E>) -> Result<String> {
+pub fn shown<T: Debug + Drop, E: Debug + Drop>(
+    alloc: Global,
+    says: Result<T, E>,
+) -> Result<String> {
     end(alloc);
     match says {
         Ok(value) => Ok(format!(in alloc; "{value:?}")?),

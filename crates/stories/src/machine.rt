@@ -80,6 +80,9 @@ impl Machine {
 
     /// Begins anew with these settings, or says why they are none.
     fn set(&mut self, alloc: Global, words: &[&str]) -> Result<String> {
+        if words.len() != 8 {
+            bail!("no such settings");
+        }
         let is_relaxed = setting(words, "with")? == "relaxed";
         let conn_max = number(setting(words, "conn")?)?;
         let known_max = number(setting(words, "known")?)?;

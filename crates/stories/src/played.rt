@@ -1,12 +1,12 @@
 //! Recorded sessions from one device to another.
+use crate::call::shown;
 use crate::devices::plan;
 use crate::words::{Digits, number};
 use anyhow::{Result, bail};
-use portmap_record::{PlayFault, play, tell_verdict, write_local};
-use portmap_testing::marks::{begin, end};
+use portmap_record::{play, tell_verdict, write_local};
+use portmap_testing::marks::begin;
 use portmap_testing::tape::Tape;
-use std::alloc::{AllocError, Global};
-use std::fmt::Debug;
+use std::alloc::Global;
 
 /// How it ends, and what is written, where a session is shown whole, by its verdict alone, or left without its remote peers. Where memory
 /// is refused nothing is written.
@@ -31,23 +31,11 @@ fn ended(
     input: &mut Tape<'_>,
     output: &mut Tape<'_>,
     turns: u64,
-) -> Result<String, AllocError> {
+) -> Result<String> {
     begin(alloc);
     match act {
         "tell" => shown(alloc, tell_verdict(alloc, input, output, turns)),
         "leave" => shown(alloc, write_local(alloc, input, output, turns)),
         _ => shown(alloc, play(alloc, input, output, turns)),
-    }
-}
-
-/// How it ended, up to where memory may be refused: whether the session is a run, and the verdict of one that is left; or a fault.
-fn shown<T: Debug + Drop>(
-    alloc: Global,
-    ended: Result<T, PlayFault>,
-) -> Result<String, AllocError> {
-    end(alloc);
-    match ended {
-        Ok(verdict) => format!(in alloc; "{verdict:?}"),
-        Err(fault) => format!(in alloc; "{fault:?}"),
     }
 }

@@ -1,8 +1,9 @@
 //! Names, registrations and requests as bytes.
-use crate::words::{Digits, bytes, number, yes};
+use crate::words::{Digits, bytes, name, number, yes};
 use anyhow::{Result, bail};
 use portmap_wire::{
-    Name, Reg, Request, read_request, write_lookup, write_registration, write_request, write_stop,
+    ExtraFault, Name, Reg, Request, read_request, write_lookup, write_registration, write_request,
+    write_stop,
 };
 use std::alloc::{AllocError, Global};
 use std::fmt;
@@ -88,19 +89,29 @@ fn read(alloc: Global, word: &str) -> Result<Request> {
     }
 }
 
+/// What a normal node of this port, highest version, name and extra bytes registers, or why these are too many. Its lowest version is 5.
+fn made(
+    alloc: Global,
+    port: u16,
+    high: u16,
+    word: &str,
+    extra: &[u8],
+) -> Result<Result<Reg, ExtraFault>> {
+    let name = name(alloc, word)?;
+    Ok(Reg::new(alloc, port, 77, 0, high, 5, name, extra))
+}
+
+/// The same of one whose extra bytes are not too many.
+pub fn registration(alloc: Global, port: u16, high: u16, word: &str, extra: &[u8]) -> Result<Reg> {
+    match made(alloc, port, high, word, extra)? {
+        Ok(reg) => Ok(reg),
+        Err(fault) => bail!("no node: {fault:?}"),
+    }
+}
+
 /// How a normal node that speaks versions 5 to 6 registers, or why its extra bytes are too many.
-pub fn node(alloc: Global, port: &str, name: &str, extra: &str) -> Result<String> {
-    let name = crate::words::name(alloc, name)?;
-    match Reg::new(
-        alloc,
-        number(port)?,
-        77,
-        0,
-        6,
-        5,
-        name,
-        &bytes(alloc, extra)?,
-    ) {
+pub fn node(alloc: Global, port: &str, word: &str, extra: &str) -> Result<String> {
+    match made(alloc, number(port)?, 6, word, &bytes(alloc, extra)?)? {
         Ok(reg) => Ok(format!(in alloc; "{}", Digits(&write_registration(alloc, &reg)?))?),
         Err(fault) => Ok(format!(in alloc; "{fault:?}")?),
     }

@@ -1,9 +1,9 @@
 //! States of parts.
 use crate::events::is_local;
+use crate::requests::registration;
 use crate::words::{bytes, name, number};
 use anyhow::{Result, bail};
 use portmap_core::{Config, Held, Old, Phase, Row, State};
-use portmap_wire::Reg;
 use std::alloc::Global;
 use std::mem;
 
@@ -41,14 +41,11 @@ impl Parts {
 
 fn row(alloc: Global, word: &str, creation: &str, slot: &str) -> Result<Row> {
     let (creation, slot) = (number(creation)?, number(slot)?);
-    match Reg::new(alloc, 5000, 77, 0, 6, 5, name(alloc, word)?, &[]) {
-        Ok(reg) => Ok(Row {
-            reg,
-            creation,
-            slot,
-        }),
-        Err(fault) => bail!("no node: {fault:?}"),
-    }
+    Ok(Row {
+        reg: registration(alloc, 5000, 6, word, &[])?,
+        creation,
+        slot,
+    })
 }
 
 fn old(alloc: Global, word: &str, creation: &str) -> Result<Old> {

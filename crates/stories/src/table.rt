@@ -1,4 +1,5 @@
 //! The names that a port mapper knows: its table, and the two ways in which names are kept.
+use crate::requests::registration;
 use crate::words::{Digits, name, number, told, yes};
 use anyhow::{Result, bail};
 use portmap_table::{Known, NameLists, NameStore, RegFault, Row, Table};
@@ -8,19 +9,7 @@ use std::alloc::Global;
 
 /// The node of this name and this highest version, as each is registered here.
 fn node(alloc: Global, word: &str, high: &str) -> Result<Reg> {
-    match Reg::new(
-        alloc,
-        40_000,
-        77,
-        0,
-        number(high)?,
-        5,
-        name(alloc, word)?,
-        &[7],
-    ) {
-        Ok(reg) => Ok(reg),
-        Err(fault) => bail!("no node: {fault:?}"),
-    }
+    registration(alloc, 40_000, number(high)?, word, &[7])
 }
 
 /// A name, its slot and its creation, by a copy of its row.
