@@ -4,4 +4,40 @@ mod actions;
 mod commands;
 mod program;
 mod settings;
+mod typed;
 mod words;
+
+use std::alloc::{AllocError, Global};
+
+/// The byte that one of a table stands for: `~` for a blank, `|` for an end of line, and `?` for 0xFF, which is in no UTF-8.
+fn meant(byte: u8) -> u8 {
+    match byte {
+        b'~' => b' ',
+        b'|' => b'\n',
+        b'?' => 0xFF,
+        _ => byte,
+    }
+}
+
+/// The bytes that a text of a table stands for.
+fn bytes_of(alloc: Global, text: &str) -> Result<Vec<u8>, AllocError> {
+    let mut bytes = Vec::new(alloc);
+    for byte in text.bytes() {
+        bytes.push(meant(byte))?;
+    }
+    Ok(bytes)
+}
+
+/// How an action ends: the status, behind `out` what is written and behind `err` what is told of errors, where there is any. `|` is an
+/// end of line, and `\u{a6}` a `|`.
+fn ending(alloc: Global, status: u8, output: &[u8], errors: &[u8]) -> Result<String, AllocError> {
+    let mut told = format!(in alloc; "{status}")?;
+    for (word, bytes) in [("out", output), ("err", errors)] {
+        if !bytes.is_empty() {
+            let text = String::from_utf8_lossy(alloc, bytes)?;
+            write!(told, " {word} {text}")?;
+        }
+    }
+    let told = told.as_str().replace(alloc, "|", "\u{a6}")?;
+    told.as_str().replace(alloc, "\n", "|")
+}

@@ -1,7 +1,4 @@
 //! Recorded sessions, byte for byte as the format spells them, and what is told of them.
-use std::alloc::Global;
-use std::test::Fail;
-
 /// Port 4369, not relaxed, two connections and two names at most: a node registers `a`, and another one looks it up.
 pub const SESSION: [u8; 109] = [
     0x45, 0x50, 0x4D, 0x53, 1, 0, 0x11, 0x11, 0, 0, 0, 2, 0, 0, 0, 2, //
@@ -80,7 +77,7 @@ pub const LOOK_UP_LINES: &[u8] = b"0 connect 0 local
 run of 4 entries
 ";
 
-/// That of the wrong look-up.
+/// That of the wrong one.
 pub const WRONG_LOOK_UP_LINES: &[u8] = b"0 connect 0 local
 1 piece 0 get 000e7813884d00000600050001610000 say 760000000004 stay
 2 connect 1 local
@@ -88,15 +85,9 @@ pub const WRONG_LOOK_UP_LINES: &[u8] = b"0 connect 0 local
 broken at entry 3
 ";
 
-/// `SESSION` with these bytes from this place on.
-pub fn changed(alloc: Global, at: usize, bytes: &[u8]) -> Result<Vec<u8>, Fail> {
-    let mut all = Vec::with_capacity(alloc, SESSION.len())?;
-    for (place, byte) in SESSION.iter().enumerate() {
-        let new = match place.checked_sub(at) {
-            Some(index) => bytes.get(index).unwrap_or(byte),
-            None => byte,
-        };
-        all.push(*new)?;
-    }
-    Ok(all)
+/// `SESSION` with a wrong reply to the look-up.
+pub fn wrong_session() -> [u8; 109] {
+    let mut session = SESSION;
+    session[108] = 1;
+    session
 }

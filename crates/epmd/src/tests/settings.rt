@@ -1,172 +1,144 @@
 //! What the daemon of a command is set to, and what is told when it has ended.
+use super::ending;
+use super::typed::command;
 use crate::daemon::{end_daemon, settings};
-use crate::tests::words::is_path;
-use crate::words::{Action, Command};
+use crate::words::{Command, WordFault};
 use portmap_daemon::{RunEnd, RunFault, Settings};
-use portmap_testing::bytes::Bytes;
-use portmap_testing::cases::{Case, all_hold};
+use portmap_testing::cases::{Trial, all_come};
 use std::alloc::Global;
 use std::test::Fail;
 use std::time::Duration;
 
-/// A command to serve on two addresses.
-fn command_of(alloc: Global, debug: bool, path: Option<&str>) -> Result<Command, Fail> {
-    let recording = match path {
-        Some(path) => Some(String::from_str(alloc, path)?),
-        None => None,
-    };
-    Ok(Command {
-        action: Action::Serve,
-        port: 4370,
-        relaxed: true,
-        addresses: [[10, 0, 0, 1], [127, 0, 0, 1]].to_vec(alloc)?,
-        timeout: 7,
-        workers: 2,
-        debug,
-        recording,
-    })
+/// A command to serve on two addresses, with more words behind.
+fn serving(alloc: Global, more: &str) -> Result<Command, WordFault> {
+    let words = "-relaxed_command_check -address 10.0.0.1 -packet_timeout 7 -workers 2";
+    let line = format!(in alloc; "epmd -port 4370 {words} {more}")?;
+    command(alloc, line.as_str())
 }
 
-/// The time since 1970 in milliseconds, and where creations start.
-struct Starts(Option<u64>, u32);
-
-const STARTS: &[Starts] = &[
-    Starts(None, 0),
-    Starts(Some(0), 0),
-    Starts(Some(1_700_000_000_000), 1_700_000_000),
-    Starts(Some(1_999), 1),
-    Starts(Some(4_294_967_295_000), 4_294_967_295),
-    Starts(Some(4_294_967_301_000), 5),
-];
-
-fn is_set(set: &Settings, first: u32) -> bool {
-    set.first == first
-        && set.timeout == 7
-        && set.workers == 2
-        && set.addresses.as_slice() == [[10u8, 0, 0, 1], [127, 0, 0, 1]].as_slice()
-}
-
-fn is_configured(set: &Settings) -> bool {
+/// Whether a daemon is set to what these words and the limits say.
+fn is_set(set: &Settings) -> bool {
     set.config.port == 4370
         && set.config.relaxed
         && set.config.conn_max == 1024
         && set.config.known_max == 4096
+        && set.addresses.as_slice() == [[10u8, 0, 0, 1], [127, 0, 0, 1]].as_slice()
+        && set.timeout == 7
+        && set.workers == 2
 }
 
-impl Case for Starts {
-    fn holds(&self, alloc: Global) -> Result<bool, Fail> {
-        let command = command_of(alloc, false, None)?;
-        let now = self.0.map(|time| Duration::from_millis(time));
-        let set = settings(alloc, &command, now)?;
-        Ok(is_set(&set, self.1) && is_configured(&set))
+/// Where creations start at this time since 1970, and what is recorded to.
+fn set_by(alloc: Global, command: &Command, now: Option<Duration>) -> Result<String, Fail> {
+    let set = settings(alloc, command, now)?;
+    let first = set.first;
+    Ok(match &set.recording {
+        _ if !is_set(&set) => String::from_str(alloc, "otherwise")?,
+        Some(path) => format!(in alloc; "{first} record <{path}>")?,
+        None => format!(in alloc; "{first}")?,
+    })
+}
+
+/// The milliseconds since 1970, or `never`, and more words of the command.
+struct Sets;
+
+impl Trial for Sets {
+    fn came(&self, alloc: Global, given: &str) -> Result<String, Fail> {
+        let (time, more) = given.split_once(' ').unwrap_or((given, ""));
+        let now = time.parse::<u64>().ok();
+        match serving(alloc, more) {
+            Ok(command) => set_by(alloc, &command, now.map(|now| Duration::from_millis(now))),
+            Err(fault) => Ok(format!(in alloc; "fault {fault:?}")?),
+        }
     }
 }
 
 #[test]
 fn a_daemon_is_set_by_its_command(rt: HostRuntime) -> Result<(), Fail> {
-    all_hold(&rt, STARTS)
-}
-
-/// The path of a file to record to, if any.
-struct Hands(Option<&'static str>);
-
-const HANDS: &[Hands] = &[
-    Hands(None),
-    Hands(Some("")),
-    Hands(Some("x")),
-    Hands(Some("-names")),
-    Hands(Some("/tmp/a session \u{e9}")),
-];
-
-impl Case for Hands {
-    fn holds(&self, alloc: Global) -> Result<bool, Fail> {
-        let command = command_of(alloc, false, self.0)?;
-        let set = settings(alloc, &command, None)?;
-        Ok(is_path(&set.recording, self.0) && is_path(&command.recording, self.0))
-    }
+    let table = "
+        never -> 0
+        0 -> 0
+        1700000000000 -> 1700000000
+        1999 -> 1
+        4294967295000 -> 4294967295
+        4294967301000 -> 5
+    ";
+    all_come(&rt, &Sets, table)
 }
 
 #[test]
 fn a_daemon_records_where_its_command_says(rt: HostRuntime) -> Result<(), Fail> {
-    all_hold(&rt, HANDS)
+    let table = "
+        never -record '' -> 0 record <>
+        never -record x -> 0 record <x>
+        never -record -names -> 0 record <-names>
+        never -record /tmp/a~session~\u{e9} -> 0 record </tmp/a session \u{e9}>
+    ";
+    all_come(&rt, &Sets, table)
 }
 
-/// Whether with debug output, how many acts each of three workers made, whether all was recorded, the status, and what is told.
-struct Serves(bool, [u64; 3], bool, u8, Bytes);
+/// How a daemon ended: how many acts each worker made, and whether all was recorded; or why.
+fn end_of(alloc: Global, words: &str) -> Result<Result<RunEnd, RunFault>, Fail> {
+    let (end, rest) = words.split_once(' ').unwrap_or((words, ""));
+    Ok(match end {
+        "listen" => Err(RunFault::Listen(rest.parse::<usize>()?)),
+        "poll" => Err(RunFault::Poll),
+        "memory" => Err(RunFault::NoMemory),
+        _ => {
+            let mut served = Vec::new(alloc);
+            for count in rest.split(' ') {
+                served.push(count.parse::<u64>()?)?;
+            }
+            let recorded = end == "served";
+            Ok(RunEnd { served, recorded })
+        }
+    })
+}
 
-const SERVES: &[Serves] = &[
-    Serves(false, [5, 0, 7], true, 0, b""),
-    Serves(
-        true,
-        [5, 0, 18_446_744_073_709_551_615],
-        true,
-        0,
-        b"epmd: worker 1 served 5\nepmd: worker 2 served 0\nepmd: worker 3 served 18446744073709551615\n",
-    ),
-];
+/// How the daemon of this command ends the program.
+fn ended(alloc: Global, command: &Command, end: &str) -> Result<String, Fail> {
+    let mut errors = Vec::new(alloc);
+    let status = end_daemon(&mut errors, command, &end_of(alloc, end)?);
+    Ok(ending(alloc, status, b"", &errors)?)
+}
 
-const RECORDS: &[Serves] = &[
-    Serves(false, [5, 0, 7], false, 3, b""),
-    Serves(
-        true,
-        [5, 0, 7],
-        false,
-        3,
-        b"epmd: worker 1 served 5\nepmd: worker 2 served 0\nepmd: worker 3 served 7\n",
-    ),
-];
+/// More words of the command, and behind `ends` how its daemon ended.
+struct Ends;
 
-impl Case for Serves {
-    fn holds(&self, alloc: Global) -> Result<bool, Fail> {
-        let command = command_of(alloc, self.0, None)?;
-        let ended = RunEnd {
-            served: self.1.to_vec(alloc)?,
-            recorded: self.2,
-        };
-        let mut errors = Vec::new(alloc);
-        let status = end_daemon(&mut errors, &command, &Ok(ended));
-        Ok(status == self.3 && errors.as_slice() == self.4)
+impl Trial for Ends {
+    fn came(&self, alloc: Global, given: &str) -> Result<String, Fail> {
+        let (more, end) = given.split_once("ends ").unwrap_or((given, ""));
+        match serving(alloc, more) {
+            Ok(command) => ended(alloc, &command, end),
+            Err(fault) => Ok(format!(in alloc; "fault {fault:?}")?),
+        }
     }
 }
 
 #[test]
 fn a_daemon_with_debug_output_tells_what_was_served(rt: HostRuntime) -> Result<(), Fail> {
-    all_hold(&rt, SERVES)
+    let table = "
+        ends served 5 0 7 -> 0
+        -d ends served 5 0 18446744073709551615 -> 0 err epmd: worker 1 served 5|epmd: worker 2 served 0|epmd: worker 3 served 18446744073709551615|
+    ";
+    all_come(&rt, &Ends, table)
 }
 
 #[test]
 fn a_daemon_whose_recording_failed_has_told_so(rt: HostRuntime) -> Result<(), Fail> {
-    all_hold(&rt, RECORDS)
-}
-
-/// Why a daemon ended, the status, and what is told.
-struct Fails(RunFault, u8, Bytes);
-
-const FAILS: &[Fails] = &[
-    Fails(
-        RunFault::Listen(0),
-        1,
-        b"epmd: cannot listen on 10.0.0.1:4370\n",
-    ),
-    Fails(
-        RunFault::Listen(1),
-        1,
-        b"epmd: cannot listen on 127.0.0.1:4370\n",
-    ),
-    Fails(RunFault::Poll, 3, b"epmd: polling failed\n"),
-    Fails(RunFault::NoMemory, 3, b"epmd: out of memory\n"),
-];
-
-impl Case for Fails {
-    fn holds(&self, alloc: Global) -> Result<bool, Fail> {
-        let command = command_of(alloc, true, Some("x"))?;
-        let mut errors = Vec::new(alloc);
-        let status = end_daemon(&mut errors, &command, &Err(self.0));
-        Ok(status == self.1 && errors.as_slice() == self.2)
-    }
+    let table = "
+        ends unrecorded 5 0 7 -> 3
+        -d ends unrecorded 5 0 7 -> 3 err epmd: worker 1 served 5|epmd: worker 2 served 0|epmd: worker 3 served 7|
+    ";
+    all_come(&rt, &Ends, table)
 }
 
 #[test]
 fn a_daemon_that_fails_tells_why(rt: HostRuntime) -> Result<(), Fail> {
-    all_hold(&rt, FAILS)
+    let table = "
+        -d -record x ends listen 0 -> 1 err epmd: cannot listen on 10.0.0.1:4370|
+        -d -record x ends listen 1 -> 1 err epmd: cannot listen on 127.0.0.1:4370|
+        -d -record x ends poll -> 3 err epmd: polling failed|
+        -d -record x ends memory -> 3 err epmd: out of memory|
+    ";
+    all_come(&rt, &Ends, table)
 }

@@ -1,287 +1,157 @@
 //! Words that are no command: which fault they have, and how it is told.
-use super::{Texts, env_of, read, words_of};
-use crate::words::{Command, WordFault, read_words, refuse};
-use portmap_testing::bytes::Bytes;
-use portmap_testing::cases::{Case, all_hold};
+use super::Asks;
+use crate::tests::ending;
+use crate::words::{WordFault, refuse};
+use portmap_testing::cases::{Case, all_come, all_hold, comes};
 use std::alloc::Global;
 use std::test::Fail;
 
-/// Words that are no command, and why.
-struct Wrong(Texts, WordFault);
-
-const UNKNOWN: &[Wrong] = &[
-    Wrong(&["-foo"], WordFault::Unknown(0)),
-    Wrong(&[""], WordFault::Unknown(0)),
-    Wrong(&["-"], WordFault::Unknown(0)),
-    Wrong(&["names"], WordFault::Unknown(0)),
-    Wrong(&["-name"], WordFault::Unknown(0)),
-    Wrong(&["-namess"], WordFault::Unknown(0)),
-    Wrong(&["-Names"], WordFault::Unknown(0)),
-    Wrong(&["--names"], WordFault::Unknown(0)),
-    Wrong(&[" -names"], WordFault::Unknown(0)),
-    Wrong(&["-port=4370"], WordFault::Unknown(0)),
-    Wrong(&["-Record", "x"], WordFault::Unknown(0)),
-    Wrong(&["-records", "x"], WordFault::Unknown(0)),
-    Wrong(&["-record=x"], WordFault::Unknown(0)),
-    Wrong(&["-Local", "x"], WordFault::Unknown(0)),
-    Wrong(&["-locals", "x"], WordFault::Unknown(0)),
-    Wrong(&["-local", "a", "b"], WordFault::Unknown(2)),
-    Wrong(&["-names", "x"], WordFault::Unknown(1)),
-    Wrong(&["-port", "4370", "4371"], WordFault::Unknown(2)),
-    Wrong(&["-play", "a", "b"], WordFault::Unknown(2)),
-    Wrong(&["-record", "a", "b"], WordFault::Unknown(2)),
-    Wrong(&["a", "-check"], WordFault::Unknown(0)),
-    Wrong(&["-foo", "-bar"], WordFault::Unknown(0)),
-];
-
-const MISSING: &[Wrong] = &[
-    Wrong(&["-port"], WordFault::MissingValue(0)),
-    Wrong(&["-address"], WordFault::MissingValue(0)),
-    Wrong(&["-packet_timeout"], WordFault::MissingValue(0)),
-    Wrong(&["-workers"], WordFault::MissingValue(0)),
-    Wrong(&["-record"], WordFault::MissingValue(0)),
-    Wrong(&["-stop"], WordFault::MissingValue(0)),
-    Wrong(&["-check"], WordFault::MissingValue(0)),
-    Wrong(&["-play"], WordFault::MissingValue(0)),
-    Wrong(&["-local"], WordFault::MissingValue(0)),
-    Wrong(&["-d", "-names", "-port"], WordFault::MissingValue(2)),
-    Wrong(&["-port", "1", "-port"], WordFault::MissingValue(2)),
-    Wrong(&["-record", "x", "-record"], WordFault::MissingValue(2)),
-    Wrong(&["-names", "-record"], WordFault::MissingValue(1)),
-];
-
-const BAD_NUMBERS: &[Wrong] = &[
-    Wrong(&["-port", "0"], WordFault::BadValue(1)),
-    Wrong(&["-port", "000"], WordFault::BadValue(1)),
-    Wrong(&["-port", "65536"], WordFault::BadValue(1)),
-    Wrong(&["-port", "999999999"], WordFault::BadValue(1)),
-    Wrong(&["-port", "0000004370"], WordFault::BadValue(1)),
-    Wrong(&["-port", "4294971666"], WordFault::BadValue(1)),
-    Wrong(&["-port", "+4370"], WordFault::BadValue(1)),
-    Wrong(&["-port", "-1"], WordFault::BadValue(1)),
-    Wrong(&["-port", " 4370"], WordFault::BadValue(1)),
-    Wrong(&["-port", "4370 "], WordFault::BadValue(1)),
-    Wrong(&["-port", ""], WordFault::BadValue(1)),
-    Wrong(&["-port", "x"], WordFault::BadValue(1)),
-    Wrong(&["-port", "43a"], WordFault::BadValue(1)),
-    Wrong(&["-port", "0x10"], WordFault::BadValue(1)),
-    Wrong(&["-port", "4370/"], WordFault::BadValue(1)),
-    Wrong(&["-port", ":370"], WordFault::BadValue(1)),
-    Wrong(&["-port", "\u{663}"], WordFault::BadValue(1)),
-    Wrong(&["-port", "-names"], WordFault::BadValue(1)),
-    Wrong(&["-packet_timeout", "0"], WordFault::BadValue(1)),
-    Wrong(&["-packet_timeout", "86401"], WordFault::BadValue(1)),
-    Wrong(&["-packet_timeout", "+60"], WordFault::BadValue(1)),
-    Wrong(&["-packet_timeout", ""], WordFault::BadValue(1)),
-    Wrong(&["-packet_timeout", "0000000060"], WordFault::BadValue(1)),
-    Wrong(&["-workers", "0"], WordFault::BadValue(1)),
-    Wrong(&["-workers", "65"], WordFault::BadValue(1)),
-    Wrong(&["-workers", "four"], WordFault::BadValue(1)),
-    Wrong(&["-workers", " 4"], WordFault::BadValue(1)),
-    Wrong(&["-port", "4370", "-port", "0"], WordFault::BadValue(3)),
-    Wrong(&["-port", "0", "-port", "4370"], WordFault::BadValue(1)),
-];
-
-const BAD_ADDRESSES: &[Wrong] = &[
-    Wrong(&["-address", ""], WordFault::BadValue(1)),
-    Wrong(&["-address", ","], WordFault::BadValue(1)),
-    Wrong(&["-address", "10.0.0.1,"], WordFault::BadValue(1)),
-    Wrong(&["-address", ",10.0.0.1"], WordFault::BadValue(1)),
-    Wrong(&["-address", "10.0.0.1,,10.0.0.2"], WordFault::BadValue(1)),
-    Wrong(&["-address", "256.0.0.1"], WordFault::BadValue(1)),
-    Wrong(&["-address", "10.0.0.256"], WordFault::BadValue(1)),
-    Wrong(&["-address", "0010.0.0.1"], WordFault::BadValue(1)),
-    Wrong(&["-address", "10.0.0.0001"], WordFault::BadValue(1)),
-    Wrong(&["-address", "10.0.0.1.1"], WordFault::BadValue(1)),
-    Wrong(&["-address", "10.0.0"], WordFault::BadValue(1)),
-    Wrong(&["-address", "10"], WordFault::BadValue(1)),
-    Wrong(&["-address", "10..0.1"], WordFault::BadValue(1)),
-    Wrong(&["-address", "10.0.0."], WordFault::BadValue(1)),
-    Wrong(&["-address", ".0.0.1"], WordFault::BadValue(1)),
-    Wrong(&["-address", "10.0.0.+1"], WordFault::BadValue(1)),
-    Wrong(&["-address", "10.0.0.1, 10.0.0.2"], WordFault::BadValue(1)),
-    Wrong(&["-address", "10.0.0.1 "], WordFault::BadValue(1)),
-    Wrong(&["-address", "localhost"], WordFault::BadValue(1)),
-    Wrong(&["-address", "::1"], WordFault::BadValue(1)),
-    Wrong(&["-address", "0.0.0.0,x"], WordFault::BadValue(1)),
-    Wrong(&["-address", "-names"], WordFault::BadValue(1)),
-];
-
-const BAD_NAMES: &[Wrong] = &[
-    Wrong(&["-stop", ""], WordFault::BadValue(1)),
-    Wrong(&["-stop", "a\n"], WordFault::BadValue(1)),
-    Wrong(&["-stop", "a\u{7f}"], WordFault::BadValue(1)),
-    Wrong(&["-d", "-stop", "\u{1f}"], WordFault::BadValue(2)),
-];
-
-// Unknown words come before a second action, that before a value that is missing, and that before a bad one.
-const ORDER: &[Wrong] = &[
-    Wrong(&["-names", "-foo"], WordFault::Unknown(1)),
-    Wrong(&["-names", "-stop"], WordFault::TwoCommands(1)),
-    Wrong(&["-names", "-stop", ""], WordFault::TwoCommands(1)),
-    Wrong(&["-names", "-check"], WordFault::TwoCommands(1)),
-    Wrong(&["-names", "-play"], WordFault::TwoCommands(1)),
-    Wrong(&["-names", "-local"], WordFault::TwoCommands(1)),
-    Wrong(&["-local", "x", "-local", "x"], WordFault::TwoCommands(2)),
-    Wrong(&["-local", "x", "-play", "x"], WordFault::TwoCommands(2)),
-    Wrong(&["-kill", "-stop"], WordFault::TwoCommands(1)),
-    Wrong(&["-names", "-port", "0", "-kill"], WordFault::BadValue(2)),
-    Wrong(
-        &["-names", "-kill", "-port", "0"],
-        WordFault::TwoCommands(1),
-    ),
-    Wrong(
-        &["-names", "-d", "-kill", "-foo"],
-        WordFault::TwoCommands(2),
-    ),
-    Wrong(&["-stop", "-names", "-names"], WordFault::TwoCommands(2)),
-    Wrong(
-        &["-record", "-names", "-kill", "-names"],
-        WordFault::TwoCommands(3),
-    ),
-];
-
-fn is_fault(said: &Result<Command, WordFault>, fault: WordFault) -> bool {
-    match said {
-        Err(told) => *told == fault,
-        Ok(_) => false,
-    }
-}
-
-impl Case for Wrong {
-    fn holds(&self, alloc: Global) -> Result<bool, Fail> {
-        Ok(is_fault(&read(alloc, self.0)?, self.1))
-    }
-}
-
 #[test]
 fn a_word_that_is_not_known_is_told(rt: HostRuntime) -> Result<(), Fail> {
-    all_hold(&rt, UNKNOWN)
+    let table = "
+        epmd with -foo - names -name -namess -Names --names ~-names '' ? -port=4370 -record=x -> fault Unknown(0)
+        epmd -Record x -> fault Unknown(0)
+        epmd -records x -> fault Unknown(0)
+        epmd -Local x -> fault Unknown(0)
+        epmd -locals x -> fault Unknown(0)
+        epmd a -check -> fault Unknown(0)
+        epmd -foo -bar -> fault Unknown(0)
+        epmd -names x -> fault Unknown(1)
+        epmd -local a b -> fault Unknown(2)
+        epmd -play a b -> fault Unknown(2)
+        epmd -record a b -> fault Unknown(2)
+        epmd -port 4370 4371 -> fault Unknown(2)
+    ";
+    all_come(&rt, &Asks, table)
 }
 
 #[test]
 fn a_value_that_is_missing_is_told(rt: HostRuntime) -> Result<(), Fail> {
-    all_hold(&rt, MISSING)
+    let table = "
+        epmd with -port -address -packet_timeout -workers -record -stop -check -play -local -> fault MissingValue(0)
+        epmd -d -names -port -> fault MissingValue(2)
+        epmd -port 1 -port -> fault MissingValue(2)
+        epmd -record x -record -> fault MissingValue(2)
+        epmd -names -record -> fault MissingValue(1)
+    ";
+    all_come(&rt, &Asks, table)
 }
 
 #[test]
 fn a_number_is_digits_within_its_range(rt: HostRuntime) -> Result<(), Fail> {
-    all_hold(&rt, BAD_NUMBERS)
+    let table = "
+        epmd -port with 0 000 65536 999999999 0000004370 4294971666 -> fault BadValue(1)
+        epmd -port with +4370 -1 ~4370 4370~ '' x 43a 0x10 4370/ :370 \u{663} -names -> fault BadValue(1)
+        epmd -packet_timeout with 0 86401 +60 '' 0000000060 -> fault BadValue(1)
+        epmd -workers with 0 65 four ~4 -> fault BadValue(1)
+        epmd -port 4370 -port 0 -> fault BadValue(3)
+        epmd -port 0 -port 4370 -> fault BadValue(1)
+    ";
+    all_come(&rt, &Asks, table)
 }
 
 #[test]
 fn a_list_of_addresses_has_no_empty_part(rt: HostRuntime) -> Result<(), Fail> {
-    all_hold(&rt, BAD_ADDRESSES)
+    let table = "
+        epmd -address with '' , 10.0.0.1, ,10.0.0.1 10.0.0.1,,10.0.0.2 -> fault BadValue(1)
+        epmd -address with 256.0.0.1 10.0.0.256 0010.0.0.1 10.0.0.0001 10.0.0.+1 -> fault BadValue(1)
+        epmd -address with 10.0.0.1.1 10.0.0 10 10..0.1 10.0.0. .0.0.1 -> fault BadValue(1)
+        epmd -address with 10.0.0.1,~10.0.0.2 10.0.0.1~ localhost ::1 0.0.0.0,x -names -> fault BadValue(1)
+    ";
+    all_come(&rt, &Asks, table)
 }
 
 #[test]
 fn a_name_to_stop_is_a_name(rt: HostRuntime) -> Result<(), Fail> {
-    all_hold(&rt, BAD_NAMES)
+    let table = "
+        epmd -stop with '' a| a\u{7f} -> fault BadValue(1)
+        epmd -d -stop \u{1f} -> fault BadValue(2)
+    ";
+    all_come(&rt, &Asks, table)
 }
 
 #[test]
 fn the_first_fault_is_told(rt: HostRuntime) -> Result<(), Fail> {
-    all_hold(&rt, ORDER)
-}
-
-/// An action's words.
-const EACH_ACTION: &[Texts] = &[
-    &["-names"],
-    &["-kill"],
-    &["-stop", "a"],
-    &["-dump"],
-    &["-once"],
-    &["-check", "a"],
-    &["-play", "a"],
-];
-
-/// Whether this action's words behind those are refused at their first word.
-fn is_second(alloc: Global, first: Texts, second: Texts) -> Result<bool, Fail> {
-    let mut words = words_of(alloc, first)?;
-    for text in second {
-        words.push(String::from_str(alloc, text)?)?;
-    }
-    let said = read_words(alloc, &words, &env_of(alloc, None, false)?);
-    Ok(is_fault(&said, WordFault::TwoCommands(first.len())))
-}
-
-/// The place of the first action that may stand behind this one.
-fn first_allowed(alloc: Global, first: Texts) -> Result<Option<usize>, Fail> {
-    for (place, second) in EACH_ACTION.iter().enumerate() {
-        if !is_second(alloc, first, second)? {
-            return Ok(Some(place));
-        }
-    }
-    Ok(None)
-}
-
-/// An action.
-struct Alone(Texts);
-
-const ALONE: &[Alone] = &[
-    Alone(&["-names"]),
-    Alone(&["-kill"]),
-    Alone(&["-stop", "a"]),
-    Alone(&["-dump"]),
-    Alone(&["-once"]),
-    Alone(&["-check", "a"]),
-    Alone(&["-play", "a"]),
-];
-
-impl Case for Alone {
-    fn holds(&self, alloc: Global) -> Result<bool, Fail> {
-        Ok(first_allowed(alloc, self.0)?.is_none())
-    }
-}
-
-#[test]
-fn no_action_stands_behind_another(rt: HostRuntime) -> Result<(), Fail> {
-    all_hold(&rt, ALONE)
-}
-
-// ---- the environment
-
-/// Words that are no command, whatever the environment's port is.
-struct Worse(Texts, WordFault);
-
-const WORSE: &[Worse] = &[
-    Worse(&["-foo"], WordFault::Unknown(0)),
-    Worse(&["-names", "-kill"], WordFault::TwoCommands(1)),
-    Worse(&["-port"], WordFault::MissingValue(0)),
-    Worse(&["-port", "0"], WordFault::BadValue(1)),
-];
-
-impl Case for Worse {
-    fn holds(&self, alloc: Global) -> Result<bool, Fail> {
-        let env = env_of(alloc, Some("x"), true)?;
-        let words = words_of(alloc, self.0)?;
-        Ok(is_fault(&read_words(alloc, &words, &env), self.1))
-    }
+    // Unknown words come before a second action, that before a value that is missing, and that before a bad one.
+    let table = "
+        epmd -names -foo -> fault Unknown(1)
+        epmd -names -stop -> fault TwoCommands(1)
+        epmd -names -stop '' -> fault TwoCommands(1)
+        epmd -names -check -> fault TwoCommands(1)
+        epmd -names -play -> fault TwoCommands(1)
+        epmd -names -local -> fault TwoCommands(1)
+        epmd -local x -local x -> fault TwoCommands(2)
+        epmd -local x -play x -> fault TwoCommands(2)
+        epmd -kill -stop -> fault TwoCommands(1)
+        epmd -names -port 0 -kill -> fault BadValue(2)
+        epmd -names -kill -port 0 -> fault TwoCommands(1)
+        epmd -names -d -kill -foo -> fault TwoCommands(2)
+        epmd -stop -names -names -> fault TwoCommands(2)
+        epmd -record -names -kill -names -> fault TwoCommands(3)
+    ";
+    all_come(&rt, &Asks, table)
 }
 
 #[test]
 fn words_are_read_before_the_environment(rt: HostRuntime) -> Result<(), Fail> {
-    all_hold(&rt, WORSE)
+    let table = "
+        ERL_EPMD_PORT=x ERL_EPMD_RELAXED_COMMAND_CHECK=1 epmd -foo -> fault Unknown(0)
+        ERL_EPMD_PORT=x ERL_EPMD_RELAXED_COMMAND_CHECK=1 epmd -names -kill -> fault TwoCommands(1)
+        ERL_EPMD_PORT=x ERL_EPMD_RELAXED_COMMAND_CHECK=1 epmd -port -> fault MissingValue(0)
+        ERL_EPMD_PORT=x ERL_EPMD_RELAXED_COMMAND_CHECK=1 epmd -port 0 -> fault BadValue(1)
+    ";
+    all_come(&rt, &Asks, table)
 }
 
-// ---- what is told
+/// The words of each action, and how many.
+const ACTIONS: &[(&str, usize)] = &[
+    ("-names", 1),
+    ("-kill", 1),
+    ("-stop a", 2),
+    ("-dump", 1),
+    ("-once", 1),
+    ("-check a", 2),
+    ("-play a", 2),
+    ("-local a", 2),
+];
 
-/// A fault, its status and its line.
-struct Told(WordFault, u8, Bytes);
+/// A failure, unless each action behind this one is refused at its first word.
+fn stands_last(alloc: Global, first: &str, count: usize) -> Result<(), Fail> {
+    for (second, _) in ACTIONS {
+        let line = format!(in alloc; "epmd {first} {second} -> fault TwoCommands({count})")?;
+        comes(alloc, &Asks, line.as_str())?;
+    }
+    Ok(())
+}
+
+#[test]
+fn no_action_stands_behind_another(rt: HostRuntime) -> Result<(), Fail> {
+    for (first, count) in ACTIONS {
+        stands_last(rt.alloc(), first, *count)?;
+    }
+    Ok(())
+}
+
+/// A fault, and how it ends the program.
+struct Told(WordFault, &'static str);
 
 const TOLD: &[Told] = &[
-    Told(WordFault::Unknown(0), 2, b"epmd: bad word 0\n"),
-    Told(WordFault::MissingValue(1), 2, b"epmd: bad word 1\n"),
-    Told(WordFault::BadValue(12), 2, b"epmd: bad word 12\n"),
-    Told(WordFault::TwoCommands(3), 2, b"epmd: bad word 3\n"),
-    Told(WordFault::BadEnvPort, 2, b"epmd: bad port in environment\n"),
-    Told(WordFault::NoMemory, 3, b"epmd: out of memory\n"),
+    Told(WordFault::Unknown(0), "2 err epmd: bad word 0|"),
+    Told(WordFault::MissingValue(1), "2 err epmd: bad word 1|"),
+    Told(WordFault::BadValue(12), "2 err epmd: bad word 12|"),
+    Told(WordFault::TwoCommands(3), "2 err epmd: bad word 3|"),
+    Told(
+        WordFault::BadEnvPort,
+        "2 err epmd: bad port in environment|",
+    ),
+    Told(WordFault::NoMemory, "3 err epmd: out of memory|"),
 ];
 
 impl Case for Told {
     fn holds(&self, alloc: Global) -> Result<bool, Fail> {
         let mut errors = Vec::new(alloc);
-        Ok(refuse(&mut errors, self.0) == self.1 && errors.as_slice() == self.2)
+        let status = refuse(&mut errors, self.0);
+        Ok(ending(alloc, status, b"", &errors)?.as_str() == self.1)
     }
 }
 

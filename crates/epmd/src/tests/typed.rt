@@ -1,0 +1,67 @@
+//! Lines as they are typed.
+ghost use Rattle.std.specs.Prelude.{◌≡◌, ◌≤◌, IfOk, length};
+ghost use Rattle.epmd.specs.Meaning.{CanServe};
+
+use super::meant;
+use crate::asked;
+use crate::words::{Command, WordFault};
+use std::alloc::Global;
+use std::env::{Env, FillError};
+
+/// A line as it is typed: variables, the program's own name and its words, with blanks between. A blank in one of them is written `~`,
+/// an end of line `|`, a byte that is not UTF-8 `?`, and the empty word `''`.
+#[derive(Clone, Copy)]
+struct Typed<'a>(&'a str);
+
+/// Puts the bytes in the place of those that stand for them.
+fn mean(bytes: &mut [u8])
+    ensures { length bytes.new ≡ length bytes.old }
+{
+    for byte in bytes.iter_mut() {
+        *byte = meant(*byte);
+    }
+}
+
+/// Copies what is asked for, if it is there.
+fn give(text: Option<&str>, buffer: &mut [u8]) -> Result<usize, FillError>
+    ensures { IfOk result (λ n. n ≤ length buffer.new) }
+{
+    let bytes = match text {
+        None => return Err(FillError::NotPresent),
+        Some("''") => b"".as_slice(),
+        Some(text) => text.as_bytes(),
+    };
+    let front = buffer.get_mut(..bytes.len()).ok_or(FillError::TooLong)?;
+    front.copy_from_slice(bytes);
+    mean(front);
+    Ok(bytes.len())
+}
+
+impl Env for Typed<'_> {
+    fn arg(&self, i: usize, buffer: &mut [u8]) -> Result<usize, FillError> {
+        let words = self.0.split_whitespace();
+        give(words.skip_while(|word| word.contains('=')).nth(i), buffer)
+    }
+
+    fn var(&self, name: &str, buffer: &mut [u8]) -> Result<usize, FillError> {
+        for word in self.0.split_whitespace() {
+            if let Some((first, value)) = word.split_once('=') {
+                if first == name {
+                    return give(Some(value), buffer);
+                }
+            }
+        }
+        Err(FillError::NotPresent)
+    }
+
+    fn var_at(&self, _i: usize, _buffer: &mut [u8]) -> Result<usize, FillError> {
+        Err(FillError::NotPresent)
+    }
+}
+
+/// The command that a line asks for.
+pub fn command(alloc: Global, line: &str) -> Result<Command, WordFault>
+    ensures { IfOk result (λ command. CanServe command) }
+{
+    asked(&(Typed(line), alloc), alloc)
+}
