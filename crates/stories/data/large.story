@@ -39,6 +39,25 @@ entry piece 5 get 61*65536 say - stay
 entry piece 5 get 61*65536 say - stay
 size -> TooLong(1)
 
+session a piece of 65535 bytes is recorded
+entry close 1
+entry piece 5 get 61*65535 say - stay
+entries -> 030000000000000001+020000000000000005+ffff+61*65535+0000000000
+entries 7 8 -> 00000007+030000000000000001+00000008+020000000000000005+ffff+61*65535+0000000000
+bytes BEGINNING+00000007+030000000000000001+00000008+020000000000000005+ffff+61*65535+0000000000
+recorder steady 7 8 -> yes yes yes puts 2 bytes 65605
+
+# That there is no number for an entry is told first.
+session a piece that is too long ends a recording
+entry close 1
+entry piece 5 get 61*65536 say - stay
+entries -> TooLong(1)
+entries 7 8 -> TooLong(1)
+entries 7 -> BadWorkers
+bytes BEGINNING
+recorder steady 7 8 -> yes no no puts 1 bytes 37
+recorder steady 7 -> yes no no puts 1 bytes 37
+
 session ten thousand entries come back
 times 1 10000 entry close $
 size -> 90016

@@ -3,37 +3,40 @@ use crate::words::number;
 use anyhow::{Result, bail};
 use portmap_testing::tape::Plan;
 
+/// As many bytes as are wanted.
+const ALL: usize = usize::MAX;
+
 /// Which calls say Later, where others move what is wanted, or so many bytes at most.
 const DEVICES: &[(&str, usize, &[(usize, usize)])] = &[
-    ("steady", usize::MAX, &[]),
+    ("steady", ALL, &[]),
     ("single", 1, &[]),
     ("pairs", 2, &[]),
     ("fives", 5, &[]),
     ("sevens", 7, &[]),
     ("large", 512, &[]),
-    ("never", usize::MAX, &[(0, usize::MAX)]),
+    ("never", ALL, &[(0, usize::MAX)]),
     // Laters in front of the calls of these numbers, and between them.
-    ("silent-from-1", usize::MAX, &[(1, usize::MAX)]),
-    ("later-0-to-999", usize::MAX, &[(0, 999)]),
-    ("later-0-to-1000", usize::MAX, &[(0, 1000)]),
-    ("later-1-to-1000", usize::MAX, &[(1, 1000)]),
-    ("later-1-to-1001", usize::MAX, &[(1, 1001)]),
-    (
-        "later-but-400-to-1000",
-        usize::MAX,
-        &[(0, 400), (401, 1000)],
-    ),
-    (
-        "later-but-400-to-1001",
-        usize::MAX,
-        &[(0, 400), (401, 1001)],
-    ),
-    ("slow", usize::MAX, &[(0, 2), (3, 4)]),
+    ("silent-from-1", ALL, &[(1, usize::MAX)]),
+    ("later-0-to-999", ALL, &[(0, 999)]),
+    ("later-0-to-1000", ALL, &[(0, 1000)]),
+    ("later-1-to-1000", ALL, &[(1, 1000)]),
+    ("later-1-to-1001", ALL, &[(1, 1001)]),
+    ("later-but-400-to-1000", ALL, &[(0, 400), (401, 1000)]),
+    ("later-but-400-to-1001", ALL, &[(0, 400), (401, 1001)]),
+    ("slow", ALL, &[(0, 2), (3, 4)]),
     ("slow-single", 1, &[(0, 1), (2, 3)]),
     ("late-single", 1, &[(0, 1)]),
     ("late-large", 512, &[(0, 1)]),
     ("pairs-later-at-1", 2, &[(1, 2)]),
     ("pairs-later-in-turn", 2, &[(1, 2), (3, 4), (5, 6)]),
+    ("later-at-1", ALL, &[(1, 2)]),
+    ("later-at-2", ALL, &[(2, 3)]),
+    ("later-1-to-100", ALL, &[(1, 100)]),
+    ("fours", 4, &[]),
+    ("twelves", 12, &[]),
+    ("later-999", ALL, &[(0, 999), (1000, 1999), (2000, 2999)]),
+    ("forties-but-501-to-1001", 40, &[(1, 501), (502, 1001)]),
+    ("forties-but-501-to-1002", 40, &[(1, 501), (502, 1002)]),
 ];
 
 /// How a device answers: the word for that, and behind a `:` the call that fails.

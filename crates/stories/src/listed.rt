@@ -5,7 +5,8 @@ use crate::words::{Digits, number};
 use anyhow::{Result, bail};
 use portmap_core::{Config, Entry, NoMemory};
 use portmap_record::{
-    Record, Verdict, Version, read_record, transcript, verdict_line, without_remote, write_record,
+    Record, Verdict, Version, read_record, transcript, verdict_line, without_remote, write_entries,
+    write_record,
 };
 use std::alloc::Global;
 use std::mem;
@@ -13,7 +14,7 @@ use std::mem;
 /// Entries to be recorded.
 #[derive(Drop)]
 pub struct Listed {
-    entries: Vec<Entry>,
+    pub entries: Vec<Entry>,
 }
 
 impl Listed {
@@ -36,6 +37,7 @@ impl Listed {
                 verdict_line(alloc, number(count)?, verdict_of(verdict)?),
             ),
             ["left"] => self.left(alloc),
+            ["entries", ref numbers @ ..] => text(alloc, &self.entries, &workers(alloc, numbers)?),
             ["record"] => written(alloc, &self.recorded(alloc)?),
             ["size"] => size(alloc, &self.recorded(alloc)?),
             _ => bail!("no such act"),
@@ -53,17 +55,40 @@ impl Listed {
         shown(alloc, transcript(alloc, &left, Verdict::Run))
     }
 
-    /// The record of the entries, of which none are left: port 4369, not relaxed, two connections and two names at most.
+    /// The record of the entries, of which none are left.
     pub fn recorded(&mut self, alloc: Global) -> Result<Record> {
-        let Ok(config) = Config::new(4369, false, 2, 2) else {
-            bail!("no settings")
-        };
+        let config = settings()?;
         let entries = mem::replace(&mut self.entries, Vec::new(alloc));
         Ok(Record {
             config,
             version: Version::One,
             entries,
         })
+    }
+}
+
+/// The settings of a session: port 4369, not relaxed, two connections and two names at most.
+pub fn settings() -> Result<Config> {
+    match Config::new(4369, false, 2, 2) {
+        Ok(config) => Ok(config),
+        Err(_) => bail!("no settings"),
+    }
+}
+
+/// The numbers of workers.
+pub fn workers(alloc: Global, words: &[&str]) -> Result<Vec<u32>> {
+    let mut workers = Vec::new(alloc);
+    for word in words {
+        workers.push(number(word)?)?;
+    }
+    Ok(workers)
+}
+
+/// The bytes of entries, by these workers if there are any, or why there are none.
+fn text(alloc: Global, entries: &[Entry], workers: &[u32]) -> Result<String> {
+    match write_entries(alloc, entries, (!workers.is_empty()).then_some(workers)) {
+        Ok(text) => Ok(format!(in alloc; "{}", Digits(&text))?),
+        Err(fault) => Ok(format!(in alloc; "{fault:?}")?),
     }
 }
 

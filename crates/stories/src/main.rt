@@ -12,6 +12,7 @@ mod lists;
 mod machine;
 mod part;
 mod played;
+mod recorder;
 mod recording;
 mod replies;
 mod requests;
@@ -22,19 +23,21 @@ mod story;
 mod table;
 mod wire;
 mod words;
+mod worker;
 
 use crate::story::{Ended, Story};
 use crate::words::Names;
 use anyhow::{Context, Result};
 use std::alloc::Global;
 use std::process::ExitCode;
+use std::sync::Wait;
 use std::{env, fs, mem};
 
 fn main(rt: HostRuntime) -> Result<ExitCode> {
     let mut names = Names::new(rt.alloc());
     let mut all_hold = true;
     for path in env::args(&rt)?.skip(1) {
-        all_hold &= tell_file(&rt, path.as_str(), &mut names)?;
+        all_hold &= tell_file(&rt, &rt, path.as_str(), &mut names)?;
     }
     if all_hold {
         return Ok(ExitCode::SUCCESS);
@@ -43,14 +46,10 @@ fn main(rt: HostRuntime) -> Result<ExitCode> {
 }
 
 /// Tells the stories of a file, and whether all of them hold.
-fn tell_file(rt: &HostRuntime, path: &str, names: &mut Names) -> Result<bool> {
+fn tell_file<R: Wait>(rt: &HostRuntime, host: &R, path: &str, names: &mut Names) -> Result<bool> {
     let text = text_of(rt, path)?;
-    tell_text(rt, path, text.as_str(), names)
-}
-
-fn tell_text(rt: &HostRuntime, path: &str, text: &str, names: &mut Names) -> Result<bool> {
-    let mut teller = Teller::new(rt.alloc(), path);
-    teller.tell_all(rt, names, text)
+    let mut teller = Teller::new(host, rt.alloc(), path);
+    teller.tell_all(rt, names, text.as_str())
 }
 
 fn text_of(rt: &HostRuntime, path: &str) -> Result<String> {
@@ -59,17 +58,19 @@ fn text_of(rt: &HostRuntime, path: &str) -> Result<String> {
 
 /// Who tells the stories of a file.
 #[derive(Drop)]
-struct Teller<'a> {
+struct Teller<'a, R: Wait> {
+    host: &'a R,
     path: &'a str,
-    story: Story,
+    story: Story<'a, R>,
     all_hold: bool,
 }
 
-impl<'a> Teller<'a> {
-    fn new(alloc: Global, path: &'a str) -> Teller<'a> {
+impl<'a, R: Wait> Teller<'a, R> {
+    fn new(host: &'a R, alloc: Global, path: &'a str) -> Teller<'a, R> {
         Teller {
+            host,
             path,
-            story: Story::none(alloc),
+            story: Story::none(host, alloc),
             all_hold: true,
         }
     }
@@ -79,7 +80,7 @@ impl<'a> Teller<'a> {
         for (place, line) in text.lines().enumerate() {
             self.tell(rt, names, place.saturating_add(1), line)?;
         }
-        self.turn(rt, Story::none(rt.alloc()))?;
+        self.turn(rt, Story::none(self.host, rt.alloc()))?;
         Ok(self.all_hold)
     }
 
@@ -91,7 +92,7 @@ impl<'a> Teller<'a> {
         number: usize,
         line: &str,
     ) -> Result<()> {
-        if let Some(next) = Story::begun(rt.alloc(), line)? {
+        if let Some(next) = Story::begun(self.host, rt.alloc(), line)? {
             return self.turn(rt, next);
         }
         if let Some(wrong) = self.story.wrong(rt.alloc(), names, line)? {
@@ -101,7 +102,7 @@ impl<'a> Teller<'a> {
     }
 
     /// Turns to the next story, once it is told that the one before holds, or what is wrong at its end.
-    fn turn(&mut self, rt: &HostRuntime, next: Story) -> Result<()> {
+    fn turn(&mut self, rt: &HostRuntime, next: Story<'a, R>) -> Result<()> {
         let story = mem::replace(&mut self.story, next);
         match story.ended(rt.alloc())? {
             Ended::Nameless => {}

@@ -6,9 +6,11 @@ use crate::session::Session;
 use crate::states::Parts;
 use crate::table::{self, Lists};
 use crate::wire;
+use crate::worker::Scene;
 use anyhow::{Result, bail};
 use portmap_table::{NameMap, Table};
 use std::alloc::Global;
+use std::sync::Wait;
 
 /// What a story is about, as it stands.
 #[derive(Drop)]
@@ -25,6 +27,7 @@ pub enum Part {
     State(Parts),
     Session(Session),
     Calls(Calls),
+    Worker(Scene),
 }
 
 impl Part {
@@ -40,12 +43,13 @@ impl Part {
             "call" => Some(Part::Calls(Calls::new(alloc))),
             "session" => Some(Part::Session(Session::new(alloc))),
             "state" => Some(Part::State(Parts::new(alloc))),
+            "worker" => Some(Part::Worker(Scene::new(alloc))),
             _ => None,
         })
     }
 
     /// What comes of an act.
-    pub fn came(&mut self, alloc: Global, words: &[&str]) -> Result<String> {
+    pub fn came<R: Wait>(&mut self, host: &R, alloc: Global, words: &[&str]) -> Result<String> {
         match self {
             Part::None => bail!("no story has begun"),
             Part::Wire => wire::came(alloc, words),
@@ -56,6 +60,7 @@ impl Part {
             Part::State(parts) => parts.came(alloc, words),
             Part::Session(session) => session.came(alloc, words),
             Part::Calls(calls) => calls.came(alloc, words),
+            Part::Worker(scene) => scene.came(host, alloc, words),
             Part::Map(map) => table::came_of_names(alloc, map, words),
         }
     }

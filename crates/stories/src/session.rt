@@ -1,6 +1,7 @@
 //! Recorded sessions as bytes: read, written, judged, and left without their remote peers.
-use crate::listed::Listed;
+use crate::listed::{Listed, workers};
 use crate::played::played;
+use crate::recorder::recorded;
 use crate::words::{Digits, bytes, number, yes};
 use anyhow::{Result, bail};
 use portmap_core::State;
@@ -41,6 +42,7 @@ impl Session {
             ),
             "front" => self.front_played(alloc, words),
             "local" => left(alloc, &self.bytes),
+            "recorder" => recorded(alloc, words, &self.listed.entries, &self.bytes),
             "check" | "begins" | "upgrade" | "workers" | "alone" => self.of_record(alloc, words),
             _ => self.listed.came(alloc, words),
         }
@@ -322,10 +324,7 @@ fn tell_start(told: &mut String, start: &State) -> Result<()> {
 
 /// How a record of version 2 is written with these workers, and with its active names alone where that is asked for.
 fn written_by(alloc: Global, session: Record, numbers: &[&str], alone: bool) -> Result<String> {
-    let mut workers = Vec::new(alloc);
-    for word in numbers {
-        workers.push(number::<u32>(word)?)?;
-    }
+    let workers = workers(alloc, numbers)?;
     let Record {
         config,
         version,

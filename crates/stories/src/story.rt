@@ -3,10 +3,12 @@ use crate::part::Part;
 use crate::words::Names;
 use anyhow::{Result, bail};
 use std::alloc::Global;
+use std::sync::Wait;
 
 /// A story that is being told.
 #[derive(Drop)]
-pub struct Story {
+pub struct Story<'a, R: Wait> {
+    host: &'a R,
     name: String,
     part: Part,
     holds: bool,
@@ -25,10 +27,11 @@ pub enum Ended {
     Wrong(String),
 }
 
-impl Story {
+impl<'a, R: Wait> Story<'a, R> {
     /// What stands before the first story of a file.
-    pub fn none(alloc: Global) -> Story {
+    pub fn none(host: &'a R, alloc: Global) -> Story<'a, R> {
         Story {
+            host,
             name: String::new(alloc),
             part: Part::None,
             holds: true,
@@ -36,7 +39,7 @@ impl Story {
     }
 
     /// The story that a line begins, if it begins one: by the part that it is about, and what it shows.
-    pub fn begun(alloc: Global, line: &str) -> Result<Option<Story>> {
+    pub fn begun(host: &'a R, alloc: Global, line: &str) -> Result<Option<Story<'a, R>>> {
         let Some((word, name)) = line.split_once(' ') else {
             return Ok(None);
         };
@@ -44,6 +47,7 @@ impl Story {
             return Ok(None);
         };
         Ok(Some(Story {
+            host,
             name: String::from_str(alloc, name)?,
             part,
             holds: true,
@@ -108,14 +112,14 @@ impl Story {
             ["maybe", ref words @ ..] => self.tried(alloc, words),
             _ => match self.tried(alloc, &words)? {
                 Some(came) => Ok(Some(came)),
-                None => Ok(Some(self.part.came(alloc, &words)?)),
+                None => Ok(Some(self.part.came(self.host, alloc, &words)?)),
             },
         }
     }
 
     /// What comes of an act, unless memory is refused to it: then nothing has changed.
     fn tried(&mut self, alloc: Global, words: &[&str]) -> Result<Option<String>> {
-        let came = self.part.came(alloc, words)?;
+        let came = self.part.came(self.host, alloc, words)?;
         if !came.as_str().contains("NoMemory") {
             return Ok(Some(came));
         }
@@ -127,7 +131,12 @@ impl Story {
 
     /// How it has ended.
     pub fn ended(self, alloc: Global) -> Result<Ended> {
-        let Story { name, part, holds } = self;
+        let Story {
+            name,
+            part,
+            holds,
+            ..
+        } = self;
         Ok(match part.ended(alloc) {
             Ok(()) if !holds => Ended::Badly,
             Ok(()) if name.is_empty() => Ended::Nameless,

@@ -2,24 +2,13 @@
 use portmap_daemon::{Host, Notice};
 use std::alloc::{AllocError, Global};
 use std::fs::{File, Files};
+use std::io;
 use std::net::{Net, SocketAddr};
 use std::rt::Clock;
 use std::sync::atomic::{AtomicU64, Ordering};
 use std::sync::{Arc, Wait};
 use std::thread::Threads;
 use std::time::Duration;
-use std::{io, thread};
-
-/// Waits until the number is this one, for ten seconds at most. Whether it is.
-pub fn comes_to<R: Clock>(rt: &R, number: &AtomicU64, wanted: u64) -> bool {
-    for _ in 0..10_000u32 {
-        if number.load(Ordering::SeqCst) == wanted {
-            return true;
-        }
-        thread::sleep(rt, Duration::from_millis(1));
-    }
-    false
-}
 
 /// A runtime whose clock can be pushed forward. It counts what the operator is told, and records also to a file that a link leads to.
 #[derive(Drop)]

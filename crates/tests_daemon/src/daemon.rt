@@ -166,20 +166,6 @@ fn pass<R: Net<Stream = TcpStream> + Clock>(rt: &R, alloc: Global, port: u16) ->
     Some(true)
 }
 
-/// How many bytes come until the peer closes.
-fn length_of(stream: &mut TcpStream) -> Option<usize> {
-    let mut buffer = [0; 4096];
-    let mut length = 0usize;
-    for _ in 0..u64::MAX {
-        let count = stream.read(&mut buffer).ok()?;
-        if count == 0 {
-            break;
-        }
-        length = length.saturating_add(count);
-    }
-    Some(length)
-}
-
 /// The list of names of the daemon at port 14,372, which is 0x3824, with none in it.
 const NONE_LISTED: &[u8] = &[0x00, 0x00, 0x38, 0x24];
 
@@ -192,7 +178,8 @@ fn stalls<R: Net<Stream = TcpStream> + Clock>(rt: &R, alloc: Global, port: u16) 
     let mut stalled = sent(rt, port, DUMP)?;
     let _node = registered(rt, port)?;
     let is_found = is_answered(rt, port, PORT_A, FOUND_A)?;
-    Some(have_passed && is_found && length_of(&mut stalled)? == DUMP_LENGTH)
+    let length = stalled.read_to_end(&mut Vec::new(alloc)).ok()?;
+    Some(have_passed && is_found && length == DUMP_LENGTH)
 }
 
 fn crowds<R: Net<Stream = TcpStream> + Clock>(rt: &R, alloc: Global, port: u16) -> Option<bool> {
@@ -225,7 +212,7 @@ pub fn settings_at(
     port: u16,
     timeout: u32,
     workers: u32,
-    recording: Option<String>,
+    recording: Option<&str>,
 ) -> Result<Settings, Fail>
     requires timeout { (1 ≤ timeout) × (timeout ≤ TIMEOUT_SECONDS_MOST) }
     requires workers { (1 ≤ workers) × (workers ≤ SEATS_MOST) }
@@ -233,6 +220,10 @@ pub fn settings_at(
     ensures timeout { IfOk result (λ settings. (1 ≤ settings.timeout) × (settings.timeout ≤ TIMEOUT_SECONDS_MOST)) }
     ensures workers { IfOk result (λ settings. (1 ≤ settings.workers) × (settings.workers ≤ SEATS_MOST)) }
 {
+    let recording = match recording {
+        Some(path) => Some(String::from_str(alloc, path)?),
+        None => None,
+    };
     let mut addresses = Vec::new(alloc);
     addresses.push([127, 0, 0, 1])?;
     Ok(Settings {
@@ -246,7 +237,7 @@ pub fn settings_at(
 }
 
 /// What the daemon of a story is set to.
-fn settings(alloc: Global, story: Story, recording: Option<String>) -> Result<Settings, Fail>
+fn settings(alloc: Global, story: Story, recording: Option<&str>) -> Result<Settings, Fail>
     ensures addresses { IfOk result (λ settings. 0 < vec_len settings.addresses) }
     ensures timeout { IfOk result (λ settings. (1 ≤ settings.timeout) × (settings.timeout ≤ TIMEOUT_SECONDS_MOST)) }
     ensures workers { IfOk result (λ settings. (1 ≤ settings.workers) × (settings.workers ≤ SEATS_MOST)) }
@@ -344,17 +335,12 @@ pub fn acts_of(ended: &Result<RunEnd, RunFault>) -> u64 {
     acts
 }
 
-/// The verdict on so many entries that are a run.
-fn verdict(alloc: Global, entries: u64) -> Result<String, Fail> {
-    Ok(format!(in alloc; "run of {} entries\n", entries)?)
-}
-
 /// Whether a recorded session is found to be a run of so many entries.
 fn is_run_of<F: Read + Drop>(alloc: Global, file: F, entries: u64) -> Result<bool, Fail> {
     let mut input = Reading::new(file);
     let mut output = Writing::new(Vec::new(alloc));
     let told = tell_verdict(alloc, &mut input, &mut output, u64::MAX);
-    let verdict = verdict(alloc, entries)?;
+    let verdict = format!(in alloc; "run of {entries} entries\n")?;
     Ok(told == Ok(true) && output.into_inner().as_slice() == verdict.as_bytes())
 }
 
@@ -364,11 +350,7 @@ const RECORDING: &str = "recording-14374";
 #[test]
 fn what_is_answered_is_recorded(rt: HostRuntime) -> Result<(), Fail> {
     let alloc = rt.alloc();
-    let settings = settings(
-        alloc,
-        Story::Records,
-        Some(String::from_str(alloc, RECORDING)?),
-    )?;
+    let settings = settings(alloc, Story::Records, Some(RECORDING))?;
     let (ended, told) = thread::join(
         &rt,
         || run(&rt, alloc, settings),
@@ -383,11 +365,7 @@ fn what_is_answered_is_recorded(rt: HostRuntime) -> Result<(), Fail> {
 #[test]
 fn a_recording_that_cannot_be_made_is_told(rt: HostRuntime) -> Result<(), Fail> {
     let alloc = rt.alloc();
-    let settings = settings(
-        alloc,
-        Story::Nowhere,
-        Some(String::from_str(alloc, "/none/there")?),
-    )?;
+    let settings = settings(alloc, Story::Nowhere, Some("/none/there"))?;
     let (ended, told) = thread::join(
         &rt,
         || run(&rt, alloc, settings),

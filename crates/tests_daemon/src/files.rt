@@ -2,7 +2,10 @@
 ghost use Rattle.std.specs.Prelude.{◌≡◌};
 
 use portmap_book::{Desk, PARTS};
-use portmap_daemon::{Part, RecordQueue, begin_file, write_recording};
+use portmap_daemon::{
+    Part, RecordQueue, begin_file, recordings_are_fronts, recordings_are_records, write_recording,
+};
+use portmap_record::{records_grow, records_have_parts};
 use portmap_testing::books::small_book;
 use portmap_testing::bytes::ALIVE_A;
 use portmap_testing::sessions::CLOSES;
@@ -112,17 +115,20 @@ fn hand_on<R: Wait + Clock>(
     is_handed_on::<Brand, R>(rt, alloc, Blank::new(PARTS), queue, turn)
 }
 
-/// Whether all of that, which is handed on before any of it is written, is written to a file that is full once it has so many bytes.
-fn is_written<R: Files<File = File> + Wait + Clock>(
+/// Whether all of that, which is handed on before any of it is written, is written to a file that is full once it has so many bytes, and
+/// whether the queue says then that it is full.
+fn written<R: Files<File = File> + Wait + Clock>(
     rt: &R,
     alloc: Global,
+    turn: Turn,
     file_most: u64,
     path: &str,
-) -> Option<bool> {
+) -> Option<(bool, bool)> {
     let queue = RecordQueue::new(alloc);
-    let is_handed_on = hand_on(rt, alloc, &queue, Turn::Full)?;
+    let is_handed_on = hand_on(rt, alloc, &queue, turn)?;
     write_recording(rt, alloc, &queue, path, file_most);
-    Some(is_handed_on && queue.is_written(rt, Duration::ZERO))
+    let is_written = is_handed_on && queue.is_written(rt, Duration::ZERO);
+    Some((is_written, queue.is_full(rt)))
 }
 
 /// Whether a file has these bytes. It is removed.
@@ -157,23 +163,17 @@ fn is_one_record(rt: &HostRuntime, path: &str) -> Result<bool, Fail> {
 
 #[test]
 fn a_file_that_is_not_full_goes_on(rt: HostRuntime) -> Result<(), Fail> {
-    assert_eq!(rt; is_written(&rt, rt.alloc(), 107, "room"), Some(true));
+    let written = written(&rt, rt.alloc(), Turn::Full, 107, "room");
+    assert!(rt; matches!(written, Some((true, _))));
     assert!(rt; is_one_record(&rt, "room")? && !fs::exists(&rt, "room.1")?);
     Ok(())
 }
 
-/// Whether the queue says of no file that it is full, where the first one is, of 93 bytes, and the second one, of 86, waits for it.
-fn waits_behind<R: Files<File = File> + Wait + Clock>(rt: &R, alloc: Global) -> Option<bool> {
-    let queue = RecordQueue::new(alloc);
-    let is_handed_on = hand_on(rt, alloc, &queue, Turn::AtOnce)?;
-    write_recording(rt, alloc, &queue, "behind", 90);
-    let is_written = queue.is_written(rt, Duration::ZERO);
-    Some(is_handed_on && is_written && !queue.is_full(rt))
-}
-
+/// The first one is full, of 93 bytes, and the second one, of 86, waits for it.
 #[test]
 fn a_file_that_waits_for_the_one_before_it_is_not_full(rt: HostRuntime) -> Result<(), Fail> {
-    assert_eq!(rt; waits_behind(&rt, rt.alloc()), Some(true));
+    let written = written(&rt, rt.alloc(), Turn::AtOnce, 90, "behind");
+    assert_eq!(rt; written, Some((true, false)));
     assert!(rt; has_had(&rt, "behind", &REGISTERS)? && has_had(&rt, "behind.1", &CLOSES)?);
     Ok(())
 }
@@ -181,6 +181,15 @@ fn a_file_that_waits_for_the_one_before_it_is_not_full(rt: HostRuntime) -> Resul
 /// A device that takes no byte.
 #[test]
 fn a_file_that_takes_nothing_is_told(rt: HostRuntime) -> Result<(), Fail> {
-    assert_eq!(rt; is_written(&rt, rt.alloc(), 94, "/dev/full"), Some(false));
+    let written = written(&rt, rt.alloc(), Turn::Full, 94, "/dev/full");
+    assert!(rt; matches!(written, Some((false, _))));
     Ok(())
+}
+
+#[test]
+fn the_laws_of_recordings_are_calls_that_do_nothing() {
+    records_have_parts();
+    records_grow();
+    recordings_are_fronts();
+    recordings_are_records();
 }

@@ -6,6 +6,12 @@ use std::sync::atomic::{AtomicU64, Ordering};
 use std::thread;
 use std::time::Duration;
 
+/// A gate that says when a worker that is to come behind another one may begin.
+pub trait Order: Gate {
+    /// Returns once it may.
+    fn follow(&self);
+}
+
 /// A gate at which two workers meet with no lock held: the one that comes first at `Answered` is held there until one with
 /// another number has passed. After a million looks it lets go, and notes it.
 #[derive(Drop)]
@@ -73,6 +79,10 @@ impl<R: Clock> Gate for Meet<'_, R> {
     }
 }
 
+impl<R: Clock> Order for Meet<'_, R> {
+    fn follow(&self) {}
+}
+
 /// A gate for a worker 0 and one that comes behind it: it holds worker 0 at `Sent` until the other one is there too. After ten
 /// seconds it lets go, and notes it.
 #[derive(Drop)]
@@ -98,11 +108,6 @@ impl<'a, R: Clock> Relay<'a, R> {
         self.noted.load(Ordering::SeqCst)
     }
 
-    /// Returns once worker 0 is at `Sent`.
-    pub fn follow(&self) {
-        self.wait(&self.ahead);
-    }
-
     fn wait(&self, flag: &AtomicU64) {
         if !is_raised(self.rt, flag) {
             self.noted.fetch_add(1, Ordering::SeqCst);
@@ -120,5 +125,12 @@ impl<R: Clock> Gate for Relay<'_, R> {
             }
             (_, Point::Sent) => self.behind.store(1, Ordering::SeqCst),
         }
+    }
+}
+
+impl<R: Clock> Order for Relay<'_, R> {
+    /// Once worker 0 is at `Sent`.
+    fn follow(&self) {
+        self.wait(&self.ahead);
     }
 }

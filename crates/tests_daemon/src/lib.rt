@@ -1,8 +1,6 @@
-//! What no clause says of the daemon: workers over memory, the daemon over sockets of this host, its recordings, and links that fail.
+//! What no clause and no story shows of the daemon: two workers over memory, the daemon over sockets of this host, and its recordings.
 #![tactic(auto)]
 
-#[cfg(test)]
-mod broken_links;
 #[cfg(test)]
 mod clocks;
 #[cfg(test)]
@@ -18,12 +16,6 @@ mod links;
 #[cfg(test)]
 mod places;
 #[cfg(test)]
-mod recorder;
-#[cfg(test)]
 mod recordings;
-#[cfg(test)]
-mod serving;
-#[cfg(test)]
-mod sources;
 #[cfg(test)]
 mod workers;

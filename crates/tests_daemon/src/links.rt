@@ -52,84 +52,64 @@ impl Call {
     }
 }
 
-/// The place of the first step that goes otherwise.
-fn first_fault(link: &mut Link<Script<'_>>) -> Option<usize> {
-    for (place, Step(call, _, later, moves)) in STEPS.iter().enumerate() {
-        let is_later = call.is_later(link);
-        if is_later != *later || link.may_move() != *moves {
-            return Some(place);
-        }
-    }
-    None
-}
-
 #[test]
 fn only_a_call_that_would_have_waited_ends_the_asking(rt: HostRuntime) -> Result<(), Fail> {
     let told: Vec<Told> = STEPS.iter().map(|step| step.1).collect(rt.alloc())?;
     let mut link = Link::new(rt.alloc(), scripted(&told), false, 0);
     assert!(rt; link.may_move());
-    assert_eq!(rt; first_fault(&mut link), None);
+    for Step(call, _, is_later, may_move) in STEPS {
+        assert_eq!(rt;
+            (call.is_later(&mut link), link.may_move()),
+            (*is_later, *may_move)
+        );
+    }
     Ok(())
 }
 
-/// What comes first, and whether it is kept back as a request to register a name.
-const FIRST: &[(&[u8], bool)] = &[
-    (ALIVE_A, true),
-    (PORT_A, false),
-    (NAMES, false),
-    (&[0x00, 0x0E, 0x78, 0x13], false),
-    (&[0x00], false),
+/// What comes first, whether it is from this host, and whether it is kept back as a request to register a name.
+const FIRST: &[(&[u8], bool, bool)] = &[
+    (ALIVE_A, true, true),
+    (ALIVE_A, false, false),
+    (PORT_A, true, false),
+    (NAMES, true, false),
+    (&[0x00, 0x0E, 0x78, 0x13], true, false),
+    (&[0x00], true, false),
 ];
 
-/// Whether the next pull gives all these bytes.
-fn gives(link: &mut Link<Giving<'_>>, bytes: &[u8]) -> bool {
+/// Whether a link gives these bytes at once, once it has said Later where its stream fails so first. If they are kept back, that it is
+/// asked to register `a`, it says Later to one pull before.
+fn gives(
+    alloc: Global,
+    first: Option<ErrorKind>,
+    (bytes, is_local, is_kept): (&[u8], bool, bool),
+) -> bool {
+    let mut link = Link::new(alloc, Giving { first, bytes }, is_local, 0);
     let mut buffer = [0; 64];
-    link.pull(&mut buffer) == Pull::Piece(bytes.len()) && buffer.starts_with(bytes)
-}
-
-/// A stream that gives these bytes at once.
-fn giving(bytes: &[u8]) -> Giving<'_> {
-    Giving { first: None, bytes }
-}
-
-/// Whether a link keeps back that it is asked to register `a`, for one pull, once it has said Later where its stream fails so first.
-fn keeps(alloc: Global, first: Option<ErrorKind>, bytes: &[u8]) -> bool {
-    let mut link = Link::new(alloc, Giving { first, bytes }, true, 0);
-    if first.is_some() && (link.pull(&mut [0; 64]) != Pull::Later || link.asked_name().is_some()) {
+    if first.is_some() && (link.pull(&mut buffer) != Pull::Later || link.asked_name().is_some()) {
         return false;
     }
-    let is_later = link.pull(&mut [0; 64]) == Pull::Later;
-    let is_asked = link
-        .asked_name()
-        .is_some_and(|name| name.bytes() == b"a".as_slice());
-    is_later && is_asked && gives(&mut link, bytes) && link.asked_name().is_none()
+    if is_kept && (link.pull(&mut buffer) != Pull::Later || !asks(&link, b"a")) {
+        return false;
+    }
+    let is_given = link.pull(&mut buffer) == Pull::Piece(bytes.len()) && buffer.starts_with(bytes);
+    is_given && link.asked_name().is_none()
 }
 
-/// Whether a link gives at once what it was sent.
-fn gives_at_once(alloc: Global, bytes: &[u8]) -> bool {
-    let mut link = Link::new(alloc, giving(bytes), true, 0);
-    gives(&mut link, bytes) && link.asked_name().is_none()
+fn asks(link: &Link<Giving<'_>>, name: &[u8]) -> bool {
+    link.asked_name().is_some_and(|asked| asked.bytes() == name)
 }
 
 #[test]
 fn a_first_piece_that_registers_a_name_is_kept_back(rt: HostRuntime) -> Result<(), Fail> {
-    for (bytes, is_kept) in FIRST {
+    for case in FIRST {
         for first in [
             None,
             Some(ErrorKind::WouldBlock),
             Some(ErrorKind::Interrupted),
         ] {
-            assert_eq!(rt; keeps(rt.alloc(), first, bytes), *is_kept);
+            assert!(rt; gives(rt.alloc(), first, *case));
         }
-        assert_eq!(rt; gives_at_once(rt.alloc(), bytes), !*is_kept);
     }
-    Ok(())
-}
-
-#[test]
-fn a_link_of_another_host_gives_all_at_once(rt: HostRuntime) -> Result<(), Fail> {
-    let mut link = Link::new(rt.alloc(), giving(ALIVE_A), false, 0);
-    assert!(rt; gives(&mut link, ALIVE_A));
     Ok(())
 }
 

@@ -1,12 +1,8 @@
 //! Places for connections, over sockets of this host, with a clock that is pushed forward.
-ghost use Rattle.std.specs.Prelude.{◌<◌, ◌≤◌, vec_len, IfOk};
-ghost use Rattle.portmap_book.specs.declared.desk.TheConstants.{SEATS_MOST};
-ghost use Rattle.portmap_daemon.specs.declared.limits.TheConstants.{TIMEOUT_SECONDS_MOST};
-
 use crate::clocks::{Pushed, Pushing};
 use crate::daemon::{is_answered, registered, settings_at};
 use portmap_core::Config;
-use portmap_daemon::{Host, RunFault, Settings, run};
+use portmap_daemon::{Host, RunFault, run};
 use portmap_testing::bytes::{FOUND_A, KILL, PORT_A};
 use portmap_testing::peers::connect;
 use std::alloc::Global;
@@ -29,22 +25,12 @@ const PUSHES: u32 = 20;
 /// For so many milliseconds a connection is looked at that is to stay.
 const PATIENCE: u64 = 1500;
 
-/// What a daemon at this port is set to, which has places for two connections.
-fn settings_of_two(alloc: Global, port: u16) -> Result<Settings, Fail>
-    ensures addresses { IfOk result (λ settings. 0 < vec_len settings.addresses) }
-    ensures timeout { IfOk result (λ settings. (1 ≤ settings.timeout) × (settings.timeout ≤ TIMEOUT_SECONDS_MOST)) }
-    ensures workers { IfOk result (λ settings. (1 ≤ settings.workers) × (settings.workers ≤ SEATS_MOST)) }
-{
-    let mut settings = settings_at(alloc, port, 60, 1, None)?;
-    settings.config = Config::new(port, true, 2, 4096)?;
-    Ok(settings)
-}
-
 /// Whether a daemon at this port that has places for two connections ends well.
 fn serves<
     R: Net + Host<File = File> + Threads + Wait + Clock + Clone + Drop + Send + Sync + 'static,
 >(rt: &R, alloc: Global, port: u16) -> Result<bool, Fail> {
-    let settings = settings_of_two(alloc, port)?;
+    let mut settings = settings_at(alloc, port, 60, 1, None)?;
+    settings.config = Config::new(port, true, 2, 4096)?;
     Ok(run(rt, alloc, settings).is_ok())
 }
 
@@ -103,20 +89,10 @@ fn a_connection_that_says_nothing_makes_room_for_others(rt: HostRuntime) -> Resu
     Ok(())
 }
 
-/// What a daemon at this port is set to, which is to listen on one address twice.
-fn settings_of_one_twice(alloc: Global, port: u16) -> Result<Settings, Fail>
-    ensures addresses { IfOk result (λ settings. 0 < vec_len settings.addresses) }
-    ensures timeout { IfOk result (λ settings. (1 ≤ settings.timeout) × (settings.timeout ≤ TIMEOUT_SECONDS_MOST)) }
-    ensures workers { IfOk result (λ settings. (1 ≤ settings.workers) × (settings.workers ≤ SEATS_MOST)) }
-{
-    let mut settings = settings_at(alloc, port, 60, 1, None)?;
-    settings.addresses.push([127, 0, 0, 1])?;
-    Ok(settings)
-}
-
 #[test]
 fn the_address_that_is_taken_is_told(rt: HostRuntime) -> Result<(), Fail> {
-    let settings = settings_of_one_twice(rt.alloc(), 14_441)?;
+    let mut settings = settings_at(rt.alloc(), 14_441, 60, 1, None)?;
+    settings.addresses.push([127, 0, 0, 1])?;
     let ended = run(&rt, rt.alloc(), settings);
     assert!(rt; matches!(ended, Err(RunFault::Listen(1))));
     Ok(())

@@ -1,9 +1,10 @@
 //! Recordings of a daemon: where the file stalls it serves on, and ends when it is told to; where the file is full it goes on in a
 //! further one.
-use crate::clocks::{Pushed, comes_to};
+use crate::clocks::Pushed;
 use crate::daemon::{acts_of, is_answered, registered, settings_at};
 use portmap_daemon::{Open, RunEnd, RunFault, run, run_in_files};
 use portmap_record::{Version, check, read_record};
+use portmap_testing::books::is_raised;
 use portmap_testing::bytes::{FOUND_A, KILL, NOT_FOUND, PORT_A};
 use std::alloc::{AllocError, Global};
 use std::fs::{File, Files};
@@ -45,7 +46,7 @@ fn a_recording_that_stalls_holds_nobody(rt: HostRuntime) -> Result<(), Fail> {
     let alloc = rt.alloc();
     let (_unread, full) = pipe(&rt)?;
     let path = path_of(alloc, &full)?;
-    let settings = settings_at(alloc, PORT, 60, 2, Some(path))?;
+    let settings = settings_at(alloc, PORT, 60, 2, Some(path.as_str()))?;
     let host = Pushed::new(rt, alloc)?;
     let (ended, told) = thread::join(&rt, || run(&host, alloc, settings), || are_answered(&rt));
     assert!(rt; told && acts_of(&ended) > u64::from(LOOK_UPS));
@@ -59,15 +60,12 @@ fn is_told_once<R: Clock + Copy>(host: &Pushed<R>, ended: &Result<RunEnd, RunFau
     is_told_so && host.pushing().told.load(Ordering::SeqCst) == 1
 }
 
-/// A file in a folder that is not there.
-const NOWHERE: &str = "nowhere/recording";
-
 /// Whether the operator is told while the daemon serves.
 fn is_told_at_once<R: Net<Stream = TcpStream> + Clock + Copy>(
     rt: &R,
     host: &Pushed<R>,
 ) -> Option<bool> {
-    let is_told = comes_to(rt, &host.pushing().told, 1);
+    let is_told = is_raised(rt, &host.pushing().told);
     let serves = is_answered(rt, MUTE_PORT, PORT_A, NOT_FOUND)?;
     Some(is_answered(rt, MUTE_PORT, KILL, b"OK")? && is_told && serves)
 }
@@ -75,8 +73,7 @@ fn is_told_at_once<R: Net<Stream = TcpStream> + Clock + Copy>(
 #[test]
 fn a_recording_that_fails_is_told_at_once_and_once(rt: HostRuntime) -> Result<(), Fail> {
     let alloc = rt.alloc();
-    let path = String::from_str(alloc, NOWHERE)?;
-    let settings = settings_at(alloc, MUTE_PORT, 60, 1, Some(path))?;
+    let settings = settings_at(alloc, MUTE_PORT, 60, 1, Some("nowhere/recording"))?;
     let host = Pushed::new(rt, alloc)?;
     let (ended, told) = thread::join(
         &rt,
@@ -95,9 +92,6 @@ const FIRST: &str = "recording-14421";
 const SECOND: &str = "recording-14421.1";
 
 const THIRD: &str = "recording-14421.2";
-
-/// So many bytes a header has with which nothing is known: each file is full at once.
-const FULL: u64 = 37;
 
 /// Whether a node is looked up and found until a file is there, which is within ten seconds.
 fn is_found_until<R: Net<Stream = TcpStream> + Clock + Files<File = File>>(
@@ -135,15 +129,9 @@ fn numbered(alloc: Global, number: u32) -> Result<String, AllocError> {
 /// How many entries a recording has that begins at this place, where it is a run.
 fn entries_from(alloc: Global, bytes: &[u8], place: u64) -> Option<u64> {
     let session = read_record(alloc, bytes).ok()?;
-    let begins_there = match &session.version {
-        Version::Two { first, .. } => *first == place,
-        Version::One => false,
-    };
-    if begins_there && check(alloc, &session) == Ok(()) {
-        Some(session.entries.len() as u64)
-    } else {
-        None
-    }
+    let begins_there = matches!(&session.version, Version::Two { first, .. } if *first == place);
+    let is_run = begins_there && check(alloc, &session) == Ok(());
+    is_run.then_some(session.entries.len() as u64)
 }
 
 /// The same of a file, which is removed.
@@ -172,11 +160,11 @@ fn recorded(rt: &HostRuntime) -> Result<Option<u64>, Fail> {
 #[test]
 fn a_recording_goes_on_in_files_that_follow_one_another(rt: HostRuntime) -> Result<(), Fail> {
     let alloc = rt.alloc();
-    let path = String::from_str(alloc, FIRST)?;
-    let settings = settings_at(alloc, NEXT_PORT, 60, 1, Some(path))?;
+    let settings = settings_at(alloc, NEXT_PORT, 60, 1, Some(FIRST))?;
+    // So many bytes a header has with which nothing is known: each file is full at once.
     let (ended, told) = thread::join(
         &rt,
-        || run_in_files(&rt, alloc, settings, &Open, FULL),
+        || run_in_files(&rt, alloc, settings, &Open, 37),
         || goes_on(&rt),
     );
     let acts = acts_of(&ended);

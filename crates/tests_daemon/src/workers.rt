@@ -1,20 +1,14 @@
-//! A carrier by itself, and two workers at one desk, over memory.
+//! Workers at one desk, over memory: what is written where a worker passes its gate, and two that meet there or follow one another.
 ghost use Rattle.std.specs.Prelude.{◌≡◌};
 
-use crate::gates::{Meet, Relay};
-use crate::serving::FRESH;
-use crate::sources::{Fake, two_links};
+use crate::gates::{Meet, Order, Relay};
 use portmap_book::{Desk, PARTS, Seat};
-use portmap_core::Fate;
-use portmap_daemon::{Carrier, Gate, Next, Open, Outcome, Point, Source, Turn, serve};
-use portmap_testing::books::{book, is_said};
-use portmap_testing::bytes::{
-    ALIVE_A, Bytes, FOUND_A, FOURTH, NAMES, NONE_LISTED, NOTHING, PORT_A,
-};
-use portmap_testing::tape::{Plan, STEADY, Tape, Watched};
+use portmap_daemon::{Carrier, Gate, Outcome, Point, Source, Turn, serve};
+use portmap_testing::books::book;
+use portmap_testing::bytes::{ALIVE_A, Bytes, FOUND_A, FOURTH, NAMES, NONE_LISTED, PORT_A};
+use portmap_testing::tape::{STEADY, Tape, Watched};
 use std::alloc::Global;
 use std::marker::Brand;
-use std::rt::Clock;
 use std::sync::Wait;
 use std::sync::atomic::{AtomicU64, Ordering};
 use std::sync::ledger::{Blank, Ledger};
@@ -22,45 +16,30 @@ use std::test::Fail;
 use std::thread;
 use std::thread::Threads;
 
-/// Whether a registration is answered and written, and nothing is told while the link says Later.
-fn registers_once<L: Ledger, R: Wait>(
-    rt: &R,
-    alloc: Global,
-    desk: &Desk<L>,
-    seat: &mut Seat<L>,
-    tape: &mut Tape<'_>,
-) -> Option<bool> {
-    let (_, conn) = desk.connect(rt, alloc, seat, true).ok()?;
-    let mut carrier = Carrier::new(alloc, conn);
-    let (told, next) = carrier.ready(rt, alloc, desk, seat, 0, tape, &Open);
-    let (place, answer) = told?;
-    let is_told = place == 1 && is_said(&answer, FOURTH, Fate::Stay) && next == Next::Keep;
-    let (none, next) = carrier.ready(rt, alloc, desk, seat, 0, tape, &Open);
-    Some(is_told && none.is_none() && next == Next::Keep && tape.sink.as_slice() == FOURTH)
-}
+/// A source of one link, which was asked so often: its connection comes, and has something.
+#[derive(Drop)]
+struct One<'a>(&'a mut Tape<'static>, u32);
 
-fn one_carrier<L: Ledger, R: Wait>(rt: &R, alloc: Global, blank: Blank) -> Option<bool>
-    requires name { blank.name ≡ L.name }
-    requires parts { blank.parts ≡ L.parts }
-    requires enough { blank.parts ≡ PARTS }
-{
-    let plan = Plan {
-        later: &[(2, 3)],
-        ..STEADY
-    };
-    let mut tape = Tape::new(alloc, ALIVE_A, plan);
-    let desk: Desk<L> = Desk::new(blank, book(alloc, false, 2)?);
-    let mut seat = desk.seat(rt, 1)?;
-    registers_once(rt, alloc, &desk, &mut seat, &mut tape)
-}
+impl<'a> Source for One<'a> {
+    type Link = Tape<'static>;
 
-#[test]
-fn a_carrier_tells_what_it_writes(rt: HostRuntime) -> Result<(), Fail> {
-    assert_eq!(rt;
-        one_carrier::<Brand, HostRuntime>(&rt, rt.alloc(), Blank::new(PARTS)),
-        Some(true)
-    );
-    Ok(())
+    fn turn(&mut self) -> Turn {
+        self.1 = self.1.saturating_add(1);
+        match self.1 {
+            1 => Turn::Fresh {
+                key: 7,
+                local: true,
+            },
+            2 => Turn::Ready(7),
+            _ => Turn::Stop,
+        }
+    }
+
+    fn link(&mut self, _key: u64) -> Option<&mut Tape<'static>> {
+        Some(&mut *self.0)
+    }
+
+    fn end(&mut self, _key: u64) {}
 }
 
 /// A gate that notes how many bytes of an answer are written at each point.
@@ -122,9 +101,6 @@ fn a_gate_is_passed_before_an_answer_is_written_and_after(rt: HostRuntime) -> Re
     Ok(())
 }
 
-/// A connection comes, and has something.
-const ONE_REQUEST: &[Turn] = &[FRESH, Turn::Ready(7)];
-
 /// A worker's seat when it is done with one request, how many acts it made, and whether it wrote this reply.
 fn worked<L: Ledger, G: Gate, R: Wait>(
     rt: &R,
@@ -133,13 +109,11 @@ fn worked<L: Ledger, G: Gate, R: Wait>(
     seat: Seat<L>,
     number: u32,
     gate: &G,
-    request: Bytes,
-    reply: Bytes,
+    (request, reply): (Bytes, Bytes),
 ) -> (Outcome<L>, bool) {
-    let mut wires = two_links(alloc, [request, NOTHING], STEADY);
-    let source = Fake::new(&mut wires, ONE_REQUEST);
-    let outcome = serve(rt, alloc, desk, seat, number, source, gate);
-    (outcome, wires.seven.sink.as_slice() == reply)
+    let mut link = Tape::new(alloc, request, STEADY);
+    let outcome = serve(rt, alloc, desk, seat, number, One(&mut link, 0), gate);
+    (outcome, link.sink.as_slice() == reply)
 }
 
 /// How many acts two workers made, and how many are in the book, if both seats make it up.
@@ -157,12 +131,14 @@ fn ending_of<L: Ledger>(
     Some([served[0], served[1], book.count()])
 }
 
-/// Two workers ask for the list of names, by the same gate.
-fn two_lists<L: Ledger + Send + Sync, G: Gate + Sync, R: Threads + Wait + Sync>(
+/// The same of two workers that pass the same gate, if each writes the reply to its request. The second one comes when the gate says so.
+fn two_workers<L: Ledger + Send + Sync, G: Order + Sync, R: Threads + Wait + Sync>(
     rt: &R,
     alloc: Global,
     blank: Blank,
     gate: &G,
+    first: (Bytes, Bytes),
+    second: (Bytes, Bytes),
 ) -> Option<[u64; 3]>
     requires name { blank.name ≡ L.name }
     requires parts { blank.parts ≡ L.parts }
@@ -174,8 +150,11 @@ fn two_lists<L: Ledger + Send + Sync, G: Gate + Sync, R: Threads + Wait + Sync>(
     let shared = &desk;
     let ((one, is_one), (two, is_two)) = thread::join(
         rt,
-        move || worked(rt, alloc, shared, one, 0, gate, NAMES, NONE_LISTED),
-        move || worked(rt, alloc, shared, two, 1, gate, NAMES, NONE_LISTED),
+        move || worked(rt, alloc, shared, one, 0, gate, first),
+        move || {
+            gate.follow();
+            worked(rt, alloc, shared, two, 1, gate, second)
+        },
     );
     if !is_one || !is_two {
         return None;
@@ -186,90 +165,30 @@ fn two_lists<L: Ledger + Send + Sync, G: Gate + Sync, R: Threads + Wait + Sync>(
 #[test]
 fn two_workers_hold_an_answer_at_once(rt: HostRuntime) -> Result<(), Fail> {
     let gate = Meet::new(&rt);
-    let ended = two_lists::<Brand, Meet<'_, HostRuntime>, HostRuntime>(
+    let names = (NAMES, NONE_LISTED);
+    let ended = two_workers::<Brand, Meet<'_, HostRuntime>, HostRuntime>(
         &rt,
         rt.alloc(),
         Blank::new(PARTS),
         &gate,
+        names,
+        names,
     );
     assert_eq!(rt; ended, Some([3, 3, 6]));
     assert!(rt; gate.have_met());
     Ok(())
 }
 
-/// A source that tells its first turn once worker 0 is at `Sent`.
-#[derive(Drop)]
-struct Behind<'a, 'b, 'c, R: Clock> {
-    gate: &'a Relay<'b, R>,
-    source: Fake<'c>,
-}
-
-impl<'a, 'b, 'c, R: Clock> Source for Behind<'a, 'b, 'c, R> {
-    type Link = Tape<'static>;
-
-    fn turn(&mut self) -> Turn {
-        self.gate.follow();
-        self.source.turn()
-    }
-
-    fn link(&mut self, key: u64) -> Option<&mut Tape<'static>> {
-        self.source.link(key)
-    }
-
-    fn end(&mut self, key: u64) {
-        self.source.end(key);
-    }
-}
-
-/// A worker that looks `a` up behind worker 0.
-fn finds<'a, L: Ledger, R: Wait + Clock>(
-    rt: &'a R,
-    alloc: Global,
-    desk: &'a Desk<L>,
-    seat: Seat<L>,
-    gate: &'a Relay<'_, R>,
-) -> (Outcome<L>, bool) {
-    let mut wires = two_links(alloc, [PORT_A, NOTHING], STEADY);
-    let source = Fake::new(&mut wires, ONE_REQUEST);
-    let source = Behind { gate, source };
-    let outcome = serve(rt, alloc, desk, seat, 1, source, gate);
-    (outcome, wires.seven.sink.as_slice() == FOUND_A)
-}
-
-/// One worker registers `a`, and another one looks it up once the answer is written.
-fn one_finds_the_other<L: Ledger + Send + Sync, R: Threads + Wait + Clock + Sync>(
-    rt: &R,
-    alloc: Global,
-    blank: Blank,
-    gate: &Relay<'_, R>,
-) -> Option<[u64; 3]>
-    requires name { blank.name ≡ L.name }
-    requires parts { blank.parts ≡ L.parts }
-    requires enough { blank.parts ≡ PARTS }
-{
-    let desk: Desk<L> = Desk::new(blank, book(alloc, false, 2)?);
-    let one = desk.seat(rt, 1)?;
-    let two = desk.seat(rt, 2)?;
-    let shared = &desk;
-    let ((one, is_registered), (two, is_found)) = thread::join(
-        rt,
-        move || worked(rt, alloc, shared, one, 0, gate, ALIVE_A, FOURTH),
-        move || finds(rt, alloc, shared, two, gate),
-    );
-    if !is_registered || !is_found {
-        return None;
-    }
-    ending_of(alloc, desk, one, two)
-}
-
 #[test]
 fn a_worker_sends_what_another_one_has_registered(rt: HostRuntime) -> Result<(), Fail> {
     let gate = Relay::new(&rt);
-    let ended = one_finds_the_other::<Brand, HostRuntime>(
+    let ended = two_workers::<Brand, Relay<'_, HostRuntime>, HostRuntime>(
         &rt,
         rt.alloc(),
         Blank::new(PARTS),
         &gate,
+        (ALIVE_A, FOURTH),
+        (PORT_A, FOUND_A),
     );
     assert_eq!(rt; ended, Some([3, 3, 6]));
     assert_eq!(rt; gate.noted(), 0);

@@ -1,4 +1,4 @@
 use Rattle.tests_daemon.proofs.workers.a_worker_sends_what_another_one_has_registered.Given as goal
 
-abbrev pub ghosts-one_finds_the_other : goal.ghosts-one_finds_the_other
-ghosts-one_finds_the_other g a = record { name = a.blank.name; parts = a.blank.parts }
+abbrev pub ghosts-two_workers : goal.ghosts-two_workers
+ghosts-two_workers g a = record { name = a.blank.name; parts = a.blank.parts }

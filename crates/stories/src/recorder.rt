@@ -1,0 +1,48 @@
+//! A session that is recorded list by list.
+ghost use Rattle.std.specs.Prelude.{◌≡◌, false};
+
+use crate::devices::plan;
+use crate::listed::{settings, workers};
+use crate::words::yes;
+use anyhow::{Result, bail};
+use portmap_core::{Entry, State};
+use portmap_daemon::Recorder;
+use portmap_link::Output;
+use portmap_testing::tape::Tape;
+use std::alloc::Global;
+
+/// What a recorder over a device answers at the header, at two entries and at the others, with the numbers of workers, and how many puts
+/// it makes and bytes it writes, which are a front of these.
+pub fn recorded(alloc: Global, words: &[&str], entries: &[Entry], bytes: &[u8]) -> Result<String> {
+    let ["recorder", device, ref numbers @ ..] = *words else {
+        bail!("no device")
+    };
+    let mut recorder = Recorder::new(Tape::new(alloc, &[], plan(device)?));
+    let answers = answers(alloc, &mut recorder, entries, &workers(alloc, numbers)?)?;
+    let Tape { calls, sink, .. } = recorder.output();
+    if !bytes.starts_with(sink) {
+        bail!("other bytes are written");
+    }
+    let [begun, one, two] = answers.map(yes);
+    Ok(format!(in alloc; "{begun} {one} {two} puts {calls} bytes {}", sink.len())?)
+}
+
+fn answers<W: Output>(
+    alloc: Global,
+    recorder: &mut Recorder<W>,
+    entries: &[Entry],
+    workers: &[u32],
+) -> Result<[bool; 3]>
+    requires { recorder.old.begun ≡ false }
+{
+    let config = settings()?;
+    let start = State::empty(alloc);
+    if !start.owned(alloc, &config)? {
+        bail!("a session may not begin so");
+    }
+    let begun = recorder.begin(alloc, &config, 0, &start);
+    let (entries, others) = entries.split_at(entries.len().min(2));
+    let (workers, other_workers) = workers.split_at(workers.len().min(2));
+    let added = recorder.add(alloc, entries, workers);
+    Ok([begun, added, recorder.add(alloc, others, other_workers)])
+}

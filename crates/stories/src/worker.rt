@@ -1,0 +1,300 @@
+//! A worker of the daemon, and the turns that a source of two links tells it.
+ghost use Rattle.std.specs.Prelude.{◌≡◌};
+
+use crate::devices::plan;
+use crate::events::is_local;
+use crate::words::{Digits, bytes, number};
+use anyhow::{Result, bail};
+use portmap_book::{Desk, PARTS, Seat};
+use portmap_core::Entry;
+use portmap_daemon::{Open, Outcome, Source, Turn, serve};
+use portmap_record::{Verdict, transcript};
+use portmap_testing::books::{book, is_killed};
+use portmap_testing::tape::{Plan, STEADY, Tape};
+use std::alloc::Global;
+use std::marker::Brand;
+use std::slice::Iter;
+use std::sync::Wait;
+use std::sync::ledger::{Blank, Ledger};
+
+/// What a source brings to a worker. Each line is told over a new one, which makes all turns up to there and then stops.
+#[derive(Drop)]
+pub struct Scene {
+    is_relaxed: bool,
+    conn_max: u32,
+    /// What the links 7 and 8 give. Link 8 moves all at each call.
+    seven: Vec<u8>,
+    eight: Vec<u8>,
+    plan: Plan,
+    /// Whether another connection has ended the port mapper before.
+    is_killed: bool,
+    turns: Vec<Turn>,
+    told: Told,
+}
+
+/// How many entries, bytes of link 7, bytes of link 8 and ended links were told.
+type Told = [usize; 4];
+
+/// The links 7 and 8, which were given up, and what is logged before the worker is told to stop.
+#[derive(Drop)]
+struct Wires<'a> {
+    seven: Tape<'a>,
+    eight: Tape<'a>,
+    ended: Vec<u64>,
+    log: Vec<Entry>,
+}
+
+/// A source that tells the turns of a list, and then Stop, once it has taken out the log. It has no link but those two.
+#[derive(Drop)]
+struct Listed<'a, 'b, L: Ledger, R: Wait> {
+    rt: &'a R,
+    alloc: Global,
+    desk: &'a Desk<L>,
+    wires: &'a mut Wires<'b>,
+    turns: Iter<'a, Turn>,
+}
+
+impl<'a, 'b, L: Ledger, R: Wait> Source for Listed<'a, 'b, L, R> {
+    type Link = Tape<'b>;
+
+    fn turn(&mut self) -> Turn {
+        if let Some(turn) = self.turns.next() {
+            return *turn;
+        }
+        self.wires.take_log(self.rt, self.alloc, self.desk);
+        Turn::Stop
+    }
+
+    fn link(&mut self, key: u64) -> Option<&mut Tape<'b>> {
+        match key {
+            7 => Some(&mut self.wires.seven),
+            8 => Some(&mut self.wires.eight),
+            _ => None,
+        }
+    }
+
+    fn end(&mut self, key: u64) {
+        let _ = self.wires.ended.push(key);
+    }
+}
+
+impl<'a> Wires<'a> {
+    fn take_log<L: Ledger, R: Wait>(&mut self, rt: &R, alloc: Global, desk: &Desk<L>) {
+        desk.advance(rt, alloc, &mut self.log, &mut Vec::new(alloc));
+    }
+
+    /// What has come behind what was told, and how much that is with it.
+    fn line(&self, alloc: Global, told: Told, is_over: bool) -> Result<(String, Told)> {
+        let (seven, eight) = (&self.seven.sink, &self.eight.sink);
+        let mut line = entry_words(alloc, self.log.get(told[0]..).unwrap_or(&[]))?;
+        put_bytes(&mut line, 7, seven.get(told[1]..).unwrap_or(&[]))?;
+        put_bytes(&mut line, 8, eight.get(told[2]..).unwrap_or(&[]))?;
+        for key in self.ended.iter().skip(told[3]) {
+            write!(line, " ; ends {key}")?;
+        }
+        if is_over {
+            line.push_str(" ; over")?;
+        }
+        let line = String::from_str(alloc, line.as_str().trim_start_matches(" ; "))?;
+        Ok((
+            line,
+            [self.log.len(), seven.len(), eight.len(), self.ended.len()],
+        ))
+    }
+
+    /// How many connections have come, and what has come of link 8.
+    fn line_of_8(&self, alloc: Global) -> Result<String> {
+        let comes = |entry: &&Entry| matches!(entry, Entry::Connected { .. });
+        let count = self.log.iter().filter(comes).count();
+        let mut line = format!(in alloc; "connected {count}")?;
+        put_bytes(&mut line, 8, &self.eight.sink)?;
+        if self.ended.contains(&8) {
+            line.push_str(" ; ends 8")?;
+        }
+        Ok(line)
+    }
+}
+
+impl Scene {
+    pub fn new(alloc: Global) -> Scene {
+        Scene {
+            is_relaxed: false,
+            conn_max: 2,
+            seven: Vec::new(alloc),
+            eight: Vec::new(alloc),
+            plan: STEADY,
+            is_killed: false,
+            turns: Vec::new(alloc),
+            told: [0; 4],
+        }
+    }
+
+    /// What comes of an act.
+    pub fn came<R: Wait>(&mut self, rt: &R, alloc: Global, words: &[&str]) -> Result<String> {
+        match *words {
+            ["with" | "gives", ..] => self.set(alloc, words)?,
+            ["turns", ref turns @ ..] => self.add(turns)?,
+            ["fails", call, reply] => return self.failed(
+                rt,
+                alloc,
+                number(call)?,
+                &bytes(alloc, reply)?,
+            ),
+            ["killed"] => {
+                self.is_killed = true;
+                return self.tell(rt, alloc);
+            }
+            _ => {
+                self.add(words)?;
+                return self.tell(rt, alloc);
+            }
+        }
+        Ok(String::new(alloc))
+    }
+
+    /// Begins anew, with these settings or with what a link gives.
+    fn set(&mut self, alloc: Global, words: &[&str]) -> Result<()> {
+        self.is_killed = false;
+        self.turns.clear();
+        self.told = [0; 4];
+        match *words {
+            ["with", checks, "conn", count] => {
+                self.is_relaxed = checks == "relaxed";
+                self.conn_max = number(count)?;
+            }
+            ["gives", "7", word, ref device @ ..] => {
+                self.seven = bytes(alloc, word)?;
+                self.plan = plan(device.first().copied().unwrap_or("steady"))?;
+            }
+            ["gives", "8", word] => self.eight = bytes(alloc, word)?,
+            _ => bail!("no such act"),
+        }
+        Ok(())
+    }
+
+    /// Adds turns, between which stands a `;`.
+    fn add(&mut self, words: &[&str]) -> Result<()> {
+        for words in words.split(|word| *word == ";") {
+            self.turns.push(turn(words)?)?;
+        }
+        Ok(())
+    }
+
+    /// Tells what has come of all turns and was not told.
+    fn tell<R: Wait>(&mut self, rt: &R, alloc: Global) -> Result<String> {
+        let mut wires = self.wires(alloc, self.plan);
+        let is_over = serve_all(rt, alloc, self, &mut wires)?;
+        let (line, told) = wires.line(alloc, self.told, is_over)?;
+        drop(wires);
+        self.told = told;
+        Ok(line)
+    }
+
+    /// What comes of link 8 where link 7 fails at this call of it. That gets a front of its reply.
+    fn failed<R: Wait>(&self, rt: &R, alloc: Global, call: usize, reply: &[u8]) -> Result<String> {
+        let plan = Plan {
+            fault: Some(call),
+            ..self.plan
+        };
+        let mut wires = self.wires(alloc, plan);
+        serve_all(rt, alloc, self, &mut wires)?;
+        if !reply.starts_with(&wires.seven.sink) {
+            bail!("link 7 gets {}", Digits(&wires.seven.sink));
+        }
+        wires.line_of_8(alloc)
+    }
+
+    /// The links, where link 7 answers so.
+    fn wires(&self, alloc: Global, plan: Plan) -> Wires<'_> {
+        Wires {
+            seven: Tape::new(alloc, &self.seven, plan),
+            eight: Tape::new(alloc, &self.eight, STEADY),
+            ended: Vec::new(alloc),
+            log: Vec::new(alloc),
+        }
+    }
+}
+
+/// Has a worker make all turns. Whether the port mapper has ended.
+fn serve_all<R: Wait>(rt: &R, alloc: Global, scene: &Scene, wires: &mut Wires<'_>) -> Result<bool> {
+    match served::<Brand, R>(rt, alloc, Blank::new(PARTS), scene, wires) {
+        Some(is_over) => Ok(is_over),
+        None => bail!("it closes not all as it stops, or has served otherwise than it says"),
+    }
+}
+
+/// The same, if a worker has served what it says and its seat has counted, and as it stops it closes what is open, and does nothing else.
+fn served<L: Ledger, R: Wait>(
+    rt: &R,
+    alloc: Global,
+    blank: Blank,
+    scene: &Scene,
+    wires: &mut Wires<'_>,
+) -> Option<bool>
+    requires name { blank.name ≡ L.name }
+    requires parts { blank.parts ≡ L.parts }
+    requires enough { blank.parts ≡ PARTS }
+{
+    let desk: Desk<L> = Desk::new(blank, book(alloc, scene.is_relaxed, scene.conn_max)?);
+    let mut seat = desk.seat(rt, 1)?;
+    if scene.is_killed {
+        is_killed(rt, alloc, &desk, &mut seat)?;
+    }
+    let before = seat.count();
+    let source = Listed {
+        rt,
+        alloc,
+        desk: &desk,
+        wires: &mut *wires,
+        turns: scene.turns.iter(),
+    };
+    let Outcome { seat, served } = serve(rt, alloc, &desk, seat, 0, source, &Open);
+    if wires.log.is_empty() {
+        wires.take_log(rt, alloc, &desk);
+    }
+    ended(alloc, desk, seat, before.saturating_add(served))
+}
+
+fn ended<L: Ledger>(alloc: Global, desk: Desk<L>, seat: Seat<L>, count: u64) -> Option<bool> {
+    let mut seats = Vec::new(alloc);
+    seats.push(seat).ok()?;
+    let book = desk.finish(seats).ok()?;
+    let (mut log, core) = (book.log().iter(), book.core());
+    let is_left = core.halted() || core.connections() == 0;
+    let are_closed = is_left && log.all(|entry| matches!(entry, Entry::Closed { .. }));
+    (are_closed && book.count() == count).then_some(core.halted())
+}
+
+/// The turn that words tell of.
+fn turn(words: &[&str]) -> Result<Turn> {
+    Ok(match *words {
+        ["fresh", key, whence] => Turn::Fresh {
+            key: number(key)?,
+            local: is_local(whence)?,
+        },
+        ["ready", key] => Turn::Ready(number(key)?),
+        ["late", key] => Turn::Late(number(key)?),
+        ["idle"] => Turn::Idle,
+        ["stop"] => Turn::Stop,
+        _ => bail!("no such act"),
+    })
+}
+
+/// The words of a transcript for entries, each behind a `;`.
+fn entry_words(alloc: Global, entries: &[Entry]) -> Result<String> {
+    let text = String::from_utf8(transcript(alloc, entries, Verdict::Run)?)?;
+    let mut words = String::new(alloc);
+    for line in text.as_str().lines().take(entries.len()) {
+        let (_, entry) = line.split_once(' ').unwrap_or(("", line));
+        write!(words, " ; {entry}")?;
+    }
+    Ok(words)
+}
+
+/// Adds to a line what the link with this key got, if it got any.
+fn put_bytes(line: &mut String, key: u64, bytes: &[u8]) -> Result<()> {
+    if !bytes.is_empty() {
+        write!(line, " ; gets {key} {}", Digits(bytes))?;
+    }
+    Ok(())
+}
