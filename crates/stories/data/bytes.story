@@ -22,6 +22,8 @@ let STOP_A 0002 73 "a"
 # PORT2_RESP with the fields of ALIVE_A, and where no such name is active.
 let FOUND_A 77 00 1388 4d 00 0006 0005 0001 "a" 0000
 let NOT_FOUND 77 01
+# The name is none.
+let FOUND_STRANGE 77 00 1388 4d 00 0006 0005 0001 1f 0000
 
 # ALIVE2_X_RESP: a creation of four bytes is given; the name is active; too many names are active.
 let FOURTH 76 00 00000004

@@ -85,13 +85,103 @@ advance -> 0 0 5000
 story a base follows many nodes that return
 with strict conn 300 known 4096 first 4
 times 0 299 connect local -> $
-times 0 9 piece $ get 000f+7813884d000005+00050002+"n$"+0000 -> say FIRST_SHORT stay
-times 10 99 piece $ get 0010+7813884d000005+00050003+"n$"+0000 -> say FIRST_SHORT stay
-times 100 299 piece $ get 0011+7813884d000005+00050004+"n$"+0000 -> say FIRST_SHORT stay
+times 0 299 piece $ get 0015+7813884d000005+00050008+"%"+0000 -> say FIRST_SHORT stay
 times 299 0 close $ -> gone
 advance -> 900 0 900
 times 0 299 connect local -> $
-times 0 9 piece $ get 000f+7813884d000005+00050002+"n$"+0000 -> say SECOND_SHORT stay
-times 10 99 piece $ get 0010+7813884d000005+00050003+"n$"+0000 -> say SECOND_SHORT stay
-times 100 299 piece $ get 0011+7813884d000005+00050004+"n$"+0000 -> say SECOND_SHORT stay
+times 0 299 piece $ get 0015+7813884d000005+00050008+"%"+0000 -> say SECOND_SHORT stay
 advance -> 600 0 1500
+
+# The first four connections register nothing, so that the creation of a node is the number of its slot.
+let ALIVE_8 0015 78 1388 4d 00 0006 0005 0008
+let ALIVE_1020 0409 78 1388 4d 00 0006 0005 03fc
+
+story a thousand connections hold the longest names
+with strict conn 1029 known 4096 first 4
+times 0 1027 connect local -> $
+times 4 1027 piece $ get ALIVE_1020+"%"+78*1012+0000 -> say 7600+% stay
+let LISTED NONE_LISTED
+times 4 1027 more LISTED "name %" 78*1012 " at port 5000" 0a
+piece 0 get NAMES -> say LISTED close
+connect local -> 1028
+connect local -> Full
+open -> 1029
+
+# A name of 1,020 bytes (03fc) and 7,159 extra ones (1bf7) make 8,192 (2000), which come in pieces of 512.
+let LONG_FIELDS 1388 4d 00 0006 0005 03fc 78*1020 1bf7 ee*7159
+let LONG_DUMPED 00001111 "active name     " 78*1020 " at port 5000, fd = 0" 0a
+
+story the largest registration is kept whole
+with strict conn 2 known 1 first 4
+connect local -> 0
+piece 0 get 200078+LONG_FIELDS[..509] -> say - stay
+piece 0 get 78*512 -> say - stay
+piece 0 get 78*9+1bf7+ee*501 -> say - stay
+times 4 16 piece 0 get ee*512 -> say - stay
+piece 0 get eeee -> say FOURTH stay
+connect local -> 1
+piece 1 get 03fd7a+78*1020 -> say 7700+LONG_FIELDS close
+close 1 -> gone
+connect local -> 1
+piece 1 get DUMP -> say LONG_DUMPED close
+
+story two thousand names are known and dumped, and those that come and go are never refused
+with strict conn 2052 known 2048 first 4
+times 0 2051 connect local -> $
+times 4 2051 piece $ get ALIVE_8+"%"+0000 -> say 7600+% stay
+times 4 1027 close $ -> gone
+let LISTED NONE_LISTED
+times 1028 2051 more LISTED "name % at port 5000" 0a
+piece 0 get NAMES -> say LISTED close
+let ACTIVE NONE_LISTED
+times 1028 2051 more ACTIVE "active name     % at port 5000, fd = $" 0a
+let RETIRED 00*0
+times 4 1027 more RETIRED "old/unused name % at port 5000, fd = -1" 0a
+piece 1 get DUMP -> say ACTIVE+RETIRED close
+# A thousand more, before which as many are forgotten, those that retired first.
+times 2052 3051 connect local -> 1027 ; piece 1027 get ALIVE_8+"%"+0000 -> say 7600+% stay ; close 1027 -> gone
+times 2052 3051 more RETIRED "old/unused name % at port 5000, fd = -1" 0a
+piece 2 get DUMP -> say ACTIVE+RETIRED[47000..] close
+
+story as many names may be active as may be known
+with strict conn 1029 known 1024 first 4
+times 0 1027 connect local -> $
+times 4 1027 piece $ get ALIVE_8+"%"+0000 -> say 7600+% stay
+piece 0 get ALIVE_8+"one more"+0000 -> say NO_ROOM close
+close 7 -> gone
+connect local -> 7
+piece 7 get ALIVE_8+"00000404"+0000 -> say 760000000404 stay
+piece 1 get ALIVE_8+"one more"+0000 -> say NO_ROOM close
+
+# One connection and one name at most.
+let HEADER_OF_ONE "EPMS" 01 00 1111 00000001 00000001
+let EMPTY_PIECE 02 0000000000000000 0000 00 00000000
+
+session ten thousand entries are played
+bytes HEADER_OF_ONE+ENTRY_0+EMPTY_PIECE*9999
+let LINES LINE_0
+times 1 9999 more LINES "$ piece 0 get - say - stay" 0a
+play steady steady 1000 -> true LINES+"run of 10000 entries"0a
+
+# Connections that come and leave one after the other, in three slots, every other one of a remote peer.
+let LOCAL_0 01 01 0000000000000000 03 0000000000000000
+let LOCAL_1 01 01 0000000000000001 03 0000000000000001
+let LOCAL_2 01 01 0000000000000002 03 0000000000000002
+let REMOTE_0 01 00 0000000000000000 03 0000000000000000
+let REMOTE_1 01 00 0000000000000001 03 0000000000000001
+let REMOTE_2 01 00 0000000000000002 03 0000000000000002
+let SIX LOCAL_0 REMOTE_1 LOCAL_2 REMOTE_0 LOCAL_1 REMOTE_2
+let THREE LOCAL_0 LOCAL_2 LOCAL_1
+
+session half of ten thousand connections are left
+bytes HEADER_OF_ONE+SIX*1666+LOCAL_0+REMOTE_1+LOCAL_2+REMOTE_0
+leave steady steady 1000 -> Run HEADER_OF_ONE+THREE*1666+LOCAL_0+LOCAL_2
+
+# 16,777,216 bytes are the most that is read, and one more tells that there are more.
+call a list without end is too long
+endless names -> TooLong took 16777217
+endless dump -> TooLong took 16777217
+
+call lists of four thousand names are read whole
+names gives NONE_LISTED+A_LISTED[4..]*4096 steady -> 4369+,"a"=5000*4096 wrote NAMES left -
+dump gives NONE_LISTED+A_LISTED[4..]*4096 steady -> 4369 A_LISTED[4..]*4096 wrote DUMP left -

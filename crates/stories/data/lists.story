@@ -5,18 +5,18 @@ wire a list of names has a line for each
 names 4369 -> 00001111
 read names 00001111 -> 4369
 names 4369 "a" 5000 -> A_LISTED
-read names A_LISTED -> 4369 "a" 5000
+read names A_LISTED -> 4369,"a"=5000
 names 4369 "b" 0 "a" 65535 -> TWO_LISTED
-read names TWO_LISTED -> 4369 "b" 0 "a" 65535
+read names TWO_LISTED -> 4369,"b"=0,"a"=65535
 names 4369 "a at port 5" 7 "b" 0 "a at port" 65535 -> NAMES_WITH_PORTS
-read names NAMES_WITH_PORTS -> 4369 "a at port 5" 7 "b" 0 "a at port" 65535
+read names NAMES_WITH_PORTS -> 4369,"a at port 5"=7,"b"=0,"a at port"=65535
 
 wire the last at port of a line stands before its port
-read names 00001111"name a at port 5000"0a -> 4369 "a" 5000
-read names 00001111"name a at port 5 at port 7"0a -> 4369 "a at port 5" 7
-read names 00001111"name a at port at port 7"0a -> 4369 "a at port" 7
-read names 00001111"name a at port 00007"0a -> 4369 "a" 7
-read names 00001111"name a at port 65535"0a -> 4369 "a" 65535
+read names 00001111"name a at port 5000"0a -> 4369,"a"=5000
+read names 00001111"name a at port 5 at port 7"0a -> 4369,"a at port 5"=7
+read names 00001111"name a at port at port 7"0a -> 4369,"a at port"=7
+read names 00001111"name a at port 00007"0a -> 4369,"a"=7
+read names 00001111"name a at port 65535"0a -> 4369,"a"=65535
 
 wire the first strange line of a list is told
 read names 000011 -> Short

@@ -60,78 +60,8 @@ open -> 0
 active "a" -> no
 
 story as many as are open leave without memory
-with strict conn 1024 known 4096 first 4
-times 0 0 connect local -> $
-times 0 0 close $ -> gone
-open -> 0
-with strict conn 1024 known 4096 first 4
-times 0 0 connect local -> $
-seal -> first 0 entries 1
-times 0 0 close $ -> gone
-open -> 0
-with strict conn 1024 known 4096 first 4
-times 0 1 connect local -> $
-times 0 1 close $ -> gone
-open -> 0
-with strict conn 1024 known 4096 first 4
-times 0 1 connect local -> $
-seal -> first 0 entries 2
-times 0 1 close $ -> gone
-open -> 0
-with strict conn 1024 known 4096 first 4
-times 0 2 connect local -> $
-times 0 2 close $ -> gone
-open -> 0
-with strict conn 1024 known 4096 first 4
-times 0 2 connect local -> $
-seal -> first 0 entries 3
-times 0 2 close $ -> gone
-open -> 0
-with strict conn 1024 known 4096 first 4
-times 0 3 connect local -> $
-times 0 3 close $ -> gone
-open -> 0
-with strict conn 1024 known 4096 first 4
-times 0 3 connect local -> $
-seal -> first 0 entries 4
-times 0 3 close $ -> gone
-open -> 0
-with strict conn 1024 known 4096 first 4
-times 0 4 connect local -> $
-times 0 4 close $ -> gone
-open -> 0
-with strict conn 1024 known 4096 first 4
-times 0 4 connect local -> $
-seal -> first 0 entries 5
-times 0 4 close $ -> gone
-open -> 0
-with strict conn 1024 known 4096 first 4
-times 0 5 connect local -> $
-times 0 5 close $ -> gone
-open -> 0
-with strict conn 1024 known 4096 first 4
-times 0 5 connect local -> $
-seal -> first 0 entries 6
-times 0 5 close $ -> gone
-open -> 0
-with strict conn 1024 known 4096 first 4
-times 0 6 connect local -> $
-times 0 6 close $ -> gone
-open -> 0
-with strict conn 1024 known 4096 first 4
-times 0 6 connect local -> $
-seal -> first 0 entries 7
-times 0 6 close $ -> gone
-open -> 0
-with strict conn 1024 known 4096 first 4
-times 0 7 connect local -> $
-times 0 7 close $ -> gone
-open -> 0
-with strict conn 1024 known 4096 first 4
-times 0 7 connect local -> $
-seal -> first 0 entries 8
-times 0 7 close $ -> gone
-open -> 0
+times 0 7 with strict conn 1024 known 4096 first 4 ; each 0 $ connect local -> @ ; each 0 $ close @ -> gone ; open -> 0
+times 0 7 with strict conn 1024 known 4096 first 4 ; each 0 $ connect local -> @ ; seal -> first 0 entries $+1 ; each 0 $ close @ -> gone ; open -> 0
 
 # Names that register, are asked for, stopped, and leave; requests in pieces, malformed ones, and time-outs.
 story a base follows the machine

@@ -20,26 +20,13 @@ play single single 0 -> TooManyTurns { sent: 0 } -
 bytes HEADER+01
 play single single 100 -> Bad(Truncated(16)) -
 
+let NONE_FOUND "run of 0 entries"
+
 session a device that fails at any call is told
 bytes HEADER
 times 0 16 play single:$ single 34 -> ReadFault -
 play single single:0 34 -> WriteFault { sent: 0 } -
-play single single:1 34 -> WriteFault { sent: 1 } "r"
-play single single:2 34 -> WriteFault { sent: 2 } "ru"
-play single single:3 34 -> WriteFault { sent: 3 } "run"
-play single single:4 34 -> WriteFault { sent: 4 } "run "
-play single single:5 34 -> WriteFault { sent: 5 } "run o"
-play single single:6 34 -> WriteFault { sent: 6 } "run of"
-play single single:7 34 -> WriteFault { sent: 7 } "run of "
-play single single:8 34 -> WriteFault { sent: 8 } "run of 0"
-play single single:9 34 -> WriteFault { sent: 9 } "run of 0 "
-play single single:10 34 -> WriteFault { sent: 10 } "run of 0 e"
-play single single:11 34 -> WriteFault { sent: 11 } "run of 0 en"
-play single single:12 34 -> WriteFault { sent: 12 } "run of 0 ent"
-play single single:13 34 -> WriteFault { sent: 13 } "run of 0 entr"
-play single single:14 34 -> WriteFault { sent: 14 } "run of 0 entri"
-play single single:15 34 -> WriteFault { sent: 15 } "run of 0 entrie"
-play single single:16 34 -> WriteFault { sent: 16 } "run of 0 entries"
+times 1 16 play single single:$ 34 -> WriteFault { sent: $ } NONE_FOUND[..$]
 
 session nothing is written of a session that is cut
 bytes SESSION

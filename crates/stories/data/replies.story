@@ -21,8 +21,6 @@ read alive 7602 -> Refused(2)
 read alive 79010000 -> Refused(1)
 read alive 58 -> BadTag(88)
 
-let FOUND_STRANGE 77 00 1388 4d 00 0006 0005 0001 1f 0000
-
 wire an answer to a look-up has the registered fields
 read port2 FOUND_A -> 5000 77 0 6 5 "a" - sent FOUND_A
 read port2 NOT_FOUND -> None sent NOT_FOUND

@@ -5,16 +5,16 @@ begins -> 4369 no 2 2
 
 session a session that is cut is faulted at its last entry
 bytes SESSION
-cut 0 15 -> Truncated(0)
-cut 16 16 -> 0
-cut 17 25 -> Truncated(16)
-cut 26 26 -> 1
-cut 27 63 -> Truncated(26)
-cut 64 64 -> 2
-cut 65 73 -> Truncated(64)
-cut 74 74 -> 3
-cut 75 108 -> Truncated(74)
-cut 109 109 -> 4
+times 0 15 cut $ -> Truncated(0)
+cut 16 -> 0
+times 17 25 cut $ -> Truncated(16)
+cut 26 -> 1
+times 27 63 cut $ -> Truncated(26)
+cut 64 -> 2
+times 65 73 cut $ -> Truncated(64)
+cut 74 -> 3
+times 75 108 cut $ -> Truncated(74)
+cut 109 -> 4
 
 session bytes that are not even a header are no record
 bytes 4551
@@ -32,13 +32,13 @@ read -> Truncated(0)
 
 session a session that is cut has whole entries up to its last whole one
 bytes ENTRY_0+ENTRY_1+ENTRY_2+ENTRY_3
-whole plain 0 9 -> 0
-whole plain 10 47 -> 10
-whole plain 48 57 -> 48
-whole plain 58 92 -> 58
-whole plain 93 93 -> 93
+times 0 9 whole plain $ -> 0
+times 10 47 whole plain $ -> 10
+times 48 57 whole plain $ -> 48
+times 58 92 whole plain $ -> 58
+whole plain 93 -> 93
 bytes 06
-whole plain 1 1 -> 0
+whole plain 1 -> 0
 
 session a changed byte is faulted where it is in no table
 bytes SESSION

@@ -12,10 +12,10 @@ play steady steady 100 -> true "run of 0 entries"0a
 
 session a start that is cut is faulted at place 0
 bytes CLOSES
-cut 0 71 -> Truncated(0)
-cut 72 72 -> 0
-cut 73 84 -> Truncated(72)
-cut 85 85 -> 1
+times 0 71 cut $ -> Truncated(0)
+cut 72 -> 0
+times 73 84 cut $ -> Truncated(72)
+cut 85 -> 1
 
 session a start that no machine comes to is refused
 bytes CLOSES
@@ -69,13 +69,13 @@ at 76 02 -> Truncated(72)
 
 session numbered entries that are cut are whole up to the last whole one
 bytes 00000000+ENTRY_0+00000000+ENTRY_1+00000000+ENTRY_2+00000000+ENTRY_3
-whole numbered 0 13 -> 0
-whole numbered 14 55 -> 14
-whole numbered 56 69 -> 56
-whole numbered 70 108 -> 70
-whole numbered 109 109 -> 109
+times 0 13 whole numbered $ -> 0
+times 14 55 whole numbered $ -> 14
+times 56 69 whole numbered $ -> 56
+times 70 108 whole numbered $ -> 70
+whole numbered 109 -> 109
 bytes 0000000006
-whole numbered 5 5 -> 0
+whole numbered 5 -> 0
 
 session a session of version 1 is one of version 2 without workers
 bytes SESSION

@@ -1,22 +1,20 @@
 //! Calls of a client, one connection served, and bytes that wait for a device.
 use crate::devices::plan;
+use crate::lists::{dumped, listed};
+use crate::played::played;
 use crate::requests::{Fields, registration};
-use crate::words::{Digits, bytes, name, number};
+use crate::words::{Digits, bytes, digits_of, name, number, shown};
 use anyhow::{Result, bail};
 use portmap_client::{ClientFault, Registration, dump, kill, lookup, names, stop};
-use portmap_core::Config;
-use portmap_link::{Outbox, Output, once, send, tell};
+use portmap_link::{Input, Outbox, Output, send, tell};
 use portmap_testing::marks::{begin, end};
-use portmap_testing::tape::{Plan, STEADY, Tape};
-use portmap_wire::{Line, Reg};
+use portmap_testing::tape::{Fountain, Plan, STEADY, Tape};
+use portmap_wire::Reg;
 use std::alloc::Global;
-use std::fmt::Debug;
 
-/// What is answered to calls, by which device; and bytes that wait for a device.
+/// What calls write, and bytes that wait for a device.
 #[derive(Drop)]
 pub struct Calls {
-    answer: Vec<u8>,
-    plan: Plan,
     /// What a call wrote to which memory was refused.
     begun: Vec<u8>,
     outbox: Outbox,
@@ -26,8 +24,6 @@ pub struct Calls {
 impl Calls {
     pub fn new(alloc: Global) -> Calls {
         Calls {
-            answer: Vec::new(alloc),
-            plan: STEADY,
             begun: Vec::new(alloc),
             outbox: Outbox::new(alloc),
             output: Tape::new(alloc, &[], STEADY),
@@ -36,35 +32,42 @@ impl Calls {
 
     /// What comes of an act.
     pub fn came(&mut self, alloc: Global, words: &[&str]) -> Result<String> {
-        match words.first().copied().unwrap_or("") {
-            "gives" => self.give(alloc, words),
-            "kill" | "stop" | "lookup" | "names" | "dump" | "register" => self.called(alloc, words),
-            "once" | "pulls" => served(alloc, words),
+        match *words {
+            [ref call @ .., "gives", answer, device] => self.called(
+                alloc,
+                call,
+                &bytes(alloc, answer)?,
+                plan(device)?,
+            ),
+            ["endless", call] => endless(alloc, call),
+            [act @ ("once" | "pulls"), sent, ref devices @ ..] => played(
+                alloc,
+                act,
+                &bytes(alloc, sent)?,
+                devices,
+            ),
             _ => self.sent(alloc, words),
         }
     }
 
-    /// Has calls answered so, by this device.
-    fn give(&mut self, alloc: Global, words: &[&str]) -> Result<String> {
-        let ["gives", answer, device] = *words else {
-            bail!("no answer and device")
-        };
-        self.plan = plan(device)?;
-        self.answer = bytes(alloc, answer)?;
-        Ok(String::new(alloc))
-    }
-
-    /// What a call says, writes, and leaves of the answer. Where memory is refused to it, a front of that is written.
-    fn called(&mut self, alloc: Global, words: &[&str]) -> Result<String> {
-        let mut tape = Tape::new(alloc, &self.answer, self.plan);
+    /// What a call says, writes, and leaves of the answer that this device gives. Where memory is refused to it, a front of that is
+    /// written.
+    fn called(
+        &mut self,
+        alloc: Global,
+        call: &[&str],
+        answer: &[u8],
+        plan: Plan,
+    ) -> Result<String> {
+        let mut tape = Tape::new(alloc, answer, plan);
         tape.sink.reserve(10_000)?;
-        let says = if let ["register", port, name, extra] = *words {
+        let says = if let ["register", port, name, extra] = *call {
             let reg = registration(alloc, number(port)?, 6, name, &bytes(alloc, extra)?)?;
             let (says, after) = registered(alloc, tape, &reg)?;
             tape = after;
             says
         } else {
-            asked(alloc, &mut tape, words)?
+            asked(alloc, &mut tape, call)?
         };
         if !tape.sink.starts_with(&self.begun) {
             bail!("a refusal has written something else");
@@ -104,14 +107,11 @@ impl Calls {
                 alloc,
                 tell(&mut self.output, &bytes(alloc, word)?, number(turns)?),
             ),
-            ["written"] => {
-                let word = if Output::failed(&self.output) {
-                    " failed"
-                } else {
-                    ""
-                };
-                return Ok(format!(in alloc; "{}{word}", Digits(&self.output.sink))?);
-            }
+            ["written"] if Output::failed(&self.output) => return Ok(format!(in alloc;
+                "{} failed",
+                Digits(&self.output.sink)
+            )?),
+            ["written"] => return digits_of(alloc, &self.output.sink),
             _ => bail!("no such act"),
         }
         Ok(String::new(alloc))
@@ -133,107 +133,51 @@ fn registered<'a>(alloc: Global, tape: Tape<'a>, node: &Reg) -> Result<(String, 
 }
 
 /// What a call over a stream says.
-fn asked(alloc: Global, tape: &mut Tape<'_>, words: &[&str]) -> Result<String> {
-    match *words {
+fn asked<S: Input + Output>(alloc: Global, stream: &mut S, call: &[&str]) -> Result<String> {
+    match *call {
         ["kill"] => {
             begin(alloc);
-            shown(alloc, kill(alloc, tape))
+            shown(alloc, marked(alloc, kill(alloc, stream)))
         }
         ["stop", word] => {
             let name = name(alloc, word)?;
             begin(alloc);
-            shown(alloc, stop(alloc, tape, &name))
+            shown(alloc, marked(alloc, stop(alloc, stream, &name)))
         }
         ["lookup", word] => {
             let name = name(alloc, word)?;
             begin(alloc);
-            found(alloc, lookup(alloc, tape, &name))
+            found(alloc, marked(alloc, lookup(alloc, stream, &name)))
         }
         ["names"] => {
             begin(alloc);
-            listed(alloc, names(alloc, tape))
+            listed(alloc, marked(alloc, names(alloc, stream)))
         }
         ["dump"] => {
             begin(alloc);
-            dumped(alloc, dump(alloc, tape))
+            dumped(alloc, marked(alloc, dump(alloc, stream)))
         }
         _ => bail!("no such call"),
     }
 }
 
-/// What is said, up to where memory may be refused; or why nothing is.
-pub fn shown<T: Debug + Drop, E: Debug + Drop>(
-    alloc: Global,
-    says: Result<T, E>,
-) -> Result<String> {
+/// What has come, to which memory could be refused.
+pub fn marked<T>(alloc: Global, came: T) -> T {
     end(alloc);
-    match says {
-        Ok(value) => Ok(format!(in alloc; "{value:?}")?),
-        Err(fault) => Ok(format!(in alloc; "{fault:?}")?),
-    }
+    came
 }
 
 /// The fields of the node that is found.
 fn found(alloc: Global, says: Result<Option<Reg>, ClientFault>) -> Result<String> {
     match says {
-        Ok(Some(reg)) => {
-            end(alloc);
-            Ok(format!(in alloc; "{}", Fields(&reg))?)
-        }
-        Ok(None) => shown(alloc, Ok::<Option<u8>, ClientFault>(None)),
-        Err(fault) => shown(alloc, Err::<u8, ClientFault>(fault)),
+        Ok(Some(reg)) => Ok(format!(in alloc; "{}", Fields(&reg))?),
+        says => shown(alloc, says),
     }
 }
 
-/// The port and the lines of a list.
-fn listed(alloc: Global, says: Result<(u32, Vec<Line>), ClientFault>) -> Result<String> {
-    end(alloc);
-    match says {
-        Ok((port, lines)) => {
-            let mut told = format!(in alloc; "{port}")?;
-            for line in &lines {
-                write!(told, " {} {}", Digits(line.name.bytes()), line.port)?;
-            }
-            Ok(told)
-        }
-        Err(fault) => Ok(format!(in alloc; "{fault:?}")?),
-    }
-}
-
-/// The port and the text of a dump.
-fn dumped(alloc: Global, says: Result<(u32, Vec<u8>), ClientFault>) -> Result<String> {
-    end(alloc);
-    match says {
-        Ok((port, text)) => Ok(format!(in alloc; "{port} {}", Digits(&text))?),
-        Err(fault) => Ok(format!(in alloc; "{fault:?}")?),
-    }
-}
-
-/// How one connection that is served ends, and what it is told; or how many pulls it takes. Creations start at 7.
-fn served(alloc: Global, words: &[&str]) -> Result<String> {
-    let [act, sent, input, output, turns] = *words else {
-        bail!("no connection, devices and turns")
-    };
-    let sent = bytes(alloc, sent)?;
-    let mut input = Tape::new(alloc, &sent, plan(input)?);
-    let mut output = Tape::new(alloc, &[], plan(output)?);
-    let ended = ended(alloc, &mut input, &mut output, number(turns)?)?;
-    if act == "pulls" && ended.as_str() != "NoMemory" {
-        return Ok(format!(in alloc; "{}", input.calls)?);
-    }
-    Ok(format!(in alloc; "{ended} {}", Digits(&output.sink))?)
-}
-
-/// How one connection ends. Where memory is refused, nothing is written.
-fn ended(alloc: Global, input: &mut Tape<'_>, output: &mut Tape<'_>, turns: u64) -> Result<String> {
-    let Ok(config) = Config::new(4369, false, 1024, 4096) else {
-        bail!("no settings");
-    };
-    output.sink.reserve(1_000)?;
-    begin(alloc);
-    let ended = shown(alloc, once(alloc, config, 7, input, output, turns))?;
-    if ended.as_str() == "NoMemory" && !output.sink.is_empty() {
-        bail!("a refusal has written something");
-    }
-    Ok(ended)
+/// What a call over a stream says that gives the letter `a` without end, and how many it takes.
+fn endless(alloc: Global, call: &str) -> Result<String> {
+    let mut stream = Fountain::new();
+    let says = asked(alloc, &mut stream, &[call])?;
+    Ok(format!(in alloc; "{says} took {}", stream.given)?)
 }

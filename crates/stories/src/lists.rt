@@ -1,10 +1,10 @@
 //! The two lists of names as bytes.
-use crate::words::{Digits, bytes, name, number};
+use crate::words::{Digits, digits_of, name, number};
 use anyhow::{Result, bail};
-use portmap_wire::{
-    DumpLine, Line, ListReply, NoMemory, read_dump, read_names, write_dump, write_names,
-};
+use portmap_wire::{DumpLine, Line, ListReply, NoMemory, write_dump, write_names};
 use std::alloc::Global;
+use std::convert::AsSlice;
+use std::fmt::Debug;
 
 /// The answer to NAMES_REQ of names and their ports, whole and line by line.
 pub fn written_names(alloc: Global, port: &str, words: &[&str]) -> Result<String> {
@@ -56,26 +56,29 @@ fn written(alloc: Global, whole: Result<Vec<u8>, NoMemory>, by_line: ListReply) 
     if whole.as_slice() != by_line.into_bytes().as_slice() {
         bail!("it is another one line by line");
     }
-    Ok(format!(in alloc; "{}", Digits(&whole))?)
+    digits_of(alloc, &whole)
 }
 
-/// The port and the lines of a list of names.
-pub fn read_listed(alloc: Global, reply: &str) -> Result<String> {
-    let (port, lines) = match read_names(alloc, &bytes(alloc, reply)?) {
-        Ok(listed) => listed,
+/// The port of a list of names, and each name with its port; or why there are none.
+pub fn listed<E: Debug + Drop>(alloc: Global, list: Result<(u32, Vec<Line>), E>) -> Result<String> {
+    let (port, lines) = match list {
+        Ok(list) => list,
         Err(fault) => return Ok(format!(in alloc; "{fault:?}")?),
     };
     let mut told = format!(in alloc; "{port}")?;
     for line in &lines {
-        write!(told, " {} {}", Digits(line.name.bytes()), line.port)?;
+        write!(told, ",{}={}", Digits(line.name.bytes()), line.port)?;
     }
     Ok(told)
 }
 
-/// The port and the text of a dump.
-pub fn read_dumped(alloc: Global, reply: &str) -> Result<String> {
-    match read_dump(&bytes(alloc, reply)?) {
-        Ok((port, text)) => Ok(format!(in alloc; "{port} {}", Digits(text))?),
+/// The port and the text of a dump, or why there are none.
+pub fn dumped<T: AsSlice<u8> + Drop, E: Debug + Drop>(
+    alloc: Global,
+    dump: Result<(u32, T), E>,
+) -> Result<String> {
+    match dump {
+        Ok((port, text)) => Ok(format!(in alloc; "{port} {}", Digits(text.as_slice()))?),
         Err(fault) => Ok(format!(in alloc; "{fault:?}")?),
     }
 }

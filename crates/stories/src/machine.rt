@@ -3,7 +3,7 @@ use crate::events::{came_of, entry, event, line};
 use crate::recording::{is_recorded, recorded_part};
 use crate::run::{Told, runs_so};
 use crate::states::is_built_again;
-use crate::words::{Digits, bytes, joined, name, number, yes};
+use crate::words::{answer, bytes, digits_of, joined, name, number};
 use anyhow::{Result, bail};
 use portmap_book::{ActFault, Book, Segment, Ticket, gather};
 use portmap_core::{
@@ -34,33 +34,32 @@ pub struct Machine {
     tickets: Vec<Ticket>,
 }
 
-/// What a port mapper is set to where a story does not say it.
-const USUAL: (bool, u32, u32, u32) = (false, 1024, 4096, 4);
-
 impl Machine {
-    pub fn new(alloc: Global) -> Result<Machine> {
-        let (relaxed, conn_max, known_max, first) = USUAL;
-        match Config::new(4369, relaxed, conn_max, known_max) {
-            Ok(config) => Machine::of(alloc, config, first, State::empty(alloc)),
-            Err(_) => bail!("no settings"),
-        }
+    /// A machine on port 4369 that is set to what is usual: checks are not relaxed, 1,024 connections and 4,096 names at most, and creations
+    /// from 4 on.
+    pub fn new(alloc: Global) -> Result<Box<Machine>> {
+        let Ok(config) = Config::new(4369, false, 1024, 4096) else {
+            bail!("no settings")
+        };
+        let book = Book::new(alloc, config, 4)?;
+        Ok(Box::new(alloc, Machine::of(alloc, book, 4))?)
     }
 
-    fn of(alloc: Global, config: Config, first: u32, kept: State) -> Result<Machine> {
-        Ok(Machine {
-            book: Book::new(alloc, config, first)?,
+    fn of(alloc: Global, book: Book, first: u32) -> Machine {
+        Machine {
+            book,
             first,
             state: State::empty(alloc),
             replay: Replay::new(alloc),
             told: Vec::new(alloc),
             lines: String::new(alloc),
             lines_told: 0,
-            kept,
+            kept: State::empty(alloc),
             worker: 1,
             is_followed: false,
             segments: Vec::new(alloc),
             tickets: Vec::new(alloc),
-        })
+        }
     }
 
     /// What comes of an act.
@@ -80,26 +79,49 @@ impl Machine {
 
     /// Begins anew with these settings, or says why they are none.
     fn set(&mut self, alloc: Global, words: &[&str]) -> Result<String> {
-        if words.len() != 8 {
-            bail!("no such settings");
-        }
-        let is_relaxed = setting(words, "with")? == "relaxed";
-        let conn_max = number(setting(words, "conn")?)?;
-        let known_max = number(setting(words, "known")?)?;
-        match Config::new(4369, is_relaxed, conn_max, known_max) {
-            Ok(config) => self.begin_anew(alloc, config, number(setting(words, "first")?)?),
+        let [
+            "with",
+            checks,
+            "conn",
+            conn_max,
+            "known",
+            known_max,
+            "first",
+            first,
+        ] = *words
+        else {
+            bail!("no such settings")
+        };
+        let (conn_max, known_max) = (number(conn_max)?, number(known_max)?);
+        match Config::new(4369, checks == "relaxed", conn_max, known_max) {
+            Ok(config) => self.begin_anew(alloc, config, number(first)?),
             Err(fault) => Ok(format!(in alloc; "{fault:?}")?),
         }
     }
 
-    /// Begins anew, once what was before has ended well.
+    /// Begins anew, once what was before has ended well. What is kept is kept.
     fn begin_anew(&mut self, alloc: Global, config: Config, first: u32) -> Result<String> {
         self.ended(alloc)?;
-        *self = Machine::of(alloc, config, first, self.kept.try_copy(alloc)?)?;
+        self.book = Book::new(alloc, config, first)?;
+        self.first = first;
+        self.forget(alloc);
         if *self.book.core().config() != config {
             bail!("it is set otherwise");
         }
         Ok(String::new(alloc))
+    }
+
+    /// Forgets all that has followed the machine.
+    fn forget(&mut self, alloc: Global) {
+        self.state = State::empty(alloc);
+        self.replay = Replay::new(alloc);
+        self.told.clear();
+        self.lines.clear();
+        self.lines_told = 0;
+        self.worker = 1;
+        self.is_followed = false;
+        self.segments.clear();
+        self.tickets.clear();
     }
 
     /// Keeps the state as it is.
@@ -131,13 +153,13 @@ impl Machine {
             ["local", peer, own] => is_local(address(alloc, peer)?, address(alloc, own)?),
             _ => bail!("no such act"),
         };
-        Ok(String::from_str(alloc, yes(is_so))?)
+        answer(alloc, is_so)
     }
 
     /// Whether an entry may be recorded next. The state stays as it is.
     fn may(&self, alloc: Global, words: &[&str]) -> Result<String> {
         let entry = entry(alloc, words.get(1..).unwrap_or(&[]))?;
-        Ok(String::from_str(alloc, yes(self.moves(alloc, &entry)?))?)
+        answer(alloc, self.moves(alloc, &entry)?)
     }
 
     /// Whether copies of the state and of the replay move by an entry.
@@ -213,7 +235,8 @@ impl Machine {
         let told = format!(in alloc; "first {} entries {}", segment.first, segment.entries.len())?;
         let lines = mem::replace(&mut self.lines, String::new(alloc));
         self.lines_told = 0;
-        let (segment, bytes) = recorded_part(alloc, segment, lines.as_str())?;
+        let mut segment = segment;
+        let bytes = recorded_part(alloc, &mut segment, lines.as_str())?;
         self.segments.push(segment)?;
         Ok(if words == ["segment"].as_slice() {
             bytes
@@ -323,17 +346,6 @@ impl Machine {
     }
 }
 
-/// What is set, as the word behind its name.
-fn setting<'a>(words: &[&'a str], wanted: &str) -> Result<&'a str> {
-    for pair in words.chunks(2) {
-        match *pair {
-            [name, value] if name == wanted => return Ok(value),
-            _ => {}
-        }
-    }
-    bail!("it is not set: {wanted}")
-}
-
 /// Where a connection stands; `-` where it is not open.
 fn phase(alloc: Global, core: &Core, slot: u64) -> Result<String> {
     match core.phase(slot) {
@@ -345,7 +357,7 @@ fn phase(alloc: Global, core: &Core, slot: u64) -> Result<String> {
 /// The name that a piece asks to register; `-` where it asks for none.
 fn asked(alloc: Global, piece: &[u8]) -> Result<String> {
     match name_to_register(alloc, piece) {
-        Some(name) => Ok(format!(in alloc; "{}", Digits(name.bytes()))?),
+        Some(name) => digits_of(alloc, name.bytes()),
         None => Ok(String::from_str(alloc, "-")?),
     }
 }

@@ -28,7 +28,6 @@ mod worker;
 use crate::story::{Ended, Story};
 use crate::words::Names;
 use anyhow::{Context, Result};
-use std::alloc::Global;
 use std::process::ExitCode;
 use std::sync::Wait;
 use std::{env, fs, mem};
@@ -48,71 +47,76 @@ fn main(rt: HostRuntime) -> Result<ExitCode> {
 /// Tells the stories of a file, and whether all of them hold.
 fn tell_file<R: Wait>(rt: &HostRuntime, host: &R, path: &str, names: &mut Names) -> Result<bool> {
     let text = text_of(rt, path)?;
-    let mut teller = Teller::new(host, rt.alloc(), path);
-    teller.tell_all(rt, names, text.as_str())
+    tell_text(rt, host, path, text.as_str(), names)
 }
 
 fn text_of(rt: &HostRuntime, path: &str) -> Result<String> {
     fs::read_to_string(rt, path).context(format_args!("{path}"))
 }
 
-/// Who tells the stories of a file.
-#[derive(Drop)]
-struct Teller<'a, R: Wait> {
-    host: &'a R,
-    path: &'a str,
-    story: Story<'a, R>,
-    all_hold: bool,
+fn tell_text<R: Wait>(
+    rt: &HostRuntime,
+    host: &R,
+    path: &str,
+    text: &str,
+    names: &mut Names,
+) -> Result<bool> {
+    let mut story = Story::none(host, rt.alloc());
+    tell_all(rt, host, path, text, names, &mut story)
 }
 
-impl<'a, R: Wait> Teller<'a, R> {
-    fn new(host: &'a R, alloc: Global, path: &'a str) -> Teller<'a, R> {
-        Teller {
-            host,
-            path,
-            story: Story::none(host, alloc),
-            all_hold: true,
-        }
+/// Tells the stories of a text, and whether all of them hold.
+fn tell_all<'a, R: Wait>(
+    rt: &HostRuntime,
+    host: &'a R,
+    path: &str,
+    text: &str,
+    names: &mut Names,
+    story: &mut Story<'a, R>,
+) -> Result<bool> {
+    let mut all_hold = true;
+    for (place, line) in text.lines().enumerate() {
+        all_hold &= tell(rt, host, path, names, story, place.saturating_add(1), line)?;
     }
+    Ok(turn(rt, path, story, Story::none(host, rt.alloc()))? && all_hold)
+}
 
-    /// Tells the stories of a text, and whether all of them hold.
-    fn tell_all(&mut self, rt: &HostRuntime, names: &mut Names, text: &str) -> Result<bool> {
-        for (place, line) in text.lines().enumerate() {
-            self.tell(rt, names, place.saturating_add(1), line)?;
-        }
-        self.turn(rt, Story::none(self.host, rt.alloc()))?;
-        Ok(self.all_hold)
+/// Tells what is wrong with the line of this number; or, where it begins another story, whether the one before holds.
+fn tell<'a, R: Wait>(
+    rt: &HostRuntime,
+    host: &'a R,
+    path: &str,
+    names: &mut Names,
+    story: &mut Story<'a, R>,
+    number: usize,
+    line: &str,
+) -> Result<bool> {
+    if let Some(next) = Story::begun(host, rt.alloc(), line)? {
+        return turn(rt, path, story, next);
     }
-
-    /// Tells what is wrong with the line of this number, where it begins no other story.
-    fn tell(
-        &mut self,
-        rt: &HostRuntime,
-        names: &mut Names,
-        number: usize,
-        line: &str,
-    ) -> Result<()> {
-        if let Some(next) = Story::begun(self.host, rt.alloc(), line)? {
-            return self.turn(rt, next);
-        }
-        if let Some(wrong) = self.story.wrong(rt.alloc(), names, line)? {
-            println!(rt; "BAD {}:{number} {wrong}", self.path)?;
-        }
-        Ok(())
+    if let Some(wrong) = story.wrong(rt.alloc(), names, line)? {
+        println!(rt; "BAD {path}:{number} {wrong}")?;
     }
+    Ok(true)
+}
 
-    /// Turns to the next story, once it is told that the one before holds, or what is wrong at its end.
-    fn turn(&mut self, rt: &HostRuntime, next: Story<'a, R>) -> Result<()> {
-        let story = mem::replace(&mut self.story, next);
-        match story.ended(rt.alloc())? {
-            Ended::Nameless => {}
-            Ended::Well(name) => println!(rt; "ok {name}")?,
-            Ended::Badly => self.all_hold = false,
-            Ended::Wrong(wrong) => {
-                println!(rt; "BAD {}: {wrong}", self.path)?;
-                self.all_hold = false;
-            }
+/// Turns to the next story, once it is told that the one before holds, or what is wrong at its end. Whether it holds.
+fn turn<'a, R: Wait>(
+    rt: &HostRuntime,
+    path: &str,
+    story: &mut Story<'a, R>,
+    next: Story<'a, R>,
+) -> Result<bool> {
+    match mem::replace(story, next).ended(rt.alloc())? {
+        Ended::Nameless => Ok(true),
+        Ended::Well(name) => {
+            println!(rt; "ok {name}")?;
+            Ok(true)
         }
-        Ok(())
+        Ended::Badly => Ok(false),
+        Ended::Wrong(wrong) => {
+            println!(rt; "BAD {path}: {wrong}")?;
+            Ok(false)
+        }
     }
 }

@@ -19,14 +19,14 @@ pub enum Part {
     /// Requests and replies as bytes.
     Wire,
     Feed(Pieces),
-    Table(Table),
+    Table(Box<Table>),
     /// Names as the lists of a state, and as the map of a table.
     Lists(Lists),
-    Map(NameMap),
-    Machine(Machine),
+    Map(Box<NameMap>),
+    Machine(Box<Machine>),
     State(Parts),
     Session(Session),
-    Calls(Calls),
+    Calls(Box<Calls>),
     Worker(Scene),
 }
 
@@ -36,11 +36,11 @@ impl Part {
         Ok(match word {
             "wire" => Some(Part::Wire),
             "feed" => Some(Part::Feed(Pieces::new(alloc))),
-            "table" => Some(Part::Table(Table::new(alloc, 4096, 4)?)),
+            "table" => Some(Part::Table(Box::new(alloc, Table::new(alloc, 4096, 4)?)?)),
             "lists" => Some(Part::Lists(Lists::new(alloc))),
-            "map" => Some(Part::Map(NameMap::new(alloc))),
+            "map" => Some(Part::Map(Box::new(alloc, NameMap::new(alloc))?)),
             "story" => Some(Part::Machine(Machine::new(alloc)?)),
-            "call" => Some(Part::Calls(Calls::new(alloc))),
+            "call" => Some(Part::Calls(Box::new(alloc, Calls::new(alloc))?)),
             "session" => Some(Part::Session(Session::new(alloc))),
             "state" => Some(Part::State(Parts::new(alloc))),
             "worker" => Some(Part::Worker(Scene::new(alloc))),
@@ -54,14 +54,14 @@ impl Part {
             Part::None => bail!("no story has begun"),
             Part::Wire => wire::came(alloc, words),
             Part::Feed(pieces) => pieces.came(alloc, words),
-            Part::Table(table) => table::came(alloc, table, words),
+            Part::Table(table) => table::came(alloc, &mut **table, words),
             Part::Lists(lists) => lists.came(alloc, words),
             Part::Machine(machine) => machine.came(alloc, words),
             Part::State(parts) => parts.came(alloc, words),
             Part::Session(session) => session.came(alloc, words),
             Part::Calls(calls) => calls.came(alloc, words),
             Part::Worker(scene) => scene.came(host, alloc, words),
-            Part::Map(map) => table::came_of_names(alloc, map, words),
+            Part::Map(map) => table::came_of_names(alloc, &mut **map, words),
         }
     }
 

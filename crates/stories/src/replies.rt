@@ -1,6 +1,6 @@
 //! The answers to a registration and to a look-up as bytes.
 use crate::requests::Fields;
-use crate::words::{Digits, bytes, number};
+use crate::words::{Digits, bytes, digits_of, number, shown};
 use anyhow::{Result, bail};
 use portmap_wire::{
     WIDE_VERSION, alive_missing, port2_missing, read_alive, read_port2, write_alive, write_port2,
@@ -13,16 +13,12 @@ pub fn registered(alloc: Global, high: &str, code: &str, creation: &str) -> Resu
     if high < WIDE_VERSION && creation > 0xFFFF {
         bail!("a creation of more than 2 bytes");
     }
-    let reply = write_alive(alloc, high, number(code)?, creation)?;
-    Ok(format!(in alloc; "{}", Digits(&reply))?)
+    digits_of(alloc, &write_alive(alloc, high, number(code)?, creation)?)
 }
 
 /// What an answer to a registration says.
 pub fn read_registered(alloc: Global, reply: &str) -> Result<String> {
-    match read_alive(&bytes(alloc, reply)?) {
-        Ok(says) => Ok(format!(in alloc; "{says:?}")?),
-        Err(fault) => Ok(format!(in alloc; "{fault:?}")?),
-    }
+    shown(alloc, read_alive(&bytes(alloc, reply)?))
 }
 
 /// What an answer to a look-up says, and how that is written; or its fault.

@@ -1,5 +1,5 @@
 //! Names, registrations and requests as bytes.
-use crate::words::{Digits, bytes, name, number, yes};
+use crate::words::{Digits, answer, bytes, digits_of, name, number};
 use anyhow::{Result, bail};
 use portmap_wire::{
     ExtraFault, Name, Reg, Request, read_request, write_lookup, write_registration, write_request,
@@ -27,10 +27,7 @@ impl<'a> fmt::Display for Fields<'a> {
 /// The bytes of a name's copy, or why these are no name.
 pub fn named(alloc: Global, word: &str) -> Result<String> {
     match Name::read(alloc, &bytes(alloc, word)?) {
-        Ok(name) => {
-            let copy = name.try_copy(alloc)?;
-            Ok(format!(in alloc; "{}", Digits(copy.bytes()))?)
-        }
+        Ok(name) => digits_of(alloc, name.try_copy(alloc)?.bytes()),
         Err(fault) => Ok(format!(in alloc; "{fault:?}")?),
     }
 }
@@ -74,12 +71,11 @@ pub fn asked(alloc: Global, word: &str) -> Result<String> {
 pub fn are_equal(alloc: Global, one: &str, other: &str) -> Result<String> {
     let one = read(alloc, one)?;
     let other = read(alloc, other)?;
-    let are_equal = match (&one, &other) {
-        (Request::Port(name), Request::Port(wanted)) => name == wanted,
-        (Request::Alive(reg), Request::Alive(wanted)) => reg == wanted,
+    match (&one, &other) {
+        (Request::Port(name), Request::Port(wanted)) => answer(alloc, name == wanted),
+        (Request::Alive(reg), Request::Alive(wanted)) => answer(alloc, reg == wanted),
         _ => bail!("no two look-ups or registrations"),
-    };
-    Ok(String::from_str(alloc, yes(are_equal))?)
+    }
 }
 
 fn read(alloc: Global, word: &str) -> Result<Request> {
@@ -112,7 +108,7 @@ pub fn registration(alloc: Global, port: u16, high: u16, word: &str, extra: &[u8
 /// How a normal node that speaks versions 5 to 6 registers, or why its extra bytes are too many.
 pub fn node(alloc: Global, port: &str, word: &str, extra: &str) -> Result<String> {
     match made(alloc, number(port)?, 6, word, &bytes(alloc, extra)?)? {
-        Ok(reg) => Ok(format!(in alloc; "{}", Digits(&write_registration(alloc, &reg)?))?),
+        Ok(reg) => digits_of(alloc, &write_registration(alloc, &reg)?),
         Err(fault) => Ok(format!(in alloc; "{fault:?}")?),
     }
 }

@@ -1,7 +1,7 @@
 //! All events of a story at once, as one run.
 use crate::events::{came_of, event};
 use anyhow::{Result, bail};
-use portmap_core::{Answer, Config, Core, Event, NoMemory, Refusal, State};
+use portmap_core::{Answer, Config, Core, Event, Refusal, State};
 use portmap_testing::marks::{begin, end};
 use std::alloc::Global;
 
@@ -41,18 +41,14 @@ fn ran(alloc: Global, config: Config, first: u32, told: &[Told]) -> Result<(Resu
 
 /// What a run tells of all events. One that is refused as a whole has changed nothing, and is made once more.
 fn results_of(alloc: Global, core: &mut Core, told: &[Told]) -> Result<Results> {
-    match tried(alloc, core, events_of(alloc, told)?) {
-        Ok(results) => Ok(results),
-        Err(_) => Ok(core.run(alloc, events_of(alloc, told)?)?),
-    }
-}
-
-/// What a run tells of these events, to which memory may be refused.
-fn tried(alloc: Global, core: &mut Core, events: Vec<Event>) -> Result<Results, NoMemory> {
+    let events = events_of(alloc, told)?;
     begin(alloc);
     let results = core.run(alloc, events);
     end(alloc);
-    results
+    match results {
+        Ok(results) => Ok(results),
+        Err(_) => Ok(core.run(alloc, events_of(alloc, told)?)?),
+    }
 }
 
 fn events_of(alloc: Global, told: &[Told]) -> Result<Vec<Event>> {
@@ -95,24 +91,16 @@ fn answers(
     outcome: Result<Answer, Refusal>,
     is_whole: bool,
 ) -> Result<bool> {
-    let came = came_of(alloc, one.act.as_str(), &outcome)?;
+    let act = one.act.as_str();
+    let came = came_of(alloc, act, &outcome)?;
     if came.as_str() == "NoMemory" {
         return Ok(false);
     }
-    if came.as_str() != came_again(alloc, other, one, event)?.as_str() {
-        bail!(
-            "a machine answers {} otherwise than a run",
-            one.act.as_str()
-        );
+    if came.as_str() != came_of(alloc, act, &other.event(alloc, event))?.as_str() {
+        bail!("a machine answers {act} otherwise than a run");
     }
     if is_whole && came.as_str() != one.came.as_str() {
-        bail!("a run answers {} otherwise", one.act.as_str());
+        bail!("a run answers {act} otherwise");
     }
     Ok(is_whole)
-}
-
-/// What comes of an event that another machine is told.
-fn came_again(alloc: Global, other: &mut Core, one: &Told, event: Event) -> Result<String> {
-    let again = other.event(alloc, event);
-    came_of(alloc, one.act.as_str(), &again)
 }

@@ -1,10 +1,11 @@
 //! Recorded sessions as bytes: read, written, judged, and left without their remote peers.
-use crate::listed::{Listed, workers};
+use crate::listed;
+use crate::listed::workers;
 use crate::played::played;
 use crate::recorder::recorded;
-use crate::words::{Digits, bytes, number, yes};
+use crate::words::{Digits, answer, bytes, digits_of, number, yes};
 use anyhow::{Result, bail};
-use portmap_core::State;
+use portmap_core::{Entry, State};
 use portmap_record::{
     Form, Record, RecordFault, Version, WriteRecordFault, check, local_record, read_record,
     upgrade, whole_entries, write_record,
@@ -16,14 +17,14 @@ use std::alloc::Global;
 #[derive(Drop)]
 pub struct Session {
     bytes: Vec<u8>,
-    listed: Listed,
+    entries: Vec<Entry>,
 }
 
 impl Session {
     pub fn new(alloc: Global) -> Session {
         Session {
             bytes: Vec::new(alloc),
-            listed: Listed::new(alloc),
+            entries: Vec::new(alloc),
         }
     }
 
@@ -33,18 +34,20 @@ impl Session {
         match act {
             "bytes" => self.take(alloc, words),
             "recorded" => self.record(alloc),
-            "read" | "cut" | "at" | "whole" | "judged" => self.read(alloc, words),
+            "read" | "cut" | "at" | "whole" | "front" | "judged" => self.read(alloc, words),
             "play" | "tell" | "leave" => played(
                 alloc,
                 act,
                 &self.bytes,
                 words.get(1..).unwrap_or(&[]),
             ),
-            "front" => self.front_played(alloc, words),
-            "local" => left(alloc, &self.bytes),
-            "recorder" => recorded(alloc, words, &self.listed.entries, &self.bytes),
-            "check" | "begins" | "upgrade" | "workers" | "alone" => self.of_record(alloc, words),
-            _ => self.listed.came(alloc, words),
+            "recorder" => recorded(alloc, words, &self.entries, &self.bytes),
+            "check" | "begins" | "upgrade" | "local" | "workers" | "alone" => of_record(
+                alloc,
+                record_in(alloc, &self.bytes)?,
+                words,
+            ),
+            _ => listed::came(alloc, &mut self.entries, words),
         }
     }
 
@@ -59,7 +62,7 @@ impl Session {
 
     /// Takes the record of the entries as the session.
     fn record(&mut self, alloc: Global) -> Result<String> {
-        let record = self.listed.recorded(alloc)?;
+        let record = listed::recorded(alloc, &mut self.entries)?;
         self.bytes = bytes(alloc, written(alloc, &record)?.as_str())?;
         Ok(String::new(alloc))
     }
@@ -68,56 +71,19 @@ impl Session {
     fn read(&self, alloc: Global, words: &[&str]) -> Result<String> {
         match *words {
             ["read"] => counted(alloc, &self.bytes),
-            ["cut", from, until] => self.cut(alloc, number(from)?, number(until)?),
+            ["cut", len] => counted(alloc, self.front(number(len)?)),
             ["at", place, word] => self.at(alloc, number(place)?, word, usize::MAX),
             ["at", place, word, "cut", len] => self.at(alloc, number(place)?, word, number(len)?),
-            ["whole", form, from, until] => self.whole(alloc, form, number(from)?, number(until)?),
+            ["whole", form, len] => whole(alloc, form, self.front(number(len)?)),
+            ["front", len, ref devices @ ..] => played(
+                alloc,
+                "play",
+                self.front(number(len)?),
+                devices,
+            ),
             ["judged"] => self.judged(alloc),
             _ => bail!("no such act"),
         }
-    }
-
-    /// What its first bytes are read as, so many of them, with these bytes from this place on.
-    fn at(&self, alloc: Global, place: usize, word: &str, len: usize) -> Result<String> {
-        let mut all = self.changed(alloc, place, word)?;
-        all.truncate(len);
-        counted(alloc, &all)
-    }
-
-    /// What is shown of its first bytes, so many of them.
-    fn front_played(&self, alloc: Global, words: &[&str]) -> Result<String> {
-        let ["front", len, ref devices @ ..] = *words else {
-            bail!("no front")
-        };
-        played(alloc, "play", self.front(number(len)?), devices)
-    }
-
-    /// What is found of it, or made of it, as a record.
-    fn of_record(&self, alloc: Global, words: &[&str]) -> Result<String> {
-        let session = match read_record(alloc, &self.bytes) {
-            Ok(session) => session,
-            Err(fault) => bail!("it is no record: {fault:?}"),
-        };
-        match *words {
-            ["check"] => found(alloc, &session),
-            ["begins"] => beginning(alloc, &session),
-            ["upgrade"] => upgraded(alloc, session),
-            ["workers", ref numbers @ ..] => written_by(alloc, session, numbers, false),
-            ["alone", ref numbers @ ..] => written_by(alloc, session, numbers, true),
-            _ => bail!("no such act"),
-        }
-    }
-
-    /// What its fronts of these lengths are read as, one and all.
-    fn cut(&self, alloc: Global, from: usize, until: usize) -> Result<String> {
-        let told = counted(alloc, self.front(from))?;
-        for len in from..=until {
-            let other = counted(alloc, self.front(len))?;
-            if other.as_str() != told.as_str() {
-                bail!("of length {len} it is {other}");
-            }
-        }
-        Ok(told)
     }
 
     /// Its first bytes, so many of them.
@@ -125,30 +91,15 @@ impl Session {
         self.bytes.get(..len).unwrap_or(&self.bytes)
     }
 
-    /// It with these bytes from this place on.
-    fn changed(&self, alloc: Global, place: usize, word: &str) -> Result<Vec<u8>> {
+    /// What its first bytes are read as, so many of them, with these bytes from this place on.
+    fn at(&self, alloc: Global, place: usize, word: &str, len: usize) -> Result<String> {
         let new = bytes(alloc, word)?;
         let mut all = self.bytes.clone()?;
         for (byte, new) in all.iter_mut().skip(place).zip(&new) {
             *byte = *new;
         }
-        Ok(all)
-    }
-
-    /// How many bytes of its fronts of these lengths are whole entries, of one and all.
-    fn whole(&self, alloc: Global, form: &str, from: usize, until: usize) -> Result<String> {
-        let form = if form == "numbered" {
-            Form::Numbered
-        } else {
-            Form::Plain
-        };
-        let whole = whole_entries(form, self.front(from));
-        for len in from..=until {
-            if whole_entries(form, self.front(len)) != whole {
-                bail!("of length {len} others are whole");
-            }
-        }
-        Ok(format!(in alloc; "{whole}")?)
+        all.truncate(len);
+        counted(alloc, &all)
     }
 
     /// Whether it is a record or none, and then a run or none, whatever one byte of it is.
@@ -161,7 +112,7 @@ impl Session {
             }
             put(&mut all, place, *byte);
         }
-        Ok(String::from_str(alloc, yes(true))?)
+        answer(alloc, true)
     }
 }
 
@@ -183,24 +134,38 @@ fn is_judged(alloc: Global, bytes: &[u8]) -> Result<()> {
     }
 }
 
+/// The record that these bytes are.
+pub fn record_in(alloc: Global, bytes: &[u8]) -> Result<Record> {
+    match read_record(alloc, bytes) {
+        Ok(session) => Ok(session),
+        Err(fault) => bail!("it is no record: {fault:?}"),
+    }
+}
+
 /// How many entries these bytes are the record of, by which they are written again; or their fault.
 fn counted(alloc: Global, bytes: &[u8]) -> Result<String> {
     begin(alloc);
-    let mut session = read_record(alloc, bytes);
+    let session = read_record(alloc, bytes);
     end(alloc);
-    if matches!(&session, Err(RecordFault::NoMemory)) {
-        session = read_record(alloc, bytes);
-    }
     let session = match session {
         Ok(session) => session,
         Err(fault) => return Ok(format!(in alloc; "{fault:?}")?),
     };
-    let count = session.entries.len();
     let written = written(alloc, &session)?;
-    if written.as_str() != format!(in alloc; "{}", Digits(bytes))?.as_str() {
+    if written.as_str() != digits_of(alloc, bytes)?.as_str() {
         bail!("it is written otherwise: {written}");
     }
-    Ok(format!(in alloc; "{count}")?)
+    Ok(format!(in alloc; "{}", session.entries.len())?)
+}
+
+/// How many of these bytes are whole entries.
+fn whole(alloc: Global, form: &str, bytes: &[u8]) -> Result<String> {
+    let form = if form == "numbered" {
+        Form::Numbered
+    } else {
+        Form::Plain
+    };
+    Ok(format!(in alloc; "{}", whole_entries(form, bytes))?)
 }
 
 /// The bytes of a record, or why there are none. Where memory is refused, they are asked for once more.
@@ -212,8 +177,21 @@ pub fn written(alloc: Global, session: &Record) -> Result<String> {
         written = write_record(alloc, session);
     }
     match written {
-        Ok(bytes) => Ok(format!(in alloc; "{}", Digits(&bytes))?),
+        Ok(bytes) => digits_of(alloc, &bytes),
         Err(fault) => Ok(format!(in alloc; "{fault:?}")?),
+    }
+}
+
+/// What is found of a record, or made of it.
+fn of_record(alloc: Global, session: Record, words: &[&str]) -> Result<String> {
+    match *words {
+        ["check"] => found(alloc, &session),
+        ["begins"] => beginning(alloc, &session),
+        ["upgrade"] => upgraded(alloc, session),
+        ["local"] => left(alloc, &session),
+        ["workers", ref numbers @ ..] => written_by(alloc, session, numbers, false),
+        ["alone", ref numbers @ ..] => written_by(alloc, session, numbers, true),
+        _ => bail!("no such act"),
     }
 }
 
@@ -243,14 +221,10 @@ fn upgraded(alloc: Global, session: Record) -> Result<String> {
     }
 }
 
-/// What is left of the record that these bytes are, without its remote peers.
-fn left(alloc: Global, bytes: &[u8]) -> Result<String> {
-    let session = match read_record(alloc, bytes) {
-        Ok(session) => session,
-        Err(fault) => bail!("it is no record: {fault:?}"),
-    };
+/// What is left of a record without its remote peers.
+fn left(alloc: Global, session: &Record) -> Result<String> {
     begin(alloc);
-    let left = local_record(alloc, &session);
+    let left = local_record(alloc, session);
     end(alloc);
     match left {
         Ok(left) => written(alloc, &left),
@@ -324,33 +298,18 @@ fn tell_start(told: &mut String, start: &State) -> Result<()> {
 
 /// How a record of version 2 is written with these workers, and with its active names alone where that is asked for.
 fn written_by(alloc: Global, session: Record, numbers: &[&str], alone: bool) -> Result<String> {
-    let workers = workers(alloc, numbers)?;
-    let Record {
-        config,
-        version,
-        entries,
-    } = session;
-    let Version::Two { first, start, .. } = version else {
+    let mut session = session;
+    let Version::Two {
+        start, workers: made, ..
+    } = &mut session.version
+    else {
         bail!("it is of version 1")
     };
-    let start = if alone {
-        active_alone(alloc, &start)?
-    } else {
-        start
-    };
-    let version = Version::Two {
-        first,
-        start,
-        workers,
-    };
-    written(
-        alloc,
-        &Record {
-            config,
-            version,
-            entries,
-        },
-    )
+    *made = workers(alloc, numbers)?;
+    if alone {
+        *start = active_alone(alloc, start)?;
+    }
+    written(alloc, &session)
 }
 
 /// The active names of a state, without any connection.

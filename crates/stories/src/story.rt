@@ -65,20 +65,28 @@ impl<'a, R: Wait> Story<'a, R> {
         if line.is_empty() || line.starts_with('#') {
             return Ok(None);
         }
-        let Some((from, until, line)) = times(line) else {
-            return self.once(alloc, names, line);
-        };
-        for step in 0..=from.abs_diff(until) {
-            let place = if from <= until {
-                from.saturating_add(step)
-            } else {
-                from.saturating_sub(step)
-            };
-            let place = format!(in alloc; "{place}")?;
-            let line = line.replace(alloc, "$", place.as_str())?;
-            let wrong = self.once(alloc, names, line.as_str())?;
+        for acts in &spread(alloc, line, "times ", "$")? {
+            let wrong = self.first_wrong(alloc, names, acts.as_str())?;
             if wrong.is_some() {
                 return Ok(wrong);
+            }
+        }
+        Ok(None)
+    }
+
+    /// What is wrong with acts that ` ; ` joins, if anything is: one that begins with `each 1 9` is told for each number, as `@`.
+    fn first_wrong(
+        &mut self,
+        alloc: Global,
+        names: &mut Names,
+        acts: &str,
+    ) -> Result<Option<String>> {
+        for act in acts.split(" ; ") {
+            for line in &spread(alloc, act, "each ", "@")? {
+                let wrong = self.once(alloc, names, line.as_str())?;
+                if wrong.is_some() {
+                    return Ok(wrong);
+                }
             }
         }
         Ok(None)
@@ -107,6 +115,10 @@ impl<'a, R: Wait> Story<'a, R> {
         match *words.as_slice() {
             ["let", name, ref value @ ..] => {
                 names.put(alloc, name, value)?;
+                Ok(Some(String::new(alloc)))
+            }
+            ["more", name, ref value @ ..] => {
+                names.add(name, value)?;
                 Ok(Some(String::new(alloc)))
             }
             ["maybe", ref words @ ..] => self.tried(alloc, words),
@@ -146,9 +158,43 @@ impl<'a, R: Wait> Story<'a, R> {
     }
 }
 
+/// A line for each number, where this word and two numbers stand before it, from the first of these to the second.
+fn spread(alloc: Global, line: &str, word: &str, mark: &str) -> Result<Vec<String>> {
+    let mut lines = Vec::new(alloc);
+    let Some((from, until, line)) = range(line, word) else {
+        lines.push(String::from_str(alloc, line)?)?;
+        return Ok(lines);
+    };
+    for step in 0..=from.abs_diff(until) {
+        let number = if from <= until {
+            from.saturating_add(step)
+        } else {
+            from.saturating_sub(step)
+        };
+        lines.push(numbered(alloc, line, mark, number)?)?;
+    }
+    Ok(lines)
+}
+
 /// From where to where a line is told, and the line.
-fn times(line: &str) -> Option<(u32, u32, &str)> {
-    let (from, rest) = line.strip_prefix("times ")?.split_once(' ')?;
+fn range<'a>(line: &'a str, word: &str) -> Option<(u32, u32, &'a str)> {
+    let (from, rest) = line.strip_prefix(word)?.split_once(' ')?;
     let (until, line) = rest.split_once(' ')?;
     Some((from.parse::<u32>().ok()?, until.parse::<u32>().ok()?, line))
+}
+
+/// A line with a number in the place of its mark, with eight digits of base 16 in that of `%`, and with the next number where `+1` stands
+/// behind the mark.
+fn numbered(alloc: Global, line: &str, mark: &str, number: u32) -> Result<String> {
+    let next = format!(in alloc; "{mark}+1")?;
+    let line = replaced(alloc, line, next.as_str(), number.saturating_add(1))?;
+    let line = replaced(alloc, line.as_str(), mark, number)?;
+    Ok(
+        line.as_str()
+            .replace(alloc, "%", format!(in alloc; "{number:08x}")?.as_str())?,
+    )
+}
+
+fn replaced(alloc: Global, line: &str, mark: &str, number: u32) -> Result<String> {
+    Ok(line.replace(alloc, mark, format!(in alloc; "{number}")?.as_str())?)
 }

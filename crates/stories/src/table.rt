@@ -1,6 +1,6 @@
 //! The names that a port mapper knows: its table, and the two ways in which names are kept.
 use crate::requests::registration;
-use crate::words::{Digits, name, number, told, yes};
+use crate::words::{Digits, answer, name, number, told};
 use anyhow::{Result, bail};
 use portmap_table::{Known, NameLists, NameStore, RegFault, Row, Table};
 use portmap_testing::marks::{begin, end};
@@ -84,7 +84,7 @@ pub fn came(alloc: Global, table: &mut Table, words: &[&str]) -> Result<String> 
             *table = Table::new(alloc, number(known_max)?, number(first)?)?;
             Ok(String::new(alloc))
         }
-        ["offer", word, high] => Ok(told(alloc, table.offer(&name(alloc, word)?, number(high)?))?),
+        ["offer", word, high] => told(alloc, table.offer(&name(alloc, word)?, number(high)?)),
         ["register", word, high, slot] => registered(
             alloc,
             table,
@@ -104,12 +104,12 @@ fn registered(alloc: Global, table: &mut Table, reg: Reg, slot: u64) -> Result<S
     let (name, high) = (reg.name.try_copy(alloc)?, reg.high);
     let before = stands(table, &name, high);
     begin(alloc);
-    let answer = table.register(reg, slot);
+    let registered = table.register(reg, slot);
     end(alloc);
-    if answer.is_err() && (table.holds(slot) || stands(table, &name, high) != before) {
+    if registered.is_err() && (table.holds(slot) || stands(table, &name, high) != before) {
         bail!("a refusal has changed the table");
     }
-    Ok(told(alloc, answer)?)
+    told(alloc, registered)
 }
 
 /// What a name is offered, how many names are active and retired, and what the next creation is taken from.
@@ -127,7 +127,7 @@ fn retired(alloc: Global, table: &mut Table, slot: u64) -> Result<String> {
     begin(alloc);
     let is_retired = table.retire(slot);
     end(alloc);
-    Ok(String::from_str(alloc, yes(is_retired))?)
+    answer(alloc, is_retired)
 }
 
 /// What comes of an act on names that can change, however they are kept.
@@ -136,9 +136,9 @@ pub fn came_of_names<N: NameStore>(alloc: Global, names: &mut N, words: &[&str])
         ["admit", known_max, word, high, creation, slot] => {
             let reg = node(alloc, word, high)?;
             let admitted = names.admit(number(known_max)?, reg, number(creation)?, number(slot)?)?;
-            Ok(String::from_str(alloc, yes(admitted))?)
+            answer(alloc, admitted)
         }
-        ["retire", slot] => Ok(String::from_str(alloc, yes(names.retire(number(slot)?)?))?),
+        ["retire", slot] => answer(alloc, names.retire(number(slot)?)?),
         _ => asked(alloc, names, words),
     }
 }
@@ -163,7 +163,7 @@ impl Lists {
         match *words {
             ["anew"] => self.names = NameLists::new(alloc),
             ["copy"] => self.copy = self.names.try_copy(alloc)?,
-            ["same"] => return Ok(String::from_str(alloc, yes(self.is_same()?))?),
+            ["same"] => return answer(alloc, self.is_same()?),
             ["kept", known_max] => return self.kept(alloc, number(known_max)?),
             _ => return came_of_names(alloc, &mut self.names, words),
         }
@@ -182,11 +182,11 @@ impl Lists {
     /// Whether a port mapper that may know so many names can have come to them: then a map has them too.
     fn kept(&self, alloc: Global, known_max: u32) -> Result<String> {
         let Some(map) = self.names.are_kept(alloc, known_max)? else {
-            return Ok(String::from_str(alloc, yes(false))?);
+            return answer(alloc, false);
         };
         if !NameLists::copy_of(alloc, &map)?.same(&self.names) {
             bail!("the map has other names");
         }
-        Ok(String::from_str(alloc, yes(true))?)
+        answer(alloc, true)
     }
 }

@@ -1,8 +1,10 @@
 //! Requests and replies as bytes.
-use crate::lists::{read_dumped, read_listed, written_dump, written_names};
+use crate::lists::{dumped, listed, written_dump, written_names};
 use crate::replies::{missing, read_found, read_registered, registered};
 use crate::requests::{are_equal, asked, named, node};
+use crate::words::bytes;
 use anyhow::{Result, bail};
+use portmap_wire::{read_dump, read_names};
 use std::alloc::Global;
 
 /// What comes of an act.
@@ -18,9 +20,9 @@ pub fn came(alloc: Global, words: &[&str]) -> Result<String> {
         ["missing", "alive", reply] => missing(alloc, reply, true),
         ["missing", "port2", reply] => missing(alloc, reply, false),
         ["names", port, ref lines @ ..] => written_names(alloc, port, lines),
-        ["read", "names", reply] => read_listed(alloc, reply),
+        ["read", "names", reply] => listed(alloc, read_names(alloc, &bytes(alloc, reply)?)),
         ["dump", port, ref lines @ ..] => written_dump(alloc, port, lines),
-        ["read", "dump", reply] => read_dumped(alloc, reply),
+        ["read", "dump", reply] => dumped(alloc, read_dump(&bytes(alloc, reply)?)),
         _ => bail!("no such act"),
     }
 }

@@ -37,38 +37,70 @@ impl Names {
 
     /// Has a name stand for the digits of all these words.
     pub fn put(&mut self, alloc: Global, name: &str, words: &[&str]) -> Result<()> {
-        let mut digits = String::new(alloc);
+        self.digits
+            .insert(String::from_str(alloc, name)?, String::new(alloc))?;
+        self.add(name, words)
+    }
+
+    /// Has a name stand for the digits of all these words too, behind its own.
+    pub fn add(&mut self, name: &str, words: &[&str]) -> Result<()> {
+        let Some(digits) = self.digits.get_mut(name) else {
+            bail!("no name: {name}")
+        };
         for word in words {
             digits.push_str(word)?;
         }
-        self.digits.insert(String::from_str(alloc, name)?, digits)?;
         Ok(())
     }
 
-    /// A line with digits in the place of quoted text, of repeats as `61*3`, and of names; `+` joins them.
+    /// A line with digits in the place of quoted text, of repeats as `61*3`, and of names; `+` joins them. A name that is given digits
+    /// stands for itself.
     pub fn spelled(&self, alloc: Global, line: &str) -> Result<String> {
         let mut spelled = String::new(alloc);
         for word in unquoted(alloc, line)?.as_str().split_whitespace() {
+            let is_given = spelled.as_str() == "let" || spelled.as_str() == "more";
             if !spelled.is_empty() {
                 spelled.push_str(" ")?;
             }
-            self.push_word(&mut spelled, word)?;
+            if is_given {
+                spelled.push_str(word)?;
+            } else {
+                self.push_word(&mut spelled, word)?;
+            }
         }
         Ok(spelled)
     }
 
     fn push_word(&self, spelled: &mut String, word: &str) -> Result<()> {
         for part in word.split('+') {
-            let (digits, count) = part.split_once('*').unwrap_or((part, "1"));
-            let digits = match self.digits.get(digits) {
-                Some(digits) => digits.as_str(),
-                None => digits,
-            };
+            let (part, count) = part.split_once('*').unwrap_or((part, "1"));
+            let digits = self.part(part)?;
             for _ in 0..number::<u32>(count)? {
                 spelled.push_str(digits)?;
             }
         }
         Ok(())
+    }
+
+    /// What a part of a word stands for: the digits of a name, of its first bytes as `NAME[..3]` or of those behind them as `NAME[3..]`,
+    /// or itself.
+    fn part<'a>(&'a self, part: &'a str) -> Result<&'a str> {
+        let Some((name, range)) = part.split_once('[') else {
+            return Ok(self.meant(part));
+        };
+        let len = number::<usize>(range.trim_end_matches(']').trim_matches('.'))?;
+        match self.meant(name).split_at_checked(len.saturating_mul(2)) {
+            Some((front, _)) if range.starts_with('.') => Ok(front),
+            Some((_, rest)) => Ok(rest),
+            None => bail!("fewer bytes: {part}"),
+        }
+    }
+
+    fn meant<'a>(&'a self, part: &'a str) -> &'a str {
+        match self.digits.get(part) {
+            Some(digits) => digits.as_str(),
+            None => part,
+        }
     }
 }
 
@@ -127,18 +159,39 @@ pub fn name(alloc: Global, word: &str) -> Result<Name> {
     }
 }
 
+/// The digits of bytes.
+pub fn digits_of(alloc: Global, bytes: &[u8]) -> Result<String> {
+    Ok(format!(in alloc; "{}", Digits(bytes))?)
+}
+
 /// The word for whether something is so.
 pub fn yes(is_so: bool) -> &'static str {
     if is_so { "yes" } else { "no" }
+}
+
+/// That word, as what comes of an act.
+pub fn answer(alloc: Global, is_so: bool) -> Result<String> {
+    Ok(String::from_str(alloc, yes(is_so))?)
 }
 
 /// The words for a value, or for why there is none.
 pub fn told<T: fmt::Display + Drop, E: fmt::Debug + Drop>(
     alloc: Global,
     outcome: Result<T, E>,
-) -> Result<String, AllocError> {
+) -> Result<String> {
     match outcome {
-        Ok(value) => format!(in alloc; "{value}"),
-        Err(fault) => format!(in alloc; "{fault:?}"),
+        Ok(value) => Ok(format!(in alloc; "{value}")?),
+        Err(fault) => Ok(format!(in alloc; "{fault:?}")?),
+    }
+}
+
+/// The same where the value has a name.
+pub fn shown<T: fmt::Debug + Drop, E: fmt::Debug + Drop>(
+    alloc: Global,
+    outcome: Result<T, E>,
+) -> Result<String> {
+    match outcome {
+        Ok(value) => Ok(format!(in alloc; "{value:?}")?),
+        Err(fault) => Ok(format!(in alloc; "{fault:?}")?),
     }
 }

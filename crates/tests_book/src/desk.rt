@@ -202,48 +202,24 @@ fn a_seat_that_is_lost_is_missed(rt: HostRuntime) -> Result<(), Fail> {
     Ok(())
 }
 
-/// The places of the first three entries of a desk.
-fn first_places<L: Ledger, R: Wait>(rt: &R, alloc: Global, blank: Blank) -> Option<[u64; 3]>
-    requires name { blank.name ≡ L.name }
-    requires parts { blank.parts ≡ L.parts }
-    requires enough { blank.parts ≡ PARTS }
-{
-    let desk: Desk<L> = Desk::new(blank, book(alloc, false)?);
-    let mut seat = desk.seat(rt, 1)?;
-    let tickets = round(rt, alloc, &desk, &mut seat, ALIVE_A)?;
-    Some([tickets[0].place, tickets[1].place, tickets[2].place])
-}
-
-#[test]
-fn entries_have_places_from_0_on(rt: HostRuntime) -> Result<(), Fail> {
-    assert_eq!(rt;
-        first_places::<Brand, HostRuntime>(&rt, rt.alloc(), Blank::new(PARTS)),
-        Some([0, 1, 2])
-    );
-    Ok(())
-}
-
-/// Whether a desk makes 64 seats, and no more.
-fn seats_end<L: Ledger, R: Wait>(rt: &R, alloc: Global, blank: Blank) -> Option<bool>
-    requires name { blank.name ≡ L.name }
-    requires parts { blank.parts ≡ L.parts }
-    requires enough { blank.parts ≡ PARTS }
-{
-    let desk: Desk<L> = Desk::new(blank, book(alloc, false)?);
+/// Whether a desk that has made a seat makes 63 more, and none behind them.
+fn seats_end<L: Ledger, R: Wait>(rt: &R, alloc: Global, desk: &Desk<L>) -> Option<bool> {
     let mut seats = Vec::new(alloc);
-    for _ in 0..SEATS_MOST {
+    for _ in 1..SEATS_MOST {
         seats.push(desk.seat(rt, 1)?).ok()?;
     }
-    Some(seats.len() == 64 && desk.seat(rt, 1).is_none())
+    Some(seats.len() == 63 && desk.seat(rt, 1).is_none())
 }
 
-#[test]
-fn a_desk_makes_64_seats(rt: HostRuntime) -> Result<(), Fail> {
-    assert_eq!(rt;
-        seats_end::<Brand, HostRuntime>(&rt, rt.alloc(), Blank::new(PARTS)),
-        Some(true)
-    );
-    Ok(())
+/// Whether the first three entries of a desk have the places from 0 on.
+fn places_begin<L: Ledger, R: Wait>(
+    rt: &R,
+    alloc: Global,
+    desk: &Desk<L>,
+    seat: &mut Seat<L>,
+) -> Option<bool> {
+    let [opened, said, closed] = round(rt, alloc, desk, seat, ALIVE_A)?;
+    Some(opened.place == 0 && said.place == 1 && closed.place == 2)
 }
 
 /// Whether a connection that waits is done once its time is over, and gone once it fails.
@@ -263,7 +239,7 @@ fn fails_late<L: Ledger, R: Wait>(
 }
 
 /// Whether a segment has so many entries, the first at this place.
-pub fn is_part(segment: &Segment, first: u64, entries: usize) -> bool {
+fn is_part(segment: &Segment, first: u64, entries: usize) -> bool {
     segment.first == first && segment.entries.len() == entries
 }
 
@@ -282,7 +258,7 @@ fn is_sealed_to<L: Ledger, R: Wait>(
     }
 }
 
-/// Whether a desk's log is sealed after four entries while a connection is open, and again after its close, which has its
+/// Whether a desk's log of six entries is sealed after one more, while a connection is open, and again after its close, which has its
 /// place.
 fn is_sealed_at_desk<L: Ledger, R: Wait>(
     rt: &R,
@@ -291,10 +267,21 @@ fn is_sealed_at_desk<L: Ledger, R: Wait>(
     seat: &mut Seat<L>,
 ) -> Option<bool> {
     let (_, conn) = desk.connect(rt, alloc, seat, true).ok()?;
-    let has_four = is_sealed_to(rt, alloc, desk, 0, 4);
+    let has_seven = is_sealed_to(rt, alloc, desk, 0, 7);
     let (place, gone) = desk.close(rt, alloc, seat, conn).ok()?;
-    let is_closed = place == 4 && is_gone(&gone);
-    Some(has_four && is_closed && is_sealed_to(rt, alloc, desk, 4, 1))
+    let is_closed = place == 7 && is_gone(&gone);
+    Some(has_seven && is_closed && is_sealed_to(rt, alloc, desk, 7, 1))
+}
+
+/// Whether a first connection has slot 0, and fails once it is late.
+fn first_fails<L: Ledger, R: Wait>(
+    rt: &R,
+    alloc: Global,
+    desk: &Desk<L>,
+    seat: &mut Seat<L>,
+) -> Option<bool> {
+    let (_, conn) = desk.connect(rt, alloc, seat, false).ok()?;
+    Some(conn.slot() == 0 && fails_late(rt, alloc, desk, seat, conn)?)
 }
 
 fn one_worker<L: Ledger, R: Wait>(rt: &R, alloc: Global, blank: Blank) -> Option<bool>
@@ -304,11 +291,13 @@ fn one_worker<L: Ledger, R: Wait>(rt: &R, alloc: Global, blank: Blank) -> Option
 {
     let desk: Desk<L> = Desk::new(blank, book(alloc, false)?);
     let mut seat = desk.seat(rt, 1)?;
-    let (_, conn) = desk.connect(rt, alloc, &mut seat, false).ok()?;
-    let is_first = conn.slot() == 0;
-    let has_failed = fails_late(rt, alloc, &desk, &mut seat, conn)?;
-    let is_sealed = is_sealed_at_desk(rt, alloc, &desk, &mut seat)?;
-    Some(is_first && has_failed && is_sealed && is_killed(rt, alloc, &desk, &mut seat)?)
+    Some(
+        places_begin(rt, alloc, &desk, &mut seat)?
+            && first_fails(rt, alloc, &desk, &mut seat)?
+            && is_sealed_at_desk(rt, alloc, &desk, &mut seat)?
+            && seats_end(rt, alloc, &desk)?
+            && is_killed(rt, alloc, &desk, &mut seat)?,
+    )
 }
 
 #[test]

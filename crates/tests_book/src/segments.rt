@@ -1,5 +1,5 @@
 //! A log in segments, and the tickets of its entries.
-use crate::desk::{book, is_part, ticket};
+use crate::desk::{book, ticket};
 use portmap_book::{
     Book, GatherFault, Segment, Ticket, gather, segments_are_one_run, segments_lead_on,
     tickets_agree,
@@ -47,19 +47,19 @@ const GATHERED: &[Gathered] = &[
     Gathered(&[], Err(GatherFault::Missing(0))),
 ];
 
-/// A node connects, registers and leaves: the places of the three entries.
-fn node_places(alloc: Global, book: &mut Book) -> Option<[u64; 3]> {
-    let (opened, _) = book.act(alloc, 1, Event::Connect { local: true }).ok()?;
+/// A node connects, registers and leaves.
+fn come_and_go(alloc: Global, book: &mut Book) -> Option<()> {
+    book.act(alloc, 1, Event::Connect { local: true }).ok()?;
     let bytes = ALIVE_A.to_vec(alloc).ok()?;
-    let (said, _) = book.act(alloc, 1, Event::Piece { slot: 0, bytes }).ok()?;
-    let (closed, _) = book.act(alloc, 1, Event::Close { slot: 0 }).ok()?;
-    Some([opened, said, closed])
+    book.act(alloc, 1, Event::Piece { slot: 0, bytes }).ok()?;
+    book.act(alloc, 1, Event::Close { slot: 0 }).ok()?;
+    Some(())
 }
 
 /// The book of that node.
 fn one_node(alloc: Global) -> Option<Book> {
     let mut book = book(alloc, false)?;
-    node_places(alloc, &mut book)?;
+    come_and_go(alloc, &mut book)?;
     Some(book)
 }
 
@@ -87,22 +87,6 @@ fn tickets_are_the_log_or_the_first_fault_is_told(rt: HostRuntime) -> Result<(),
     all_hold(&rt, GATHERED)
 }
 
-/// Whether the log is sealed to such a segment, and goes on empty at the place that follows.
-fn seals(alloc: Global, book: &mut Book, first: u64, entries: usize, next: u64) -> Option<bool> {
-    let segment = book.seal(alloc).ok()?;
-    let is_empty = book.log().is_empty() && book.first() == next && book.count() == next;
-    Some(is_part(&segment, first, entries) && is_empty)
-}
-
-/// Whether the log of a node that came and left is sealed, and that of another one that comes behind it.
-fn seals_twice(alloc: Global, book: &mut Book) -> Option<bool> {
-    let places = node_places(alloc, book)?;
-    let has_three = seals(alloc, book, 0, 3, 3)?;
-    let (next, _) = book.act(alloc, 1, Event::Connect { local: true }).ok()?;
-    let has_one = seals(alloc, book, 3, 1, 4)?;
-    Some(places == [0, 1, 2] && has_three && next == 3 && has_one)
-}
-
 /// Which segments of a log are handed over with the book behind the second, whether they are of a relaxed port mapper, as
 /// the book is not, and what is found of the tickets of all.
 struct Chained(&'static [usize], bool, Result<(), GatherFault>);
@@ -121,19 +105,18 @@ const CHAINED: &[Chained] = &[
     Chained(&[], false, Err(GatherFault::Stranger(0))),
 ];
 
-/// The segment of the node that comes and leaves, or the one behind it, of the other node.
-fn segment_in(alloc: Global, book: &mut Book, place: usize) -> Option<Segment> {
-    node_places(alloc, book)?;
-    if place == 1 {
-        seals(alloc, book, 0, 3, 3)?;
-        book.act(alloc, 1, Event::Connect { local: true }).ok()?;
-    }
-    book.seal(alloc).ok()
+/// The segment of the node that comes and leaves, and the one behind it, of the other node.
+fn two_segments(alloc: Global, book: &mut Book) -> Option<[Segment; 2]> {
+    come_and_go(alloc, book)?;
+    let first = book.seal(alloc).ok()?;
+    book.act(alloc, 1, Event::Connect { local: true }).ok()?;
+    Some([first, book.seal(alloc).ok()?])
 }
 
 fn segment_of(alloc: Global, relaxed: bool, place: usize) -> Option<Segment> {
     let mut book = book(alloc, relaxed)?;
-    segment_in(alloc, &mut book, place)
+    let [first, second] = two_segments(alloc, &mut book)?;
+    Some(if place == 0 { first } else { second })
 }
 
 pub fn segments_of(alloc: Global, relaxed: bool, places: &[usize]) -> Option<Vec<Segment>> {
@@ -147,7 +130,7 @@ pub fn segments_of(alloc: Global, relaxed: bool, places: &[usize]) -> Option<Vec
 /// The book behind both segments.
 pub fn two_nodes(alloc: Global) -> Option<Book> {
     let mut book = book(alloc, false)?;
-    seals_twice(alloc, &mut book)?;
+    two_segments(alloc, &mut book)?;
     Some(book)
 }
 

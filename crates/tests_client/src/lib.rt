@@ -1,5 +1,4 @@
-//! What no story shows of the client and of the devices below it: lists without end, calls over sockets, and the adapters of readers and
-//! writers.
+//! What no story shows of the client and of the devices below it: calls over sockets, and the adapters of readers and writers.
 #![tactic(auto)]
 
 #[cfg(test)]

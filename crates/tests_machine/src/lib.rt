@@ -1,9 +1,7 @@
-//! What no story shows of the parts up to the machine: their laws, long lists of events by chance, and large values.
+//! What no story shows of the parts up to the machine: their laws, and long lists of events by chance.
 #![tactic(auto)]
 
 #[cfg(test)]
 mod chance;
-#[cfg(test)]
-mod large_values;
 #[cfg(test)]
 mod laws;

@@ -1,7 +1,5 @@
-//! What no story shows of recorded sessions: their laws, and long sessions from device to device.
+//! What no story shows of recorded sessions: their laws, and how long one may be.
 #![tactic(auto)]
 
 #[cfg(test)]
 mod laws;
-#[cfg(test)]
-mod long;

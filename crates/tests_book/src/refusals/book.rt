@@ -1,31 +1,24 @@
 //! What is gathered of a log in segments.
 use crate::segments::{ALL, segments_of, tickets_of, two_nodes};
-use portmap_book::{Book, GatherFault, gather};
+use portmap_book::{GatherFault, gather};
 use portmap_testing::cases::is_so;
 use portmap_testing::marks::{begin, end};
 use std::alloc::Global;
 use std::test::Fail;
 
 /// Whether two segments and a book are found to be what was told, or memory is refused to that.
-fn is_gathered(alloc: Global, book: &Book) -> Result<bool, Fail> {
+fn is_gathered(alloc: Global) -> Result<bool, Fail> {
     let tickets = tickets_of(alloc, ALL)?;
-    let Some(segments) = segments_of(alloc, false, &[0, 1]) else {
+    let (Some(segments), Some(book)) = (segments_of(alloc, false, &[0, 1]), two_nodes(alloc)) else {
         return Ok(false);
     };
     begin(alloc);
-    let found = gather(alloc, &segments, book, tickets);
+    let found = gather(alloc, &segments, &book, tickets);
     end(alloc);
     Ok(found == Ok(()) || found == Err(GatherFault::NoMemory))
 }
 
-fn is_gathered_anew(alloc: Global) -> Result<bool, Fail> {
-    match two_nodes(alloc) {
-        Some(book) => is_gathered(alloc, &book),
-        None => Ok(false),
-    }
-}
-
 #[test]
 fn what_is_gathered_is_all_or_refused(rt: HostRuntime) -> Result<(), Fail> {
-    is_so(&rt, is_gathered_anew(rt.alloc()))
+    is_so(&rt, is_gathered(rt.alloc()))
 }

@@ -1,10 +1,9 @@
 //! The calls over sockets, against a listener of the test.
-use crate::client::are_lines_of_a;
 use crate::client::example::register;
 use portmap_client::ClientFault;
 use portmap_testing::bytes::{A_LISTED, ALIVE_A, FOUND_A, FOURTH, NAMES, PORT_A};
 use portmap_testing::nodes::{is_node_a, node_a};
-use portmap_wire::Reg;
+use portmap_wire::{Line, Reg};
 use std::alloc::Global;
 use std::io::{Read, Write};
 use std::net::{Ipv4Addr, SocketAddr, TcpListener, TcpStream};
@@ -51,7 +50,15 @@ fn is_told(alloc: Global, streams: [TcpStream; 3], node: &Reg) -> Result<bool, C
     let creation = registration.creation();
     drop(registration);
     let is_found = found.is_some_and(|reg| is_node_a(&reg));
-    Ok(is_found && creation == 4 && are_lines_of_a(&lines, 1))
+    Ok(is_found && creation == 4 && is_a_listed(&lines))
+}
+
+/// Whether this is the list of the name `a` and port 5000 alone.
+fn is_a_listed(lines: &[Line]) -> bool {
+    match lines {
+        [line] => line.port == 5000 && line.name.bytes() == b"a".as_slice(),
+        _ => false,
+    }
 }
 
 fn connect(rt: &HostRuntime, address: SocketAddr) -> io::Result<TcpStream> {

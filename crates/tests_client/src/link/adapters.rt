@@ -100,26 +100,22 @@ const PUTS_OF_ERRORS: &[Put] = &[
 ];
 
 #[test]
-fn read_errors_that_pass_are_later_and_others_faults(rt: HostRuntime) {
+fn errors_that_pass_are_later_and_others_faults(rt: HostRuntime) {
     let mut reading = Reading::new(scripted(ERRORS));
     assert!(rt; pulls(&mut reading, PULLS_OF_ERRORS) && reading.into_inner().asked == 4);
-}
-
-#[test]
-fn write_errors_that_pass_are_later_and_others_faults(rt: HostRuntime) {
     let mut writing = Writing::new(scripted(ERRORS));
     assert!(rt; puts(&mut writing, PUTS_OF_ERRORS) && writing.into_inner().asked == 4);
 }
 
-/// Whether a stream answers the puts and then the one pull so.
-fn both_ways(both: &mut Both<Script<'_>>, wants: &[Put], want: Pull) -> bool {
-    puts(both, wants) && pulls(both, &[want])
+/// Whether a stream answers the puts and then a pull with a fault.
+fn fails_both_ways(both: &mut Both<Script<'_>>, wants: &[Put]) -> bool {
+    puts(both, wants) && pulls(both, &[Pull::Fault])
 }
 
 #[test]
 fn a_stream_that_has_failed_is_asked_no_more_in_either_direction(rt: HostRuntime) {
     let mut both = Both::new(scripted(ERRORS));
-    assert!(rt; both_ways(&mut both, PUTS_OF_ERRORS, Pull::Fault) && both.into_inner().asked == 4);
+    assert!(rt; fails_both_ways(&mut both, PUTS_OF_ERRORS) && both.into_inner().asked == 4);
 }
 
 const NOTHING: &[Told] = &[Told::Count(0)];
