@@ -300,7 +300,9 @@ fn tell_start(told: &mut String, start: &State) -> Result<()> {
 fn written_by(alloc: Global, session: Record, numbers: &[&str], alone: bool) -> Result<String> {
     let mut session = session;
     let Version::Two {
-        start, workers: made, ..
+        start,
+        workers: made,
+        ..
     } = &mut session.version
     else {
         bail!("it is of version 1")
