@@ -258,55 +258,27 @@ fn have_served(ended: &Result<RunEnd, RunFault>, recorded: bool) -> bool {
     }
 }
 
-#[test]
-fn a_node_registers_and_leaves(rt: HostRuntime) -> Result<(), Fail> {
-    let alloc = rt.alloc();
-    let settings = settings(alloc, Story::Leaves, None)?;
-    let (ended, told) = thread::join(
-        &rt,
-        || run(&rt, alloc, settings),
-        || goes_well(&rt, alloc, Story::Leaves),
-    );
-    assert!(rt; told && have_served(&ended, true));
-    Ok(())
-}
+/// Stories, the path that is recorded to, and whether all was.
+const TOLD: [(Story, Option<&str>, bool); 5] = [
+    (Story::Leaves, None, true),
+    (Story::Resets, None, true),
+    (Story::Silent, None, true),
+    (Story::Stalls, None, true),
+    (Story::Nowhere, Some("/none/there"), false),
+];
 
 #[test]
-fn a_name_is_free_once_its_connection_is_reset(rt: HostRuntime) -> Result<(), Fail> {
+fn each_story_goes_as_it_should(rt: HostRuntime) -> Result<(), Fail> {
     let alloc = rt.alloc();
-    let settings = settings(alloc, Story::Resets, None)?;
-    let (ended, told) = thread::join(
-        &rt,
-        || run(&rt, alloc, settings),
-        || goes_well(&rt, alloc, Story::Resets),
-    );
-    assert!(rt; told && have_served(&ended, true));
-    Ok(())
-}
-
-#[test]
-fn a_silent_connection_is_closed_and_a_registered_one_is_not(rt: HostRuntime) -> Result<(), Fail> {
-    let alloc = rt.alloc();
-    let settings = settings(alloc, Story::Silent, None)?;
-    let (ended, told) = thread::join(
-        &rt,
-        || run(&rt, alloc, settings),
-        || goes_well(&rt, alloc, Story::Silent),
-    );
-    assert!(rt; told && have_served(&ended, true));
-    Ok(())
-}
-
-#[test]
-fn a_peer_that_reads_late_stops_no_other_and_gets_all(rt: HostRuntime) -> Result<(), Fail> {
-    let alloc = rt.alloc();
-    let settings = settings(alloc, Story::Stalls, None)?;
-    let (ended, told) = thread::join(
-        &rt,
-        || run(&rt, alloc, settings),
-        || goes_well(&rt, alloc, Story::Stalls),
-    );
-    assert!(rt; told && have_served(&ended, true));
+    for (story, path, recorded) in TOLD {
+        let settings = settings(alloc, story, path)?;
+        let (ended, told) = thread::join(
+            &rt,
+            || run(&rt, alloc, settings),
+            || goes_well(&rt, alloc, story),
+        );
+        assert!(rt; told && have_served(&ended, recorded));
+    }
     Ok(())
 }
 
@@ -360,17 +332,4 @@ fn what_is_answered_is_recorded(rt: HostRuntime) -> Result<(), Fail> {
     let file = File::open(&rt, RECORDING)?;
     fs::remove_file(&rt, RECORDING)?;
     is_so(&rt, is_run_of(alloc, file, acts_of(&ended)))
-}
-
-#[test]
-fn a_recording_that_cannot_be_made_is_told(rt: HostRuntime) -> Result<(), Fail> {
-    let alloc = rt.alloc();
-    let settings = settings(alloc, Story::Nowhere, Some("/none/there"))?;
-    let (ended, told) = thread::join(
-        &rt,
-        || run(&rt, alloc, settings),
-        || goes_well(&rt, alloc, Story::Nowhere),
-    );
-    assert!(rt; told && have_served(&ended, false));
-    Ok(())
 }
