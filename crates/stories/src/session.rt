@@ -42,7 +42,8 @@ impl Session {
                 words.get(1..).unwrap_or(&[]),
             ),
             "recorder" => recorded(alloc, words, &self.entries, &self.bytes),
-            "check" | "begins" | "upgrade" | "local" | "workers" | "alone" => of_record(
+            "local" => left(alloc, &self.bytes),
+            "check" | "begins" | "upgrade" | "workers" | "alone" => of_record(
                 alloc,
                 record_in(alloc, &self.bytes)?,
                 words,
@@ -188,7 +189,6 @@ fn of_record(alloc: Global, session: Record, words: &[&str]) -> Result<String> {
         ["check"] => found(alloc, &session),
         ["begins"] => beginning(alloc, &session),
         ["upgrade"] => upgraded(alloc, session),
-        ["local"] => left(alloc, &session),
         ["workers", ref numbers @ ..] => written_by(alloc, session, numbers, false),
         ["alone", ref numbers @ ..] => written_by(alloc, session, numbers, true),
         _ => bail!("no such act"),
@@ -221,10 +221,14 @@ fn upgraded(alloc: Global, session: Record) -> Result<String> {
     }
 }
 
-/// What is left of a record without its remote peers.
-fn left(alloc: Global, session: &Record) -> Result<String> {
+/// What is left of the record that these bytes are without its remote peers.
+fn left(alloc: Global, bytes: &[u8]) -> Result<String> {
+    let session = match read_record(alloc, bytes) {
+        Ok(session) => session,
+        Err(fault) => bail!("it is no record: {fault:?}"),
+    };
     begin(alloc);
-    let left = local_record(alloc, session);
+    let left = local_record(alloc, &session);
     end(alloc);
     match left {
         Ok(left) => written(alloc, &left),
