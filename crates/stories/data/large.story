@@ -139,7 +139,7 @@ let RETIRED 00*0
 times 4 1027 more RETIRED "old/unused name % at port 5000, fd = -1" 0a
 piece 1 get DUMP -> say ACTIVE+RETIRED close
 # A thousand more, before which as many are forgotten, those that retired first.
-times 2052 3051 connect local -> 1027 ; piece 1027 get ALIVE_8+"%"+0000 -> say 7600+% stay ; close 1027 -> gone
+times 2052 3051 connect local -> 1027 && piece 1027 get ALIVE_8+"%"+0000 -> say 7600+% stay && close 1027 -> gone
 times 2052 3051 more RETIRED "old/unused name % at port 5000, fd = -1" 0a
 piece 2 get DUMP -> say ACTIVE+RETIRED[47000..] close
 

@@ -60,8 +60,8 @@ open -> 0
 active "a" -> no
 
 story as many as are open leave without memory
-times 0 7 with strict conn 1024 known 4096 first 4 ; each 0 $ connect local -> @ ; each 0 $ close @ -> gone ; open -> 0
-times 0 7 with strict conn 1024 known 4096 first 4 ; each 0 $ connect local -> @ ; seal -> first 0 entries $+1 ; each 0 $ close @ -> gone ; open -> 0
+times 0 7 with strict conn 1024 known 4096 first 4 && each 0 $ connect local -> @ && each 0 $ close @ -> gone && open -> 0
+times 0 7 with strict conn 1024 known 4096 first 4 && each 0 $ connect local -> @ && seal -> first 0 entries $+1 && each 0 $ close @ -> gone && open -> 0
 
 # Names that register, are asked for, stopped, and leave; requests in pieces, malformed ones, and time-outs.
 story a base follows the machine

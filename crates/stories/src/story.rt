@@ -74,14 +74,14 @@ impl<'a, R: Wait> Story<'a, R> {
         Ok(None)
     }
 
-    /// What is wrong with acts that ` ; ` joins, if anything is: one that begins with `each 1 9` is told for each number, as `@`.
+    /// What is wrong with acts that ` && ` joins, if anything is: one that begins with `each 1 9` is told for each number, as `@`.
     fn first_wrong(
         &mut self,
         alloc: Global,
         names: &mut Names,
         acts: &str,
     ) -> Result<Option<String>> {
-        for act in acts.split(" ; ") {
+        for act in acts.split(" && ") {
             for line in &spread(alloc, act, "each ", "@")? {
                 let wrong = self.once(alloc, names, line.as_str())?;
                 if wrong.is_some() {
