@@ -105,18 +105,19 @@ const CHAINED: &[Chained] = &[
     Chained(&[], false, Err(GatherFault::Stranger(0))),
 ];
 
-/// The segment of the node that comes and leaves, and the one behind it, of the other node.
-fn two_segments(alloc: Global, book: &mut Book) -> Option<[Segment; 2]> {
+/// The segment of the node that comes and leaves, or the one behind it, of the other node.
+fn segment_in(alloc: Global, book: &mut Book, place: usize) -> Option<Segment> {
     come_and_go(alloc, book)?;
-    let first = book.seal(alloc).ok()?;
-    book.act(alloc, 1, Event::Connect { local: true }).ok()?;
-    Some([first, book.seal(alloc).ok()?])
+    if place == 1 {
+        book.seal(alloc).ok()?;
+        book.act(alloc, 1, Event::Connect { local: true }).ok()?;
+    }
+    book.seal(alloc).ok()
 }
 
 fn segment_of(alloc: Global, relaxed: bool, place: usize) -> Option<Segment> {
     let mut book = book(alloc, relaxed)?;
-    let [first, second] = two_segments(alloc, &mut book)?;
-    Some(if place == 0 { first } else { second })
+    segment_in(alloc, &mut book, place)
 }
 
 pub fn segments_of(alloc: Global, relaxed: bool, places: &[usize]) -> Option<Vec<Segment>> {
@@ -130,7 +131,7 @@ pub fn segments_of(alloc: Global, relaxed: bool, places: &[usize]) -> Option<Vec
 /// The book behind both segments.
 pub fn two_nodes(alloc: Global) -> Option<Book> {
     let mut book = book(alloc, false)?;
-    two_segments(alloc, &mut book)?;
+    segment_in(alloc, &mut book, 1)?;
     Some(book)
 }
 
