@@ -10,18 +10,6 @@ pub const SESSION: [u8; 109] = [
     0, 0, 6, 0, 5, 0, 1, 0x61, 0, 0,
 ];
 
-/// `SESSION` with its entries behind the number of worker 0 each, from place 0 and nothing known on.
-pub const UPGRADED: [u8; 146] = [
-    0x45, 0x50, 0x4D, 0x53, 2, 0, 0x11, 0x11, 0, 0, 0, 2, 0, 0, 0, 2, //
-    0, 0, 0, 0, 0, 0, 0, 0, 0, 0, 0, 0, 0, 0, 0, 0, 0, 0, 0, 0, 0, //
-    0, 0, 0, 0, 1, 1, 0, 0, 0, 0, 0, 0, 0, 0, //
-    0, 0, 0, 0, 2, 0, 0, 0, 0, 0, 0, 0, 0, 0, 0x10, 0, 0x0E, 0x78, 0x13, 0x88, 0x4D, 0, 0, 6, 0, 5,
-    0, 1, 0x61, 0, 0, 0, 0, 0, 0, 6, 0x76, 0, 0, 0, 0, 4, //
-    0, 0, 0, 0, 1, 1, 0, 0, 0, 0, 0, 0, 0, 1, //
-    0, 0, 0, 0, 2, 0, 0, 0, 0, 0, 0, 0, 1, 0, 4, 0, 2, 0x7A, 0x61, 1, 0, 0, 0, 0x0F, 0x77, 0, 0x13,
-    0x88, 0x4D, 0, 0, 6, 0, 5, 0, 1, 0x61, 0, 0,
-];
-
 /// The first bytes of `SESSION`: port 4369, not relaxed, two connections and two names at most.
 pub const HEADER: &[u8] = &[
     0x45, 0x50, 0x4D, 0x53, 1, 0, 0x11, 0x11, 0, 0, 0, 2, 0, 0, 0, 2,

@@ -23,8 +23,6 @@ pub const STEADY: Plan = Plan {
 
 pub const SINGLE: Plan = Plan { most: 1, ..STEADY };
 
-pub const PAIRS: Plan = Plan { most: 2, ..STEADY };
-
 /// What one call is to do.
 #[derive(Clone, Copy)]
 enum Turn {
