@@ -14,3 +14,5 @@ pub mod Hearing
 pub mod Counts
 pub mod HeldLaws
 pub mod Fitting
+pub mod Names
+pub mod Trusting

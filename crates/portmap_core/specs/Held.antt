@@ -1,5 +1,7 @@
 -- The open connections of a plain state, as a list by rising slot.
-use Rattle.std.specs.Prelude.{◌≡◌, ℕ, zero, suc, ◌<◌, ◌≤◌, Bool, List, [], ◌∷◌, All, Option, Some, None, Result, Ok, Err, slice_get, map as list_map}
+use Rattle.std.specs.Prelude.{◌≡◌, ℕ, ◌<◌, ◌≤◌, Bool, List, [], All, IsSome, None, length, map as list_map}
+use Rattle.std.specs.List.{HoldsAt}
+use Rattle.std.specs.List.Sorted.{IsPartitionPoint}
 use Rattle.std.specs.FinMap as map
 use Rattle.portmap_core.specs.declared.connection.Connection.{Connection}
 use Rattle.portmap_core.specs.declared.connection.Stage.{Stage}
@@ -48,27 +50,14 @@ pub record AreHeld (held : List HeldValue) : Type 0 where
   pub rise : SlotsRise (entries_held held)
   pub each : All IsHeld held
 
--- ---- places
+-- a slot stands at this place
+pub record IsAt (held : List HeldValue) (slot i : ℕ) : Type 0 where
+  pub within : i < length held
+  pub same : HoldsAt (λ h. h.slot ≡ slot) held i
+  pub some : IsSome (map.get (connections_held held) slot)
 
--- the first so many slots are lower
-abbrev pub AreLower : ℕ → List HeldValue → ℕ → Type 0
-AreLower slot held zero = Unit {0}
-AreLower slot [] (suc place) = ⊥
-AreLower slot (h ∷ held) (suc place) = (h.slot < slot) × AreLower slot held place
-
-abbrev pub HasSlot : ℕ → Option HeldValue → Type 0
-HasSlot slot None = ⊥
-HasSlot slot (Some h) = h.slot ≡ slot
-
-abbrev pub IsFrom : ℕ → Option HeldValue → Type 0
-IsFrom slot None = Unit {0}
-IsFrom slot (Some h) = slot ≤ h.slot
-
-abbrev pub IsAbove : ℕ → Option HeldValue → Type 0
-IsAbove slot None = Unit {0}
-IsAbove slot (Some h) = slot < h.slot
-
--- where a slot stands, or where it would
-abbrev pub StandsAt : ℕ → List HeldValue → Result ℕ ℕ → Type 0
-StandsAt slot held (Ok place) = AreLower slot held place × HasSlot slot (slice_get held place)
-StandsAt slot held (Err place) = AreLower slot held place × IsAbove slot (slice_get held place)
+-- no connection has a slot, and it would stand at this place
+pub record IsGapFor (held : List HeldValue) (slot i : ℕ) : Type 0 where
+  pub within : i ≤ length held
+  pub parted : IsPartitionPoint (λ h. h.slot < slot) (λ h. slot < h.slot) held i
+  pub none : map.get (connections_held held) slot ≡ None

@@ -15,3 +15,4 @@ pub mod Following
 pub mod Registering
 pub mod Held
 pub mod Fitting
+pub mod Names

@@ -1,5 +1,5 @@
 -- The state of the port mapper's machine.
-use Rattle.std.specs.Prelude.{ℕ, Bool, false, List, Option, Some, None, Result, Ok, Err, refl}
+use Rattle.std.specs.Prelude.{ℕ, Bool, false, List, Option, Some, None, refl}
 use Rattle.std.specs.Coded.{Coded, code_by, coded×, coded_list, coded_ℕ, coded_bool}
 use Rattle.std.specs.FinMap as map
 use Rattle.portmap_table.specs.Rows.{Names, RetiredName, no_names}
@@ -25,11 +25,6 @@ empty_state = record { names = no_names; connections = map.empty; halted = false
 -- the state of these parts
 abbrev pub state_of : Names → ConnectionMap → Bool → State
 state_of names connections halted = record { names = names; connections = connections; halted = halted }
-
--- a state that is kept in one of two ways
-abbrev pub state_kept : Result State State → State
-state_kept (Ok s) = s
-state_kept (Err s) = s
 
 -- the state with this connection at a slot
 abbrev pub with_connection : State → ℕ → Connection → State

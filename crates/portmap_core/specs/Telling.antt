@@ -1,5 +1,5 @@
 -- What is told of a request before anything is changed, and the change that goes with it.
-use Rattle.std.specs.Prelude.{◌≡◌, ℕ, false, List, Option, Some, None, Result, Ok, Err}
+use Rattle.std.specs.Prelude.{◌≡◌, ℕ, Bool, false, List, Option, Some, None, Result, Ok, Err, IfOk}
 use Rattle.portmap_wire.specs.Node.{Node}
 use Rattle.portmap_wire.specs.declared.reply_reading.AliveReply.{AliveReply}
 use Rattle.portmap_wire.specs.declared.reply_reading.AliveReply.TheVariants as reply
@@ -7,13 +7,19 @@ use Rattle.portmap_wire.specs.declared.reply_reading.ReplyFault.{ReplyFault}
 use Rattle.portmap_wire.specs.ReplyReading.{alive_answer}
 use Rattle.portmap_table.specs.Creation.{IsLegalCreation, choice}
 use Rattle.portmap_table.specs.Rows as rows
+use Rattle.portmap_table.specs.Table.{TableState}
+use Rattle.portmap_core.specs.declared.asked.Asked.{Asked}
 use Rattle.portmap_core.specs.declared.serve.Change.{Change}
 use Rattle.portmap_core.specs.declared.serve.Change.TheVariants.{Nothing, Listed, Register, Retire}
 use Rattle.portmap_core.specs.declared.serve.Told.{Told}
-use Rattle.portmap_core.specs.declared.machine.Settled.{Settled}
+use Rattle.portmap_core.specs.declared.live.Said.{Said}
+use Rattle.portmap_core.specs.declared.connection.Phase.{Phase}
 use Rattle.portmap_core.specs.Config.{Configuration}
 use Rattle.portmap_core.specs.Held.{stage_held}
-use Rattle.portmap_core.specs.Serving.{Served, list_of}
+use Rattle.portmap_feed.specs.Stream.{first_request}
+use Rattle.portmap_core.specs.Connections.{stopped_in}
+use Rattle.portmap_core.specs.State.{Machine}
+use Rattle.portmap_core.specs.Serving.{Served, ToldAt, list_of}
 
 -- ---- what is changed
 
@@ -24,13 +30,6 @@ names_after known_max slot Listed names = names
 names_after known_max slot (Register g creation) names = rows.registered g creation slot (rows.with_room known_max g.name names)
 names_after known_max slot (Retire owner) names = rows.retired_of owner names
 
--- a name that would register for this slot may not
-abbrev pub AdmitsNone : ℕ → ℕ → Change → rows.Names → Type 0
-AdmitsNone known_max slot Nothing names = ⊥
-AdmitsNone known_max slot Listed names = ⊥
-AdmitsNone known_max slot (Register g creation) names = rows.MayAdmit known_max g.name slot names → ⊥
-AdmitsNone known_max slot (Retire owner) names = ⊥
-
 -- the slot of another connection, whose name it retires
 abbrev pub stopped_by : Change → Option ℕ
 stopped_by Nothing = None
@@ -38,22 +37,25 @@ stopped_by Listed = None
 stopped_by (Register g creation) = None
 stopped_by (Retire owner) = Some owner
 
--- a name that registers is free, and gets a legal creation: the choice, where none is wanted
-pub record MayRegister (known_max : ℕ) (names : rows.Names) (wanted : Option ℕ) (counter : ℕ) (g : Node) (creation : ℕ) : Type 0 where
+-- a name that registers is free, and gets a legal creation
+pub record MayRegister (known_max : ℕ) (names : rows.Names) (g : Node) (creation : ℕ) : Type 0 where
   pub active : rows.is_active g.name names ≡ false
   pub room : rows.is_full_for known_max g.name names ≡ false
   pub legal : IsLegalCreation g.high (rows.remembered g.name names) creation
-  pub chosen : wanted ≡ None → creation ≡ choice counter g.high (rows.remembered g.name names)
 
--- what a change asks for: the list of the active names is the reply
-abbrev pub MayMake : Configuration → rows.Names → Option ℕ → ℕ → List ℕ → Change → Type 0
-MayMake cfg names wanted counter reply Nothing = Unit {0}
-MayMake cfg names wanted counter reply Listed = reply ≡ list_of cfg.port names
-MayMake cfg names wanted counter reply (Register g creation) = MayRegister cfg.known_max names wanted counter g creation
-MayMake cfg names wanted counter reply (Retire owner) = Unit {0}
+-- what a change asks for
+abbrev pub MayChange : ℕ → rows.Names → Change → Type 0
+MayChange known_max names Nothing = Unit {0}
+MayChange known_max names Listed = Unit {0}
+MayChange known_max names (Register g creation) = MayRegister known_max names g creation
+MayChange known_max names (Retire owner) = Unit {0}
 
-abbrev pub MayChange : Configuration → rows.Names → Option ℕ → ℕ → Told → Type 0
-MayChange cfg names wanted counter told = MayMake cfg names wanted counter told.reply.items told.change
+-- the list of the active names is the reply, and the creation the choice, where none is wanted
+abbrev pub IsChosen : ℕ → TableState → Option ℕ → List ℕ → Change → Type 0
+IsChosen port t wanted reply Nothing = Unit {0}
+IsChosen port t wanted reply Listed = reply ≡ list_of port t.names
+IsChosen port t wanted reply (Register g creation) = wanted ≡ None → creation ≡ choice t.counter g.high (rows.remembered g.name t.names)
+IsChosen port t wanted reply (Retire owner) = Unit {0}
 
 -- ---- what is told
 
@@ -68,12 +70,19 @@ served_by cfg names slot bytes told = record {
 }
 
 -- it is this, whoever asks
-abbrev pub Tells : Configuration → rows.Names → Told → Served → Type 0
-Tells cfg names told o = ((slot : ℕ) (bytes : List ℕ) → served_by cfg names slot bytes told ≡ o) × ((wanted : Option ℕ) (counter : ℕ) → MayChange cfg names wanted counter told)
+pub record Tells (asked : Asked) (told : Told) (o : Served) : Type 0 where
+  pub is : (slot : ℕ) (bytes : List ℕ) → served_by asked.config asked.table.now.names slot bytes told ≡ o
+  pub may : MayChange asked.config.known_max asked.table.now.names told.change
+  pub chosen : IsChosen asked.config.port asked.table.now asked.wanted told.reply.items told.change
 
--- the same of what was told and is so, with these names after it
-abbrev pub served_as : Settled → List ℕ → rows.Names → Served
-served_as r bytes names = record { reply = r.said.reply.items; fate = r.said.fate; stage = stage_held r.phase bytes; names = names; stopped = r.stopped }
+-- what was told is so, but for the stage of the connection that asked, which sent these bytes in all, and of which these are kept
+pub record IsSettled (m m' : Machine) (local : Bool) (slot : ℕ) (all bytes : List ℕ) (said : Said) (next : Phase) : Type 0 where
+  pub stopped : Option ℕ
+  pub told : ToldAt m.config m.state.names local slot all (first_request all) (record { reply = said.reply.items; fate = said.fate; stage = stage_held next bytes; names = m'.state.names; stopped = stopped })
+  pub again : said.again.items ≡ said.reply.items
+  pub config : m'.config ≡ m.config
+  pub connections : m'.state.connections ≡ stopped_in stopped m.state.connections
+  pub halted : m'.state.halted ≡ m.state.halted
 
 -- the creation that a reply shows, where it shows one
 abbrev pub shown_in : Result AliveReply ReplyFault → Option ℕ
@@ -90,5 +99,14 @@ pub record IsAllTold (Tells : Served → Type 0) (wanted : Option ℕ) (o : Serv
   pub only : (other : Served) → Tells other → shown_creation other.reply ≡ wanted → other ≡ o
 
 -- so it is, whatever slot asks, and what it changes may be
-abbrev pub TellsAll : (ℕ → Served → Type 0) → Configuration → rows.Names → List ℕ → Option ℕ → ℕ → Told → Type 0
-TellsAll Is cfg names bytes wanted counter told = ((slot : ℕ) → IsAllTold (Is slot) wanted (served_by cfg names slot bytes told)) × MayChange cfg names wanted counter told
+pub record TellsAll (Is : ℕ → Served → Type 0) (asked : Asked) (bytes : List ℕ) (told : Told) : Type 0 where
+  pub all : (slot : ℕ) → IsAllTold (Is slot) asked.wanted (served_by asked.config asked.table.now.names slot bytes told)
+  pub may : MayChange asked.config.known_max asked.table.now.names told.change
+  pub chosen : IsChosen asked.config.port asked.table.now asked.wanted told.reply.items told.change
+
+-- the same of what is told by who is asked, without regard to the bytes that are kept
+abbrev pub AnswersAll : {E : Type 0} → Asked → Result Told E → (Configuration → rows.Names → ℕ → Served → Type 0) → Type 0
+AnswersAll asked result Is = IfOk result (λ told. (bytes : List ℕ) → TellsAll (Is asked.config asked.table.now.names) asked bytes told)
+
+abbrev pub Answers : {E : Type 0} → Asked → Result Told E → (Configuration → rows.Names → Served) → Type 0
+Answers asked result served = IfOk result (λ told. Tells asked told (served asked.config asked.table.now.names))

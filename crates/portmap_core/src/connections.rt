@@ -1,7 +1,7 @@
 //! The open connections.
 ghost use Rattle.std.specs.Prelude.{◌≡◌, Some, None, IfOk, OnErr, IsSome};
 ghost use Rattle.std.specs.Option.{option_copied};
-ghost use Rattle.portmap_core.specs.Connections.{at_stage, ended, stopped_in};
+ghost use Rattle.portmap_core.specs.Connections.{at_stage, stopped_in};
 ghost use Rattle.std.specs.FinMap as map;
 ghost use Rattle.portmap_core.specs.declared.connection.Connection.{Connection};
 ghost use Rattle.portmap_core.specs.declared.connection.Stage.TheVariants.{Done};
@@ -37,9 +37,8 @@ impl Connections {
     pub(crate) fn new(alloc: Global) -> Connections
         ensures { result ≡ map.empty }
     {
-        Connections {
-            open: Slab::new(alloc),
-        }
+        let open = Slab::new(alloc);
+        Connections { open }
     }
 
     /// How many are open.
@@ -83,16 +82,9 @@ impl Connections {
     pub(crate) fn stop(&mut self, stopped: Option<u64>)
         ensures { self.new ≡ stopped_in stopped self.old }
     {
-        match stopped {
-            None => {}
-            Some(owner) => self.end(owner),
+        if let Some(owner) = stopped {
+            self.put(owner, Stage::Done);
         }
-    }
-
-    fn end(&mut self, slot: u64)
-        ensures { self.new ≡ ended slot self.old }
-    {
-        self.put(slot, Stage::Done);
     }
 
     /// Takes the stage from an open slot, with whether its connection comes from this host. The connection is done, until
@@ -103,10 +95,9 @@ impl Connections {
         ensures done { self.new ≡ map.insert self.old slot (at_stage result Done) }
     {
         let connection = &mut self.open[slot as usize];
-        Connection {
-            local: connection.local,
-            stage: std::mem::replace(&mut connection.stage, Stage::Done),
-        }
+        let local = connection.local;
+        let stage = std::mem::replace(&mut connection.stage, Stage::Done);
+        Connection { local, stage }
     }
 
     /// Puts another stage at a slot, where it is open.

@@ -1,7 +1,7 @@
 //! An open connection of a plain state.
 ghost use Rattle.std.specs.Prelude.{◌≡◌, ◌↔◌, IfOk, IsTrue};
 ghost use Rattle.portmap_core.specs.Connections.{at_stage};
-ghost use Rattle.portmap_core.specs.Held.{IsHeld, IsKeptFor, connection_held, entry_held, stage_held};
+ghost use Rattle.portmap_core.specs.Held.{IsHeld, connection_held, entry_held};
 
 use crate::connection::{Phase, Stage};
 use portmap_wire::NoMemory;
@@ -54,10 +54,7 @@ impl Held {
     pub(crate) fn is_held(&self) -> bool
         ensures { IsTrue result ↔ IsHeld self.now }
     {
-        match self.phase {
-            Phase::Waiting => true,
-            Phase::Holding | Phase::Done => self.bytes.is_empty(),
-        }
+        self.bytes.is_empty() || matches!(self.phase, Phase::Waiting)
     }
 
     /// It is at this stage now. It takes no memory.
@@ -65,20 +62,10 @@ impl Held {
         ensures entry { entry_held self.new ≡ (self.old.slot, at_stage (connection_held self.old) stage) }
         ensures held { IsHeld self.new }
     {
-        let (phase, bytes) = parts_of(*self.bytes.allocator(), stage);
-        self.phase = phase;
-        self.bytes = bytes;
-    }
-}
-
-/// The phase of a stage, and what is kept of what was sent.
-fn parts_of(alloc: Global, stage: Stage) -> (Phase, Vec<u8>)
-    ensures stage { stage_held result.0 result.1.items ≡ stage }
-    ensures kept { IsKeptFor result.0 result.1.items }
-{
-    match stage {
-        Stage::Waiting(feed) => (Phase::Waiting, feed.into_bytes()),
-        Stage::Holding => (Phase::Holding, Vec::new(alloc)),
-        Stage::Done => (Phase::Done, Vec::new(alloc)),
+        self.phase = stage.phase();
+        self.bytes = match stage {
+            Stage::Waiting(feed) => feed.into_bytes(),
+            Stage::Holding | Stage::Done => Vec::new(*self.bytes.allocator()),
+        };
     }
 }

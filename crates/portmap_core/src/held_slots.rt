@@ -1,10 +1,10 @@
 //! The open connections of a plain state, by rising slot: slots of any number.
-ghost use Rattle.std.specs.Prelude.{All, ◌≡◌, ◌↔◌, [], Some, None, IfOk, IfSome, IsTrue, OnErr, OnOk, length, option_map, slice_get};
+ghost use Rattle.std.specs.Prelude.{◌≡◌, ◌↔◌, [], Some, None, IfOk, IfSome, IsTrue, MatchResult, OnErr, OnOk, option_map};
 ghost use Rattle.std.specs.FinMap as map;
 ghost use Rattle.portmap_core.specs.declared.connection.Connection.{Connection};
 ghost use Rattle.portmap_core.specs.declared.connection.Stage.TheVariants as stage;
-ghost use Rattle.portmap_core.specs.Connections.{IsHolding, SlotsRise, at_stage, ended, stopped_in};
-ghost use Rattle.portmap_core.specs.Held.{AreHeld, AreLower, IsFrom, IsHeld, StandsAt, connection_held, connections_held, entries_held, entry_held};
+ghost use Rattle.portmap_core.specs.Connections.{IsHolding, SlotsRise, at_stage, stopped_in};
+ghost use Rattle.portmap_core.specs.Held.{AreHeld, IsAt, IsGapFor, connection_held, connections_held, entries_held};
 
 use crate::connection::{Connection, Phase, Stage};
 use crate::connections::Connections;
@@ -35,96 +35,19 @@ impl Model for Slots {
     ghost invariant = { λ s. AreHeld s.held.items };
 }
 
-/// How many slots are lower than this one.
-fn lower(held: &[Held], slot: u64) -> usize
-    requires { SlotsRise (entries_held held.now) }
-    ensures lower { AreLower slot held.now result }
-    ensures next { IsFrom slot (slice_get held.now result) }
-{
-    held.partition_point(|h| h.slot < slot)
-}
-
 /// Where a slot stands, or where it would.
 fn place(held: &[Held], slot: u64) -> Result<usize, usize>
     requires { SlotsRise (entries_held held.now) }
-    ensures { StandsAt slot held.now result }
+    ensures { MatchResult result (IsAt held.now slot) (IsGapFor held.now slot) }
 {
-    let at = lower(held, slot);
-    match held.get(at) {
-        Some(h) if h.slot == slot => Ok(at),
-        _ => Err(at),
-    }
+    held.binary_search_by_key(&slot, |h| h.slot)
 }
 
-/// Whether each slot is above the one before.
-fn rise(held: &[Held]) -> bool
-    ensures { IsTrue result ↔ SlotsRise (entries_held held.now) }
+/// Whether each slot is above the one before, and each has the bytes alone that its phase keeps.
+fn are_held(held: &[Held]) -> bool
+    ensures { IsTrue result ↔ AreHeld held.now }
 {
-    for i in 1..held.len() {
-        let (before, here) = (&held[i - 1], &held[i]);
-        if before.slot >= here.slot {
-            return false;
-        }
-    }
-    true
-}
-
-/// Whether each has the bytes alone that its phase keeps.
-fn each_held(held: &[Held]) -> bool
-    ensures { IsTrue result ↔ All IsHeld held.now }
-{
-    for h in held {
-        if !h.is_held() {
-            return false;
-        }
-    }
-    true
-}
-
-/// A copy of an open connection, with its slot.
-fn held_at(alloc: Global, slot: u64, connection: &Connection) -> Result<Held, NoMemory>
-    ensures entry { IfOk result (λ h. entry_held h ≡ (slot, connection.now)) }
-    ensures held { IfOk result (λ h. IsHeld h) }
-{
-    let (phase, bytes) = match &connection.stage {
-        Stage::Waiting(feed) => (Phase::Waiting, Vec::from_slice(alloc, feed.kept())?),
-        Stage::Holding => (Phase::Holding, Vec::new(alloc)),
-        Stage::Done => (Phase::Done, Vec::new(alloc)),
-    };
-    Ok(Held {
-        slot,
-        local: connection.local,
-        phase,
-        bytes,
-    })
-}
-
-/// A copy of each, in the same order.
-fn copies(alloc: Global, held: &[Held]) -> Result<Vec<Held>, NoMemory>
-    ensures { IfOk result (λ copies. copies.items ≡ held.now) }
-{
-    let mut copies = Vec::new(alloc);
-    copies.reserve(held.len())?;
-    for h in held {
-        copies.push(h.try_copy(alloc)?)?;
-    }
-    Ok(copies)
-}
-
-/// Whether they are the same, in the same order.
-#[tactic(auto, using(crate::proofs::HeldLaws::same_through))]
-fn are_same(held: &[Held], other: &[Held]) -> bool
-    ensures { IsTrue result ↔ (held.now ≡ other.now) }
-{
-    if held.len() != other.len() {
-        return false;
-    }
-    for i in 0..held.len() {
-        if !held[i].is_same(&other[i]) {
-            return false;
-        }
-    }
-    true
+    held.is_sorted_by(|before, here| before.slot < here.slot) && held.iter().all(|h| h.is_held())
 }
 
 #[tactic(auto, using(crate::proofs::HeldLaws::held_laws))]
@@ -133,9 +56,8 @@ impl Slots {
     pub(crate) fn new(alloc: Global) -> Slots
         ensures { result ≡ map.empty }
     {
-        Slots {
-            held: Vec::new(alloc),
-        }
+        let held = Vec::new(alloc);
+        Slots { held }
     }
 
     /// How many are open.
@@ -157,10 +79,8 @@ impl Slots {
     pub(crate) fn get(&self, slot: u64) -> Option<&Held>
         ensures { option_map (λ h. connection_held h.now) result ≡ map.get self.now slot }
     {
-        match place(self.held.as_slice(), slot) {
-            Ok(at) => self.held.get(at),
-            Err(_) => None,
-        }
+        let at = place(self.held.as_slice(), slot).ok()?;
+        Some(&self.held[at])
     }
 
     /// Open connections in this order, unless a slot is not above the one before, or bytes are kept of one that does not wait.
@@ -170,21 +90,17 @@ impl Slots {
         ensures fit { IfSome result (λ s. AreHeld held.items) }
         ensures none { result ≡ None → AreHeld held.items → ⊥ }
     {
-        if rise(held.as_slice()) && each_held(held.as_slice()) {
-            Some(Slots { held })
-        } else {
-            None
+        if !are_held(held.as_slice()) {
+            return None;
         }
+        Some(Slots { held })
     }
 
     /// Whether the connection in a slot holds a name. It takes no memory.
     pub(crate) fn holds(&self, slot: u64) -> bool
         ensures { IsTrue result ↔ IsHolding (map.get self.now slot) }
     {
-        match self.get(slot) {
-            Some(held) => matches!(held.phase, Phase::Holding),
-            None => false,
-        }
+        matches!(self.get(slot), Some(held) if held.phase == Phase::Holding)
     }
 
     /// Opens a free slot. The connection waits, and sent nothing yet.
@@ -231,16 +147,9 @@ impl Slots {
     pub(crate) fn stop(&mut self, stopped: Option<u64>)
         ensures { self.new ≡ stopped_in stopped self.old }
     {
-        match stopped {
-            None => {}
-            Some(owner) => self.end(owner),
+        if let Some(owner) = stopped {
+            self.put(owner, Stage::Done);
         }
-    }
-
-    fn end(&mut self, slot: u64)
-        ensures { self.new ≡ ended slot self.old }
-    {
-        self.put(slot, Stage::Done);
     }
 
     /// A copy of a machine's open connections.
@@ -249,7 +158,16 @@ impl Slots {
     {
         let mut held = Vec::new(alloc);
         for (slot, connection) in source.iter() {
-            held.push(held_at(alloc, slot as u64, connection)?)?;
+            let bytes = match &connection.stage {
+                Stage::Waiting(feed) => Vec::from_slice(alloc, feed.kept())?,
+                Stage::Holding | Stage::Done => Vec::new(alloc),
+            };
+            held.push(Held {
+                slot: slot as u64,
+                local: connection.local,
+                phase: connection.stage.phase(),
+                bytes,
+            })?;
         }
         Ok(Slots { held })
     }
@@ -258,15 +176,19 @@ impl Slots {
     pub(crate) fn try_copy(&self, alloc: Global) -> Result<Slots, NoMemory>
         ensures { IfOk result (λ copy. copy ≡ self.now) }
     {
-        Ok(Slots {
-            held: copies(alloc, self.held.as_slice())?,
-        })
+        let mut held = Vec::new(alloc);
+        held.reserve(self.held.len())?;
+        for h in self.held.as_slice() {
+            held.push(h.try_copy(alloc)?)?;
+        }
+        Ok(Slots { held })
     }
 
     /// Whether they are the same in every respect. It takes no memory.
     pub(crate) fn same(&self, other: &Slots) -> bool
         ensures { IsTrue result ↔ (self.now ≡ other.now) }
     {
-        are_same(self.held.as_slice(), other.held.as_slice())
+        let (held, others) = (self.held.as_slice(), other.held.as_slice());
+        held.len() == others.len() && held.iter().zip(others).all(|(h, other)| h.is_same(other))
     }
 }

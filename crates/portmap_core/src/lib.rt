@@ -14,18 +14,18 @@
 //! - `name_to_register`: a name only of a piece that is a whole registration of it; that it is found where memory is ample: tests.
 #![tactic(auto)]
 
+mod asked;
 mod config;
 mod connection;
 mod connections;
-mod directory;
 mod event;
-mod follow;
 mod held;
 mod held_slots;
-mod judge;
 mod laws;
+mod live;
 mod locality;
 mod machine;
+mod name_lists;
 mod owning;
 mod past;
 mod registering;
@@ -37,7 +37,6 @@ mod stepping;
 pub use config::{Config, ConfigFault, LIMIT_MOST, numbers_are_the_profiles};
 pub use connection::Phase;
 pub use event::{Answer, Entry, Event, Fate, Refusal};
-pub use follow::Follow;
 pub use held::Held;
 pub use laws::{
     active_names_are_shown, ends_are_final, ends_leave_no_name, entries_determine,

@@ -1,9 +1,7 @@
 //! Whether names and open connections go together.
-ghost use Rattle.std.specs.Prelude.{◌≡◌, ◌↔◌, All, ℕ, IfOk, IsSome, IsTrue};
+ghost use Rattle.std.specs.Prelude.{◌↔◌, All, ℕ, IfOk, IsSome, IsTrue};
 ghost use Rattle.std.specs.FinMap as map;
-ghost use Rattle.portmap_feed.specs.Stream.{More, first_request};
 ghost use Rattle.portmap_table.specs.Rows.{owns_name};
-ghost use Rattle.portmap_core.specs.Fitting.{IsHeldFor};
 ghost use Rattle.portmap_core.specs.Held.{stage_held};
 ghost use Rattle.portmap_core.specs.Owned.{IsSlotFor, IsStageFor};
 
@@ -11,20 +9,9 @@ use crate::connection::Phase;
 use crate::held::Held;
 use crate::held_slots::Slots;
 use portmap_feed::{Feed, Seen};
-use portmap_table::{Known, NameMap};
+use portmap_table::Table;
 use portmap_wire::NoMemory;
 use std::alloc::Global;
-
-/// Whether more must come until these bytes are a request, or can be none.
-fn awaits(alloc: Global, bytes: &[u8]) -> Result<bool, NoMemory>
-    ensures { IfOk result (λ awaits. IsTrue awaits ↔ (first_request bytes.now ≡ More)) }
-{
-    let mut feed = Feed::new(alloc);
-    match feed.push(bytes)? {
-        Seen::More => Ok(true),
-        Seen::Bad(_) | Seen::Whole => Ok(false),
-    }
-}
 
 /// Whether an open connection may own a name, where it owns one, or may own none.
 fn may_own(alloc: Global, held: &Held, owns: bool) -> Result<bool, NoMemory>
@@ -32,40 +19,20 @@ fn may_own(alloc: Global, held: &Held, owns: bool) -> Result<bool, NoMemory>
 {
     match held.phase {
         Phase::Waiting if owns => Ok(false),
-        Phase::Waiting => awaits(alloc, held.bytes.as_slice()),
+        // More must come until these bytes are a request, or can be none.
+        Phase::Waiting => Ok(matches!(Feed::new(alloc).push(held.bytes.as_slice())?, Seen::More)),
         Phase::Holding => Ok(owns && held.local),
         Phase::Done => Ok(!owns),
     }
 }
 
-/// Whether an open connection is one that these names are owned by.
-fn fits(alloc: Global, names: &NameMap, held: &Held) -> Result<bool, NoMemory>
-    ensures { IfOk result (λ fits. IsTrue fits ↔ IsHeldFor names.now held.now) }
-{
-    may_own(alloc, held, names.holds(held.slot))
-}
-
-/// Whether each open connection is one that these names are owned by.
-fn each_fits(alloc: Global, names: &NameMap, held: &[Held]) -> Result<bool, NoMemory>
-    ensures { IfOk result (λ fit. IsTrue fit ↔ All (IsHeldFor names.now) held.now) }
-{
-    for h in held {
-        if !fits(alloc, names, h)? {
-            return Ok(false);
-        }
-    }
-    Ok(true)
-}
-
 /// Whether each active name is owned by an open connection. It takes no memory.
-fn owners_are_open(names: &NameMap, connections: &Slots) -> bool
-    ensures { IsTrue result ↔ All (λ row. IsSome (map.get connections.now row.slot)) names.now.active }
+fn owners_are_open(table: &Table, connections: &Slots) -> bool
+    ensures { IsTrue result ↔ All (λ row. IsSome (map.get connections.now row.slot)) table.now.names.active }
 {
-    for i in 0..names.active_len() {
-        let Some(row) = names.active_at(i) else {
-            unreachable!()
-        };
-        if connections.get(row.slot).is_none() {
+    for i in 0..table.active_len() {
+        let row = table.active_at(i);
+        if row.is_some_and(|row| connections.get(row.slot).is_none()) {
             return false;
         }
     }
@@ -73,11 +40,13 @@ fn owners_are_open(names: &NameMap, connections: &Slots) -> bool
 }
 
 /// Whether each connection is one that these names are owned by, and each active name is owned by an open one.
-pub(crate) fn fit(alloc: Global, names: &NameMap, connections: &Slots) -> Result<bool, NoMemory>
-    ensures { IfOk result (λ fit. IsTrue fit ↔ ((slot : ℕ) → IsSlotFor (owns_name slot names.now) (map.get connections.now slot))) }
+pub(crate) fn fit(alloc: Global, table: &Table, connections: &Slots) -> Result<bool, NoMemory>
+    ensures { IfOk result (λ fit. IsTrue fit ↔ ((slot : ℕ) → IsSlotFor (owns_name slot table.now.names) (map.get connections.now slot))) }
 {
-    if !each_fits(alloc, names, connections.held())? {
-        return Ok(false);
+    for h in connections.held() {
+        if !may_own(alloc, h, table.holds(h.slot))? {
+            return Ok(false);
+        }
     }
-    Ok(owners_are_open(names, connections))
+    Ok(owners_are_open(table, connections))
 }

@@ -148,12 +148,9 @@ kept_registers known_max c slot names g k inactive room free legal = by (nat_le 
         let made = makes_room known_max g.name names false e k inactive room in
         kept_with known_max c slot names g (position (had_name g.name) names.retired) made.0 inactive made.1 free legal.range refl
 
--- and after one of what is offered
-pub kept_registered : (t : TableState) (g : Node) (c slot : ℕ) → AreKept t.known_max t.names → owns_name slot t.names ≡ false → offered t g.name g.high ≡ Ok c → IsLegalCreation g.high (remembered g.name t.names) c
-    → AreKept t.known_max (registered g c slot (with_room t.known_max g.name t.names))
-kept_registered t g c slot k free e legal =
-    let tests = passed (is_active g.name t.names) (is_full_for t.known_max g.name t.names) _ c e in
-    kept_registers t.known_max c slot t.names g k tests.0 tests.1 free legal
+-- a name that is offered a creation is free
+pub is_free : (t : TableState) (name : List ℕ) (high c : ℕ) → offered t name high ≡ Ok c → (is_active name t.names ≡ false) × (is_full_for t.known_max name t.names ≡ false)
+is_free t name high c e = let tests = passed (is_active name t.names) (is_full_for t.known_max name t.names) _ c e in (tests.0, tests.1)
 
 -- ---- a name retires
 

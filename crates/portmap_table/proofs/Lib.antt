@@ -8,3 +8,4 @@ pub mod Places
 pub mod Each
 pub mod InPlace
 pub mod OneMore
+pub mod Comparing

@@ -1,20 +1,19 @@
 -- The names that a port mapper knows: the active ones, each with its registration, and the retired ones. ERTS User's
 -- Guide, EPMD Protocol: a registration lasts as long as its connection. What is remembered of old names: profile.
-use Rattle.std.specs.Prelude.{◌≡◌, ℕ, ◌+◌, ◌≤◌, ◌<◌, ◌^◌, Bool, false, not, nat_le, ◌&&◌, ◌||◌, List, [], ◌∷◌, ◌++◌, length, map, drop, remove, position, find, Option, Some, None, is_some, option_map, slice_get, ◌==◌, All, if◌then◌else◌}
+use Rattle.std.specs.Prelude.{ℕ, ◌+◌, ◌≤◌, ◌<◌, ◌^◌, Bool, not, nat_le, ◌&&◌, ◌||◌, List, [], ◌∷◌, ◌++◌, length, map, drop, remove, position, find, Option, Some, None, is_some, option_map, slice_get, ◌==◌, All, if◌then◌else◌}
 use Rattle.std.specs.List.{IsDistinct}
 use Rattle.std.specs.Cmp.Lexicographic.{pointwise}
 use Rattle.portmap_wire.specs.Node.{Node}
 use Rattle.portmap_table.specs.declared.row.Row.{Row}
+use Rattle.portmap_table.specs.declared.row.Old.{Old}
 use Rattle.portmap_table.specs.declared.row.Retired.{Retired}
 use Rattle.portmap_table.specs.declared.standing.Standing.{Standing}
 use Rattle.portmap_table.specs.declared.standing.Standing.TheVariants as how
 use Rattle.portmap_table.specs.Creation.{IsCreationFor}
 
 -- an old name, the port that it had, and its last creation
-pub record RetiredName : Type 0 where
-  pub name : List ℕ
-  pub port : ℕ
-  pub creation : ℕ
+abbrev pub RetiredName : Type 0
+RetiredName = Old
 
 -- what is lent of an old name
 abbrev pub retired_name : Retired → RetiredName
@@ -77,13 +76,6 @@ owner_of name names = option_map (λ row. row.slot) (active_row name names)
 
 abbrev pub owns_name : ℕ → Names → Bool
 owns_name slot names = is_some (position (λ row. row.slot == slot) names.active)
-
--- a name may become active for a slot: it is not, there is room for it, and the slot owns none
-pub record MayAdmit (known_max : ℕ) (name : List ℕ) (slot : ℕ) (names : Names) : Type 0 where
-  pub active : is_active name names ≡ false
-  pub room : is_full_for known_max name names ≡ false
-  pub owner : owns_name slot names ≡ false
-  pub few : known_len names ≤ known_max
 
 -- ---- changing
 

@@ -4,33 +4,25 @@
 //! - Always: no name is known twice, no slot owns two, no more are known than may be, creations are in range.
 //! - `offer`: what `register` would give. `register` and `admit`, which has the creation already, ask that the slot owns no active name; where the
 //!   name is not known and as many are known as may be, the one retired longest is forgotten. Looks and `retire` take no memory.
-//! - `Known` is what may be asked of names; its `standing` tells by one look whether a name is active, is one too many, or is free, and the creation
-//!   that is remembered for it then. `NameStore` has `admit` and `retire` beside it. `NameMap` finds names without a walk; `NameLists` are any names as
-//!   plain lists, where a name or a slot may stand twice. `NameMap::of`: these names, exactly where none is known twice, no slot owns two, and no more
-//!   are known than may be; `NameLists::are_kept`: the same where creations are in range too.
+//! - `standing` tells by one look whether a name is active, is one too many, or is free, and the creation that is remembered for it then.
+//! - `Table::of`: a table of these names, exactly where none is known twice, no slot owns two, no more are known than may be, and creations are
+//!   in range.
 #![tactic(auto)]
 
-mod copies;
 mod creation;
 mod entries;
 mod filling;
-mod known;
 mod laws;
-mod name_lists;
 mod name_map;
-mod place;
 mod row;
 mod standing;
 mod table;
 
 pub use creation::{COUNTER_LEAST, choice_is_legal, creation_for, numbers_are_the_profiles};
-pub use known::{Known, NameStore};
 pub use laws::{
     names_outlive_connections, newest_names_stand_last, none_is_refused_for_retired_names,
     oldest_names_are_forgotten, other_names_stay, returning_names_get_another_creation,
 };
-pub use name_lists::NameLists;
-pub use name_map::NameMap;
 pub use row::{Old, Retired, Row};
 pub use standing::Standing;
 pub use table::{RegFault, Table};

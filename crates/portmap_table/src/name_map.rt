@@ -3,10 +3,9 @@ ghost use Rattle.std.specs.Prelude.{◌≡◌, ◌==◌, ℕ, ◌+◌, ◌<◌, 
 ghost use Rattle.indexmap.specs.IndexMap.{IsUnchanged, get, spare};
 ghost use Rattle.portmap_table.specs.declared.row.Row.{Row};
 ghost use Rattle.portmap_table.specs.Places.{HasEach, IsNew, IsRetiredAt, TakesPlace, active_entry};
-ghost use Rattle.portmap_table.specs.Rows.{MayAdmit, active_row, is_active, is_full_for, known_len, no_names, old_name, owner_of, owns_name, registered, retired_name, retired_of, standing, with_room};
+ghost use Rattle.portmap_table.specs.Rows.{active_row, is_active, is_full_for, known_len, no_names, old_name, owns_name, registered, retired_name, retired_of, standing, with_room};
 
 use crate::entries::{Entries, Kept};
-use crate::known::{Known, NameStore};
 use crate::row::{Retired, Row};
 use crate::standing::Standing;
 use indexmap::IndexMap;
@@ -16,7 +15,7 @@ use std::marker::Model;
 
 /// The names that are known. Each has a place of its own; their orders are lists of places.
 #[derive(Debug, Drop)]
-pub struct NameMap {
+pub(crate) struct NameMap {
     entries: Entries,
     // The places of the active names, in order of registration.
     active: Vec<u32>,
@@ -131,7 +130,7 @@ fn make_room(
 
 impl NameMap {
     /// None is known. It takes no memory.
-    pub fn new(alloc: Global) -> NameMap
+    pub(crate) fn new(alloc: Global) -> NameMap
         ensures { result ≡ no_names }
     {
         NameMap {
@@ -143,25 +142,10 @@ impl NameMap {
     }
 
     /// Whether a slot owns an active name.
-    pub fn holds(&self, slot: u64) -> bool
+    pub(crate) fn holds(&self, slot: u64) -> bool
         ensures { result ≡ owns_name slot self.now }
     {
         self.owners.contains_key(&slot)
-    }
-
-    /// Whether `admit` may be asked to register this name for this slot.
-    pub(crate) fn may_admit(&self, known_max: u32, name: &Name, slot: u64) -> bool
-        ensures name { IsTrue result → is_active name.now self.now ≡ false }
-        ensures room { IsTrue result → is_full_for known_max name.now self.now ≡ false }
-        ensures slot { IsTrue result → owns_name slot self.now ≡ false }
-        ensures few { IsTrue result → known_len self.now ≤ known_max }
-        ensures no { result ≡ false → MayAdmit known_max name.now slot self.now → ⊥ }
-    {
-        let is_free = match self.standing(known_max, name) {
-            Standing::Free(_) => true,
-            Standing::Active | Standing::NoRoom => false,
-        };
-        is_free && !self.holds(slot) && self.entries.len() <= known_max as usize
     }
 
     /// A name becomes active, with this creation, and is owned by the connection in this slot. Where it is new and as many are known
@@ -208,16 +192,18 @@ impl NameMap {
         self.retired.push_reserved(place);
         true
     }
-}
 
-impl Known for NameMap {
-    ghost names = { λ n. n };
-
-    fn find(&self, name: &Name) -> Option<&Row> {
+    /// The row of an active name.
+    pub(crate) fn find(&self, name: &Name) -> Option<&Row>
+        ensures { option_copied result ≡ active_row name.now self.now }
+    {
         self.entries.row(self.entries.place(name)?)
     }
 
-    fn standing(&self, known_max: u32, name: &Name) -> Standing {
+    /// How a name stands, where so many may be known.
+    pub(crate) fn standing(&self, known_max: u32, name: &Name) -> Standing
+        ensures { result ≡ standing known_max name.now self.now }
+    {
         let Some(place) = self.entries.place(name) else {
             if self.active.len() >= known_max as usize {
                 return Standing::NoRoom;
@@ -230,41 +216,33 @@ impl Known for NameMap {
         }
     }
 
-    fn active_len(&self) -> usize {
+    /// How many names are active.
+    pub(crate) fn active_len(&self) -> usize
+        ensures { result ≡ length self.now.active }
+    {
         self.active.len()
     }
 
-    fn active_at(&self, i: usize) -> Option<&Row> {
+    /// The active name at this place, in order of registration.
+    pub(crate) fn active_at(&self, i: usize) -> Option<&Row>
+        ensures { option_copied result ≡ slice_get self.now.active i }
+    {
         let place = self.active.get(i)?;
         self.entries.row(*place as usize)
     }
 
-    fn retired_len(&self) -> usize {
+    /// How many names are retired.
+    pub(crate) fn retired_len(&self) -> usize
+        ensures { result ≡ length self.now.retired }
+    {
         self.retired.len()
     }
 
-    fn retired_at(&self, i: usize) -> Option<Retired<'_>> {
+    /// The retired name at this place, in order of retirement.
+    pub(crate) fn retired_at(&self, i: usize) -> Option<Retired<'_>>
+        ensures { option_map retired_name result ≡ slice_get self.now.retired i }
+    {
         let place = self.retired.get(i)?;
         self.entries.retired(*place as usize)
-    }
-}
-
-impl NameStore for NameMap {
-    fn admit(
-        &mut self,
-        known_max: u32,
-        reg: Reg,
-        creation: u32,
-        slot: u64,
-    ) -> Result<bool, NoMemory> {
-        if !self.may_admit(known_max, &reg.name, slot) {
-            return Ok(false);
-        }
-        NameMap::admit(self, known_max, reg, creation, slot)?;
-        Ok(true)
-    }
-
-    fn retire(&mut self, slot: u64) -> Result<bool, NoMemory> {
-        Ok(NameMap::retire(self, slot))
     }
 }

@@ -4,10 +4,9 @@ ghost use Rattle.portmap_table.specs.Rows.{old_name, retired_name};
 
 use portmap_wire::{Name, NoMemory, Reg};
 use std::alloc::Global;
-use std::marker::Model;
 
 /// A name that is registered.
-#[derive(Debug, Drop)]
+#[derive(Debug, Drop, PartialEq, Eq)]
 pub struct Row {
     /// What its node registered.
     pub reg: Reg,
@@ -18,13 +17,6 @@ pub struct Row {
 }
 
 impl Row {
-    /// Whether it is the same in every respect.
-    pub(crate) fn is_same(&self, other: &Row) -> bool
-        ensures { IsTrue result ↔ (self.now ≡ other.now) }
-    {
-        self.reg == other.reg && self.creation == other.creation && self.slot == other.slot
-    }
-
     /// A second one.
     pub fn try_copy(&self, alloc: Global) -> Result<Row, NoMemory>
         ensures same { IfOk result (λ copy. copy ≡ self.now) }
@@ -38,21 +30,13 @@ impl Row {
 }
 
 /// A name that was registered once.
-#[derive(Debug, Drop)]
+#[derive(Debug, Drop, PartialEq, Eq)]
 pub struct Old {
     pub name: Name,
     /// The port that its node listened on.
     pub port: u16,
     /// The creation that its node was given last.
     pub creation: u32,
-}
-
-impl Model for Old {
-    ghost use Rattle.portmap_table.specs.Rows.{RetiredName};
-
-    ghost Value = { RetiredName };
-
-    ghost view = { λ old. record { name = old.name; port = old.port; creation = old.creation } };
 }
 
 /// A name that was registered once, as a table lends it.
@@ -65,7 +49,7 @@ pub struct Retired<'a> {
 
 impl Old {
     /// What is remembered of a row.
-    pub(crate) fn of(row: Row) -> Old
+    pub fn of(row: Row) -> Old
         ensures { result ≡ old_name row }
     {
         let Row { reg, creation, .. } = row;
@@ -97,13 +81,6 @@ impl Old {
 }
 
 impl Retired<'_> {
-    /// Whether it is the same in every respect.
-    pub(crate) fn is_same(&self, other: &Retired<'_>) -> bool
-        ensures { IsTrue result ↔ (retired_name self.now ≡ retired_name other.now) }
-    {
-        self.creation == other.creation && self.port == other.port && *self.name == *other.name
-    }
-
     /// A copy that is the caller's own.
     pub fn try_copy(&self, alloc: Global) -> Result<Old, NoMemory>
         ensures same { IfOk result (λ copy. copy ≡ retired_name self.now) }

@@ -1,13 +1,12 @@
 //! The table of names.
-ghost use Rattle.std.specs.Prelude.{◌≡◌, false, length, slice_get, option_copied, option_map, Ok, Err, IfOk, OnOk, OnErr, IsOk, ◌^◌, ◌<◌};
-ghost use Rattle.portmap_table.specs.Creation.{IsCounter, IsLegalCreation};
-ghost use Rattle.portmap_table.specs.Rows.{AreKept, active_row, owner_of, owns_name, remembered, retired_name, retired_of};
+ghost use Rattle.std.specs.Prelude.{◌≡◌, ◌↔◌, All, IfSome, IsTrue, None, false, length, slice_get, option_copied, option_map, Ok, Err, IfOk, OnOk, OnErr, IsOk, ◌^◌, ◌<◌, ◌≤◌};
+ghost use Rattle.portmap_table.specs.Creation.{IsCounter, IsCreationFor, IsLegalCreation};
+ghost use Rattle.portmap_table.specs.Rows.{AreKept, active_row, is_active, is_full_for, owner_of, owns_name, remembered, retired_name, retired_of, standing};
 ghost use Rattle.portmap_table.specs.Table.{GivesOffer, new_table, offered, with_names, with_registration};
 
-use crate::creation::{COUNTER_LEAST, counter_after, creation_for};
-use crate::known::Known;
+use crate::creation::{COUNTER_LEAST, counter_after, creation_for, is_creation_for};
 use crate::name_map::NameMap;
-use crate::row::{Retired, Row};
+use crate::row::{Old, Retired, Row};
 use crate::standing::Standing;
 use portmap_wire::{Name, NoMemory, Reg};
 use std::alloc::Global;
@@ -55,6 +54,21 @@ impl Model for Table {
     ghost invariant = { λ t. AreKept t.known_max t.names × IsCounter t.counter × (t.known_max < 2 ^ 32) };
 }
 
+/// Whether the creation of each active name is in the range of its node.
+fn are_active_creations(rows: &[Row]) -> bool
+    ensures { IsTrue result ↔ All (λ row. IsCreationFor row.reg.high row.creation) rows.now }
+{
+    rows.iter()
+        .all(|row| is_creation_for(row.reg.high, row.creation))
+}
+
+/// Whether the creation of each retired name is one that a node may have been given.
+fn are_retired_creations(names: &[Old]) -> bool
+    ensures { IsTrue result ↔ All (λ old. (1 ≤ old.creation) × (old.creation < 2 ^ 32)) names.now }
+{
+    names.iter().all(|old| 1 <= old.creation)
+}
+
 impl Table {
     /// A table with no names, that will know at most so many. The counter starts at `first`, or at 4 where that is less.
     pub fn new(alloc: Global, known_max: u32, first: u32) -> Result<Table, NoMemory>
@@ -68,11 +82,29 @@ impl Table {
         })
     }
 
-    /// The names.
-    pub fn names(&self) -> &NameMap
-        ensures { result.now ≡ self.now.names }
+    /// A table that knows these names, in these orders, exactly where a machine may have come to them.
+    pub fn of(
+        alloc: Global,
+        known_max: u32,
+        first: u32,
+        active: &[Row],
+        retired: &[Old],
+    ) -> Result<Option<Table>, NoMemory>
+        ensures same { IfOk result (λ o. IfSome o (λ t. t ≡ with_names (new_table known_max first) (record { active = active.now; retired = retired.now }))) }
+        ensures kept { IfOk result (λ o. IfSome o (λ t. AreKept known_max (record { active = active.now; retired = retired.now }))) }
+        ensures none { result ≡ Ok None → AreKept known_max (record { active = active.now; retired = retired.now }) → ⊥ }
     {
-        &self.names
+        if !are_active_creations(active) || !are_retired_creations(retired) {
+            return Ok(None);
+        }
+        let Some(names) = NameMap::of(alloc, known_max, active, retired)? else {
+            return Ok(None);
+        };
+        Ok(Some(Table {
+            names,
+            known_max,
+            counter: first.max(COUNTER_LEAST),
+        }))
     }
 
     /// What the next wide creation is taken from.
@@ -89,7 +121,7 @@ impl Table {
         ensures legal { IfOk result (λ c. IsLegalCreation high (remembered name.now self.now.names) c) }
         ensures kept { AreKept self.now.known_max self.now.names }
     {
-        match self.names.standing(self.known_max, name) {
+        match self.standing(name) {
             Standing::Active => Err(RegFault::Taken),
             Standing::NoRoom => Err(RegFault::NoRoom),
             Standing::Free(last) => Ok(creation_for(None, self.counter, high, last)),
@@ -113,9 +145,10 @@ impl Table {
         Ok(creation)
     }
 
-    /// Registers a name for the connection in this slot, with the creation that it is offered.
+    /// Registers a name that is free for the connection in this slot, with this creation.
     pub fn admit(&mut self, reg: Reg, creation: u32, slot: u64) -> Result<(), NoMemory>
-        requires offered { offered self.old reg.name reg.high ≡ Ok creation }
+        requires active { is_active reg.name self.old.names ≡ false }
+        requires room { is_full_for self.old.known_max reg.name self.old.names ≡ false }
         requires legal { IsLegalCreation reg.high (remembered reg.name self.old.names) creation }
         requires slot { owns_name slot self.old.names ≡ false }
         ensures ok { OnOk result (self.new ≡ with_registration self.old reg slot creation) }
@@ -138,11 +171,25 @@ impl Table {
         self.names.retire(slot)
     }
 
+    /// How a name stands.
+    pub fn standing(&self, name: &Name) -> Standing
+        ensures { result ≡ standing self.now.known_max name.now self.now.names }
+    {
+        self.names.standing(self.known_max, name)
+    }
+
+    /// Whether a name is active.
+    pub fn is_active(&self, name: &Name) -> bool
+        ensures { result ≡ is_active name.now self.now.names }
+    {
+        self.find(name).is_some()
+    }
+
     /// The slot that owns an active name.
     pub fn owner(&self, name: &Name) -> Option<u64>
         ensures { result ≡ owner_of name.now self.now.names }
     {
-        self.names.owner(name)
+        self.find(name).map(|row| row.slot)
     }
 
     /// The row of an active name.

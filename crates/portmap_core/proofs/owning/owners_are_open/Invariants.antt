@@ -5,4 +5,4 @@ use Rattle.portmap_table.specs.declared.row.Row.{Row}
 use Rattle.portmap_core.proofs.owning.owners_are_open.Given as goal
 
 abbrev pub invariant-loop-i : goal.invariant-loop-i
-invariant-loop-i l = (k : ℕ) (d : Row) → k < l.i → IsSome (map.get l.connections (get_or l.names.active k d).slot)
+invariant-loop-i l = (k : ℕ) (d : Row) → k < l.i → IsSome (map.get l.connections (get_or l.table.names.active k d).slot)

@@ -5,4 +5,4 @@ use Rattle.portmap_core.specs.Serving.{names_line_of}
 use Rattle.portmap_core.proofs.serve.names_text.Given as goal
 
 abbrev pub invariant-loop-i : goal.invariant-loop-i
-invariant-loop-i g l = l.reply ≡ names_reply l.port (list_map names_line_of (take l.i (g.N.Known.names l.names).active))
+invariant-loop-i l = l.reply ≡ names_reply l.port (list_map names_line_of (take l.i l.table.names.active))

@@ -1,0 +1,45 @@
+-- What a registration leaves of plain lists.
+use Rattle.std.proofs.Common.{◌≡◌, ℕ, Bool, true, false, cond, List, [], ◌∷◌, ◌++◌, Option, Some, None, refl, sym, ap, ◌∙◌}
+use Rattle.std.specs.Prelude.{◌&&◌, ◌||◌, not, nat_le, drop, find, position, is_some}
+use Rattle.portmap_table.specs.declared.row.Row.{Row}
+use Rattle.portmap_table.specs.Rows.{Names, RetiredName, is_active, known_len, registered, with_room, without_at, without_oldest}
+use Rattle.portmap_table.proofs.First.{finds_none, finds_some, is_first, no_place, none_behind, none_passes}
+use Rattle.portmap_table.proofs.Kept.{had_name}
+use Rattle.portmap_core.specs.Names.{left_by}
+
+room_known : {X : Type 0} (many active retired : Bool) (x y : X) → retired ≡ true → cond (many && not (active || retired)) x y ≡ y
+room_known true true retired x y e = refl
+room_known true false retired x y e = ap (λ (b : Bool). cond (not b) x y) e
+room_known false active retired x y e = refl
+
+room_new : {X : Type 0} (many active retired : Bool) (x y : X) → active ≡ false → retired ≡ false → cond (many && not (active || retired)) x y ≡ cond many x y
+room_new true active retired x y e f = (λ i. cond (not (e i || f i)) x y)
+room_new false active retired x y e f = refl
+
+pub enters : (known_max : ℕ) (names : Names) (row : Row) → is_active row.reg.name names ≡ false
+    → record { active = names.active ++ row ∷ []; retired = left_by (position (had_name row.reg.name) names.retired) (nat_le known_max (known_len names)) names.retired } ≡ registered row.reg row.creation row.slot (with_room known_max row.reg.name names)
+enters known_max names row inactive = by (position had names.retired) refl
+  where
+    had : RetiredName → Bool
+    had = had_name row.reg.name
+
+    many : Bool
+    many = nat_le known_max (known_len names)
+
+    entered : List RetiredName → Names
+    entered retired = record { active = names.active ++ row ∷ []; retired = retired }
+
+    enter : Names → Names
+    enter = registered row.reg row.creation row.slot
+
+    new : (b : Bool) → position had names.retired ≡ None → entered (left_by None b names.retired) ≡ enter (cond b (without_oldest names) names)
+    new true e = ap (λ (o : Option ℕ). entered (without_at o (drop 1 names.retired))) (sym (no_place had (drop 1 names.retired) (none_behind had 1 names.retired (none_passes had names.retired e))))
+    new false e = ap (λ (o : Option ℕ). entered (without_at o names.retired)) (sym e)
+
+    by : (o : Option ℕ) → position had names.retired ≡ o → entered (left_by o many names.retired) ≡ enter (with_room known_max row.reg.name names)
+    by (Some at) e =
+        let known = finds_some had names.retired at (is_first had names.retired at e) in
+        ap (λ (o : Option ℕ). entered (without_at o names.retired)) (sym e) ∙ ap enter (sym (room_known many (is_active row.reg.name names) _ (without_oldest names) names known))
+    by None e =
+        let unknown = ap is_some (finds_none had names.retired (none_passes had names.retired e)) in
+        new many e ∙ ap enter (sym (room_new many (is_active row.reg.name names) _ (without_oldest names) names inactive unknown))

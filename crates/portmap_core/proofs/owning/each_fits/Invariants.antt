@@ -1,7 +1,0 @@
-use Rattle.std.proofs.Common.{ℕ, ◌<◌, get_or}
-use Rattle.portmap_core.specs.Fitting.{IsHeldFor}
-use Rattle.portmap_core.specs.Held.{HeldValue}
-use Rattle.portmap_core.proofs.owning.each_fits.Given as goal
-
-abbrev pub invariant-loop-h : goal.invariant-loop-h
-invariant-loop-h l = (k : ℕ) (d : HeldValue) → k < l.h-index → IsHeldFor l.names (get_or l.held k d)

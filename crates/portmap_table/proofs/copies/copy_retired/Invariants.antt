@@ -1,5 +1,0 @@
-use Rattle.std.proofs.Common.{◌≡◌, take}
-use Rattle.portmap_table.proofs.copies.copy_retired.Given as goal
-
-abbrev pub invariant-loop-i : goal.invariant-loop-i
-invariant-loop-i g l = l.olds.items ≡ take l.i (g.K.Known.names l.names).retired
