@@ -1,7 +1,7 @@
 -- The first element that passes a test, in a list and in its parts.
 use Rattle.std.proofs.Common.{◌≡◌, ℕ, zero, suc, ◌+◌, ◌<◌, Bool, true, false, not, cond, List, [], ◌∷◌, length, map, drop, ◌⊎◌, Some, None, refl, sym, ap, ◌∙◌, subst, arith, inl, inr}
-use Rattle.std.specs.Prelude.{find, is_some, position, nat_lt}
-use Rattle.std.specs.List.{AllByRecursion, position_or_len}
+use Rattle.std.specs.Prelude.{find, is_some, position, nat_lt, slice_get}
+use Rattle.std.specs.List.{AllByRecursion, list_any, position_or_len}
 use Rattle.std.proofs.lemmas.Bool.{lt-ltb, le-ltb}
 
 module _ {X : Type 0} (p : X → Bool) where
@@ -51,36 +51,41 @@ module _ {X : Type 0} (p : X → Bool) where
   either [] = inl tt
   either (x ∷ xs) = either_with x xs (p x) refl (either xs)
 
-  pub is_first : (xs : List X) (at : ℕ) → position p xs ≡ Some at → IsFirst xs at
-  is_first xs at e = elim (either xs) [
-    | inl none ↦ absurd (let no : None ≡ Some at = sym (no_place xs none) ∙ e in cc)
-    | inr f ↦ let both : Some f.0 ≡ Some at = sym (first_place xs f.0 f.1) ∙ e in let one : f.0 ≡ at = cc in subst (IsFirst xs) one f.1
-  ]
-
-  pub none_passes : (xs : List X) → position p xs ≡ None → NonePass xs
-  none_passes xs e = elim (either xs) [
-    | inl none ↦ none
-    | inr f ↦ absurd (let no : Some f.0 ≡ None = sym (first_place xs f.0 f.1) ∙ e in cc)
-  ]
-
   pub none_at : (xs : List X) → is_some (position p xs) ≡ false → NonePass xs
   none_at xs e = elim (either xs) [
     | inl none ↦ none
     | inr f ↦ absurd (let no = sym (ap is_some (first_place xs f.0 f.1)) ∙ e in cc)
   ]
 
+  any_first : (xs : List X) (at : ℕ) → IsFirst xs at → list_any p xs ≡ true
+  any_first [] at f = absurd f
+  any_first (x ∷ xs) zero f = rw f refl
+  any_first (x ∷ xs) (suc at) f = rw f.0 (any_first xs at f.1)
+
+  pub any_none : (xs : List X) → NonePass xs → list_any p xs ≡ false
+  any_none [] none = refl
+  any_none (x ∷ xs) none = rw none.0 (any_none xs none.1)
+
+  pub any_place : (xs : List X) → is_some (position p xs) ≡ list_any p xs
+  any_place xs = elim (either xs) [
+    | inl none ↦ ap is_some (no_place xs none) ∙ sym (any_none xs none)
+    | inr f ↦ ap is_some (first_place xs f.0 f.1) ∙ sym (any_first xs f.0 f.1)
+  ]
+
   -- ---- what `find` says
 
-  pub finds_some : (xs : List X) (at : ℕ) → IsFirst xs at → is_some (find p xs) ≡ true
-  finds_some [] at f = absurd f
-  finds_some (x ∷ xs) zero f = ap (λ (b : Bool). is_some (cond b (Some x) (find p xs))) f
-  finds_some (x ∷ xs) (suc at) f = ap (λ (b : Bool). is_some (cond b (Some x) (find p xs))) f.0 ∙ finds_some xs at f.1
+  pub first_found : (xs : List X) (at : ℕ) (x : X) → IsFirst xs at → slice_get xs at ≡ Some x → find p xs ≡ Some x
+  first_found [] at x f e = absurd f
+  first_found (y ∷ xs) zero x f e = ap (λ (b : Bool). cond b (Some y) (find p xs)) f ∙ e
+  first_found (y ∷ xs) (suc at) x f e = ap (λ (b : Bool). cond b (Some y) (find p xs)) f.0 ∙ first_found xs at x f.1 e
 
   pub none_found : (xs : List X) → is_some (find p xs) ≡ false → NonePass xs
-  none_found xs e = elim (either xs) [
-    | inl none ↦ none
-    | inr f ↦ absurd (let no = sym (finds_some xs f.0 f.1) ∙ e in cc)
-  ]
+  none_found [] e = tt
+  none_found (x ∷ xs) e = by (p x) refl e (none_found xs)
+    where
+      by : (b : Bool) → p x ≡ b → is_some (cond b (Some x) (find p xs)) ≡ false → (is_some (find p xs) ≡ false → NonePass xs) → NonePass (x ∷ xs)
+      by true t none rest = absurd cc
+      by false t none rest = (t, rest none)
 
   pub finds_none : (xs : List X) → NonePass xs → find p xs ≡ None
   finds_none [] none = refl
@@ -88,23 +93,12 @@ module _ {X : Type 0} (p : X → Bool) where
 
   -- ---- a part of a list
 
+  pub none_read : (xs : List X) (i : ℕ) (x : X) → NonePass xs → slice_get xs i ≡ Some x → p x ≡ false
+  none_read [] i x none e = absurd cc
+  none_read (y ∷ xs) zero x none e = let same : y ≡ x = cc in ap p (sym same) ∙ none.0
+  none_read (y ∷ xs) (suc i) x none e = none_read xs i x none.1 e
+
   pub none_behind : (r : ℕ) (xs : List X) → NonePass xs → NonePass (drop r xs)
   none_behind zero xs none = none
   none_behind (suc r) [] none = tt
   none_behind (suc r) (x ∷ xs) none = none_behind r xs none.1
-
--- a test of what a function makes of each element
-pub first_of_map : {X Y : Type 0} (f : X → Y) (p : Y → Bool) (xs : List X) (at : ℕ) → IsFirst (λ x. p (f x)) xs at → IsFirst p (map f xs) at
-first_of_map f p [] at first = first
-first_of_map f p (x ∷ xs) zero first = first
-first_of_map f p (x ∷ xs) (suc at) first = (first.0, first_of_map f p xs at first.1)
-
-pub none_of_map : {X Y : Type 0} (f : X → Y) (p : Y → Bool) (xs : List X) → NonePass (λ x. p (f x)) xs → NonePass p (map f xs)
-none_of_map f p [] none = tt
-none_of_map f p (x ∷ xs) none = (none.0, none_of_map f p xs none.1)
-
-pub position_of_map : {X Y : Type 0} (f : X → Y) (p : Y → Bool) (xs : List X) → position p (map f xs) ≡ position (λ x. p (f x)) xs
-position_of_map f p xs = elim (either (λ x. p (f x)) xs) [
-  | inl none ↦ no_place p (map f xs) (none_of_map f p xs none) ∙ sym (no_place (λ x. p (f x)) xs none)
-  | inr found ↦ first_place p (map f xs) found.0 (first_of_map f p xs found.0 found.1) ∙ sym (first_place (λ x. p (f x)) xs found.0 found.1)
-]

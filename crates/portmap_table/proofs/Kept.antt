@@ -1,11 +1,11 @@
 -- What always holds of a table's names holds after a registration and after a retirement.
 use Rattle.std.proofs.Common.{◌≡◌, ℕ, ◌+◌, ◌<◌, ◌≤◌, ◌^◌, Bool, true, false, not, List, [], ◌∷◌, ◌++◌, length, map, get_or, Option, Some, None, refl, sym, ap, suc, arith}
-use Rattle.std.specs.Prelude.{drop, position, remove, is_some, slice_get, nat_le, All, Ok, Err, Result, MatchBool, ◌==◌, ◌&&◌, ◌||◌, if◌then◌else◌}
+use Rattle.std.specs.Prelude.{drop, position, remove, is_some, slice_get, nat_le, All, MatchBool, ◌==◌, ◌&&◌, ◌||◌, if◌then◌else◌}
 use Rattle.std.specs.List.{IsDistinct}
 use Rattle.std.specs.Cmp.Lexicographic.{same_text}
 use Rattle.std.proofs.lemmas.Cmp.{nat_eq_equiv, nat_list_eq_equiv}
 use Rattle.std.proofs.lemmas.Bool.Decides.{nat_tests}
-use Rattle.std.proofs.lemmas.List.{map-append, append-nil, length-append, get_or_default}
+use Rattle.std.proofs.lemmas.List.{map-append, append-nil, length-append, length-drop, get_or_default}
 use Rattle.std.proofs.lemmas.List.Edits.{length-remove}
 use Rattle.std.proofs.lemmas.List.Elements.{All-push, All-append, All-take, All-drop}
 use Rattle.std.proofs.lemmas.List.Quantifiers.{position-Some}
@@ -15,13 +15,10 @@ use Rattle.portmap_wire.specs.Node.{Node}
 use Rattle.portmap_wire.specs.Reply.{is_short}
 use Rattle.portmap_table.specs.declared.creation.TheConstants.{SHORT_MOST, COUNTER_LEAST}
 use Rattle.portmap_table.specs.declared.row.Row.{Row}
-use Rattle.portmap_table.specs.declared.table.RegFault.{RegFault}
-use Rattle.portmap_table.specs.declared.table.RegFault.TheVariants as fault
 use Rattle.portmap_table.specs.Creation.{IsCreationFor, IsLegalCreation}
 use Rattle.portmap_table.specs.Rows.{name_of, slot_of, is_full_for, is_known, RetiredName, Names, AreKept, same_name, is_active, known_len, owns_name, remembered, retired_row, without_at, without_oldest, with_room, registered, old_name, retired_last, retired_at}
-use Rattle.portmap_table.specs.Table.{TableState, offered}
 use Rattle.portmap_table.proofs.First.{NonePass, none_at, none_found, finds_none}
-use Rattle.portmap_table.proofs.Distinct.{key_is_new, distinct_with, distinct_forward, distinct_back, distinct_without, keys_moved}
+use Rattle.portmap_table.proofs.Finding.{key_is_new, distinct_with, distinct_forward, distinct_back, distinct_without, keys_moved}
 
 -- ---- short names for what is scanned
 
@@ -56,12 +53,6 @@ kept_empty known_max = record {
 }
 
 -- ---- a name registers
-
--- what an offer says of the tests before it
-passed : (taken full : Bool) (made c : ℕ) → ◌≡◌ {A = Result ℕ RegFault} (if taken then Err fault.Taken else if full then Err fault.NoRoom else Ok made) (Ok c) → (taken ≡ false) × (full ≡ false)
-passed true full made c e = absurd cc
-passed false true made c e = absurd cc
-passed false false made c e = (refl, refl)
 
 -- a table that is not full for a name that it does not know has room
 has_room : (known_max known : ℕ) (taken old : Bool) → (nat_le known_max known && not (taken || old)) ≡ false → taken ≡ false → old ≡ false → known < known_max
@@ -107,50 +98,33 @@ oldest_out active [] d = d
 oldest_out active (old ∷ olds) d =
     distinct_without nat_list_eq_equiv old.name (active ++ old.name ∷ map old_name_of olds) (active ++ map old_name_of olds) (IsPermutation-middle active old.name (map old_name_of olds)) d
 
-few_left : (olds : List RetiredName) → length (drop 1 olds) ≤ length olds
-few_left [] = omega arith
-few_left (old ∷ olds) = omega arith
-
 kept_without : (known_max : ℕ) (names : Names) → AreKept known_max names → AreKept known_max (without_oldest names)
 kept_without known_max names k = record {
   distinct = oldest_out (map name_of names.active) names.retired k.distinct;
-  few = omega (arith, k.few, few_left names.retired);
+  few = omega (arith, k.few, length-drop 1 names.retired);
   owners = k.owners;
   active_creations = k.active_creations;
   retired_creations = All-drop IsOldKept 1 names.retired k.retired_creations;
 }
 
-one_less : (active known_max : ℕ) (olds : List RetiredName) → active + length olds ≤ known_max → active < known_max → active + length (drop 1 olds) < known_max
-one_less active known_max [] few less = omega arith
-one_less active known_max (old ∷ olds) few less = omega arith
-
--- a table that is not full for a name has room for it
-makes_room : (known_max : ℕ) (name : List ℕ) (names : Names) (b : Bool) → (nat_le known_max (known_len names) && not (is_known name names)) ≡ b → AreKept known_max names → is_active name names ≡ false → is_full_for known_max name names ≡ false
-    → AreKept known_max (if b then without_oldest names else names) × (is_some (retired_row name (if b then without_oldest names else names)) ≡ false → known_len (if b then without_oldest names else names) < known_max)
-makes_room known_max name names true e k inactive room =
-    (kept_without known_max names k, λ unknown. one_less (length names.active) known_max names.retired k.few (less (length names.active) (known_len names) (is_known name names) e room))
+-- what always holds of names does so after a registration
+pub kept_enters : (known_max c slot : ℕ) (names : Names) (g : Node) → AreKept known_max names → is_active g.name names ≡ false → is_full_for known_max g.name names ≡ false → owns_name slot names ≡ false
+    → IsCreationFor g.high c → AreKept known_max (registered g c slot (with_room known_max g.name names))
+kept_enters known_max c slot names g k inactive room free range = by (nat_le known_max (known_len names) && not (is_known g.name names)) refl
   where
     less : (active known : ℕ) (is : Bool) → (nat_le known_max known && not is) ≡ true → (nat_le known_max active && not is) ≡ false → active < known_max
     less active known is over fits = grind (arith, nat_tests)
-makes_room known_max name names false e k inactive room =
-    (k, λ unknown. has_room known_max (known_len names) (is_active name names) (is_some (retired_row name names)) e inactive unknown)
 
--- what always holds of names does so after a registration
-pub kept_registers : (known_max c slot : ℕ) (names : Names) (g : Node) → AreKept known_max names → is_active g.name names ≡ false → is_full_for known_max g.name names ≡ false → owns_name slot names ≡ false
-    → IsLegalCreation g.high (remembered g.name names) c → AreKept known_max (registered g c slot (with_room known_max g.name names))
-kept_registers known_max c slot names g k inactive room free legal = by (nat_le known_max (known_len names) && not (is_known g.name names)) refl
-  where
     by : (b : Bool) → (nat_le known_max (known_len names) && not (is_known g.name names)) ≡ b → AreKept known_max (registered g c slot (if b then without_oldest names else names))
     by true e =
-        let made = makes_room known_max g.name names true e k inactive room in
-        kept_with known_max c slot (without_oldest names) g (position (had_name g.name) (drop 1 names.retired)) made.0 inactive made.1 free legal.range refl
+        let few = less (length names.active) (known_len names) (is_known g.name names) e room in
+        kept_with known_max c slot (without_oldest names) g (position (had_name g.name) (drop 1 names.retired)) (kept_without known_max names k) inactive (λ unknown. omega (arith, few, k.few, length-drop 1 names.retired)) free range refl
     by false e =
-        let made = makes_room known_max g.name names false e k inactive room in
-        kept_with known_max c slot names g (position (had_name g.name) names.retired) made.0 inactive made.1 free legal.range refl
+        kept_with known_max c slot names g (position (had_name g.name) names.retired) k inactive (λ unknown. has_room known_max (known_len names) (is_active g.name names) (is_some (retired_row g.name names)) e inactive unknown) free range refl
 
--- a name that is offered a creation is free
-pub is_free : (t : TableState) (name : List ℕ) (high c : ℕ) → offered t name high ≡ Ok c → (is_active name t.names ≡ false) × (is_full_for t.known_max name t.names ≡ false)
-is_free t name high c e = let tests = passed (is_active name t.names) (is_full_for t.known_max name t.names) _ c e in (tests.0, tests.1)
+pub kept_registers : (known_max c slot : ℕ) (names : Names) (g : Node) → AreKept known_max names → is_active g.name names ≡ false → is_full_for known_max g.name names ≡ false → owns_name slot names ≡ false
+    → IsLegalCreation g.high (remembered g.name names) c → AreKept known_max (registered g c slot (with_room known_max g.name names))
+kept_registers known_max c slot names g k inactive room free legal = kept_enters known_max c slot names g k inactive room free legal.range
 
 -- ---- a name retires
 

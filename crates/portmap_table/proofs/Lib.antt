@@ -1,11 +1,8 @@
-pub mod Distinct
 pub mod Finding
 pub mod Kept
 pub mod NameLaws
 pub mod Owners
 pub mod First
 pub mod Places
-pub mod Each
 pub mod InPlace
-pub mod OneMore
 pub mod Comparing

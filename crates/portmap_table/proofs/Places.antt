@@ -1,20 +1,24 @@
 -- Entries at places: what is read there after one is written, added, or takes the place of another.
-use Rattle.std.proofs.Common.{◌≡◌, ◌≢◌, ℕ, zero, suc, ◌-◌, ◌<◌, Bool, true, false, List, [], ◌∷◌, ◌++◌, length, map, take, Option, Some, None, refl, sym, ap, ◌∙◌, subst, arith, inl, inr, ◌⊎◌}
-use Rattle.std.specs.Prelude.{is_some, position, slice_get, slice_set, slice_index_or, swap_remove}
+use Rattle.std.proofs.Common.{◌≡◌, ◌≢◌, ℕ, zero, suc, ◌-◌, ◌<◌, Bool, true, false, List, [], ◌∷◌, ◌++◌, length, map, take, get_or, Option, Some, None, refl, sym, ap, ◌∙◌, subst, arith, inl, inr, ◌⊎◌}
+use Rattle.std.specs.Prelude.{is_some, option_map, position, slice_get, slice_set, slice_index_or, swap_remove, remove}
 use Rattle.std.specs.List.{AllByRecursion, IsDistinct}
 use Rattle.std.specs.Cmp.Lexicographic.{same_text}
-use Rattle.std.proofs.lemmas.Bool.{cases_lt}
+use Rattle.std.proofs.lemmas.Bool.{cases_eq}
 use Rattle.std.proofs.lemmas.Cmp.{nat_list_eq_equiv}
-use Rattle.std.proofs.lemmas.Option.{slice_get_within}
+use Rattle.std.proofs.lemmas.List.{get_or-map, length-append, length-map, length-set, get_or-set_same, set-append_left, take_at}
+use Rattle.std.proofs.Math.Seq.{get_or-append_seam}
+use Rattle.std.proofs.lemmas.List.Quantifiers.{position-Some}
+use Rattle.std.proofs.lemmas.Option.{slice_get-get_or, slice_get-map, slice_get_within}
 use Rattle.std.specs.Map.{lookup}
 use Rattle.indexmap.specs.IndexMap.{set_value_at}
-use Rattle.indexmap.proofs.MapLemmas.{some_index}
+use Rattle.indexmap.proofs.MapLemmas.{index-first, some_index}
+use Rattle.indexmap.proofs.RemoveLemmas.{own_first}
 use Rattle.portmap_table.specs.declared.entries.Kept.{Kept}
 use Rattle.portmap_table.specs.declared.entries.Kept.TheVariants.{Active, Retired}
 use Rattle.portmap_table.specs.Rows.{same_name}
-use Rattle.portmap_table.specs.Places.{AreNamed, Entry, IsNamed, IsNew, Puts, StandsAs}
+use Rattle.portmap_table.specs.Places.{AreNamed, Entry, IsNamed, IsNew, Puts, StandsAs, HasEach}
 use Rattle.portmap_table.proofs.Finding.{is_none}
-use Rattle.portmap_table.proofs.First.{IsFirst, first_place, is_first, position_of_map}
+use Rattle.portmap_table.proofs.First.{IsFirst, NonePass}
 
 -- ---- elements at places
 
@@ -29,9 +33,7 @@ push_others (y ∷ xs) x zero other = refl
 push_others (y ∷ xs) x (suc i) other = push_others xs x i (λ e. other (ap suc e))
 
 set_there : {X : Type 0} (xs : List X) (at : ℕ) (x : X) → at < length xs → slice_get (slice_set xs at x) at ≡ Some x
-set_there [] at x lt = absurd (omega arith)
-set_there (y ∷ xs) zero x lt = refl
-set_there (y ∷ xs) (suc at) x lt = set_there xs at x (omega arith)
+set_there xs at x lt = slice_get-get_or (slice_set xs at x) at x (omega (arith, lt, length-set xs at x)) ∙ ap Some (get_or-set_same xs at x x lt)
 
 set_others : {X : Type 0} (xs : List X) (at : ℕ) (x : X) (i : ℕ) → i ≢ at → slice_get (slice_set xs at x) i ≡ slice_get xs i
 set_others [] at x i other = refl
@@ -40,34 +42,11 @@ set_others (y ∷ xs) zero x (suc i) other = refl
 set_others (y ∷ xs) (suc at) x zero other = refl
 set_others (y ∷ xs) (suc at) x (suc i) other = set_others xs at x i (λ e. other (ap suc e))
 
-end_is : {X : Type 0} (xs : List X) (x d : X) (last : ℕ) → last ≡ length xs → slice_index_or (xs ++ x ∷ []) last d ≡ x
-end_is [] x d zero e = refl
-end_is [] x d (suc last) e = absurd (omega (arith, e))
-end_is (y ∷ xs) x d zero e = absurd (omega (arith, e))
-end_is (y ∷ xs) x d (suc last) e = end_is xs x d last (omega (arith, e))
-
 -- the last one in the place of another
-swapped : {X : Type 0} (xs : List X) (x : X) (at last : ℕ) → last ≡ length xs → at < length xs → take last (slice_set (xs ++ x ∷ []) at x) ≡ slice_set xs at x
-swapped [] x at last e lt = absurd (omega arith)
-swapped (y ∷ xs) x at zero e lt = absurd (omega (arith, e))
-swapped (y ∷ xs) x zero (suc last) e lt = ap (λ (rest : List _). x ∷ rest) (whole xs x last (omega (arith, e)))
-  where
-    whole : {X : Type 0} (xs : List X) (x : X) (last : ℕ) → last ≡ length xs → take last (xs ++ x ∷ []) ≡ xs
-    whole [] x zero e = refl
-    whole [] x (suc last) e = absurd (omega (arith, e))
-    whole (y ∷ xs) x zero e = absurd (omega (arith, e))
-    whole (y ∷ xs) x (suc last) e = ap (λ (rest : List _). y ∷ rest) (whole xs x last (omega (arith, e)))
-swapped (y ∷ xs) x (suc at) (suc last) e lt = ap (λ (rest : List _). y ∷ rest) (swapped xs x at last (omega (arith, e)) (omega arith))
-
-long : {X : Type 0} (xs : List X) (x : X) → length (xs ++ x ∷ []) ≡ suc (length xs)
-long [] x = refl
-long (y ∷ xs) x = ap suc (long xs x)
-
 swap_remove_push : {X : Type 0} (xs : List X) (x d : X) (at : ℕ) → at < length xs → swap_remove (xs ++ x ∷ []) at d ≡ slice_set xs at x
 swap_remove_push xs x d at lt =
-    let last = length (xs ++ x ∷ []) - 1 in
-    let e : last ≡ length xs = omega (arith, long xs x) in
-    ap (λ (y : _). take last (slice_set (xs ++ x ∷ []) at y)) (end_is xs x d last e) ∙ swapped xs x at last e lt
+    let last : length (xs ++ x ∷ []) - 1 ≡ length xs = omega (arith, length-append xs (x ∷ [])) in
+    rw (last, get_or-append_seam xs x [] d, set-append_left xs (x ∷ []) at x lt) (take_at (slice_set xs at x) (x ∷ []) (length xs) (length-set xs at x))
 
 -- ---- entries
 
@@ -98,20 +77,11 @@ puts_written entries at name was kept e = record { there = written_there entries
 
 -- ---- names
 
-pub nat_either : (a b : ℕ) → (a ≡ b) ⊎ (a ≢ b)
-nat_either a b = elim (cases_lt a b) [
-  | inl lt ↦ inr (λ e. absurd (omega (arith, e, lt)))
-  | inr le ↦ elim (cases_lt b a) [
-    | inl lt ↦ inr (λ e. absurd (omega (arith, e, lt)))
-    | inr ge ↦ inl (omega (arith, le, ge))
-  ]
-]
-
 pub is_it : {X : Type 0} (o : Option X) (x y : X) → o ≡ Some x → o ≡ Some y → x ≡ y
 is_it o x y e f = let both : Some x ≡ Some y = sym e ∙ f in cc
 
 pub named_after : (old new : List Entry) (at : ℕ) (entry : Entry) → Puts old new at entry → IsNamed entry → AreNamed old → AreNamed new
-named_after old new at entry puts named all place other e = elim (nat_either place at) [
+named_after old new at entry puts named all place other e = elim (cases_eq place at) [
   | inl same ↦ subst IsNamed (is_it (slice_get new at) entry other puts.there (ap (slice_get new) (sym same) ∙ e)) named
   | inr differs ↦ all place other (sym (puts.others place differs) ∙ e)
 ]
@@ -119,51 +89,22 @@ named_after old new at entry puts named all place other e = elim (nat_either pla
 pub named_before : (entries : List Entry) (entry : Entry) → AreNamed (entries ++ entry ∷ []) → AreNamed entries
 named_before entries entry all place other e = all place other (push_others entries entry place (λ same. absurd (omega (arith, same, slice_get_within entries place other e))) ∙ e)
 
-pub is_within : {X : Type 0} (xs : List X) (x : X) (at : ℕ) → at < length xs → slice_get (xs ++ x ∷ []) at ≡ None → ⊥
-is_within [] x at lt e = absurd (omega arith)
-is_within (y ∷ xs) x zero lt e = absurd cc
-is_within (y ∷ xs) x (suc at) lt e = is_within xs x at (omega arith) e
-
 -- ---- the place of a name
 
 abbrev pub key_of : Entry → List ℕ
 key_of entry = entry.0
 
-first_read : {X : Type 0} (p : X → Bool) (xs : List X) (i : ℕ) → IsFirst p xs i → (x : X) × (slice_get xs i ≡ Some x) × (p x ≡ true)
-first_read p [] i first = absurd first
-first_read p (x ∷ xs) zero first = (x, refl, first)
-first_read p (x ∷ xs) (suc i) first = first_read p xs i first.1
-
-all_read : {X : Type 0} (P : X → Type 0) (xs : List X) (i : ℕ) (x : X) → AllByRecursion P xs → slice_get xs i ≡ Some x → P x
-all_read P [] i x all e = absurd cc
-all_read P (y ∷ xs) zero x all e = subst P (let same : y ≡ x = cc in same) all.0
-all_read P (y ∷ xs) (suc i) x all e = all_read P xs i x all.1 e
-
-read_key : (entries : List Entry) (i : ℕ) (entry : Entry) → slice_get entries i ≡ Some entry → slice_get (map key_of entries) i ≡ Some (entry.0)
-read_key [] i entry e = absurd cc
-read_key (x ∷ entries) zero entry e = let same : x ≡ entry = cc in ap (λ (y : Entry). Some (y.0)) same
-read_key (x ∷ entries) (suc i) entry e = read_key entries i entry e
-
-is_same : (name : List ℕ) → same_name name name ≡ true
-is_same name = nat_list_eq_equiv.refl name
-
-own_first : (name : List ℕ) (entries : List Entry) (i : ℕ) (kept : Kept) → IsDistinct same_name (map key_of entries) → slice_get entries i ≡ Some (name, kept) → IsFirst (λ (entry : Entry). same_name name entry.0) entries i
-unfolding IsDistinct
-own_first name [] i kept d e = absurd cc
-own_first name (x ∷ entries) zero kept d e = let same : x ≡ (name, kept) = cc in ap (λ (y : Entry). same_name name y.0) same ∙ is_same name
-own_first name (x ∷ entries) (suc i) kept d e =
-    (nat_list_eq_equiv.symm name x.0 ∙ all_read (λ (y : List ℕ). same_name x.0 y ≡ false) (map key_of entries) i name d.0 (read_key entries i (name, kept) e), own_first name entries i kept d.1 e)
-
 pub place_read : (name : List ℕ) (entries : List Entry) (at : ℕ) → position (same_name name) (map key_of entries) ≡ Some at → (kept : Kept) × (slice_get entries at ≡ Some (name, kept))
 place_read name entries at e =
-    let first = is_first (λ (entry : Entry). same_name name entry.0) entries at (sym (position_of_map key_of (same_name name) entries) ∙ e) in
-    let read = first_read (λ (entry : Entry). same_name name entry.0) entries at first in
-    let same : name ≡ read.0.0 = same_text name read.0.0 (sym read.2) in
-    (read.0.1, read.1 ∙ ap (λ (n : List ℕ). Some (n, read.0.1)) (sym same))
+    let d : Entry = (name, Retired 0 0) in
+    let found = position-Some (same_name name) (map key_of entries) at name e in
+    let lt : at < length entries = omega (arith, found.0, length-map entries key_of) in
+    let entry = get_or entries at d in
+    let same : name ≡ entry.0 = same_text name entry.0 (sym (sym (ap (same_name name) (get_or-map key_of entries at d name lt)) ∙ found.1)) in
+    (entry.1, slice_get-get_or entries at d lt ∙ ap (λ (n : List ℕ). Some (n, entry.1)) (sym same))
 
 pub read_place : (name : List ℕ) (entries : List Entry) (at : ℕ) (kept : Kept) → IsDistinct same_name (map key_of entries) → slice_get entries at ≡ Some (name, kept) → position (same_name name) (map key_of entries) ≡ Some at
-read_place name entries at kept d e =
-    position_of_map key_of (same_name name) entries ∙ first_place (λ (entry : Entry). same_name name entry.0) entries at (own_first name entries at kept d e)
+read_place name entries at kept d e = index-first (same_name name) entries at (own_first same_name nat_list_eq_equiv entries at name kept d e)
 
 pub new_found : (name : List ℕ) (entries : List Entry) → IsNew name entries → lookup (same_name name) entries ≡ None
 new_found name entries none = is_none (lookup (same_name name) entries) (sym (some_index (same_name name) entries) ∙ ap is_some (by (position (same_name name) (map key_of entries)) refl))
@@ -174,9 +115,7 @@ new_found name entries none = is_none (lookup (same_name name) entries) (sym (so
 
 -- what is kept at a place
 pub read_kept : (entries : List Entry) (i : ℕ) (entry : Entry) → slice_get entries i ≡ Some entry → slice_get (map (λ (e : Entry). e.1) entries) i ≡ Some (entry.1)
-read_kept [] i entry e = absurd cc
-read_kept (x ∷ entries) zero entry e = let same : x ≡ entry = cc in ap (λ (y : Entry). Some (y.1)) same
-read_kept (x ∷ entries) (suc i) entry e = read_kept entries i entry e
+read_kept entries i entry e = slice_get-map (λ (e : Entry). e.1) entries i ∙ ap (option_map (λ (e : Entry). e.1)) e
 
 -- an entry is that of an active name or of a retired one
 pub stands_as : (name : List ℕ) (entries : List Entry) (place : ℕ) (kept : Kept) → AreNamed entries → slice_get entries place ≡ Some (name, kept) → StandsAs name entries place
@@ -188,3 +127,128 @@ stands_as name entries place (Retired port creation) named e = inr (record { nam
 pub kept_there : (name : List ℕ) (entries : List Entry) (place : ℕ) → StandsAs name entries place → (kept : Kept) × (slice_get entries place ≡ Some (name, kept))
 kept_there name entries place (inl row) = (Active row.0, row.1 ∙ ap (λ (n : List ℕ). Some (n, Active row.0)) row.2)
 kept_there name entries place (inr old) = (Retired old.0.port old.0.creation, old.1 ∙ ap (λ (n : List ℕ). Some (n, Retired old.0.port old.0.creation)) old.2)
+
+-- ---- lists that have each place of a kind once: one is added
+
+module _ {Is Is' : ℕ → Type 0} (places : List ℕ) (place : ℕ) (each : HasEach Is places) (fresh : Is place → ⊥) (there : Is' place)
+    (stay : (q : ℕ) → q ≢ place → Is q → Is' q) (were : (q : ℕ) → q ≢ place → Is' q → Is q) where
+  -- the place that is read is the new one, at the end, or one of before
+  read_pushed : (i q : ℕ) → slice_get (places ++ place ∷ []) i ≡ Some q → ((i ≡ length places) × (q ≡ place)) ⊎ ((slice_get places i ≡ Some q) × (q ≢ place))
+  read_pushed i q e = elim (cases_eq i (length places)) [
+    | inl same ↦ inl (same, is_it (slice_get (places ++ place ∷ []) i) q place e (ap (slice_get (places ++ place ∷ [])) same ∙ push_there places place))
+    | inr other ↦
+        let before : slice_get places i ≡ Some q = sym (push_others places place i other) ∙ e in
+        inr (before, λ same. fresh (subst Is same (each.sound i q before)))
+  ]
+
+  once_pushed : (i j q : ℕ) → slice_get (places ++ place ∷ []) i ≡ Some q → slice_get (places ++ place ∷ []) j ≡ Some q → i ≡ j
+  once_pushed i j q one two = by (read_pushed i q one) (read_pushed j q two)
+    where
+      by : ((i ≡ length places) × (q ≡ place)) ⊎ ((slice_get places i ≡ Some q) × (q ≢ place)) → ((j ≡ length places) × (q ≡ place)) ⊎ ((slice_get places j ≡ Some q) × (q ≢ place)) → i ≡ j
+      by (inl a) (inl b) = a.0 ∙ sym b.0
+      by (inl a) (inr b) = absurd (b.1 a.1)
+      by (inr a) (inl b) = absurd (a.1 b.1)
+      by (inr a) (inr b) = each.once i j q a.0 b.0
+
+  pub each_pushed : HasEach Is' (places ++ place ∷ [])
+  each_pushed = record {
+    sound = λ i q e. elim (read_pushed i q e) [
+      | inl a ↦ subst Is' (sym a.1) there
+      | inr a ↦ stay q a.1 (each.sound i q a.0)
+    ];
+    whole = λ q is. elim (cases_eq q place) [
+      | inl same ↦ (length places, push_there places place ∙ ap Some (sym same))
+      | inr other ↦
+          let at = each.whole q (were q other is) in
+          (at.0, push_others places place at.0 (λ same. absurd (omega (arith, same, slice_get_within places at.0 q at.1))) ∙ at.1)
+    ];
+    once = once_pushed;
+  }
+
+-- ---- one is taken out
+
+-- where an element stood before the one at k was taken out
+skip : ℕ → ℕ → ℕ
+skip zero i = suc i
+skip (suc k) zero = zero
+skip (suc k) (suc i) = suc (skip k i)
+
+read_removed : (xs : List ℕ) (k i : ℕ) → slice_get (remove xs k) i ≡ slice_get xs (skip k i)
+unfolding skip
+read_removed [] zero i = refl
+read_removed [] (suc k) zero = refl
+read_removed [] (suc k) (suc i) = refl
+read_removed (x ∷ xs) zero i = refl
+read_removed (x ∷ xs) (suc k) zero = refl
+read_removed (x ∷ xs) (suc k) (suc i) = read_removed xs k i
+
+skips : (k i : ℕ) → skip k i ≢ k
+unfolding skip
+skips zero i e = absurd (omega (arith, e))
+skips (suc k) zero e = absurd (omega (arith, e))
+skips (suc k) (suc i) e = skips k i (omega (arith, e))
+
+skip_once : (k i j : ℕ) → skip k i ≡ skip k j → i ≡ j
+unfolding skip
+skip_once zero i j e = omega (arith, e)
+skip_once (suc k) zero zero e = refl
+skip_once (suc k) zero (suc j) e = absurd (omega (arith, e))
+skip_once (suc k) (suc i) zero e = absurd (omega (arith, e))
+skip_once (suc k) (suc i) (suc j) e = ap suc (skip_once k i j (omega (arith, e)))
+
+unskip : (k j : ℕ) → j ≢ k → (i : ℕ) × (skip k i ≡ j)
+unfolding skip
+unskip zero zero other = absurd (other refl)
+unskip zero (suc j) other = (j, refl)
+unskip (suc k) zero other = (zero, refl)
+unskip (suc k) (suc j) other = let before = unskip k j (λ e. other (ap suc e)) in (suc before.0, ap suc before.1)
+
+module _ {Is Is' : ℕ → Type 0} (places : List ℕ) (k place : ℕ) (each : HasEach Is places) (at : slice_get places k ≡ Some place) (gone : Is' place → ⊥)
+    (stay : (q : ℕ) → q ≢ place → Is q → Is' q) (were : (q : ℕ) → q ≢ place → Is' q → Is q) where
+  other_left : (i q : ℕ) → slice_get (remove places k) i ≡ Some q → q ≢ place
+  other_left i q e same = skips k i (each.once (skip k i) k place (sym (read_removed places k i) ∙ e ∙ ap Some same) at)
+
+  pub each_removed : HasEach Is' (remove places k)
+  each_removed = record {
+    sound = λ i q e. stay q (other_left i q e) (each.sound (skip k i) q (sym (read_removed places k i) ∙ e));
+    whole = λ q is.
+        let other : q ≢ place = λ same. gone (subst Is' same is) in
+        let before = each.whole q (were q other is) in
+        let left = unskip k before.0 (λ same. other (is_it (slice_get places before.0) q place before.1 (ap (slice_get places) same ∙ at))) in
+        (left.0, read_removed places k left.0 ∙ ap (slice_get places) left.1 ∙ before.1);
+    once = λ i j q one two. skip_once k i j (each.once (skip k i) (skip k j) q (sym (read_removed places k i) ∙ one) (sym (read_removed places k j) ∙ two));
+  }
+
+  -- what is left is not the place itself
+  pub left_others : (i q : ℕ) → slice_get (remove places k) i ≡ Some q → q ≢ place
+  left_others = other_left
+
+-- ---- none comes or goes
+
+pub each_same : {Is Is' : ℕ → Type 0} (places : List ℕ) → HasEach Is places → ((q : ℕ) → Is q → Is' q) → ((q : ℕ) → Is' q → Is q) → HasEach Is' places
+each_same places each to from = record {
+  sound = λ i q e. to q (each.sound i q e);
+  whole = λ q is. each.whole q (from q is);
+  once = each.once;
+}
+
+-- ---- what is found there
+
+-- what is made of each place is the same
+pub map_read : {X : Type 0} (f g : ℕ → X) (places : List ℕ) → ((i q : ℕ) → slice_get places i ≡ Some q → f q ≡ g q) → map f places ≡ map g places
+map_read f g [] same = refl
+map_read f g (p ∷ places) same = λ i. same zero p refl i ∷ map_read f g places (λ j q e. same (suc j) q e) i
+
+module _ {X : Type 0} (f : ℕ → X) (test : X → Bool) where
+  pub is_first_place : (places : List ℕ) (i place : ℕ) → slice_get places i ≡ Some place → test (f place) ≡ true → ((j q : ℕ) → slice_get places j ≡ Some q → test (f q) ≡ true → j ≡ i) → IsFirst test (map f places) i
+  is_first_place [] i place e passes only = absurd cc
+  is_first_place (p ∷ places) zero place e passes only = let same : p ≡ place = cc in ap (λ (q : ℕ). test (f q)) same ∙ passes
+  is_first_place (p ∷ places) (suc i) place e passes only = (by (test (f p)) refl, is_first_place places i place e passes (λ j q r t. omega (arith, only (suc j) q r t)))
+    where
+      by : (b : Bool) → test (f p) ≡ b → test (f p) ≡ false
+      by true t = absurd (omega (arith, only zero p refl t))
+      by false t = t
+
+  pub none_pass : (places : List ℕ) → ((j q : ℕ) → slice_get places j ≡ Some q → test (f q) ≡ false) → NonePass test (map f places)
+  none_pass [] none = tt
+  none_pass (p ∷ places) none = (none zero p refl, none_pass places (λ j q r. none (suc j) q r))

@@ -1,5 +1,5 @@
 -- Where known names stand: each at a place of its own, for as long as it is known. Two lists of places hold their orders.
-use Rattle.std.specs.Prelude.{◌≡◌, ◌≢◌, ◌⊎◌, ℕ, ◌+◌, ◌<◌, ◌≤◌, List, [], map, length, remove, Option, Some, None, slice_get}
+use Rattle.std.specs.Prelude.{◌≡◌, ◌≢◌, ◌⊎◌, ℕ, ◌+◌, ◌<◌, ◌≤◌, List, [], map, length, remove, Option, Some, None, slice_get, unwrap_or}
 use Rattle.portmap_table.specs.declared.row.Row.{Row}
 use Rattle.portmap_table.specs.declared.entries.Kept.{Kept}
 use Rattle.portmap_table.specs.declared.entries.Kept.TheVariants.{Active, Retired}
@@ -49,21 +49,11 @@ abbrev pub StandsOnce : List ℕ → List Entry → ℕ → Type 0
 StandsOnce name entries place = (q : ℕ) (kept : Kept) → slice_get entries q ≡ Some (name, kept) → q ≡ place
 
 -- a row that is read at no place of an active name
-abbrev no_row : Row
+abbrev pub no_row : Row
 no_row = record { reg = record { port = 0; kind = 0; proto = 0; high = 0; low = 0; name = []; extra = [] }; creation = 0; slot = 0 }
 
 abbrev no_old : RetiredName
 no_old = record { name = []; port = 0; creation = 0 }
-
-abbrev pub row_in : Option Entry → Row
-row_in None = no_row
-row_in (Some (name, Active row)) = row
-row_in (Some (name, Retired port creation)) = no_row
-
-abbrev pub old_in : Option Entry → RetiredName
-old_in None = no_old
-old_in (Some (name, Active row)) = no_old
-old_in (Some (name, Retired port creation)) = record { name = name; port = port; creation = creation }
 
 -- the row that is kept there, and the old name
 abbrev pub active_in : Option Entry → Option Row
@@ -75,6 +65,12 @@ abbrev pub retired_in : Option Entry → Option RetiredName
 retired_in None = None
 retired_in (Some (name, Active row)) = None
 retired_in (Some (name, Retired port creation)) = Some (record { name = name; port = port; creation = creation })
+
+abbrev pub row_in : Option Entry → Row
+row_in entry = unwrap_or (active_in entry) no_row
+
+abbrev pub old_in : Option Entry → RetiredName
+old_in entry = unwrap_or (retired_in entry) no_old
 
 abbrev pub row_at : List Entry → ℕ → Row
 row_at entries place = row_in (slice_get entries place)
@@ -108,28 +104,26 @@ pub record AreInPlace (entries : List Entry) (active retired : List ℕ) (owner 
 -- ---- a name settles at a place
 
 -- a retired one, at its own
-pub record Returns (name : List ℕ) (entries new : List Entry) (retired left : List ℕ) (place : ℕ) : Type 0 where
+pub record Returns (name : List ℕ) (entries : List Entry) (retired left : List ℕ) (place : ℕ) : Type 0 where
   pub known : (old : RetiredName) × (slice_get entries place ≡ Some (retired_entry old)) × (old.name ≡ name)
   pub once : StandsOnce name entries place
   pub out : (i : ℕ) × (slice_get retired i ≡ Some place) × (left ≡ remove retired i)
-  pub len : length new ≡ length entries
 
 -- a new one, behind all others
-pub record Adds (known_max : ℕ) (name : List ℕ) (entries new : List Entry) (retired left : List ℕ) (place : ℕ) : Type 0 where
+pub record Adds (known_max : ℕ) (name : List ℕ) (entries : List Entry) (retired left : List ℕ) (place : ℕ) : Type 0 where
   pub fresh : IsNew name entries
   pub few : length entries < known_max
   pub last : place ≡ length entries
   pub same : left ≡ retired
-  pub len : length new ≡ length entries + 1
 
 -- a new one, at that of the name retired longest
-pub record Replaces (known_max : ℕ) (name : List ℕ) (entries new : List Entry) (retired left : List ℕ) (place : ℕ) : Type 0 where
+pub record Replaces (known_max : ℕ) (name : List ℕ) (entries : List Entry) (retired left : List ℕ) (place : ℕ) : Type 0 where
   pub fresh : IsNew name entries
   pub many : known_max ≤ length entries
   pub oldest : slice_get retired 0 ≡ Some place
   pub out : left ≡ remove retired 0
-  pub len : length new ≡ length entries
 
 pub record TakesPlace (known_max : ℕ) (row : Row) (entries new : List Entry) (retired left : List ℕ) (place : ℕ) : Type 0 where
   pub puts : Puts entries new place (active_entry row)
-  pub how : Returns row.reg.name entries new retired left place ⊎ (Adds known_max row.reg.name entries new retired left place ⊎ Replaces known_max row.reg.name entries new retired left place)
+  pub count : length left + length entries + 1 ≡ length new + length retired
+  pub how : Returns row.reg.name entries retired left place ⊎ (Adds known_max row.reg.name entries retired left place ⊎ Replaces known_max row.reg.name entries retired left place)

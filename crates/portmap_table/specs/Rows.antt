@@ -83,6 +83,10 @@ abbrev pub without_at : {X : Type 0} → Option ℕ → List X → List X
 without_at None xs = xs
 without_at (Some at) xs = remove xs at
 
+-- with one more retired name
+abbrev pub and_retired : Names → RetiredName → Names
+and_retired names old = record { active = names.active; retired = names.retired ++ old ∷ [] }
+
 -- the name that was retired longest is known no more
 abbrev pub without_oldest : Names → Names
 without_oldest names = record { active = names.active; retired = drop 1 names.retired }
@@ -125,9 +129,3 @@ pub record AreKept (known_max : ℕ) (names : Names) : Type 0 where
   pub owners : IsDistinct ◌==◌ (map (λ row. row.slot) names.active)
   pub active_creations : All (λ row. IsCreationFor row.reg.high row.creation) names.active
   pub retired_creations : All (λ old. (1 ≤ old.creation) × (old.creation < 2 ^ 32)) names.retired
-
--- no name is known twice, none more than the most are known, and no slot owns two
-pub record AreDistinct (known_max : ℕ) (names : Names) : Type 0 where
-  pub distinct : IsDistinct same_name (known_names names)
-  pub few : known_len names ≤ known_max
-  pub owners : IsDistinct ◌==◌ (map (λ row. row.slot) names.active)

@@ -2,10 +2,10 @@
 ghost use Rattle.std.specs.Prelude.{◌≡◌, ◌<◌, ◌^◌, ℕ, length, slice_get, option_copied, option_map, Some, None, IfSome, IfOk, OnOk, OnErr, [], ◌++◌, ◌∷◌};
 ghost use Rattle.portmap_table.specs.declared.entries.Kept.{Kept};
 ghost use Rattle.portmap_table.specs.declared.row.Row.{Row};
-ghost use Rattle.portmap_table.specs.Places.{IsActiveAt, IsNew, Puts, StandsAs, active_entry, active_in, retired_entry, retired_in};
+ghost use Rattle.portmap_table.specs.Places.{AreNamed, IsActiveAt, IsNamed, IsNew, Puts, StandsAs, active_entry, active_in, retired_entry, retired_in};
 ghost use Rattle.portmap_table.specs.Rows.{old_name, retired_name};
 
-use crate::row::{Retired, Row};
+use crate::row::{Old, Retired, Row};
 use indexmap::IndexMap;
 use portmap_wire::{Name, NoMemory};
 use std::alloc::Global;
@@ -55,6 +55,7 @@ impl Entries {
     pub(crate) fn len(&self) -> usize
         ensures len { result ≡ length self.now }
         ensures small { result < 2 ^ 63 }
+        ensures named { AreNamed self.now }
     {
         self.kept.len()
     }
@@ -99,17 +100,43 @@ impl Entries {
         }
     }
 
+    /// A new name that is retired gets a place behind all others.
+    pub(crate) fn append(&mut self, old: &Old) -> Result<(), NoMemory>
+        requires { IsNew old.now.name self.old }
+        ensures ok { OnOk result (self.new ≡ self.old ++ retired_entry old.now ∷ []) }
+        ensures err { OnErr result (self.new ≡ self.old) }
+    {
+        let name = old.name.try_copy(*self.kept.allocator())?;
+        self.insert(
+            name,
+            Kept::Retired {
+                port: old.port,
+                creation: old.creation,
+            },
+        )
+    }
+
     /// A new name gets a place behind all others.
+    fn insert(&mut self, name: Name, kept: Kept) -> Result<(), NoMemory>
+        requires new { IsNew name self.old }
+        requires named { IsNamed (name, kept) }
+        ensures ok { OnOk result (self.new ≡ self.old ++ (name, kept) ∷ []) }
+        ensures err { OnErr result (self.new ≡ self.old) }
+    {
+        match self.kept.insert(name, kept) {
+            Ok(_) => Ok(()),
+            Err(_) => Err(NoMemory),
+        }
+    }
+
+    /// A new name that is active gets a place behind all others.
     pub(crate) fn push(&mut self, row: Row) -> Result<(), NoMemory>
         requires { IsNew row.reg.name self.old }
         ensures ok { OnOk result (self.new ≡ self.old ++ active_entry row ∷ []) }
         ensures err { OnErr result (self.new ≡ self.old) }
     {
         let name = row.reg.name.try_copy(*self.kept.allocator())?;
-        match self.kept.insert(name, Kept::Active(row)) {
-            Ok(_) => Ok(()),
-            Err(_) => Err(NoMemory),
-        }
+        self.insert(name, Kept::Active(row))
     }
 
     /// A new name gets the place of another one, which is forgotten. Memory is asked for first.

@@ -15,6 +15,7 @@ pub fn other_names_stay()
 {}
 
 /// A name that registers stands behind each active one, and a name that retires behind each retired one.
+#[tactic(auto, using(crate::proofs::NameLaws::retired_names_stand_last, crate::proofs::NameLaws::retired_names_stay))]
 pub fn newest_names_stand_last()
     ensures registered { RegisteredNamesStandLast }
     ensures retired { RetiredNamesStandLast }
@@ -22,6 +23,7 @@ pub fn newest_names_stand_last()
 {}
 
 /// Where a new name comes and as many are known as may be, the one retired longest is forgotten; else none is, and an active one never.
+#[tactic(auto, using(crate::proofs::NameLaws::forgetting))]
 pub fn oldest_names_are_forgotten()
     ensures active { ActiveNamesStay }
     ensures known { KnownNamesCostNone }
@@ -30,6 +32,7 @@ pub fn oldest_names_are_forgotten()
 {}
 
 /// No name is refused where one that is retired may be forgotten for it: all that may be known are active then.
+#[tactic(auto, using(crate::proofs::NameLaws::none_is_refused_for_retired_names))]
 pub fn none_is_refused_for_retired_names()
     ensures { NoneIsRefusedForRetiredNames }
 {}

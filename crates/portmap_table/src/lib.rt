@@ -11,10 +11,9 @@
 
 mod creation;
 mod entries;
-mod filling;
 mod laws;
-mod name_map;
 mod row;
+mod settling;
 mod standing;
 mod table;
 

@@ -61,22 +61,16 @@ impl Old {
         }
     }
 
-    /// What is remembered, for a caller to read.
-    pub(crate) fn lend(&self) -> Retired<'_>
-        ensures { retired_name result ≡ self.now }
-    {
-        Retired {
-            name: &self.name,
-            port: self.port,
-            creation: self.creation,
-        }
-    }
-
     /// A second one.
     pub fn try_copy(&self, alloc: Global) -> Result<Old, NoMemory>
         ensures same { IfOk result (λ copy. copy ≡ self.now) }
     {
-        self.lend().try_copy(alloc)
+        let lent = Retired {
+            name: &self.name,
+            port: self.port,
+            creation: self.creation,
+        };
+        lent.try_copy(alloc)
     }
 }
 

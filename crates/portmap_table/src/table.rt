@@ -1,13 +1,15 @@
 //! The table of names.
-ghost use Rattle.std.specs.Prelude.{◌≡◌, ◌↔◌, All, IfSome, IsTrue, None, false, length, slice_get, option_copied, option_map, Ok, Err, IfOk, OnOk, OnErr, IsOk, ◌^◌, ◌<◌, ◌≤◌};
+ghost use Rattle.std.specs.Prelude.{◌≡◌, false, length, slice_get, option_copied, option_map, Ok, Err, None, IfOk, IfSome, OnOk, OnErr, IsOk, ◌^◌, ◌<◌, ◌≤◌};
 ghost use Rattle.portmap_table.specs.Creation.{IsCounter, IsCreationFor, IsLegalCreation};
-ghost use Rattle.portmap_table.specs.Rows.{AreKept, active_row, is_active, is_full_for, owner_of, owns_name, remembered, retired_name, retired_of, standing};
+ghost use Rattle.portmap_table.specs.Rows.{AreKept, active_row, and_retired, is_active, is_full_for, is_known, known_len, owner_of, owns_name, registered, remembered, retired_name, retired_of, standing, with_room};
 ghost use Rattle.portmap_table.specs.Table.{GivesOffer, new_table, offered, with_names, with_registration};
 
 use crate::creation::{COUNTER_LEAST, counter_after, creation_for, is_creation_for};
-use crate::name_map::NameMap;
+use crate::entries::Entries;
 use crate::row::{Old, Retired, Row};
+use crate::settling::{settle, take_out};
 use crate::standing::Standing;
+use indexmap::IndexMap;
 use portmap_wire::{Name, NoMemory, Reg};
 use std::alloc::Global;
 use std::marker::Model;
@@ -32,41 +34,35 @@ impl From<NoMemory> for RegFault {
     }
 }
 
-/// The names that a port mapper knows, with what it gives creations from.
+/// The names that a port mapper knows, with what it gives creations from. Each name has a place of its own; their orders are lists of
+/// places.
 #[derive(Debug, Drop)]
 pub struct Table {
-    names: NameMap,
+    entries: Entries,
+    // The places of the active names, in order of registration.
+    active: Vec<u32>,
+    // Those of the retired names, in order of retirement, with room for each active one besides: so retiring takes no memory.
+    retired: Vec<u32>,
+    // The place of the active name of each slot that owns one.
+    owners: IndexMap<u64, u32>,
     known_max: u32,
     // What the next wide creation is taken from.
     counter: u32,
 }
 
 impl Model for Table {
-    ghost use Rattle.std.specs.Prelude.{ℕ, ◌^◌, ◌<◌};
+    ghost use Rattle.std.specs.Prelude.{◌≤◌, ◌+◌, ◌^◌, ◌<◌, nat_eq, vec_len, vec_capacity};
+    ghost use Rattle.indexmap.specs.IndexMap.{get};
     ghost use Rattle.portmap_table.specs.Table.{TableState};
+    ghost use Rattle.portmap_table.specs.Places.{AreInPlace, names_at};
     ghost use Rattle.portmap_table.specs.Rows.{AreKept};
     ghost use Rattle.portmap_table.specs.Creation.{IsCounter};
 
     ghost Value = { TableState };
 
-    ghost view = { λ t. record { names = t.names; known_max = t.known_max; counter = t.counter } };
+    ghost view = { λ t. record { names = names_at t.entries t.active.items t.retired.items; known_max = t.known_max; counter = t.counter } };
 
-    ghost invariant = { λ t. AreKept t.known_max t.names × IsCounter t.counter × (t.known_max < 2 ^ 32) };
-}
-
-/// Whether the creation of each active name is in the range of its node.
-fn are_active_creations(rows: &[Row]) -> bool
-    ensures { IsTrue result ↔ All (λ row. IsCreationFor row.reg.high row.creation) rows.now }
-{
-    rows.iter()
-        .all(|row| is_creation_for(row.reg.high, row.creation))
-}
-
-/// Whether the creation of each retired name is one that a node may have been given.
-fn are_retired_creations(names: &[Old]) -> bool
-    ensures { IsTrue result ↔ All (λ old. (1 ≤ old.creation) × (old.creation < 2 ^ 32)) names.now }
-{
-    names.iter().all(|old| 1 <= old.creation)
+    ghost invariant = { λ t. AreInPlace t.entries t.active.items t.retired.items (get nat_eq t.owners) × (vec_len t.active + vec_len t.retired ≤ vec_capacity t.retired) × AreKept t.known_max (names_at t.entries t.active.items t.retired.items) × IsCounter t.counter × (t.known_max < 2 ^ 32) };
 }
 
 impl Table {
@@ -76,7 +72,10 @@ impl Table {
         ensures kept { IfOk result (λ t. AreKept t.known_max t.names) }
     {
         Ok(Table {
-            names: NameMap::new(alloc),
+            entries: Entries::new(alloc),
+            active: Vec::new(alloc),
+            retired: Vec::new(alloc),
+            owners: IndexMap::new(alloc),
             known_max,
             counter: first.max(COUNTER_LEAST),
         })
@@ -94,17 +93,64 @@ impl Table {
         ensures kept { IfOk result (λ o. IfSome o (λ t. AreKept known_max (record { active = active.now; retired = retired.now }))) }
         ensures none { result ≡ Ok None → AreKept known_max (record { active = active.now; retired = retired.now }) → ⊥ }
     {
-        if !are_active_creations(active) || !are_retired_creations(retired) {
+        if active.len().saturating_add(retired.len()) > known_max as usize {
             return Ok(None);
         }
-        let Some(names) = NameMap::of(alloc, known_max, active, retired)? else {
-            return Ok(None);
-        };
-        Ok(Some(Table {
-            names,
-            known_max,
-            counter: first.max(COUNTER_LEAST),
-        }))
+        let mut table = Table::new(alloc, known_max, first)?;
+        for old in retired {
+            if old.creation == 0 || table.is_known(&old.name) {
+                return Ok(None);
+            }
+            table.append(old)?;
+        }
+        for row in active {
+            if table.is_known(&row.reg.name)
+                || table.holds(row.slot)
+                || !is_creation_for(row.reg.high, row.creation)
+            {
+                return Ok(None);
+            }
+            table.enter(row.try_copy(alloc)?)?;
+        }
+        Ok(Some(table))
+    }
+
+    /// A retired name that is not known comes behind the others. Memory is asked for before anything changes.
+    fn append(&mut self, old: &Old) -> Result<(), NoMemory>
+        requires unknown { is_known old.now.name self.old.names ≡ false }
+        requires room { known_len self.old.names < self.old.known_max }
+        requires creation { (1 ≤ old.now.creation) × (old.now.creation < 2 ^ 32) }
+        ensures ok { OnOk result (self.new ≡ with_names self.old (and_retired self.old.names old.now)) }
+        ensures kept { AreKept self.new.known_max self.new.names }
+    {
+        self.retired.reserve(self.active.len() + 1)?;
+        let place = self.entries.len() as u32;
+        self.entries.append(old)?;
+        self.retired.push_reserved(place);
+        Ok(())
+    }
+
+    /// A name becomes active. Where it is new and as many are known as may be, the one retired longest is forgotten. Memory is asked
+    /// for before anything changes.
+    fn enter(&mut self, row: Row) -> Result<(), NoMemory>
+        requires name { is_active row.reg.name self.old.names ≡ false }
+        requires room { is_full_for self.old.known_max row.reg.name self.old.names ≡ false }
+        requires slot { owns_name row.slot self.old.names ≡ false }
+        requires creation { IsCreationFor row.reg.high row.creation }
+        ensures ok { OnOk result (self.new ≡ with_names self.old (registered row.reg row.creation row.slot (with_room self.old.known_max row.reg.name self.old.names))) }
+        ensures err { OnErr result (self.new ≡ self.old) }
+        ensures kept { AreKept self.new.known_max self.new.names }
+    {
+        self.retired.reserve(self.active.len() + 1)?;
+        self.active.reserve(1)?;
+        self.owners.reserve(1)?;
+        let slot = row.slot;
+        let place = settle(&mut self.entries, &mut self.retired, self.known_max, row)?;
+        self.active.push_reserved(place);
+        match self.owners.insert(slot, place) {
+            Ok(_) => Ok(()),
+            Err(_) => unreachable!(),
+        }
     }
 
     /// What the next wide creation is taken from.
@@ -155,9 +201,13 @@ impl Table {
         ensures err { OnErr result (self.new ≡ self.old) }
         ensures kept { AreKept self.new.known_max self.new.names }
     {
-        let high = reg.high;
-        self.names.admit(self.known_max, reg, creation, slot)?;
-        self.counter = counter_after(self.counter, high, creation);
+        let counter = counter_after(self.counter, reg.high, creation);
+        self.enter(Row {
+            reg,
+            creation,
+            slot,
+        })?;
+        self.counter = counter;
         Ok(())
     }
 
@@ -168,14 +218,34 @@ impl Table {
         ensures none { result ≡ false → self.new ≡ self.old }
         ensures kept { AreKept self.new.known_max self.new.names }
     {
-        self.names.retire(slot)
+        let Some(place) = self.owners.swap_remove(&slot) else {
+            return false;
+        };
+        self.entries.retire(place as usize);
+        take_out(&mut self.active, place);
+        self.retired.push_reserved(place);
+        true
     }
 
     /// How a name stands.
     pub fn standing(&self, name: &Name) -> Standing
         ensures { result ≡ standing self.now.known_max name.now self.now.names }
     {
-        self.names.standing(self.known_max, name)
+        match self.entries.place(name) {
+            Some(place) => match self.entries.retired(place) {
+                Some(retired) => Standing::Free(Some(retired.creation)),
+                None => Standing::Active,
+            },
+            None if self.active.len() >= self.known_max as usize => Standing::NoRoom,
+            None => Standing::Free(None),
+        }
+    }
+
+    /// Whether a name is active or retired.
+    fn is_known(&self, name: &Name) -> bool
+        ensures { result ≡ is_known name.now self.now.names }
+    {
+        !matches!(self.standing(name), Standing::NoRoom | Standing::Free(None))
     }
 
     /// Whether a name is active.
@@ -196,14 +266,14 @@ impl Table {
     pub fn find(&self, name: &Name) -> Option<&Row>
         ensures { option_copied result ≡ active_row name.now self.now.names }
     {
-        self.names.find(name)
+        self.entries.row(self.entries.place(name)?)
     }
 
     /// Whether a slot owns an active name.
     pub fn holds(&self, slot: u64) -> bool
         ensures { result ≡ owns_name slot self.now.names }
     {
-        self.names.holds(slot)
+        self.owners.contains_key(&slot)
     }
 
     /// How many names are active.
@@ -214,27 +284,29 @@ impl Table {
         ensures known_max { self.now.known_max < 2 ^ 32 }
         ensures counter { IsCounter self.now.counter }
     {
-        self.names.active_len()
+        self.active.len()
     }
 
     /// The active name at this place, in order of registration.
     pub fn active_at(&self, i: usize) -> Option<&Row>
         ensures { option_copied result ≡ slice_get self.now.names.active i }
     {
-        self.names.active_at(i)
+        let place = self.active.get(i)?;
+        self.entries.row(*place as usize)
     }
 
     /// How many names are retired.
     pub fn retired_len(&self) -> usize
         ensures { result ≡ length self.now.names.retired }
     {
-        self.names.retired_len()
+        self.retired.len()
     }
 
     /// The retired name at this place, in order of retirement.
     pub fn retired_at(&self, i: usize) -> Option<Retired<'_>>
         ensures { option_map retired_name result ≡ slice_get self.now.names.retired i }
     {
-        self.names.retired_at(i)
+        let place = self.retired.get(i)?;
+        self.entries.retired(*place as usize)
     }
 }

@@ -1,7 +1,9 @@
-use Rattle.std.proofs.Common.{◌≡◌, List, [], ◌∷◌, ◌++◌, Option, Some, None, IfSome, slice_get, sym, ap, refl, subst, ◌∙◌}
+use Rattle.std.proofs.Common.{◌≡◌, List, [], ◌∷◌, ◌++◌, Option, Some, None, IfSome, slice_get, sym, ap, refl, subst, ◌∙◌, arith}
 use Rattle.std.specs.Prelude.{swap_remove}
+use Rattle.std.proofs.lemmas.List.{length-append}
+use Rattle.std.proofs.lemmas.Option.{none-some, slice_get-get_or}
 use Rattle.portmap_table.specs.Places.{AreNamed, Entry, Puts, active_entry}
-use Rattle.portmap_table.proofs.Places.{is_within, named_after, named_before, puts_swapped}
+use Rattle.portmap_table.proofs.Places.{named_after, named_before, puts_swapped}
 use Rattle.portmap_table.proofs.entries.Entries.replace.Goals as goal
 
 pushed : (c : goal.Joined-swap_remove_index) → c.self.inside.kept.entries ≡ c.args.self.now ++ active_entry c.args.row ∷ []
@@ -10,7 +12,9 @@ pushed c = c.self.view_is ∙ c.in_ok-push.ensures.ok
 -- by what was taken out
 swapped : (c : goal.Joined-swap_remove_index) → (result : Option Entry) → result ≡ slice_get c.self.inside.kept.entries c.args.place
     → IfSome result (λ (entry : Entry). c.swap_remove_index.new.self.entries ≡ swap_remove c.self.inside.kept.entries c.args.place entry) → Puts c.args.self.now c.swap_remove_index.new.self.entries c.args.place (active_entry c.args.row)
-swapped c None e is = absurd (is_within c.args.self.now (active_entry c.args.row) c.args.place c.requires.place (ap (λ (entries : List Entry). slice_get entries c.args.place) (sym (pushed c)) ∙ sym e))
+swapped c None e is =
+    let there = slice_get-get_or (c.args.self.now ++ active_entry c.args.row ∷ []) c.args.place (active_entry c.args.row) (omega (arith, c.requires.place, length-append c.args.self.now (active_entry c.args.row ∷ []))) in
+    absurd (none-some _ (e ∙ ap (λ (entries : List Entry). slice_get entries c.args.place) (pushed c) ∙ there))
 swapped c (Some entry) e is =
     subst (λ (new : List Entry). Puts c.args.self.now new c.args.place (active_entry c.args.row)) (sym (is ∙ ap (λ (entries : List Entry). swap_remove entries c.args.place entry) (pushed c)))
     (puts_swapped c.args.self.now (active_entry c.args.row) entry c.args.place c.requires.place)

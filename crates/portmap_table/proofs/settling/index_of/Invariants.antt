@@ -1,5 +1,5 @@
 use Rattle.std.proofs.Common.{◌-◌, ◌≡◌, ◌≤◌, ◌<◌, ℕ, Some, slice_get, length}
-use Rattle.portmap_table.proofs.name_map.index_of.Given as goal
+use Rattle.portmap_table.proofs.settling.index_of.Given as goal
 
 abbrev pub decreases-loop-front : goal.decreases-loop-front
 decreases-loop-front l = l.back - l.front

@@ -5,7 +5,7 @@ use Rattle.portmap_table.specs.declared.row.Row.{Row}
 use Rattle.portmap_table.specs.Places.{Entry, IsNew, Puts, active_entry, retired_entry}
 use Rattle.portmap_table.proofs.InPlace.{stands_nowhere}
 use Rattle.portmap_table.proofs.Places.{puts_last}
-use Rattle.portmap_table.proofs.name_map.settle.Goals as goal
+use Rattle.portmap_table.proofs.settling.settle.Goals as goal
 
 pub replace-requires-clause-place : goal.replace-requires-clause-place
 replace-requires-clause-place c =
@@ -21,11 +21,11 @@ returns-in_ok-push-in-None-clause-ok c =
     let pushed = c.in_ok-push-in-None.ensures.ok in
     record {
       puts = subst (λ (n : ℕ). Puts entries c.push.new.self n entry) (sym c.len-place.ensures.len) (subst (λ (new : List Entry). Puts entries new (length entries) entry) (sym pushed) (puts_last entries entry));
+      count = omega (arith, ap length pushed, length-append entries (entry ∷ []));
       how = inr (inl (record {
         fresh = subst (λ (row : Row). IsNew row.reg.name entries) c.row.view_is (stands_nowhere _ entries c.place.result c.in-None.is c.place.ensures.only);
         few = omega (arith, c.len.ensures.len, c.if-len-known_max.true);
         last = c.len-place.ensures.len;
         same = refl;
-        len = ap length pushed ∙ length-append entries (entry ∷ []);
       }));
     }
