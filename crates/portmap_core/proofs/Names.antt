@@ -3,7 +3,7 @@ use Rattle.std.proofs.Common.{◌≡◌, ℕ, Bool, true, false, cond, List, [],
 use Rattle.std.specs.Prelude.{◌&&◌, ◌||◌, not, nat_le, drop, find, position, is_some}
 use Rattle.portmap_table.specs.declared.row.Row.{Row}
 use Rattle.portmap_table.specs.Rows.{Names, RetiredName, is_active, known_len, registered, with_room, without_at, without_oldest}
-use Rattle.portmap_table.proofs.First.{finds_none, finds_some, is_first, no_place, none_behind, none_passes}
+use Rattle.portmap_table.proofs.First.{finds_none, no_place, none_at, none_behind, none_found}
 use Rattle.portmap_table.proofs.Kept.{had_name}
 use Rattle.portmap_core.specs.Names.{left_by}
 
@@ -33,13 +33,16 @@ enters known_max names row inactive = by (position had names.retired) refl
     enter = registered row.reg row.creation row.slot
 
     new : (b : Bool) → position had names.retired ≡ None → entered (left_by None b names.retired) ≡ enter (cond b (without_oldest names) names)
-    new true e = ap (λ (o : Option ℕ). entered (without_at o (drop 1 names.retired))) (sym (no_place had (drop 1 names.retired) (none_behind had 1 names.retired (none_passes had names.retired e))))
+    new true e = ap (λ (o : Option ℕ). entered (without_at o (drop 1 names.retired))) (sym (no_place had (drop 1 names.retired) (none_behind had 1 names.retired (none_at had names.retired (ap is_some e)))))
     new false e = ap (λ (o : Option ℕ). entered (without_at o names.retired)) (sym e)
+
+    known : (at : ℕ) → position had names.retired ≡ Some at → (b : Bool) → is_some (find had names.retired) ≡ b → b ≡ true
+    known at e true f = refl
+    known at e false f = let never : None ≡ Some at = sym (no_place had names.retired (none_found had names.retired f)) ∙ e in absurd cc
 
     by : (o : Option ℕ) → position had names.retired ≡ o → entered (left_by o many names.retired) ≡ enter (with_room known_max row.reg.name names)
     by (Some at) e =
-        let known = finds_some had names.retired at (is_first had names.retired at e) in
-        ap (λ (o : Option ℕ). entered (without_at o names.retired)) (sym e) ∙ ap enter (sym (room_known many (is_active row.reg.name names) _ (without_oldest names) names known))
+        ap (λ (o : Option ℕ). entered (without_at o names.retired)) (sym e) ∙ ap enter (sym (room_known many (is_active row.reg.name names) _ (without_oldest names) names (known at e (is_some (find had names.retired)) refl)))
     by None e =
-        let unknown = ap is_some (finds_none had names.retired (none_passes had names.retired e)) in
+        let unknown = ap is_some (finds_none had names.retired (none_at had names.retired (ap is_some e))) in
         new many e ∙ ap enter (sym (room_new many (is_active row.reg.name names) _ (without_oldest names) names inactive unknown))

@@ -1,13 +1,11 @@
 use Rattle.std.proofs.Common.{◌≡◌, ◌<◌, ◌++◌, ℕ, Some, None, slice_get, sym, ap, subst, ◌∙◌}
 use Rattle.std.specs.Prelude.{map as list_map}
-use Rattle.std.specs.List.{flat_map}
 use Rattle.portmap_wire.specs.Node.{Node}
 use Rattle.portmap_wire.specs.Reply.{be4}
 use Rattle.portmap_wire.specs.List.{dump_line, dump_reply}
 use Rattle.portmap_table.specs.Rows.{retired_name}
-use Rattle.portmap_table.proofs.Owners.{not_past}
 use Rattle.portmap_core.specs.Serving.{active_line, retired_line}
-use Rattle.portmap_core.proofs.Lines.{with_line}
+use Rattle.portmap_core.proofs.Lines.{not_past, with_line}
 use Rattle.portmap_core.proofs.serve.dump_text.Goals as goal
 
 pub loop-i-preserved : goal.loop-i-preserved

@@ -1,6 +1,6 @@
-use Rattle.std.proofs.Common.{◌≡◌, ◌<◌, ℕ, Some, None, slice_get, sym, subst, arith, ◌∙◌}
+use Rattle.std.proofs.Common.{◌≡◌, ◌<◌, ℕ, None, slice_get, sym, subst, arith}
 use Rattle.portmap_table.proofs.Finding.{take_read}
-use Rattle.portmap_table.proofs.Owners.{not_past}
+use Rattle.portmap_core.proofs.Lines.{not_past}
 use Rattle.portmap_core.proofs.name_lists.NameLists.of_table.Goals as goal
 
 pub loop-i-preserved : goal.loop-i-preserved

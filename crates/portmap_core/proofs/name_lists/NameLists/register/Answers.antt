@@ -1,4 +1,4 @@
-use Rattle.std.proofs.Common.{◌≡◌, ◌∷◌, ◌++◌, ◌+◌, [], false, Bool, rules, subst, sym, ap, arith, ◌∙◌}
+use Rattle.std.proofs.Common.{◌≡◌, ◌∷◌, ◌++◌, ◌+◌, [], false, rules, subst, sym, ap, ◌∙◌}
 use Rattle.std.specs.Prelude.{nat_le, position}
 use Rattle.portmap_table.specs.Rows.{Names, is_active, known_len, registered, with_room}
 use Rattle.portmap_table.proofs.Kept.{had_name}

@@ -1,7 +1,6 @@
 use Rattle.std.proofs.Common.{◌≡◌, true, false, sym, ap, ◌∙◌}
 use Rattle.std.proofs.lemmas.Slice.Eq.{slice_eq-Decides}
-use Rattle.portmap_table.specs.declared.row.Row.{Row}
-use Rattle.portmap_table.specs.Rows.{Names, RetiredName}
+use Rattle.portmap_table.specs.Rows.{Names}
 use Rattle.portmap_table.proofs.Comparing.{rows_decide, olds_decide}
 use Rattle.portmap_core.proofs.name_lists.NameLists.same.Goals as goal
 
