@@ -7,8 +7,8 @@
 //!   any events over any slots in any order; an error has done nothing. Which slot and creation come next is left open.
 //! - `State::build`: the state of these parts; none exactly where slots don't rise, or one that doesn't wait has bytes. `State::owned`: whether it is one
 //!   that a machine of the configuration may come to. `State::step`, of an owned state: true and moved exactly where the machine allows the entry, false
-//!   and unchanged exactly where not; of any other state too a true is a step. `Replay` moves as a state does, and finds names without a walk; one in
-//!   which a name stands twice, or a slot owns two, moves no more.
+//!   and unchanged exactly where not; of any other state false, and unchanged. `Replay`, made of an owned state alone, moves so and stays owned, and finds
+//!   names without a walk.
 //! - `State::follow`: the step of an entry that a machine has made in this very state. It trusts the entry, so one that changes no name costs no walk.
 //!   Only a connect wants memory, a piece that does more than end its connection, and the end of a connection that holds a name.
 //! - `name_to_register`: a name only of a piece that is a whole registration of it; that it is found where memory is ample: tests.
