@@ -95,3 +95,20 @@ close 1 -> gone
 close 0 -> gone
 connect local -> 0
 piece 0 get KILL -> say "OK" halt
+
+# Of two names that retire, the first is forgotten for a new one, and the second returns.
+story a base forgets the name retired longest
+with strict conn 2 known 2 first 4
+follow
+connect local -> 0
+piece 0 get ALIVE_A -> say FOURTH stay
+connect local -> 1
+piece 1 get ALIVE_B -> say FIFTH stay
+close 1 -> gone
+close 0 -> gone
+connect local -> 0
+piece 0 get ALIVE_C -> say SIXTH stay
+connect local -> 1
+piece 1 get ALIVE_A -> say SEVENTH stay
+fault 0 -> gone
+close 1 -> gone

@@ -102,3 +102,34 @@ offer "b" 6 -> 7
 register "b" 6 7 -> 7
 offer "a" 6 -> Taken
 knows -> active "a" 0 4 "c" 2 6 "b" 7 7 retired
+
+table names that a port mapper may come to are known
+with known 2 first 9 active "a" 6 4 3 retired "b" 1 -> yes
+knows -> active "a" 3 4 retired "b" 1
+owner "a" -> 3
+offer "a" 6 -> Taken
+offer "b" 5 -> 2
+offer "b" 6 -> 9
+register "c" 6 4 -> 9
+knows -> active "a" 3 4 "c" 4 9 retired
+retire 3 -> yes
+offer "a" 6 -> 10
+with known 2 first 0 active "a" 6 4 0 "b" 5 3 1 retired -> yes
+with known 2 first 0 active retired "a" 1 "b" 4294967295 -> yes
+with known 0 first 0 active retired -> yes
+
+table names that no port mapper comes to are told
+# One too many.
+with known 1 first 0 active "a" 6 4 0 "b" 5 3 1 retired -> no
+with known 2 first 0 active "a" 6 4 0 retired "b" 5 "c" 6 -> no
+with known 2 first 0 active retired "a" 4 "b" 5 "c" 6 -> no
+# A name twice, and a slot.
+with known 2 first 0 active "a" 6 4 0 "a" 6 5 1 retired -> no
+with known 2 first 0 active "a" 6 4 0 retired "a" 5 -> no
+with known 2 first 0 active retired "a" 4 "a" 5 -> no
+with known 2 first 0 active "a" 6 4 0 "b" 6 5 0 retired -> no
+# A creation that no node of its version is given.
+with known 2 first 0 active "a" 6 3 0 retired -> no
+with known 2 first 0 active "a" 5 4 0 retired -> no
+with known 2 first 0 active "a" 5 0 0 retired -> no
+with known 2 first 0 active retired "a" 0 -> no

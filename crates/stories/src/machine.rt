@@ -1,4 +1,4 @@
-//! The machine with its log, and what follows it: a plain state, a replay, and at the end a run and a recording.
+//! The machine with its log, and what follows it: a replay, and at the end a run and a recording.
 use crate::events::{came_of, entry, event, line};
 use crate::recording::{is_recorded, recorded_part};
 use crate::run::{Told, runs_so};
@@ -18,7 +18,6 @@ use std::mem;
 pub struct Machine {
     book: Book,
     first: u32,
-    state: State,
     replay: Replay,
     told: Vec<Told>,
     /// The transcript of the log, and of how many entries it is.
@@ -41,16 +40,10 @@ impl Machine {
         let Ok(config) = Config::new(4369, false, 1024, 4096) else {
             bail!("no settings")
         };
-        let book = Book::new(alloc, config, 4)?;
-        Ok(Box::new(alloc, Machine::of(alloc, book, 4))?)
-    }
-
-    fn of(alloc: Global, book: Book, first: u32) -> Machine {
-        Machine {
-            book,
-            first,
-            state: State::empty(alloc),
-            replay: Replay::new(alloc),
+        let machine = Machine {
+            book: Book::new(alloc, config, 4)?,
+            first: 4,
+            replay: Replay::new(alloc, config)?,
             told: Vec::new(alloc),
             lines: String::new(alloc),
             lines_told: 0,
@@ -59,7 +52,8 @@ impl Machine {
             is_followed: false,
             segments: Vec::new(alloc),
             tickets: Vec::new(alloc),
-        }
+        };
+        Ok(Box::new(alloc, machine)?)
     }
 
     /// What comes of an act.
@@ -104,6 +98,7 @@ impl Machine {
         self.ended(alloc)?;
         self.book = Book::new(alloc, config, first)?;
         self.first = first;
+        self.replay = Replay::new(alloc, config)?;
         self.forget(alloc);
         if *self.book.core().config() != config {
             bail!("it is set otherwise");
@@ -111,10 +106,8 @@ impl Machine {
         Ok(String::new(alloc))
     }
 
-    /// Forgets all that has followed the machine.
+    /// Forgets what else has followed the machine.
     fn forget(&mut self, alloc: Global) {
-        self.state = State::empty(alloc);
-        self.replay = Replay::new(alloc);
         self.told.clear();
         self.lines.clear();
         self.lines_told = 0;
@@ -149,7 +142,7 @@ impl Machine {
             ["asks", piece] => return asked(alloc, &bytes(alloc, piece)?),
             ["halted"] => core.halted(),
             ["active", word] => core.is_active(&name(alloc, word)?),
-            ["kept"] => core.state(alloc)?.same(&self.kept),
+            ["kept"] => self.is_at(alloc, &self.kept)?,
             ["local", peer, own] => is_local(address(alloc, peer)?, address(alloc, own)?),
             _ => bail!("no such act"),
         };
@@ -162,21 +155,24 @@ impl Machine {
         answer(alloc, self.moves(alloc, &entry)?)
     }
 
-    /// Whether copies of the state and of the replay move by an entry.
+    /// Whether a plain state and a replay, which stand as the machine does, move by an entry.
     fn moves(&self, alloc: Global, entry: &Entry) -> Result<bool> {
-        let config = self.book.core().config();
-        let mut state = self.state.try_copy(alloc)?;
+        let (config, before) = (self.book.core().config(), self.book.core().state(alloc)?);
+        let mut state = before.try_copy(alloc)?;
         let moved = state.step(alloc, config, entry)?;
-        if !moved && !state.same(&self.state) {
+        if !moved && !state.same(&before) {
             bail!("a state moves by what may not be");
         }
-        if Replay::of(alloc, &self.state)?.step(alloc, config, entry)? != moved {
-            bail!("a replay says otherwise");
+        let Some(mut replay) = Replay::of(alloc, *config, &before)? else {
+            bail!("no replay goes on from here")
+        };
+        if replay.step(alloc, entry)? != moved || !replay.into_state(alloc)?.same(&state) {
+            bail!("a replay moves otherwise");
         }
         Ok(moved)
     }
 
-    /// What is answered to an event, which the plain state and the replay follow.
+    /// What is answered to an event, which the replay follows.
     fn event(&mut self, alloc: Global, words: &[&str]) -> Result<String> {
         let act = joined(alloc, words)?;
         let came = self.answered(alloc, act.as_str(), words)?;
@@ -229,7 +225,10 @@ impl Machine {
             }
             return Ok(String::from_str(alloc, "NoMemory")?);
         };
-        if !self.book.log().is_empty() || !segment.after.same(&self.state) || !self.stands(alloc)? {
+        if !self.book.log().is_empty()
+            || !self.is_at(alloc, &segment.after)?
+            || !self.stands(alloc)?
+        {
             bail!("it is sealed otherwise");
         }
         let told = format!(in alloc; "first {} entries {}", segment.first, segment.entries.len())?;
@@ -262,11 +261,10 @@ impl Machine {
         )?)
     }
 
-    /// What the book answers to an event: at the next place of its log. The plain state and the replay move by its entry.
+    /// What the book answers to an event: at the next place of its log. The replay moves by its entry.
     fn acted(&mut self, alloc: Global, event: Event) -> Result<Result<Answer, Refusal>> {
         let Machine {
             book,
-            state,
             replay,
             worker,
             ..
@@ -283,32 +281,42 @@ impl Machine {
         let Some(entry) = book.log().last() else {
             bail!("it is not logged")
         };
-        let config = book.core().config();
-        if !state.step(alloc, config, entry)? || !replay.step(alloc, config, entry)? {
-            bail!("a plain state does not follow");
+        if !replay.step(alloc, entry)? {
+            bail!("a replay does not follow");
         }
         Ok(Ok(answer))
     }
 
-    /// Whether it stands as the plain state does that follows it, and its log leads there from its base.
+    /// Whether the machine stands so.
+    fn is_at(&self, alloc: Global, state: &State) -> Result<bool> {
+        Ok(self.book.core().state(alloc)?.same(state))
+    }
+
+    /// Whether its log leads from its base to where it stands.
     pub fn stands(&self, alloc: Global) -> Result<bool> {
         let book = &self.book;
-        let mut replayed = Replay::of(alloc, book.base())?;
+        let Some(mut replayed) = Replay::of(alloc, *book.core().config(), book.base())? else {
+            return Ok(false);
+        };
         for entry in book.log() {
-            if !replayed.step(alloc, book.core().config(), entry)? {
+            if !replayed.step(alloc, entry)? {
                 return Ok(false);
             }
         }
         let is_counted = book.count() == book.first().saturating_add(book.log().len() as u64);
-        let is_led = replayed.into_state(alloc)?.same(&self.state);
-        Ok(is_counted && is_led && book.core().state(alloc)?.same(&self.state))
+        Ok(is_counted && self.is_at(alloc, &replayed.into_state(alloc)?)?)
     }
 
     /// What is wrong at the end, if anything is.
     pub fn ended(&mut self, alloc: Global) -> Result<()> {
-        self.is_one_state(alloc)?;
-        let config = *self.book.core().config();
-        runs_so(alloc, config, self.first, &self.told, &self.state)?;
+        let (config, state) = (*self.book.core().config(), self.book.core().state(alloc)?);
+        if !self.stands(alloc)? || !self.is_replayed(alloc, config)? {
+            bail!("the machine stands otherwise than what followed it");
+        }
+        if !is_built_again(alloc, &config, &state)? {
+            bail!("its state is not that of its parts");
+        }
+        runs_so(alloc, config, self.first, &self.told, &state)?;
         self.is_gathered(alloc)?;
         if self.book.first() > 0 {
             return Ok(());
@@ -316,21 +324,10 @@ impl Machine {
         is_recorded(alloc, &self.book, self.lines.as_str())
     }
 
-    /// Fails unless all that followed it has come to the same state, and so does a machine of its parts.
-    fn is_one_state(&mut self, alloc: Global) -> Result<()> {
-        if !self.stands(alloc)? || !self.is_replayed(alloc)? {
-            bail!("the machine stands otherwise than what followed it");
-        }
-        if !is_built_again(alloc, self.book.core().config(), &self.state)? {
-            bail!("its state is not that of its parts");
-        }
-        Ok(())
-    }
-
     /// Whether the replay has come to the same state. None is left of it.
-    fn is_replayed(&mut self, alloc: Global) -> Result<bool> {
-        let replay = mem::replace(&mut self.replay, Replay::new(alloc));
-        Ok(replay.into_state(alloc)?.same(&self.state))
+    fn is_replayed(&mut self, alloc: Global, config: Config) -> Result<bool> {
+        let replay = mem::replace(&mut self.replay, Replay::new(alloc, config)?);
+        self.is_at(alloc, &replay.into_state(alloc)?)
     }
 
     /// Fails unless the tickets of all acts are the log, where nothing was taken out of it but as segments. None are left.

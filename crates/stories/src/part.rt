@@ -4,11 +4,10 @@ use crate::feed::Pieces;
 use crate::machine::Machine;
 use crate::session::Session;
 use crate::states::Parts;
-use crate::table::{self, Lists};
-use crate::wire;
 use crate::worker::Scene;
+use crate::{table, wire};
 use anyhow::{Result, bail};
-use portmap_table::{NameMap, Table};
+use portmap_table::Table;
 use std::alloc::Global;
 use std::sync::Wait;
 
@@ -20,9 +19,6 @@ pub enum Part {
     Wire,
     Feed(Pieces),
     Table(Box<Table>),
-    /// Names as the lists of a state, and as the map of a table.
-    Lists(Lists),
-    Map(Box<NameMap>),
     Machine(Box<Machine>),
     State(Parts),
     Session(Session),
@@ -37,8 +33,6 @@ impl Part {
             "wire" => Some(Part::Wire),
             "feed" => Some(Part::Feed(Pieces::new(alloc))),
             "table" => Some(Part::Table(Box::new(alloc, Table::new(alloc, 4096, 4)?)?)),
-            "lists" => Some(Part::Lists(Lists::new(alloc))),
-            "map" => Some(Part::Map(Box::new(alloc, NameMap::new(alloc))?)),
             "story" => Some(Part::Machine(Machine::new(alloc)?)),
             "call" => Some(Part::Calls(Box::new(alloc, Calls::new(alloc))?)),
             "session" => Some(Part::Session(Session::new(alloc))),
@@ -55,13 +49,11 @@ impl Part {
             Part::Wire => wire::came(alloc, words),
             Part::Feed(pieces) => pieces.came(alloc, words),
             Part::Table(table) => table::came(alloc, &mut **table, words),
-            Part::Lists(lists) => lists.came(alloc, words),
             Part::Machine(machine) => machine.came(alloc, words),
             Part::State(parts) => parts.came(alloc, words),
             Part::Session(session) => session.came(alloc, words),
             Part::Calls(calls) => calls.came(alloc, words),
             Part::Worker(scene) => scene.came(host, alloc, words),
-            Part::Map(map) => table::came_of_names(alloc, &mut **map, words),
         }
     }
 

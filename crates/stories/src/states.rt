@@ -3,7 +3,7 @@ use crate::events::is_local;
 use crate::requests::registration;
 use crate::words::{bytes, name, number};
 use anyhow::{Result, bail};
-use portmap_core::{Config, Held, Old, Phase, Row, State};
+use portmap_core::{Config, Entry, Held, Old, Phase, Row, State};
 use std::alloc::Global;
 use std::mem;
 
@@ -95,7 +95,20 @@ fn built(alloc: Global, parts: Parts) -> Result<String> {
     if is_built_again(alloc, &config, &state)? {
         return Ok(String::from_str(alloc, "owned")?);
     }
+    if !stays(alloc, &config, state)? {
+        bail!("it moves where no port mapper is");
+    }
     Ok(String::from_str(alloc, "strange")?)
+}
+
+/// Whether a state stays as it is where a connection comes.
+fn stays(alloc: Global, config: &Config, mut state: State) -> Result<bool> {
+    let before = state.try_copy(alloc)?;
+    let entry = Entry::Connected {
+        local: true,
+        slot: 9,
+    };
+    Ok(!state.step(alloc, config, &entry)? && state.same(&before))
 }
 
 /// Whether a port mapper comes to a state. It is that of copies of its parts, in either case.

@@ -1,8 +1,8 @@
-//! The names that a port mapper knows: its table, and the two ways in which names are kept.
+//! The names that a port mapper knows.
 use crate::requests::registration;
 use crate::words::{Digits, answer, name, number, told};
 use anyhow::{Result, bail};
-use portmap_table::{Known, NameLists, NameStore, RegFault, Row, Table};
+use portmap_table::{Old, RegFault, Row, Table};
 use portmap_testing::marks::{begin, end};
 use portmap_wire::{Name, Reg};
 use std::alloc::Global;
@@ -28,7 +28,7 @@ fn row(alloc: Global, row: &Row) -> Result<String> {
 }
 
 /// The active names, each with its slot and its creation, and the retired ones, each with its creation.
-fn known<K: Known>(alloc: Global, names: &K) -> Result<String> {
+fn known(alloc: Global, names: &Table) -> Result<String> {
     let mut told = String::from_str(alloc, "active")?;
     for place in 0..names.active_len() {
         let Some(active) = names.active_at(place) else {
@@ -51,7 +51,7 @@ fn known<K: Known>(alloc: Global, names: &K) -> Result<String> {
 }
 
 /// The slot that owns a name; `-` where the name is not active.
-fn owner<K: Known>(alloc: Global, names: &K, word: &str) -> Result<String> {
+fn owner(alloc: Global, names: &Table, word: &str) -> Result<String> {
     let name = name(alloc, word)?;
     let owner = names.owner(&name);
     if names.find(&name).map(|row| row.slot) != owner || names.is_active(&name) != owner.is_some() {
@@ -63,26 +63,27 @@ fn owner<K: Known>(alloc: Global, names: &K, word: &str) -> Result<String> {
     }
 }
 
-/// What is asked of names, however they are kept.
-fn asked<K: Known>(alloc: Global, names: &K, words: &[&str]) -> Result<String> {
-    match *words {
-        ["knows"] => known(alloc, names),
-        ["owner", name] => owner(alloc, names, name),
-        ["counts"] => Ok(format!(in alloc; "{} {}", names.active_len(), names.retired_len())?),
-        ["retired", place] => match names.retired_at(number(place)?) {
-            Some(old) => Ok(format!(in alloc; "{} {}", Digits(old.name.bytes()), old.creation)?),
-            None => bail!("fewer names are retired"),
-        },
-        _ => bail!("no such act"),
-    }
-}
-
 /// What comes of an act on a table.
 pub fn came(alloc: Global, table: &mut Table, words: &[&str]) -> Result<String> {
     match *words {
         ["with", "known", known_max, "first", first] => {
             *table = Table::new(alloc, number(known_max)?, number(first)?)?;
             Ok(String::new(alloc))
+        }
+        [
+            "with",
+            "known",
+            known_max,
+            "first",
+            first,
+            "active",
+            ref names @ ..,
+        ] => {
+            let Some(made) = made(alloc, number(known_max)?, number(first)?, names)? else {
+                return answer(alloc, false);
+            };
+            *table = made;
+            answer(alloc, true)
         }
         ["offer", word, high] => told(alloc, table.offer(&name(alloc, word)?, number(high)?)),
         ["register", word, high, slot] => registered(
@@ -92,8 +93,45 @@ pub fn came(alloc: Global, table: &mut Table, words: &[&str]) -> Result<String> 
             number(slot)?,
         ),
         ["retire", slot] => retired(alloc, table, number(slot)?),
-        _ => asked(alloc, table.names(), words),
+        ["knows"] => known(alloc, table),
+        ["owner", name] => owner(alloc, table, name),
+        ["counts"] => Ok(format!(in alloc; "{} {}", table.active_len(), table.retired_len())?),
+        ["retired", place] => match table.retired_at(number(place)?) {
+            Some(old) => Ok(format!(in alloc; "{} {}", Digits(old.name.bytes()), old.creation)?),
+            None => bail!("fewer names are retired"),
+        },
+        _ => bail!("no such act"),
     }
+}
+
+/// The table of these names, active and retired, if a port mapper that may know so many can have come to them.
+fn made(alloc: Global, known_max: u32, first: u32, names: &[&str]) -> Result<Option<Table>> {
+    let Some(place) = names.iter().position(|word| *word == "retired") else {
+        bail!("no retired names")
+    };
+    let (active, retired) = names.split_at(place);
+    let (mut rows, mut olds) = (Vec::new(alloc), Vec::new(alloc));
+    for words in active.chunks_exact(4) {
+        let [word, high, creation, slot] = *words else {
+            bail!("no row")
+        };
+        rows.push(Row {
+            reg: node(alloc, word, high)?,
+            creation: number(creation)?,
+            slot: number(slot)?,
+        })?;
+    }
+    for words in retired.get(1..).unwrap_or(&[]).chunks_exact(2) {
+        let [word, creation] = *words else {
+            bail!("no retired name")
+        };
+        olds.push(Old {
+            name: name(alloc, word)?,
+            port: 40_000,
+            creation: number(creation)?,
+        })?;
+    }
+    Ok(Table::of(alloc, known_max, first, &rows, &olds)?)
 }
 
 /// What is answered to a registration. Where it is refused, the name is offered the same as before, and as many names are known.
@@ -128,65 +166,4 @@ fn retired(alloc: Global, table: &mut Table, slot: u64) -> Result<String> {
     let is_retired = table.retire(slot);
     end(alloc);
     answer(alloc, is_retired)
-}
-
-/// What comes of an act on names that can change, however they are kept.
-pub fn came_of_names<N: NameStore>(alloc: Global, names: &mut N, words: &[&str]) -> Result<String> {
-    match *words {
-        ["admit", known_max, word, high, creation, slot] => {
-            let reg = node(alloc, word, high)?;
-            let admitted = names.admit(number(known_max)?, reg, number(creation)?, number(slot)?)?;
-            answer(alloc, admitted)
-        }
-        ["retire", slot] => answer(alloc, names.retire(number(slot)?)?),
-        _ => asked(alloc, names, words),
-    }
-}
-
-/// Names as lists, and a copy of them as they were.
-#[derive(Drop)]
-pub struct Lists {
-    names: NameLists,
-    copy: NameLists,
-}
-
-impl Lists {
-    pub fn new(alloc: Global) -> Lists {
-        Lists {
-            names: NameLists::new(alloc),
-            copy: NameLists::new(alloc),
-        }
-    }
-
-    /// What comes of an act.
-    pub fn came(&mut self, alloc: Global, words: &[&str]) -> Result<String> {
-        match *words {
-            ["anew"] => self.names = NameLists::new(alloc),
-            ["copy"] => self.copy = self.names.try_copy(alloc)?,
-            ["same"] => return answer(alloc, self.is_same()?),
-            ["kept", known_max] => return self.kept(alloc, number(known_max)?),
-            _ => return came_of_names(alloc, &mut self.names, words),
-        }
-        Ok(String::new(alloc))
-    }
-
-    /// Whether the names are those of the copy.
-    fn is_same(&self) -> Result<bool> {
-        let is_same = self.names.same(&self.copy);
-        if self.copy.same(&self.names) != is_same {
-            bail!("it is another answer the other way round");
-        }
-        Ok(is_same)
-    }
-
-    /// Whether a port mapper that may know so many names can have come to them: then a map has them too.
-    fn kept(&self, alloc: Global, known_max: u32) -> Result<String> {
-        let Some(map) = self.names.are_kept(alloc, known_max)? else {
-            return answer(alloc, false);
-        };
-        if !NameLists::copy_of(alloc, &map)?.same(&self.names) {
-            bail!("the map has other names");
-        }
-        answer(alloc, true)
-    }
 }
