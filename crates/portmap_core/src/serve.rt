@@ -1,4 +1,4 @@
-//! What a waiting connection is told, and what then changes, as functions that change nothing.
+//! What a waiting connection is told, which changes nothing, and the change that is then made.
 ghost use Rattle.std.specs.Prelude.{◌≡◌, true, false, IfOk, IfSome, OnErr, OnOk};
 ghost use Rattle.portmap_feed.specs.Stream.{first_request};
 ghost use Rattle.portmap_feed.specs.Seen.{seen_of};
