@@ -1,6 +1,7 @@
 pub mod Carrying
 pub mod Link
 pub mod Listening
+pub mod Parts
 pub mod Peers
 pub mod Queue
 pub mod Quota

@@ -52,6 +52,7 @@ pub use crate::gate::{Gate, Open, Point};
 pub use crate::host::{Host, Notice, RecordFile};
 pub use crate::limits::{PULL_BYTES_MOST, TIMEOUT_SECONDS_MOST, numbers_are_the_profiles};
 pub use crate::link::Link;
+pub use crate::mio_system::MioSystem;
 pub use crate::peer::is_local_peer;
 pub use crate::queue::{Beginning, Part, RecordQueue};
 pub use crate::recorder::{Recorder, recordings_are_fronts, recordings_are_records};

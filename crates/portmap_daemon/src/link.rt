@@ -222,9 +222,10 @@ impl<S: Read + Write> Link<S> {
         self.is_pending = true;
     }
 
-    /// What it asks for is to be told.
-    pub(crate) fn resume(&mut self, queue: &mut VecDeque<usize>, key: usize) {
+    /// What it asks for is to be told, or that its time is over.
+    pub(crate) fn resume(&mut self, queue: &mut VecDeque<usize>, key: usize, is_late: bool) {
         self.is_pending = false;
+        self.is_late = is_late;
         self.enqueue(queue, key);
     }
 

@@ -5,6 +5,7 @@ use crate::host::Host;
 use crate::limits::{RESERVE_BYTES, STARVED_SECONDS_MOST};
 use crate::shared::News;
 use std::alloc::Global;
+use std::sync::atomic::{AtomicBool, Ordering};
 
 /// Memory that is kept for the time when no other can be had, if it can be had and more beside it.
 fn reserve<R: Host>(rt: &R, alloc: Global) -> Option<Vec<u8>> {
@@ -16,13 +17,13 @@ fn reserve<R: Host>(rt: &R, alloc: Global) -> Option<Vec<u8>> {
     }
 }
 
-/// For how many seconds on end nothing has got through for want of memory, after one more in which entries could not be taken out
-/// of the log, or memory was short and peers asked and none was answered.
+/// For how many seconds on end nothing has got through for want of memory, after one more: in it no peer was answered, and entries
+/// could not be taken out of the log, or memory was short and peers went unanswered.
 fn starved_for(seconds: u32, stuck: bool, short: bool, news: News) -> u32
-    ensures goes_on { (stuck || (short && (news.unanswered && not news.answered))) ≡ true → result ≡ min (seconds + 1) 4294967295 }
-    ensures ends { (stuck || (short && (news.unanswered && not news.answered))) ≡ false → result ≡ 0 }
+    ensures goes_on { (not news.answered && (stuck || (short && news.unanswered))) ≡ true → result ≡ min (seconds + 1) 4294967295 }
+    ensures ends { (not news.answered && (stuck || (short && news.unanswered))) ≡ false → result ≡ 0 }
 {
-    if stuck || (short && (news.unanswered && !news.answered)) {
+    if !news.answered && (stuck || (short && news.unanswered)) {
         seconds.saturating_add(1)
     } else {
         0
@@ -49,23 +50,31 @@ impl Memory {
         self.reserve.is_none()
     }
 
-    /// Gives the reserve back, for others to have. Whether there was one.
-    pub(crate) fn relieve(&mut self) -> bool {
+    /// Gives the reserve back, for others to have but for registrations: memory is short from before that on. Whether there was one.
+    pub(crate) fn relieve(&mut self, short: &AtomicBool) -> bool {
+        short.store(true, Ordering::SeqCst);
         self.reserve.take().is_some()
     }
 
     /// A peer went unanswered: if no memory can be had that is why, perhaps, and the reserve is given back.
-    pub(crate) fn relieve_if_short<R: Host>(&mut self, rt: &R, alloc: Global) {
+    pub(crate) fn relieve_if_short<R: Host>(&mut self, rt: &R, alloc: Global, short: &AtomicBool) {
         if self.reserve.is_some() && !rt.has_memory(alloc) {
-            self.relieve();
+            self.relieve(short);
         }
     }
 
     /// Takes a look, once a second, by whether entries are left in the log that could not be taken out, and what has become of
     /// connections. Whether nothing has got through for so long that the daemon is to end.
-    pub(crate) fn look<R: Host>(&mut self, rt: &R, alloc: Global, stuck: bool, news: News) -> bool {
+    pub(crate) fn look<R: Host>(
+        &mut self,
+        rt: &R,
+        alloc: Global,
+        short: &AtomicBool,
+        stuck: bool,
+        news: News,
+    ) -> bool {
         if stuck || news.unanswered {
-            self.relieve_if_short(rt, alloc);
+            self.relieve_if_short(rt, alloc, short);
         }
         if self.is_short() && !stuck {
             self.reserve = reserve(rt, alloc);

@@ -1,7 +1,10 @@
 //! The system as `mio` and the kernel give it.
-ghost use Rattle.std.specs.Prelude.{◌≡◌, ◌≢◌, ◌∷◌, [], take, drop, IfSome, IfNone, IfErr};
+ghost use Rattle.std.specs.Prelude.{◌≡◌, ◌≢◌, ◌↔◌, ◌-◌, ◌*◌, ◌^◌, ◌<◌, ◌≤◌, ◌∷◌, [], ◌&&◌, not, true, take, drop, IfSome, IfNone, IfErr};
+ghost use Rattle.std.specs.Duration.{as_nanos};
 ghost use Rattle.std.specs.Net.Addr.{ipv4_octets};
 ghost use Rattle.portmap_daemon.specs.Running.{IsOfAddresses};
+ghost use Rattle.portmap_daemon.specs.declared.limits.TheConstants.{EVENTS_MOST};
+ghost use Rattle.portmap_daemon.specs.declared.mio_system.TheConstants.{FIRST_LISTENER, WAKE};
 
 use crate::daemon::RunFault;
 use crate::limits::EVENTS_MOST;
@@ -28,9 +31,41 @@ const ADDRESS_MOST: u32 = 128;
 /// How many bytes the system is to read of an address.
 const ADDRESS_BYTES: u32 = 16;
 
-/// A poll with what it reported last, and a thread's shares of the listening sockets.
+/// What the poll reports of what has this token, by whether its peer sends no more and whether it has failed.
+fn report_of(token: usize, is_read_closed: bool, is_error: bool) -> Report
+    ensures woken { WAKE ≤ token → result ≡ Report.Woken }
+    ensures listener { FIRST_LISTENER ≤ token → token < WAKE → result ≡ Report.Listener (token - FIRST_LISTENER) }
+    ensures stream { token < FIRST_LISTENER → result ≡ Report.Stream token (is_read_closed && not is_error) }
+{
+    if token >= WAKE {
+        Report::Woken
+    } else if token >= FIRST_LISTENER {
+        Report::Listener(token - FIRST_LISTENER)
+    } else {
+        Report::Stream {
+            key: token,
+            is_closed: is_read_closed && !is_error,
+        }
+    }
+}
+
+/// Whether a poll that has reported so much may have more to report.
+fn is_full(count: usize) -> bool
+    ensures { (result ≡ true) ↔ (EVENTS_MOST ≤ count) }
+{
+    count >= EVENTS_MOST
+}
+
+/// So many milliseconds.
+pub(crate) fn milliseconds(count: u64) -> Duration
+    ensures { as_nanos result ≡ count * 10 ^ 6 }
+{
+    Duration::from_millis(count)
+}
+
+/// A poll with what it reported last, and a thread's shares of the listening sockets. The program has it by `run`, and tests call it.
 #[derive(Drop)]
-pub(crate) struct MioSystem {
+pub struct MioSystem {
     poll: Poll,
     events: Events,
     listeners: Vec<TcpListener>,
@@ -38,7 +73,7 @@ pub(crate) struct MioSystem {
 
 impl MioSystem {
     /// A poll that reports nothing yet, with what ends its wait.
-    pub(crate) fn open<R: Net>(
+    pub fn open<R: Net>(
         rt: &R,
         alloc: Global,
         sockets: &[net::TcpListener],
@@ -67,27 +102,18 @@ impl System for MioSystem {
     type Waker = Waker;
 
     fn poll(&mut self, timeout_ms: u64) -> bool {
-        let timeout = Duration::from_millis(timeout_ms);
+        let timeout = milliseconds(timeout_ms);
         self.poll.poll(&mut self.events, Some(timeout)).is_ok()
     }
 
     fn report(&self, place: usize) -> Option<Report> {
         let event = self.events.iter().nth(place)?;
         let Token(token) = event.token();
-        Some(if token >= WAKE {
-            Report::Woken
-        } else if token >= FIRST_LISTENER {
-            Report::Listener(token - FIRST_LISTENER)
-        } else {
-            Report::Stream {
-                key: token,
-                is_closed: event.is_read_closed() && !event.is_error(),
-            }
-        })
+        Some(report_of(token, event.is_read_closed(), event.is_error()))
     }
 
     fn is_full(&self) -> bool {
-        self.events.iter().len() >= EVENTS_MOST
+        is_full(self.events.iter().len())
     }
 
     fn watch(

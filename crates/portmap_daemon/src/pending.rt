@@ -41,12 +41,17 @@ impl<L: Ledger, S: System, R: Host + Wait + Clock> SocketSource<'_, L, S, R> {
         Some(self.desk.is_active(self.rt, name))
     }
 
+    /// Whether no registration is taken, since no memory is left that others may need.
+    fn is_short(&self) -> bool {
+        self.shared.short.load(Ordering::SeqCst) || !self.rt.has_memory(self.alloc)
+    }
+
     /// What the link that was told last keeps back is told at once, unless its name is active and there is room for one more that
     /// waits, or no memory is left that others may need.
     pub(crate) fn hold_back(&mut self) -> Option<Turn> {
         let key = self.last?;
         let is_active = self.is_name_active(key)?;
-        if !self.rt.has_memory(self.alloc) {
+        if self.is_short() {
             return Some(Turn::Late(key as u64));
         }
         let pending = Pending {
@@ -118,10 +123,11 @@ impl<L: Ledger, S: System, R: Host + Wait + Clock> SocketSource<'_, L, S, R> {
         Some(Pending { rounds, ..pending })
     }
 
-    /// What the link with this key keeps back is to be told.
+    /// What the link with this key keeps back is to be told, unless no registration is taken.
     fn resume(&mut self, key: usize) {
+        let is_late = self.is_short();
         if let Some(held) = self.links.get_mut(key) {
-            held.link.resume(&mut self.queue, key);
+            held.link.resume(&mut self.queue, key, is_late);
         }
     }
 

@@ -7,7 +7,8 @@ ghost use Rattle.portmap_daemon.specs.Carrying.{LetsGo};
 use crate::carrier::next_of;
 use crate::limits::LAST_TRIES_MOST;
 use crate::{Carrier, Gate, Next, Source, Turn};
-use portmap_book::{Desk, Seat};
+use portmap_book::{ActFault, Desk, Seat};
+use portmap_core::Refusal;
 use std::alloc::Global;
 use std::collections::BTreeMap;
 use std::collections::btree_map::Entry;
@@ -93,29 +94,31 @@ impl<'a, L: Ledger, S: Source + Drop, G: Gate, R: Wait> Worker<'a, L, S, G, R> {
         }
     }
 
-    /// A connection has come. Room for it is taken first, so that what the desk has opened is held.
+    /// A connection has come. Whether there is more to do.
     fn open(&mut self, key: u64, local: bool) -> bool
         ensures { self.old.seat.count ≤ self.new.seat.count }
     {
         // The link is the new one's by now.
         self.release(key);
-        let Ok(Entry::Vacant(place)) = self.held.entry(key) else {
-            self.source.end(key);
+        let Err(fault) = self.hold(key, local) else {
             return true;
         };
-        match self
+        self.source.end(key);
+        next_of(fault) != Next::Halt
+    }
+
+    /// Holds a new connection. Room for it is taken first, so that what the desk has opened is held.
+    fn hold(&mut self, key: u64, local: bool) -> Result<(), ActFault>
+        ensures { self.old.seat.count ≤ self.new.seat.count }
+    {
+        let Ok(Entry::Vacant(place)) = self.held.entry(key) else {
+            return Err(ActFault::Refused(Refusal::NoMemory));
+        };
+        let (_, conn) = self
             .desk
-            .connect(self.rt, self.alloc, &mut self.seat, local)
-        {
-            Ok((_, conn)) => {
-                place.insert(Carrier::new(self.alloc, conn));
-                true
-            }
-            Err(fault) => {
-                self.source.end(key);
-                next_of(fault) != Next::Halt
-            }
-        }
+            .connect(self.rt, self.alloc, &mut self.seat, local)?;
+        place.insert(Carrier::new(self.alloc, conn));
+        Ok(())
     }
 
     /// There is news of a link.

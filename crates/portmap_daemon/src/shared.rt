@@ -86,6 +86,8 @@ pub struct Shared<W: Wake> {
     pub(crate) poll_failed: AtomicBool,
     /// Nothing gets through any more for want of memory.
     pub(crate) starved: AtomicBool,
+    /// The reserve of memory is given back, for the log and for look-ups: no registration is taken.
+    pub(crate) short: AtomicBool,
     answered: AtomicBool,
     unanswered: AtomicBool,
     exhausted: AtomicBool,
@@ -107,6 +109,7 @@ impl<W: Wake> Shared<W> {
             stopping: AtomicBool::new(false),
             poll_failed: AtomicBool::new(false),
             starved: AtomicBool::new(false),
+            short: AtomicBool::new(false),
             answered: AtomicBool::new(false),
             unanswered: AtomicBool::new(false),
             exhausted: AtomicBool::new(false),

@@ -5,12 +5,13 @@ use std::fs::{File, Files};
 use std::io;
 use std::net::{Net, SocketAddr};
 use std::rt::Clock;
-use std::sync::atomic::{AtomicU64, Ordering};
+use std::sync::atomic::{AtomicBool, AtomicU64, Ordering};
 use std::sync::{Arc, Wait};
 use std::thread::Threads;
 use std::time::Duration;
 
-/// A runtime whose clock can be pushed forward. It counts what the operator is told, and records also to a file that a link leads to.
+/// A runtime whose clock can be pushed forward, and whose memory can be short. It counts what the operator is told, and records also to
+/// a file that a link leads to.
 #[derive(Drop)]
 pub struct Pushed<R: Clock> {
     rt: R,
@@ -22,6 +23,11 @@ pub struct Pushed<R: Clock> {
 pub struct Pushing {
     /// By how many seconds it was pushed.
     seconds: AtomicU64,
+    /// The clock goes on by that alone.
+    stands: AtomicBool,
+    /// No memory can be had, as the host tells it, and how often it was asked.
+    pub is_short: AtomicBool,
+    pub asked: AtomicU64,
     /// How often the operator was told that the recording has failed.
     pub told: AtomicU64,
 }
@@ -30,6 +36,9 @@ impl<R: Clock + Copy> Pushed<R> {
     pub fn new(rt: R, alloc: Global) -> Result<Pushed<R>, AllocError> {
         let pushing = Pushing {
             seconds: AtomicU64::new(0),
+            stands: AtomicBool::new(false),
+            is_short: AtomicBool::new(false),
+            asked: AtomicU64::new(0),
             told: AtomicU64::new(0),
         };
         let shared = Arc::new(alloc, pushing)?;
@@ -43,6 +52,12 @@ impl<R: Clock + Copy> Pushed<R> {
 }
 
 impl Pushing {
+    /// From now on it goes on by what it is pushed alone, and no memory can be had.
+    pub fn stand(&self) {
+        self.stands.store(true, Ordering::SeqCst);
+        self.is_short.store(true, Ordering::SeqCst);
+    }
+
     /// Pushes the clock forward by so many seconds.
     pub fn push(&self, seconds: u64) {
         self.seconds.fetch_add(seconds, Ordering::SeqCst);
@@ -61,6 +76,9 @@ impl<R: Clock + Copy> Clone for Pushed<R> {
 impl<R: Clock> Clock for Pushed<R> {
     fn monotonic(&self) -> io::Result<Duration> {
         let pushed = Duration::from_secs(self.shared.seconds.load(Ordering::SeqCst));
+        if self.shared.stands.load(Ordering::SeqCst) {
+            return Ok(pushed);
+        }
         Ok(self.rt.monotonic()?.saturating_add(pushed))
     }
 
@@ -102,5 +120,10 @@ impl<R: Clock + Files<File = File>> Host for Pushed<R> {
         if notice == Notice::RecordingFailed {
             self.shared.told.fetch_add(1, Ordering::SeqCst);
         }
+    }
+
+    fn has_memory(&self, _alloc: Global) -> bool {
+        self.shared.asked.fetch_add(1, Ordering::SeqCst);
+        !self.shared.is_short.load(Ordering::SeqCst)
     }
 }

@@ -45,7 +45,7 @@ fn record_log<L: Ledger, R: Wait>(rt: &R, alloc: Global, desk: &Desk<L>, queue: 
     let mut entries = Vec::new(alloc);
     let mut makers = Vec::new(alloc);
     desk.advance(rt, alloc, &mut entries, &mut makers);
-    queue.put(rt, Part::Entries(entries, makers));
+    queue.put(rt, Some(Part::Entries(entries, makers)));
 }
 
 /// Begins the next file.
@@ -175,6 +175,38 @@ fn a_file_that_waits_for_the_one_before_it_is_not_full(rt: HostRuntime) -> Resul
     let written = written(&rt, rt.alloc(), Turn::AtOnce, 90, "behind");
     assert_eq!(rt; written, Some((true, false)));
     assert!(rt; has_had(&rt, "behind", &REGISTERS)? && has_had(&rt, "behind.1", &CLOSES)?);
+    Ok(())
+}
+
+/// How long who waits for the end of a recording does so that ends a moment later.
+fn waited_for_end(rt: &HostRuntime, queue: &RecordQueue) -> Option<Duration> {
+    let before = rt.monotonic().ok()?;
+    let (_, is_written) = thread::join(
+        rt,
+        || {
+            thread::sleep(rt, Duration::from_millis(100));
+            queue.close(rt);
+            write_recording(rt, rt.alloc(), queue, "none", 93)
+        },
+        || queue.is_written(rt, Duration::from_secs(10)),
+    );
+    let waited = rt.monotonic().ok()?.saturating_sub(before);
+    is_written.then_some(waited)
+}
+
+#[test]
+fn who_waits_for_the_end_of_a_recording_is_told_at_once(rt: HostRuntime) -> Result<(), Fail> {
+    let queue = RecordQueue::new(rt.alloc());
+    let waited = waited_for_end(&rt, &queue).unwrap_or(Duration::MAX);
+    assert!(rt; waited < Duration::from_secs(5));
+    Ok(())
+}
+
+/// A device that takes all.
+#[test]
+fn what_is_no_plain_file_is_never_full(rt: HostRuntime) -> Result<(), Fail> {
+    let written = written(&rt, rt.alloc(), Turn::Full, 1, "/dev/null");
+    assert_eq!(rt; written, Some((true, false)));
     Ok(())
 }
 

@@ -1,5 +1,5 @@
 //! The file of a recording as the host makes it, and what an operator reads.
-use portmap_daemon::{Host, Notice};
+use portmap_daemon::{Host, Notice, RecordFile};
 use std::fs;
 use std::fs::{File, Permissions};
 use std::io::Write;
@@ -67,12 +67,28 @@ fn a_link_is_not_followed(rt: HostRuntime) -> Result<(), Fail> {
     Ok(())
 }
 
-/// A device is written to, and stays everybody's.
+/// A device is written to, stays everybody's, and is no plain file.
 #[test]
 fn a_device_is_taken_as_it_is(rt: HostRuntime) -> Result<(), Fail> {
     let before = fs::metadata(&rt, "/dev/null")?.mode();
-    assert!(rt; rt.make("/dev/null").is_ok());
+    assert!(rt; !rt.make("/dev/null")?.is_plain());
     assert_eq!(rt; fs::metadata(&rt, "/dev/null")?.mode(), before);
+    Ok(())
+}
+
+/// Whether a file has the first bytes alone of what was written to it once it was cut, and is a plain one. It is removed.
+fn is_cut(rt: &HostRuntime, path: &str) -> Result<bool, Fail> {
+    let mut file: File = rt.make(path)?;
+    file.write_all(b"whole half")?;
+    file.cut(5);
+    let is_so = file.is_plain() && fs::read(rt, path)?.as_slice() == b"whole".as_slice();
+    fs::remove_file(rt, path)?;
+    Ok(is_so)
+}
+
+#[test]
+fn a_plain_file_is_cut(rt: HostRuntime) -> Result<(), Fail> {
+    assert!(rt; is_cut(&rt, "cut")?);
     Ok(())
 }
 

@@ -2,6 +2,8 @@
 #![tactic(auto)]
 
 #[cfg(test)]
+mod addresses;
+#[cfg(test)]
 mod clocks;
 #[cfg(test)]
 mod daemon;
@@ -13,6 +15,10 @@ mod gates;
 mod host;
 #[cfg(test)]
 mod links;
+#[cfg(test)]
+mod memory;
+#[cfg(test)]
+mod mio;
 #[cfg(test)]
 mod places;
 #[cfg(test)]

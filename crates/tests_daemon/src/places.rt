@@ -2,7 +2,7 @@
 use crate::clocks::{Pushed, Pushing};
 use crate::daemon::{is_answered, registered, settings_at};
 use portmap_core::Config;
-use portmap_daemon::{Host, RunFault, run};
+use portmap_daemon::{Host, run};
 use portmap_testing::bytes::{FOUND_A, KILL, PORT_A};
 use portmap_testing::peers::connect;
 use std::alloc::Global;
@@ -86,14 +86,5 @@ fn a_connection_that_says_nothing_makes_room_for_others(rt: HostRuntime) -> Resu
     );
     assert_eq!(rt; told, (Some(true), Some(true)));
     assert!(rt; ended?);
-    Ok(())
-}
-
-#[test]
-fn the_address_that_is_taken_is_told(rt: HostRuntime) -> Result<(), Fail> {
-    let mut settings = settings_at(rt.alloc(), 14_441, 60, 1, None)?;
-    settings.addresses.push([127, 0, 0, 1])?;
-    let ended = run(&rt, rt.alloc(), settings);
-    assert!(rt; matches!(ended, Err(RunFault::Listen(1))));
     Ok(())
 }

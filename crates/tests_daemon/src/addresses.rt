@@ -1,0 +1,52 @@
+//! The addresses that a daemon listens on.
+use crate::daemon::{is_answered, settings_at};
+use portmap_daemon::{RunFault, run};
+use portmap_testing::bytes::{KILL, NOT_FOUND, PORT_A};
+use std::io::{ErrorKind, Read, Write};
+use std::net::{Ipv4Addr, TcpStream};
+use std::test::Fail;
+use std::thread;
+
+/// Ports of these tests alone.
+const PORT: u16 = 14_443;
+
+const TAKEN_PORT: u16 = 14_441;
+
+/// What comes of a look-up at this address of the host: whether it is answered, or why it can't be asked.
+fn looked_up(rt: &HostRuntime, last: u8) -> Result<bool, ErrorKind> {
+    let address = Ipv4Addr::new(127, 0, 0, last);
+    let mut stream = TcpStream::connect(rt, (address, PORT)).map_err(|error| error.kind())?;
+    let mut reply = [0; 2];
+    let is_read = stream.write_all(PORT_A).is_ok() && stream.read_exact(&mut reply).is_ok();
+    Ok(is_read && reply.as_slice() == NOT_FOUND)
+}
+
+/// What comes of look-ups at three addresses of the host, of which a daemon listens on the first two, and whether it ends then.
+fn told(rt: &HostRuntime) -> ([Result<bool, ErrorKind>; 3], Option<bool>) {
+    let is_first = is_answered(rt, PORT, PORT_A, NOT_FOUND) == Some(true);
+    let told = [Ok(is_first), looked_up(rt, 2), looked_up(rt, 3)];
+    (told, is_answered(rt, PORT, KILL, b"OK"))
+}
+
+#[test]
+fn each_address_that_is_listed_is_listened_on_and_no_other(rt: HostRuntime) -> Result<(), Fail> {
+    let alloc = rt.alloc();
+    let mut settings = settings_at(alloc, PORT, 60, 1, None)?;
+    settings.addresses.push([127, 0, 0, 2])?;
+    let (ended, (told, has_ended)) = thread::join(&rt, || run(&rt, alloc, settings), || told(&rt));
+    assert_eq!(rt;
+        told,
+        [Ok(true), Ok(true), Err(ErrorKind::ConnectionRefused)]
+    );
+    assert!(rt; ended.is_ok() && has_ended == Some(true));
+    Ok(())
+}
+
+#[test]
+fn the_address_that_is_taken_is_told(rt: HostRuntime) -> Result<(), Fail> {
+    let mut settings = settings_at(rt.alloc(), TAKEN_PORT, 60, 1, None)?;
+    settings.addresses.push([127, 0, 0, 1])?;
+    let ended = run(&rt, rt.alloc(), settings);
+    assert!(rt; matches!(ended, Err(RunFault::Listen(1))));
+    Ok(())
+}

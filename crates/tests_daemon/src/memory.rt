@@ -1,0 +1,97 @@
+//! A daemon that is short of memory, with a clock that is pushed forward.
+use crate::clocks::{Pushed, Pushing};
+use crate::daemon::{is_answered, registered, settings_at};
+use portmap_daemon::{RunFault, run};
+use portmap_testing::bytes::{NOT_FOUND, PORT_A};
+use std::net::{Ipv4Addr, Net, TcpStream};
+use std::rt::Clock;
+use std::sync::atomic::Ordering;
+use std::test::Fail;
+use std::thread;
+use std::time::Duration;
+
+/// A port of this test alone.
+const PORT: u16 = 14_460;
+
+/// The daemon looks for memory as it begins and in its first turn.
+const FIRST_LOOKS: u64 = 2;
+
+/// In so many milliseconds it has looked once more, where memory is short.
+const LOOK: u64 = 200;
+
+/// So many seconds are more than it serves on while nothing gets through.
+const SECONDS: u32 = 40;
+
+/// Whether the daemon has begun, within ten seconds, and found memory short.
+fn has_begun<R: Clock>(rt: &R, host: &Pushing) -> bool {
+    for _ in 0..1000u32 {
+        if host.asked.load(Ordering::SeqCst) >= FIRST_LOOKS {
+            return true;
+        }
+        thread::sleep(rt, Duration::from_millis(10));
+    }
+    false
+}
+
+/// Memory can be had again, but that which is kept for want of it is not yet: whether a look-up is answered then, and no name registered.
+fn is_spared<R: Net<Stream = TcpStream> + Clock>(rt: &R, host: &Pushing) -> Option<bool> {
+    host.is_short.store(false, Ordering::SeqCst);
+    let is_answered = is_answered(rt, PORT, PORT_A, NOT_FOUND)?;
+    Some(is_answered && registered(rt, PORT).is_none())
+}
+
+/// Whether a name is registered, once the next second is over.
+fn is_over<R: Net<Stream = TcpStream> + Clock>(rt: &R, host: &Pushing) -> bool {
+    host.push(1);
+    for _ in 0..50u32 {
+        if registered(rt, PORT).is_some() {
+            return true;
+        }
+        thread::sleep(rt, Duration::from_millis(LOOK));
+    }
+    false
+}
+
+/// No memory can be had again: in each second a name is refused, until nobody listens any more.
+fn starves<R: Net<Stream = TcpStream> + Clock>(rt: &R, host: &Pushing) -> Option<bool> {
+    host.is_short.store(true, Ordering::SeqCst);
+    for _ in 0..SECONDS {
+        if TcpStream::connect(rt, (Ipv4Addr::LOCALHOST, PORT)).is_err() {
+            return Some(true);
+        }
+        if registered(rt, PORT).is_some() {
+            return None;
+        }
+        host.push(1);
+        thread::sleep(rt, Duration::from_millis(LOOK));
+    }
+    Some(false)
+}
+
+#[test]
+fn while_memory_is_short_no_name_is_registered_and_for_five_seconds_at_most(
+    rt: HostRuntime,
+) -> Result<(), Fail> {
+    let alloc = rt.alloc();
+    let settings = settings_at(alloc, PORT, 60, 1, None)?;
+    let host = Pushed::new(rt, alloc)?;
+    host.pushing().stand();
+    let (ended, told) = thread::join(
+        &rt,
+        || run(&host, alloc, settings),
+        || {
+            let pushing = host.pushing();
+            let has_begun = has_begun(&rt, pushing);
+            let is_spared = is_spared(&rt, pushing);
+            (
+                has_begun,
+                is_spared,
+                is_over(&rt, pushing),
+                starves(&rt, pushing),
+            )
+        },
+    );
+    assert_eq!(rt; told, (true, Some(true), true, Some(true)));
+    assert!(rt; matches!(ended, Err(RunFault::NoMemory)));
+    Ok(())
+}
