@@ -1,7 +1,7 @@
 //! The system as `mio` and the kernel give it.
 ghost use Rattle.std.specs.Prelude.{◌≡◌, ◌≢◌, ◌↔◌, ◌-◌, ◌*◌, ◌^◌, ◌<◌, ◌≤◌, ◌∷◌, [], ◌&&◌, not, true, take, drop, IfSome, IfNone, IfErr};
 ghost use Rattle.std.specs.Duration.{as_nanos};
-ghost use Rattle.std.specs.Net.Addr.{ipv4_octets};
+ghost use Rattle.std.specs.Net.Addr.{ipv4_octets, ipv6_segments, segments_of, IsV4And, IsV6And};
 ghost use Rattle.portmap_daemon.specs.Running.{IsOfAddresses};
 ghost use Rattle.portmap_daemon.specs.declared.limits.TheConstants.{EVENTS_MOST};
 ghost use Rattle.portmap_daemon.specs.declared.mio_system.TheConstants.{FIRST_LISTENER, WAKE};
@@ -9,12 +9,12 @@ ghost use Rattle.portmap_daemon.specs.declared.mio_system.TheConstants.{FIRST_LI
 use crate::daemon::RunFault;
 use crate::limits::EVENTS_MOST;
 use crate::system::{Interest, Report, Stream, System, Wake};
-use libc::net::{_SS_SIZE, AF_INET, SOCK_CLOEXEC, SOCK_NONBLOCK, accept4};
+use libc::net::{_SS_SIZE, AF_INET, AF_INET6, SOCK_CLOEXEC, SOCK_NONBLOCK, accept4};
 use mio::net::{TcpListener, TcpStream};
 use mio::{Events, Poll, Token, Waker};
 use os::FromRawFd;
 use std::alloc::Global;
-use std::net::{IpAddr, Ipv4Addr, Net};
+use std::net::{IpAddr, Net};
 use std::os::fd::AsRawFd;
 use std::time::Duration;
 use std::{io, net};
@@ -168,8 +168,8 @@ impl System for MioSystem {
             return Err(io::Error::from_raw_os_error(os::errno()));
         }
         let stream = unsafe { TcpStream::from_raw_fd(fd) };
-        let peer = match ipv4_in(&address) {
-            Some(ip) => IpAddr::V4(ip),
+        let peer = match ip_in(&address) {
+            Some(ip) => ip,
             None => stream.peer_addr()?.ip(),
         };
         Ok((stream, peer))
@@ -194,13 +194,20 @@ impl Wake for Waker {
     }
 }
 
-/// The IPv4 address in an address of the system, if it is of that family.
-fn ipv4_in(address: &[u8; _SS_SIZE]) -> Option<Ipv4Addr>
-    ensures found { IfSome result (λ ip. ipv4_octets ip ≡ take 4 (drop 4 address.now)) }
-    ensures other { IfNone result (take 2 address.now ≢ 2 ∷ 0 ∷ []) }
+/// The IP address in an address of the system, if it is of a family that has one.
+fn ip_in(address: &[u8; _SS_SIZE]) -> Option<IpAddr>
+    ensures ipv4 { take 2 address.now ≡ 2 ∷ 0 ∷ [] → IfSome result (λ ip. IsV4And ip (λ ip. ipv4_octets ip ≡ take 4 (drop 4 address.now))) }
+    ensures ipv6 { take 2 address.now ≡ 10 ∷ 0 ∷ [] → IfSome result (λ ip. IsV6And ip (λ ip. ipv6_segments ip ≡ segments_of (take 16 (drop 8 address.now)))) }
+    ensures other { IfNone result ((take 2 address.now ≢ 2 ∷ 0 ∷ []) × (take 2 address.now ≢ 10 ∷ 0 ∷ [])) }
 {
-    if u16::from_ne_bytes([address[0], address[1]]) != AF_INET as u16 {
-        return None;
+    let family = i32::from(u16::from_ne_bytes([address[0], address[1]]));
+    if family == AF_INET {
+        let octets = [address[4], address[5], address[6], address[7]];
+        return Some(IpAddr::from(octets));
     }
-    Some(Ipv4Addr::new(address[4], address[5], address[6], address[7]))
+    if family == AF_INET6 {
+        let octets: [u8; 16] = address[8..24].try_into().ok()?;
+        return Some(IpAddr::from(octets));
+    }
+    None
 }

@@ -16,6 +16,8 @@ mod host;
 #[cfg(test)]
 mod links;
 #[cfg(test)]
+mod listening;
+#[cfg(test)]
 mod memory;
 #[cfg(test)]
 mod mio;

@@ -1,0 +1,172 @@
+//! The sockets that a daemon listens on: those that it opens, and those that are handed over to it.
+ghost use Rattle.std.specs.Prelude.{◌≡◌, length, IfErr};
+ghost use Rattle.std.specs.Net.Addr.{ipv4_octets, IsV4And};
+ghost use Rattle.std.specs.Net.Socket.{socket_ip, socket_port};
+ghost use Rattle.portmap_daemon.specs.Running.{IsOfAddresses};
+
+use crate::daemon::RunFault;
+use libc::net::{
+    _SS_SIZE, AF_INET6, IPPROTO_IPV6, IPPROTO_TCP, IPV6_V6ONLY, SO_REUSEADDR, SOCK_CLOEXEC,
+    SOCK_NONBLOCK, SOCK_STREAM, SOL_SOCKET, TCP_NODELAY,
+};
+use mio::net::TcpListener;
+use os::FromRawFd;
+use std::alloc::{AllocFailed, Global};
+use std::net::{IpAddr, Ipv6Addr, Net, SocketAddr};
+use std::os::fd::AsRawFd;
+use std::{io, net};
+
+/// So many connections may wait at a socket, if the system allows as many.
+const BACKLOG: i32 = 4096;
+
+/// How many bytes an IPv6 address of the system has.
+const ADDRESS_BYTES: u32 = 28;
+
+/// The errors by which a system without IPv6 refuses a socket, and an address.
+const EAFNOSUPPORT: i32 = 97;
+
+const EADDRNOTAVAIL: i32 = 99;
+
+/// Why sockets that are handed over are not served.
+#[derive(Clone, Copy, Debug, PartialEq, Eq)]
+pub enum HandedFault {
+    /// The descriptor of this number is no TCP socket that listens.
+    NotListening(i32),
+    NoMemory,
+}
+
+impl<T: Drop> From<AllocFailed<T>> for HandedFault {
+    ghost use Rattle.std.specs.Prelude.{◌≡◌};
+    ghost use Rattle.portmap_daemon.specs.declared.listening.HandedFault.TheVariants as fault;
+
+    ghost from_gives = { λ _ f. f ≡ fault.NoMemory };
+
+    fn from(_: AllocFailed<T>) -> HandedFault {
+        HandedFault::NoMemory
+    }
+}
+
+/// Listens on each of the addresses at this port, and on the IPv6 address beside it, where it has one and the system has IPv6.
+pub(crate) fn listen<R: Net>(
+    rt: &R,
+    alloc: Global,
+    port: u16,
+    addresses: &[[u8; 4]],
+) -> Result<Vec<net::TcpListener>, RunFault>
+    ensures { IfErr result (λ f. IsOfAddresses (length addresses.now) f) }
+{
+    let mut listening = Vec::new(alloc);
+    for (place, address) in addresses.iter().enumerate() {
+        let Ok(listener) = TcpListener::bind(rt, address_at(*address, port)) else {
+            return Err(RunFault::Listen(place));
+        };
+        listening.push(net::TcpListener::from(listener))?;
+        match beside(*address).map(|ipv6| listen_alone(ipv6, port)) {
+            None => {}
+            Some(Ok(listener)) => listening.push(listener)?,
+            Some(Err(error)) if lacks_ipv6(&error) => {}
+            Some(Err(_)) => return Err(RunFault::ListenBeside(place)),
+        }
+    }
+    Ok(listening)
+}
+
+/// The address of a socket that listens there.
+fn address_at(address: [u8; 4], port: u16) -> SocketAddr
+    ensures ip { IsV4And (socket_ip result) (λ ip. ipv4_octets ip ≡ address) }
+    ensures port { socket_port result ≡ port }
+{
+    SocketAddr::new(IpAddr::from(address), port)
+}
+
+/// The IPv6 address that a daemon listens on beside this one: every address of the host beside every one, its loopback beside its loopback.
+pub fn beside(address: [u8; 4]) -> Option<Ipv6Addr> {
+    match address {
+        [0, 0, 0, 0] => Some(Ipv6Addr::UNSPECIFIED),
+        [127, 0, 0, 1] => Some(Ipv6Addr::LOCALHOST),
+        _ => None,
+    }
+}
+
+/// Whether a system without IPv6 says so.
+fn lacks_ipv6(error: &io::Error) -> bool {
+    matches!(error.raw_os_error(), Some(EAFNOSUPPORT | EADDRNOTAVAIL))
+}
+
+/// Listens on an IPv6 address at this port, and takes no IPv4 peer there.
+fn listen_alone(ip: Ipv6Addr, port: u16) -> io::Result<net::TcpListener> {
+    let kind = SOCK_STREAM | SOCK_NONBLOCK | SOCK_CLOEXEC;
+    let number = unsafe { libc::net::socket(AF_INET6, kind, 0) };
+    if number < 0 {
+        return Err(io::Error::from_raw_os_error(os::errno()));
+    }
+    let listener = unsafe { net::TcpListener::from_raw_fd(number) };
+    let on = [1, 0, 0, 0, 0, 0, 0, 0, 0, 0, 0, 0, 0, 0, 0, 0];
+    done(unsafe { libc::net::setsockopt(number, IPPROTO_IPV6, IPV6_V6ONLY, &on, 4) })?;
+    done(unsafe { libc::net::setsockopt(number, SOL_SOCKET, SO_REUSEADDR, &on, 4) })?;
+    done(unsafe { libc::net::bind(number, &address_of(ip, port), ADDRESS_BYTES) })?;
+    done(libc::net::listen(number, BACKLOG))?;
+    Ok(listener)
+}
+
+/// What a call of the system answered: 0 where it is done.
+fn done(status: i32) -> io::Result<()> {
+    if status == 0 {
+        return Ok(());
+    }
+    Err(io::Error::from_raw_os_error(os::errno()))
+}
+
+/// An IPv6 address and port as the system reads them.
+fn address_of(ip: Ipv6Addr, port: u16) -> [u8; _SS_SIZE] {
+    let mut address = [0; _SS_SIZE];
+    address[..2].copy_from_slice(&(AF_INET6 as u16).to_ne_bytes());
+    address[2..4].copy_from_slice(&port.to_be_bytes());
+    address[8..24].copy_from_slice(&ip.octets());
+    address
+}
+
+/// The sockets that are handed over, so many, from this descriptor on. They no longer block, and are closed with what is given.
+pub fn handed_over(
+    alloc: Global,
+    first: i32,
+    count: u32,
+) -> Result<Vec<net::TcpListener>, HandedFault> {
+    let mut listening = Vec::new(alloc);
+    let mut number = first;
+    for _ in 0..count {
+        let Some(listener) = listening_at(number) else {
+            return Err(HandedFault::NotListening(number));
+        };
+        listening.push(listener)?;
+        number = number.saturating_add(1);
+    }
+    Ok(listening)
+}
+
+/// The socket that listens at this descriptor, if one does.
+fn listening_at(number: i32) -> Option<net::TcpListener> {
+    if number < 0 {
+        return None;
+    }
+    let listener = unsafe { net::TcpListener::from_raw_fd(number) };
+    listener.set_nonblocking(true).ok()?;
+    is_listening(&listener).then_some(listener)
+}
+
+/// The port of a socket that has an address.
+pub(crate) fn port_of(socket: &net::TcpListener) -> Option<u16> {
+    let port = socket.local_addr().ok()?.port();
+    (port > 0).then_some(port)
+}
+
+/// Whether it is a TCP socket with an address that takes connections. One that has an address and took none before does from now on.
+fn is_listening(socket: &net::TcpListener) -> bool {
+    let mut value = [0; 16];
+    let mut length = 4;
+    let number = socket.as_raw_fd();
+    let is_tcp = unsafe {
+        libc::net::getsockopt(number, IPPROTO_TCP, TCP_NODELAY, &mut value, &mut length)
+    } == 0;
+    is_tcp && port_of(socket).is_some() && libc::net::listen(number, BACKLOG) == 0
+}

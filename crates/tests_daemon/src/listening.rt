@@ -1,0 +1,122 @@
+//! Where a daemon listens: at the IPv6 addresses beside its own, and over sockets that are handed over to it.
+use crate::daemon::{is_answered, settings_at};
+use portmap_daemon::{HandedFault, RunEnd, RunFault, beside, handed_over, run, run_over};
+use portmap_testing::bytes::{ALIVE_A, KILL, NOT_FOUND, PORT_A};
+use std::fs::File;
+use std::io::{Read, Write};
+use std::net::{IpAddr, Ipv4Addr, Ipv6Addr, TcpListener, TcpStream};
+use std::os::fd::IntoRawFd;
+use std::test::Fail;
+use std::thread;
+
+/// Ports of these tests alone. The second is 0x386E.
+const PORT: u16 = 14_445;
+
+const HANDED_PORT: u16 = 14_446;
+
+const NAMES_REQ: &[u8] = &[0x00, 0x01, 0x6E];
+
+const NONE_LISTED: &[u8] = &[0x00, 0x00, 0x38, 0x6E];
+
+/// A registration that was taken.
+const TAKEN: &[u8] = &[0x76, 0x00];
+
+const LOOPBACK: IpAddr = IpAddr::V4(Ipv4Addr::LOCALHOST);
+
+const LOOPBACK_OF_IPV6: IpAddr = IpAddr::V6(Ipv6Addr::LOCALHOST);
+
+/// Whether a request to this address of the host is answered by these bytes at first; none if nobody can be asked there.
+fn begins(rt: &HostRuntime, ip: IpAddr, port: u16, request: &[u8], reply: &[u8]) -> Option<bool> {
+    let mut stream = TcpStream::connect(rt, (ip, port)).ok()?;
+    stream.write_all(request).ok()?;
+    let mut whole = [0; 8];
+    let got = whole.get_mut(..reply.len())?;
+    stream.read_exact(got).ok()?;
+    Some(*got == *reply)
+}
+
+#[test]
+fn beside_an_ipv4_address_stands_one_of_ipv6(rt: HostRuntime) -> Result<(), Fail> {
+    assert_eq!(rt; beside([0, 0, 0, 0]), Some(Ipv6Addr::UNSPECIFIED));
+    assert_eq!(rt; beside([127, 0, 0, 1]), Some(Ipv6Addr::LOCALHOST));
+    assert_eq!(rt; beside([127, 0, 0, 2]), None);
+    Ok(())
+}
+
+/// What comes of a look-up and of a registration at the host's IPv6 address, and whether the daemon at 127.0.0.1 ends then.
+fn told(rt: &HostRuntime) -> ([Option<bool>; 2], bool) {
+    let is_up = is_answered(rt, PORT, PORT_A, NOT_FOUND) == Some(true);
+    let looked_up = begins(rt, LOOPBACK_OF_IPV6, PORT, PORT_A, NOT_FOUND);
+    let registered = begins(rt, LOOPBACK_OF_IPV6, PORT, ALIVE_A, TAKEN);
+    let has_ended = is_answered(rt, PORT, KILL, b"OK") == Some(true);
+    ([looked_up, registered], is_up && has_ended)
+}
+
+/// Where the host has no IPv6 nobody can be asked there.
+#[test]
+fn a_daemon_of_the_host_serves_its_ipv6_peers_too(rt: HostRuntime) -> Result<(), Fail> {
+    let has_ipv6 = TcpListener::bind(&rt, (LOOPBACK_OF_IPV6, 0)).is_ok();
+    let settings = settings_at(rt.alloc(), PORT, 60, 2, None)?;
+    let (ended, told) = thread::join(&rt, || run(&rt, rt.alloc(), settings), || told(&rt));
+    assert_eq!(rt; told, ([has_ipv6.then_some(true); 2], true));
+    assert!(rt; ended.is_ok());
+    Ok(())
+}
+
+/// A socket that listens for peers of both families, or for those of IPv4 where the host has no IPv6.
+fn socket(rt: &HostRuntime) -> Result<TcpListener, Fail> {
+    match TcpListener::bind(rt, (Ipv6Addr::UNSPECIFIED, HANDED_PORT)) {
+        Ok(socket) => Ok(socket),
+        Err(_) => Ok(TcpListener::bind(rt, (Ipv4Addr::UNSPECIFIED, HANDED_PORT))?),
+    }
+}
+
+/// How a daemon ends that serves over a socket, and which was set to another port.
+fn served(rt: &HostRuntime, socket: &TcpListener) -> Result<Result<RunEnd, RunFault>, Fail> {
+    let settings = settings_at(rt.alloc(), 1, 60, 2, None)?;
+    let number = socket.try_clone()?.into_raw_fd();
+    let Ok(listening) = handed_over(rt.alloc(), number, 1) else {
+        return Err(Fail);
+    };
+    Ok(run_over(rt, rt.alloc(), settings, listening))
+}
+
+/// Whether a daemon over the socket tells its port as its own, a peer of this host registers, and it ends.
+fn is_served(rt: &HostRuntime) -> bool {
+    let is_listed = begins(rt, LOOPBACK, HANDED_PORT, NAMES_REQ, NONE_LISTED);
+    let is_taken = begins(rt, LOOPBACK, HANDED_PORT, ALIVE_A, TAKEN);
+    let has_ended = begins(rt, LOOPBACK, HANDED_PORT, KILL, b"OK");
+    [is_listed, is_taken, has_ended] == [Some(true); 3]
+}
+
+/// The first one has left the socket as it was.
+#[test]
+fn who_connects_between_two_daemons_is_served_by_the_second(rt: HostRuntime) -> Result<(), Fail> {
+    let socket = socket(&rt)?;
+    for _ in 0..2u32 {
+        let (told, ended) = thread::join(&rt, || is_served(&rt), || served(&rt, &socket));
+        assert!(rt; told && ended?.is_ok());
+    }
+    Ok(())
+}
+
+/// Which descriptors that are handed over are refused: a file, a connection, and a socket that listens.
+fn refused(rt: &HostRuntime) -> Result<[bool; 3], Fail> {
+    let listener = TcpListener::bind(rt, (LOOPBACK, 0))?;
+    let peer = TcpStream::connect(rt, listener.local_addr()?)?;
+    let numbers = [
+        File::open(rt, "/dev/null")?.into_raw_fd(),
+        peer.into_raw_fd(),
+        listener.into_raw_fd(),
+    ];
+    Ok(numbers.map(|number| {
+        let refusal = Err(HandedFault::NotListening(number));
+        handed_over(rt.alloc(), number, 1).map(|_| ()) == refusal
+    }))
+}
+
+#[test]
+fn what_is_no_listening_socket_is_not_served(rt: HostRuntime) -> Result<(), Fail> {
+    assert_eq!(rt; refused(&rt)?, [true, true, false]);
+    Ok(())
+}
