@@ -6,9 +6,11 @@
  *
  * In all calls:
  * - A status is EPMD_OK or one of the numbers below it. A call that answers another one has changed nothing of what it was handed, but
- *   for `size`, and where it says so. EPMD_NO_MEMORY comes last: it is answered only where nothing else is wrong.
- * - Bytes are a pointer and their number. No pointer is NULL, also where the number is 0, and what a call may change overlaps nothing
- *   else that it was handed. Nothing of either is kept after the call: the caller owns all of it.
+ *   for `size`, and where it says so. EPMD_NO_MEMORY comes last: it is answered only where nothing else is wrong with what the call was
+ *   handed. `errno` tells nothing after a call.
+ * - Bytes are a pointer and their number, which is at most PTRDIFF_MAX. No pointer is NULL, also where the number is 0, as in
+ *   `(const uint8_t *)"", 0`, and what a call may change overlaps nothing else that it was handed. Nothing of either is kept after the
+ *   call: the caller owns all of it.
  * - Memory is taken by `malloc` and freed before the call returns. No call keeps anything, so there is nothing to give back.
  * - Numbers are in the machine's own order of bytes; what lies in requests and answers is big-endian.
  * - Any thread may make any call at any time, as long as no two at once are handed the same memory, where either may change it, or the
@@ -151,7 +153,8 @@ int32_t epmd_read_names_line(const uint8_t *bytes, size_t bytes_size, size_t *at
  * status but EPMD_OK of epmd_register there is nothing more to be had from it. They write the request, and read no further than its
  * answer, epmd_names and epmd_dump to the end of the connection. They wait as the socket does: set SO_RCVTIMEO and SO_SNDTIMEO, of which
  * a call waits for at most 1,000 that bring nothing. A socket that does not block answers EPMD_TOO_MANY_TURNS after 1,000 tries at once.
- * A write to a peer that has left raises no SIGPIPE. All of them may answer EPMD_WRITE, EPMD_READ, EPMD_TOO_MANY_TURNS, EPMD_NO_MEMORY.
+ * A write to a peer that has left raises no SIGPIPE. All of them may answer EPMD_WRITE, EPMD_READ, EPMD_TOO_MANY_TURNS, EPMD_NO_MEMORY,
+ * of which the last tells nothing of the answer, since memory may end while it is read: not that it is one, nor that there is room for it.
  */
 
 /*

@@ -1,2 +1,3 @@
 mod Places
 mod NextLine
+pub mod ListSizes

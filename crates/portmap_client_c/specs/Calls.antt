@@ -1,8 +1,7 @@
 -- Calls over a connected socket, which tells no bytes: what each promises over any stream, at one that tells none.
-use Rattle.std.specs.Prelude.{◌≡◌, ℕ, ℤ, ◌+◌, false, List, [], ◌++◌, Option, Some, None, Result, Ok, Err}
+use Rattle.std.specs.Prelude.{◌≡◌, ◌≢◌, ℕ, ℤ, ◌+◌, false, List, [], ◌++◌, Option, Some, None, Result, Ok, Err}
 use Rattle.std.specs.declared.vec.Vec.{Vec}
 use Rattle.std.specs.declared.alloc.Global.{Global}
-use Rattle.portmap_wire.specs.List.{names_reply}
 use Rattle.portmap_wire.specs.Node.{Node}
 use Rattle.portmap_wire.specs.Reply.{be4}
 use Rattle.portmap_wire.specs.declared.list.Line.{Line}
@@ -18,10 +17,10 @@ use Rattle.portmap_client.specs.declared.outcome.Stop.{Stop}
 use Rattle.portmap_client.specs.declared.outcome.Stop.TheVariants as stop
 use Rattle.portmap_client_c.specs.Answers.{PlacesIn}
 use Rattle.portmap_client_c.specs.Status.{client_status}
-use Rattle.portmap_client_c.specs.Writing.{Puts}
+use Rattle.portmap_client_c.specs.Writing.{Puts, PutsList}
 use Rattle.portmap_client_c.specs.declared.node.EpmdAlive.{EpmdAlive}
 use Rattle.portmap_client_c.specs.declared.node.EpmdFound.{EpmdFound}
-use Rattle.portmap_client_c.specs.declared.status.TheConstants.{EPMD_OK, EPMD_NOT_REGISTERED, EPMD_NO_EXIST, EPMD_NOT_ALLOWED}
+use Rattle.portmap_client_c.specs.declared.status.TheConstants.{EPMD_OK, EPMD_NOT_REGISTERED, EPMD_NO_EXIST, EPMD_NOT_ALLOWED, EPMD_NO_MEMORY}
 
 -- the calls, by what they leave of a stream and what they answer
 abbrev pub Registers : Node → StreamView → StreamView → Result ℕ ClientFault → Type 0
@@ -96,9 +95,9 @@ TellsLookup (Err fault) old new was is status = (status ≡ client_status fault)
 
 -- a list, as a port mapper spells it
 abbrev pub TellsNames : Result (ℕ × Vec Line Global) ClientFault → List ℕ → List ℕ → ℕ → ℤ → Type 0
-TellsNames (Ok list) old new size status = Puts (names_reply list.0 list.1.items) old new size status
+TellsNames (Ok list) old new size status = PutsList list.0 list.1.items old new size status
 TellsNames (Err fault) old new size status = (status ≡ client_status fault) × (new ≡ old) × (size ≡ 0)
 
 abbrev pub TellsDump : Result (ℕ × Vec ℕ Global) ClientFault → List ℕ → List ℕ → ℕ → ℤ → Type 0
-TellsDump (Ok dump) old new size status = Puts (be4 dump.0 ++ dump.1.items) old new size status
+TellsDump (Ok dump) old new size status = Puts (be4 dump.0 ++ dump.1.items) old new size status × (status ≢ EPMD_NO_MEMORY)
 TellsDump (Err fault) old new size status = (status ≡ client_status fault) × (new ≡ old) × (size ≡ 0)

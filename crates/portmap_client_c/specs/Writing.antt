@@ -1,9 +1,11 @@
 -- Requests in the caller's buffer.
-use Rattle.std.specs.Prelude.{◌≡◌, ◌≢◌, ◌↔◌, ℕ, ◌+◌, ◌<◌, ℤ, nat_lt, if◌then◌else◌, List, ◌++◌, length, drop}
+use Rattle.std.specs.Prelude.{◌≡◌, ◌≢◌, ◌↔◌, ℕ, ◌+◌, ◌<◌, ◌≤◌, ℤ, nat_lt, if◌then◌else◌, List, ◌++◌, length, drop}
 use Rattle.std.specs.Prelude.{Result, Ok, Err, IsOk, IfOk}
+use Rattle.portmap_wire.specs.List.{names_reply}
 use Rattle.portmap_wire.specs.Node.{Node}
 use Rattle.portmap_wire.specs.Request.{sent}
 use Rattle.portmap_wire.specs.RequestReading.{name_in}
+use Rattle.portmap_wire.specs.declared.list.Line.{Line}
 use Rattle.portmap_wire.specs.declared.name.NameFault.{NameFault}
 use Rattle.portmap_wire.specs.declared.request.TheConstants.{BODY_MOST}
 use Rattle.portmap_wire.specs.declared.request.Request.{Request}
@@ -42,10 +44,10 @@ to_alive (Err fault) = Err fault
 abbrev pub alive_said : EpmdNode → List ℕ → List ℕ → Result Request ℤ
 alive_said n bytes extra = to_alive (node_said n bytes extra)
 
--- what was made is what is asked for, or there was no memory for it: so many bytes, as a request is sent
+-- what was made is what is asked for, or there was no memory for it: so many bytes, as a request is sent. A refusal is no want of memory
 abbrev pub MakesAs : {X : Type 0} → (X → ℕ → Type 0) → Result X Unmade → Result X ℤ → Type 0
 MakesAs Takes (Ok x) said = said ≡ Ok x
-MakesAs Takes (Err (Refused status)) said = said ≡ Err status
+MakesAs Takes (Err (Refused status)) said = (said ≡ Err status) × (status ≢ EPMD_NO_MEMORY)
 MakesAs Takes (Err (NoMemory size)) said = IsOk said × IfOk said (λ x. Takes x size)
 
 abbrev pub Makes : Result Request Unmade → Result Request ℤ → Type 0
@@ -77,6 +79,12 @@ pub record LacksMemory (old : List ℕ) (size told : ℕ) (status : ℤ) : Type 
   pub size_is : told ≡ size
   pub small : (status ≡ EPMD_BUFFER_TOO_SMALL) ↔ (length old < size)
   pub no_other : status ≢ EPMD_BUFFER_TOO_SMALL → status ≡ EPMD_NO_MEMORY
+
+-- a list in a buffer, as a port mapper spells it. That the buffer is too small is told before want of memory, which tells no size
+pub record PutsList (port : ℕ) (lines : List Line) (old new : List ℕ) (size : ℕ) (status : ℤ) : Type 0 where
+  pub puts : status ≢ EPMD_NO_MEMORY → Puts (names_reply port lines) old new size status
+  pub room : status ≡ EPMD_NO_MEMORY → length (names_reply port lines) ≤ length old
+  pub none : status ≡ EPMD_NO_MEMORY → (new ≡ old) × (size ≡ 0)
 
 -- a request as it is sent, or why there is none
 abbrev pub Writes : Result Request ℤ → List ℕ → List ℕ → ℕ → ℤ → Type 0

@@ -1,6 +1,5 @@
 //! Calls over any stream, as C has them.
-ghost use Rattle.std.specs.Prelude.{◌≡◌, ◌≢◌, ◌++◌, List, ℕ, ℤ, Ok, IfOk, length};
-ghost use Rattle.portmap_wire.specs.List.{names_reply};
+ghost use Rattle.std.specs.Prelude.{◌≡◌, ◌≢◌, ◌++◌, List, ℕ, ℤ, Ok, IsOk, length};
 ghost use Rattle.portmap_wire.specs.RequestReading.{name_in};
 ghost use Rattle.portmap_client.specs.Exchange.{view};
 ghost use Rattle.portmap_client_c.specs.Calls.{Asks, Dumps, IfSaid, Kills, ListsNames, LooksUp, Registers, Stops};
@@ -9,6 +8,7 @@ ghost use Rattle.portmap_client_c.specs.Writing.{node_said, with_name};
 ghost use Rattle.portmap_client_c.specs.declared.status.TheConstants.{EPMD_NO_MEMORY};
 
 use crate::answers::found_at;
+use crate::list_writing::put_list;
 use crate::node::{EpmdAlive, EpmdFound, EpmdNode};
 use crate::status::{
     EPMD_NO_EXIST, EPMD_NO_MEMORY, EPMD_NOT_ALLOWED, EPMD_NOT_REGISTERED, EPMD_OK, client_status,
@@ -16,7 +16,7 @@ use crate::status::{
 use crate::writing::{made_name, made_node, put, unmade_status};
 use portmap_client::{ClientFault, Kill, Registration, Stop};
 use portmap_link::{Input, Output};
-use portmap_wire::{Line, NoMemory, Reg, put_names_line};
+use portmap_wire::Reg;
 use std::alloc::Global;
 
 /// What is told of a registration that failed, beside its status.
@@ -49,7 +49,7 @@ pub(crate) fn register<S: Input + Output>(
         result.0 ≢ EPMD_NO_MEMORY → IfSaid (node_said node.now name.now extra.now)
         (λ g. Asks (Registers g) (seen stream) (seen result.1) (λ answer. TellsCreation answer alive.old alive.new result.0))
         (λ status. (result.0 ≡ status) × (alive.new ≡ alive.old)) }
-    ensures memory { result.0 ≡ EPMD_NO_MEMORY → alive.new ≡ alive.old }
+    ensures memory { result.0 ≡ EPMD_NO_MEMORY → IsOk (node_said node.now name.now extra.now) × (alive.new ≡ alive.old) }
 {
     let reg = match made_node(alloc, node, name, extra) {
         Ok(reg) => reg,
@@ -91,7 +91,8 @@ pub(crate) fn lookup<S: Input + Output>(
         result ≢ EPMD_NO_MEMORY → IfSaid (with_name (λ n. Ok n) (name_in name.now))
         (λ n. Asks (LooksUp n) (seen stream.old) (seen stream.new) (λ answer. TellsLookup answer texts.old texts.new found.old found.new result))
         (λ status. (result ≡ status) × (texts.new ≡ texts.old) × (found.new ≡ found.old)) }
-    ensures memory { result ≡ EPMD_NO_MEMORY → (texts.new ≡ texts.old) × (found.new ≡ found.old) }
+    ensures memory { result ≡ EPMD_NO_MEMORY →
+        IsOk (with_name (λ n. Ok n) (name_in name.now)) × (texts.new ≡ texts.old) × (found.new ≡ found.old) }
 {
     let name = match made_name(alloc, name, 0) {
         Ok(name) => name,
@@ -104,17 +105,6 @@ pub(crate) fn lookup<S: Input + Output>(
     }
 }
 
-/// The answer to NAMES_REQ that tells this port and these lines.
-fn list_bytes(alloc: Global, port: u32, lines: &[Line]) -> Result<Vec<u8>, NoMemory>
-    ensures { IfOk result (λ v. v.items ≡ names_reply port lines.now) }
-{
-    let mut out = Vec::from_slice(alloc, &port.to_be_bytes())?;
-    for line in lines {
-        put_names_line(&mut out, &line.name, line.port)?;
-    }
-    Ok(out)
-}
-
 /// Asks for the port mapper's own port and the registered names with their ports: the answer to NAMES_REQ comes to the front of `out`.
 pub(crate) fn names<S: Input + Output>(
     alloc: Global,
@@ -123,18 +113,12 @@ pub(crate) fn names<S: Input + Output>(
     size: &mut usize,
 ) -> i32
     ensures told { let seen = view S.left S.held S.pulls S.puts S.broken in
-        result ≢ EPMD_NO_MEMORY → Asks ListsNames (seen stream.old) (seen stream.new) (λ answer. TellsNames answer out.old out.new size.new result) }
+        Asks ListsNames (seen stream.old) (seen stream.new) (λ answer. TellsNames answer out.old out.new size.new result) }
     ensures memory { result ≡ EPMD_NO_MEMORY → (out.new ≡ out.old) × (size.new ≡ 0) }
 {
     *size = 0;
     match portmap_client::names(alloc, stream) {
-        Ok((port, lines)) => match list_bytes(alloc, port, &lines) {
-            Ok(bytes) => {
-                *size = bytes.len();
-                put(&bytes, &[], out)
-            }
-            Err(_) => EPMD_NO_MEMORY,
-        },
+        Ok((port, lines)) => put_list(alloc, port, &lines, out, size),
         Err(fault) => client_status(fault),
     }
 }
@@ -147,7 +131,7 @@ pub(crate) fn dump<S: Input + Output>(
     size: &mut usize,
 ) -> i32
     ensures told { let seen = view S.left S.held S.pulls S.puts S.broken in
-        result ≢ EPMD_NO_MEMORY → Asks Dumps (seen stream.old) (seen stream.new) (λ answer. TellsDump answer out.old out.new size.new result) }
+        Asks Dumps (seen stream.old) (seen stream.new) (λ answer. TellsDump answer out.old out.new size.new result) }
     ensures memory { result ≡ EPMD_NO_MEMORY → (out.new ≡ out.old) × (size.new ≡ 0) }
 {
     *size = 0;
@@ -193,10 +177,11 @@ pub(crate) fn kill<S: Input + Output>(alloc: Global, stream: &mut S) -> i32
 
 /// Asks the port mapper to end the registration of a name.
 pub(crate) fn stop<S: Input + Output>(alloc: Global, stream: &mut S, name: &[u8]) -> i32
-    ensures { let seen = view S.left S.held S.pulls S.puts S.broken in
+    ensures told { let seen = view S.left S.held S.pulls S.puts S.broken in
         result ≢ EPMD_NO_MEMORY → IfSaid (with_name (λ n. Ok n) (name_in name.now))
         (λ n. Asks (Stops n) (seen stream.old) (seen stream.new) (λ answer. result ≡ stop_status answer))
         (λ status. result ≡ status) }
+    ensures memory { result ≡ EPMD_NO_MEMORY → IsOk (with_name (λ n. Ok n) (name_in name.now)) }
 {
     match made_name(alloc, name, 0) {
         Ok(name) => stop_status(portmap_client::stop(alloc, stream, &name)),

@@ -1,5 +1,6 @@
 //! A connected socket as a device.
-ghost use Rattle.std.specs.Prelude.{◌≡◌, ◌<◌, [], None, false, length, IfOk, pos};
+ghost use Rattle.std.specs.Prelude.{◌≡◌, ◌<◌, [], None, Some, false, length, MatchResult, pos};
+ghost use Rattle.std.specs.IoError.{error_kind, os_error_kind, raw_os_error};
 ghost use Rattle.portmap_link.specs.Device.{PullConsumes, PutAppends};
 
 use portmap_link::{Device, Input, Output, Past, Pull, Put, pull_from, put_from};
@@ -14,12 +15,13 @@ pub(crate) struct Descriptor {
     puts: Past<Put>,
 }
 
-/// What a call of the system told that moved so many bytes, or none where it failed.
-fn told(count: isize) -> io::Result<usize>
-    ensures { IfOk result (λ n. count ≡ pos n) }
+/// What a call of the system told that moved so many bytes, or that failed with this number where it moved fewer than none.
+pub(crate) fn told(count: isize, errno: i32) -> io::Result<usize>
+    ensures { MatchResult result (λ n. count ≡ pos n)
+        (λ error. (raw_os_error error ≡ Some errno) × (error_kind error ≡ os_error_kind errno)) }
 {
     if count < 0 {
-        return Err(io::Error::from_raw_os_error(os::errno()));
+        return Err(io::Error::from_raw_os_error(errno));
     }
     Ok(count as usize)
 }
@@ -29,7 +31,8 @@ fn read_from(number: i32, buffer: &mut [u8]) -> Pull
     requires { 0 < length buffer.old }
     ensures { PullConsumes None None result buffer.new }
 {
-    pull_from(told(libc::read(number, buffer)))
+    let count = libc::read(number, buffer);
+    pull_from(told(count, os::errno()))
 }
 
 /// Writes once. Where the peer reads no more the call fails, and no signal is raised.
@@ -38,7 +41,7 @@ fn write_to(number: i32, bytes: &[u8]) -> Put
     ensures { PutAppends None None result bytes.now }
 {
     let count = unsafe { libc::net::send(number, bytes, libc::net::MSG_NOSIGNAL) };
-    put_from(told(count))
+    put_from(told(count, os::errno()))
 }
 
 impl Descriptor {

@@ -13,7 +13,7 @@ use portmap_wire::{Line, ListFault, read_dump, read_names};
 use std::alloc::Global;
 
 /// How many bytes stand in front of the lines of a list: the port mapper's own port.
-const HEAD: usize = 4;
+pub(crate) const HEAD: usize = 4;
 
 /// Reads the head of the answer to NAMES_REQ or DUMP_REQ: the port mapper's own port, and where the lines begin, or the text.
 #[unsafe(no_mangle)]

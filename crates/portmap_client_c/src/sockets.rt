@@ -1,7 +1,7 @@
-//! Calls over a connected socket, each over one of its own. No clause can say what a socket gave and took: they say which request was
-//! asked, and that what is told is what an answer says that was read no further than its end. What was written and read over a stream
-//! that tells its bytes is said of each call's body, in `calls`.
-ghost use Rattle.std.specs.Prelude.{◌≡◌, ◌≢◌, Ok};
+//! Calls over a connected socket, each over one of its own. No clause can say what a socket gave and took: they say that there is an
+//! answer of which the result tells. Which bytes are asked, and that the answer is what was read, is said of each call's body, in `calls`,
+//! over any stream that tells its bytes.
+ghost use Rattle.std.specs.Prelude.{◌≡◌, ◌≢◌, Ok, IsOk};
 ghost use Rattle.portmap_wire.specs.RequestReading.{name_in};
 ghost use Rattle.portmap_client_c.specs.Calls.{AsksOnce, Dumps, IfSaid, Kills, ListsNames, LooksUp, Registers, Stops};
 ghost use Rattle.portmap_client_c.specs.Calls.{TellsCreation, TellsDump, TellsLookup, TellsNames, kill_status, stop_status};
@@ -26,7 +26,7 @@ pub extern "C" fn epmd_register(
     ensures told { result ≢ EPMD_NO_MEMORY → IfSaid (node_said node.now name.now extra.now)
         (λ g. AsksOnce (Registers g) (λ answer. TellsCreation answer alive.old alive.new result))
         (λ status. (result ≡ status) × (alive.new ≡ alive.old)) }
-    ensures memory { result ≡ EPMD_NO_MEMORY → alive.new ≡ alive.old }
+    ensures memory { result ≡ EPMD_NO_MEMORY → IsOk (node_said node.now name.now extra.now) × (alive.new ≡ alive.old) }
 {
     let (status, _) = register(alloc, Descriptor::new(socket), node, name, extra, alive);
     status
@@ -44,7 +44,8 @@ pub extern "C" fn epmd_lookup(
     ensures told { result ≢ EPMD_NO_MEMORY → IfSaid (with_name (λ n. Ok n) (name_in name.now))
         (λ n. AsksOnce (LooksUp n) (λ answer. TellsLookup answer texts.old texts.new found.old found.new result))
         (λ status. (result ≡ status) × (texts.new ≡ texts.old) × (found.new ≡ found.old)) }
-    ensures memory { result ≡ EPMD_NO_MEMORY → (texts.new ≡ texts.old) × (found.new ≡ found.old) }
+    ensures memory { result ≡ EPMD_NO_MEMORY →
+        IsOk (with_name (λ n. Ok n) (name_in name.now)) × (texts.new ≡ texts.old) × (found.new ≡ found.old) }
 {
     lookup(alloc, &mut Descriptor::new(socket), name, texts, found)
 }
@@ -52,7 +53,7 @@ pub extern "C" fn epmd_lookup(
 /// Asks for the port mapper's own port and the registered names with their ports: the answer to NAMES_REQ comes to the front of `out`.
 #[unsafe(no_mangle)]
 pub extern "C" fn epmd_names(alloc: Global, socket: i32, out: &mut [u8], size: &mut usize) -> i32
-    ensures told { result ≢ EPMD_NO_MEMORY → AsksOnce ListsNames (λ answer. TellsNames answer out.old out.new size.new result) }
+    ensures told { AsksOnce ListsNames (λ answer. TellsNames answer out.old out.new size.new result) }
     ensures memory { result ≡ EPMD_NO_MEMORY → (out.new ≡ out.old) × (size.new ≡ 0) }
 {
     names(alloc, &mut Descriptor::new(socket), out, size)
@@ -61,7 +62,7 @@ pub extern "C" fn epmd_names(alloc: Global, socket: i32, out: &mut [u8], size: &
 /// Asks for the port mapper's own port and for the text of all that it knows: the answer to DUMP_REQ comes to the front of `out`.
 #[unsafe(no_mangle)]
 pub extern "C" fn epmd_dump(alloc: Global, socket: i32, out: &mut [u8], size: &mut usize) -> i32
-    ensures told { result ≢ EPMD_NO_MEMORY → AsksOnce Dumps (λ answer. TellsDump answer out.old out.new size.new result) }
+    ensures told { AsksOnce Dumps (λ answer. TellsDump answer out.old out.new size.new result) }
     ensures memory { result ≡ EPMD_NO_MEMORY → (out.new ≡ out.old) × (size.new ≡ 0) }
 {
     dump(alloc, &mut Descriptor::new(socket), out, size)
@@ -78,9 +79,10 @@ pub extern "C" fn epmd_kill(alloc: Global, socket: i32) -> i32
 /// Asks the port mapper to end the registration of a name.
 #[unsafe(no_mangle)]
 pub extern "C" fn epmd_stop(alloc: Global, socket: i32, name: &[u8]) -> i32
-    ensures { result ≢ EPMD_NO_MEMORY → IfSaid (with_name (λ n. Ok n) (name_in name.now))
+    ensures told { result ≢ EPMD_NO_MEMORY → IfSaid (with_name (λ n. Ok n) (name_in name.now))
         (λ n. AsksOnce (Stops n) (λ answer. result ≡ stop_status answer))
         (λ status. result ≡ status) }
+    ensures memory { result ≡ EPMD_NO_MEMORY → IsOk (with_name (λ n. Ok n) (name_in name.now)) }
 {
     stop(alloc, &mut Descriptor::new(socket), name)
 }

@@ -1,0 +1,66 @@
+//! Sockets that fail.
+use crate::descriptor::told;
+use crate::sockets::epmd_kill;
+use crate::tests::Pair;
+use portmap_link::{Pull, Put, pull_from, put_from};
+use std::alloc::Global;
+use std::io::Read;
+use std::net::{Ipv4Addr, SocketAddr, TcpListener, TcpStream};
+use std::os::fd::AsRawFd;
+use std::test::Fail;
+use std::thread::Threads;
+use std::{io, thread};
+
+/// Resets a connection, with bytes of a request unread.
+fn reset(listener: &TcpListener) -> io::Result<()> {
+    let (mut stream, _) = listener.accept()?;
+    stream.read_exact(&mut [0; 1])
+}
+
+/// What a call tells whose socket is reset before it is answered.
+fn told_at_reset(
+    rt: &impl Threads,
+    alloc: Global,
+    listener: &TcpListener,
+    stream: &TcpStream,
+) -> io::Result<i32> {
+    let (reset, status) = thread::join(
+        rt,
+        move || reset(listener),
+        move || epmd_kill(alloc, stream.as_raw_fd()),
+    );
+    reset?;
+    Ok(status)
+}
+
+#[test]
+fn a_socket_that_was_reset_can_not_be_read(rt: HostRuntime) -> Result<(), Fail> {
+    let listener = TcpListener::bind(&rt, SocketAddr::from((Ipv4Addr::LOCALHOST, 0)))?;
+    let stream = TcpStream::connect(&rt, listener.local_addr()?)?;
+    assert_eq!(rt; told_at_reset(&rt, rt.alloc(), &listener, &stream)?, 13);
+    Ok(())
+}
+
+/// What a call tells whose peer has left.
+fn told_alone(rt: &HostRuntime) -> io::Result<i32> {
+    let Pair { own, peer } = Pair::answered(rt, b"OK")?;
+    drop(peer);
+    Ok(epmd_kill(rt.alloc(), own.as_raw_fd()))
+}
+
+#[test]
+fn a_socket_without_a_peer_can_not_be_written(rt: HostRuntime) -> Result<(), Fail> {
+    assert_eq!(rt; told_alone(&rt)?, 12);
+    Ok(())
+}
+
+/// What a read and a write told that failed so.
+fn failed(errno: i32) -> (Pull, Put) {
+    (pull_from(told(-1, errno)), put_from(told(-1, errno)))
+}
+
+#[test]
+fn a_signal_is_no_failure(rt: HostRuntime) {
+    assert_eq!(rt; failed(libc::EINTR), (Pull::Later, Put::Later));
+    assert_eq!(rt; failed(libc::ECONNRESET), (Pull::Fault, Put::Fault));
+}
