@@ -30,6 +30,7 @@ AGAIN = {
 # How a daemon may end by itself where such a call fails as it begins, and while it serves.
 POLL = (3, "epmd: polling failed")
 LISTEN = (1, "epmd: cannot listen on 127.0.0.1:")
+LISTEN_BESIDE = (1, "epmd: cannot listen on [::1]:")
 RECORD = (3, "epmd: recording failed")
 ENDS = {
     "memory": [OUT_OF_MEMORY, POLL, LISTEN],
@@ -39,10 +40,10 @@ ENDS = {
     "eventfd": [POLL],
     "fcntl": [POLL, LISTEN],
     "ioctl": [POLL, LISTEN],
-    "socket": [LISTEN],
-    "setsockopt": [LISTEN],
-    "bind": [LISTEN],
-    "listen": [LISTEN],
+    "socket": [LISTEN, LISTEN_BESIDE],
+    "setsockopt": [LISTEN, LISTEN_BESIDE],
+    "bind": [LISTEN, LISTEN_BESIDE],
+    "listen": [LISTEN, LISTEN_BESIDE],
     "pthread_create": [OUT_OF_MEMORY],
 }
 ENDS_SERVING = {"epoll_wait": [POLL]}

@@ -20,7 +20,7 @@
 enum { BEGIN = 1000003, END = 1000033, FILES = 65536 };
 enum kind {
     MEMORY, ACCEPT, RECEIVE, SEND, POLL_MAKE, POLL_CHANGE, POLL_WAIT, WAKE_MAKE, WAKE, CLOCK, THREAD, OPEN, WRITE,
-    SOCKET, OPTION, BIND, LISTEN, COPY, MODE, KINDS
+    SOCKET, OPTION, OPTION_READ, BIND, LISTEN, COPY, MODE, KINDS
 };
 struct page { volatile int on, kind, nth, run, error, refused, room, count[KINDS]; };
 static struct page none, *page = &none;
@@ -141,6 +141,9 @@ ssize_t write(int fd, const void *p, size_t n) {
 int socket(int family, int type, int protocol) { return fails(SOCKET) ? -1 : REAL(socket)(family, type, protocol); }
 int setsockopt(int fd, int level, int name, const void *value, socklen_t n) {
     return fails(OPTION) ? -1 : REAL(setsockopt)(fd, level, name, value, n);
+}
+int getsockopt(int fd, int level, int name, void *value, socklen_t *n) {
+    return fails(OPTION_READ) ? -1 : REAL(getsockopt)(fd, level, name, value, n);
 }
 int bind(int fd, const struct sockaddr *a, socklen_t n) { return fails(BIND) ? -1 : REAL(bind)(fd, a, n); }
 int listen(int fd, int backlog) { return fails(LISTEN) ? -1 : REAL(listen)(fd, backlog); }

@@ -13,6 +13,7 @@ echo "$@" >> "$FOLDER/words"
 for word in "$@"; do
     if [ "$word" = -names ]; then [ -e "$FOLDER/up" ]; exit; fi
 done
+if [ -n "$TELLS" ]; then echo $$; fi
 if [ -n "$FAILS" ]; then echo "epmd: $FAILS" >&2; exit 3; fi
 if [ -n "$STAYS" ]; then sleep "$DELAY"; touch "$FOLDER/up"; exec sleep 5; fi
 """
@@ -28,10 +29,12 @@ class Wrapper(unittest.TestCase):
             file.write(STAND_IN)
         os.chmod(self.program, 0o755)
 
-    def call(self, *words, wrapper=WRAPPER, **env):
+    def env(self, **env):
         clean = {name: value for name, value in os.environ.items() if not name.startswith(("ERL_", "EPMD"))}
-        clean.update({"EPMD": self.program, "FOLDER": self.folder, "DELAY": "0", **env})
-        return subprocess.run([wrapper, *words], capture_output=True, text=True, timeout=30, env=clean)
+        return {**clean, "EPMD": self.program, "FOLDER": self.folder, "DELAY": "0", **env}
+
+    def call(self, *words, wrapper=WRAPPER, **env):
+        return subprocess.run([wrapper, *words], capture_output=True, text=True, timeout=30, env=self.env(**env))
 
     def words(self):
         with open(os.path.join(self.folder, "words")) as file:
@@ -73,6 +76,15 @@ class Wrapper(unittest.TestCase):
         open(os.path.join(self.folder, "up"), "w").close()
         done = self.call("-daemon", FAILS="cannot listen on 0.0.0.0:4369")
         self.assertEqual((done.returncode, done.stderr), (0, ""))
+
+    def test_where_the_service_manager_starts_it_it_stays_in_the_foreground(self):
+        done = self.call("-systemd", "-daemon", "-record", "a b", FAILS="bad word 0")
+        self.assertEqual((done.returncode, done.stderr), (3, "epmd: bad word 0\n"))
+        self.assertEqual(self.words(), ["-record a b"])
+
+    def test_the_program_is_the_process_that_the_service_manager_started(self):
+        process = subprocess.Popen([WRAPPER, "-systemd"], stdout=subprocess.PIPE, text=True, env=self.env(TELLS="yes"))
+        self.assertEqual(process.communicate(timeout=30)[0], f"{process.pid}\n")
 
     def test_a_command_is_asked_in_the_foreground(self):
         self.call("-daemon", "-kill")
