@@ -31,6 +31,11 @@ with Daemon(path, before=close(0, 1, 2), patience=5.0) as daemon:
         ended = run(path, "-port", port, *words, closed=[1])
         say(ended == (3, "epmd: input or output failed"), f"{words[0]} with standard output closed: {ended}")
     say(run(path, "-port", port, "-names", closed=[0]) == (0, ""), "-names with standard input closed")
+    for closed in ([0], [0, 1]):
+        ended = run(path, "-once", closed=closed)
+        say(ended == (3, "epmd: input or output failed"), f"-once with {closed} closed: {ended}")
+    ended = run(path, "-port", port, "-foo", closed=[2])
+    say(ended == (2, ""), f"a bad word with standard error closed: {ended}")
     ended = run(path, "-port", port, "-kill", closed=[1])
     say(ended == (3, "epmd: input or output failed") and daemon.ended(5.0) == (0, ""), f"-kill with standard output closed: {ended}")
 end()

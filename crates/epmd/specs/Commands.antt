@@ -3,6 +3,8 @@
 use Rattle.std.specs.Prelude.{◌≡◌, ◌≢◌, ℕ, List, [], ◌∷◌, ◌++◌, codes, Bool, Option, Result, Ok, Err, ◌⊎◌}
 use Rattle.std.specs.List.{flat_map}
 use Rattle.std.specs.Fmt.{decimal}
+use Rattle.std.specs.declared.io.ErrorKind.{ErrorKind}
+use Rattle.std.specs.declared.io.ErrorKind.TheVariants.{OutOfMemory}
 use Rattle.std.specs.declared.vec.Vec.{Vec}
 use Rattle.std.specs.declared.alloc.Global.{Global}
 use Rattle.portmap_wire.specs.List.{names_line}
@@ -20,7 +22,7 @@ use Rattle.portmap_client.specs.declared.outcome.Stop.{Stop}
 use Rattle.portmap_client.specs.declared.outcome.Stop.TheVariants as stop
 use Rattle.epmd.specs.Actions.{status_of, EndsWith, failure_of_once}
 use Rattle.epmd.specs.declared.actions.Failure.{Failure}
-use Rattle.epmd.specs.declared.actions.Failure.TheVariants.{Memory, StrangeAnswer, KillRefused, StopRefused}
+use Rattle.epmd.specs.declared.actions.Failure.TheVariants.{Memory, NoConnection, StrangeAnswer, KillRefused, StopRefused}
 use Rattle.epmd.specs.declared.actions.TheConstants as the
 use Rattle.epmd.specs.declared.commands.Answer.{Answer}
 use Rattle.epmd.specs.declared.commands.Answer.TheVariants as answer
@@ -87,6 +89,11 @@ abbrev pub failure_of_client : ClientFault → Failure
 failure_of_client client.NoMemory = Memory
 failure_of_client fault = StrangeAnswer
 
+-- why no connection to the port mapper can be had
+abbrev pub failure_of_connect : ErrorKind → Failure
+failure_of_connect OutOfMemory = Memory
+failure_of_connect kind = NoConnection
+
 -- the page of a text and a status, or the failure, or there was no memory for the page
 abbrev pub IsTold : Result (List ℕ × ℕ) Failure → Result Page Failure → Type 0
 IsTold told (Ok page) = told ≡ Ok (page.text.items, page.status)
@@ -99,14 +106,14 @@ IsToldOf (Err fault) told = told ≡ Err (failure_of_client fault)
 
 -- ---- how it ends
 
--- a text was written whole and passed on, or a front of it, as the output failed
-pub record Prints (text : List ℕ) (told status : ℕ) (old new : Option (List ℕ)) (broken : Bool) : Type 0 where
+-- a text was written whole and passed on, or a front of it, as the output failed, of which errors are told
+pub record Prints (text : List ℕ) (told status : ℕ) (old new : Option (List ℕ)) (broken : Bool) (silent : Type 0) (fails : Failure → Type 0) : Type 0 where
   pub written : Result Unit OnceFault
   pub telling : Telling text old new written
-  pub ends : EndsWith (λ _. told) failure_of_once status written broken
+  pub ends : EndsWith (λ _. told) failure_of_once status written broken (λ _. silent) fails
 
--- by what is to be told: a page is printed, and then errors get a line only where the output failed; or a failure is told, and
--- the output is left alone
-abbrev pub Tells : Result Page Failure → ℕ → Option (List ℕ) → Option (List ℕ) → Bool → Type 0 → Type 0 → Type 0
-Tells (Ok page) status old new broken untouched silent = Prints page.text.items page.status status old new broken × (status ≢ the.FAILED → silent)
-Tells (Err failure) status old new broken untouched silent = (status ≡ status_of failure) × untouched
+-- by what is to be told: a page is printed, and then errors get a line only where the output failed; or they are told a failure,
+-- and the output is left alone
+abbrev pub Tells : Result Page Failure → ℕ → Option (List ℕ) → Option (List ℕ) → Bool → Type 0 → Type 0 → (Failure → Type 0) → Type 0
+Tells (Ok page) status old new broken untouched silent fails = Prints page.text.items page.status status old new broken silent fails × (status ≢ the.FAILED → silent)
+Tells (Err failure) status old new broken untouched silent fails = (status ≡ status_of failure) × untouched × fails failure

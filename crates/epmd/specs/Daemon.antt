@@ -1,13 +1,18 @@
 -- What the daemon of a command is set to, and how its end is told. Profile.
-use Rattle.std.specs.Prelude.{◌≡◌, ℕ, ◌%◌, ◌/◌, ◌^◌, Bool, true, false, string_bytes, Option, Some, None, option_map, Result, Ok, Err}
+use Rattle.std.specs.Prelude.{◌≡◌, ℕ, ◌+◌, ◌==◌, List, [], ◌∷◌, ◌++◌, codes, slice_get, slice_index, if◌then◌else◌, ◌%◌, ◌/◌, ◌^◌, Bool, true, false, string_bytes, Option, Some, None, option_map, Result, Ok, Err}
 use Rattle.std.specs.Duration.{as_nanos}
+use Rattle.std.specs.Fmt.{decimal}
+use Rattle.std.specs.List.{concat}
 use Rattle.std.specs.declared.time.Duration.{Duration}
 use Rattle.portmap_daemon.specs.declared.daemon.RunEnd.{RunEnd}
 use Rattle.portmap_daemon.specs.declared.daemon.RunFault.{RunFault}
-use Rattle.portmap_daemon.specs.declared.daemon.RunFault.TheVariants.{Listen, Poll, NoMemory}
+use Rattle.portmap_daemon.specs.declared.daemon.RunFault.TheVariants.{Listen, ListenBeside, Poll, NoMemory}
 use Rattle.portmap_daemon.specs.declared.daemon.Settings.{Settings}
 use Rattle.portmap_core.specs.Config.{Configuration}
+use Rattle.epmd.specs.Actions.{line_of}
+use Rattle.epmd.specs.declared.actions.Failure.TheVariants.{Polling, Memory}
 use Rattle.epmd.specs.declared.actions.TheConstants as actions
+use Rattle.epmd.specs.declared.daemon.TheConstants as the
 use Rattle.epmd.specs.declared.words.Command.{Command}
 
 -- where creations start: at the seconds since 1970, as far as 32 bits hold them
@@ -37,5 +42,37 @@ status_of_recorded true = actions.DONE
 abbrev pub status_of_end : Result RunEnd RunFault → ℕ
 status_of_end (Ok end) = status_of_recorded end.recorded
 status_of_end (Err (Listen place)) = actions.NOT_DONE
+status_of_end (Err (ListenBeside place)) = actions.NOT_DONE
 status_of_end (Err Poll) = actions.FAILED
 status_of_end (Err NoMemory) = actions.FAILED
+
+-- ---- what errors are told
+
+abbrev pub served_line : ℕ → ℕ → List ℕ
+served_line worker count = concat (the.WORKER.now ∷ decimal worker ∷ the.SERVED.now ∷ decimal count ∷ (10 ∷ []) ∷ [])
+
+-- a line for each worker, which are numbered from this one on
+abbrev pub served_lines : ℕ → List ℕ → List ℕ
+served_lines worker [] = []
+served_lines worker (count ∷ counts) = served_line worker count ++ served_lines (worker + 1) counts
+
+-- four numbers with dots between, and the port
+abbrev pub unheard_line : List ℕ → ℕ → List ℕ
+unheard_line address port =
+    let number = λ (place : ℕ). decimal (slice_index address place) in
+    concat (the.UNHEARD.now ∷ number 0 ∷ codes "." ∷ number 1 ∷ codes "." ∷ number 2 ∷ codes "." ∷ number 3 ∷ codes ":" ∷ decimal port ∷ (10 ∷ []) ∷ [])
+
+-- the IPv6 address that goes with this one: that of every address of the host, else that of the host itself
+abbrev pub beside : List ℕ → List ℕ
+beside address = if slice_index address 0 == 0 then the.EVERYWHERE.now else the.ITSELF.now
+
+abbrev pub unheard_beside : List ℕ → ℕ → List ℕ
+unheard_beside address port = concat (the.UNHEARD.now ∷ beside address ∷ decimal port ∷ (10 ∷ []) ∷ [])
+
+-- with debug output what each worker served; else why it did not serve
+abbrev pub text_of_end : Command → Result RunEnd RunFault → Option (List ℕ)
+text_of_end command (Ok end) = if command.debug then Some (served_lines 1 end.served.items) else None
+text_of_end command (Err (Listen place)) = option_map (λ address. unheard_line address command.port) (slice_get command.addresses.items place)
+text_of_end command (Err (ListenBeside place)) = option_map (λ address. unheard_beside address command.port) (slice_get command.addresses.items place)
+text_of_end command (Err Poll) = Some (line_of Polling)
+text_of_end command (Err NoMemory) = Some (line_of Memory)

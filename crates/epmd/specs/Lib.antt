@@ -1,3 +1,4 @@
+pub mod Errors
 pub mod Actions
 pub mod Numbers
 pub mod Addresses

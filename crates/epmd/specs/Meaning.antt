@@ -1,11 +1,15 @@
 -- The command that items and the environment make. Profile; epmd(1) has the environment's variables.
 use Rattle.std.specs.Option.{option_or}
-use Rattle.std.specs.Prelude.{◌≡◌, ℕ, ◌+◌, Bool, true, ◌<◌, ◌≤◌, List, [], ◌∷◌, if◌then◌else◌, ◌||◌, string_bytes, Option, Some, None, option_map, is_some, count_by, unwrap_or}
+use Rattle.std.specs.Prelude.{◌≡◌, ℕ, ◌+◌, Bool, true, ◌<◌, ◌≤◌, List, [], ◌∷◌, ◌++◌, if◌then◌else◌, ◌||◌, string_bytes, Option, Some, None, option_map, is_some, count_by, unwrap_or}
+use Rattle.std.specs.Fmt.{decimal}
 use Rattle.std.specs.List.{list_any}
+use Rattle.std.specs.declared.io.ErrorKind.{ErrorKind}
+use Rattle.std.specs.declared.io.ErrorKind.TheVariants.{OutOfMemory}
 use Rattle.epmd.specs.Numbers.{IsWithin, WritesWithin}
 use Rattle.epmd.specs.Addresses.{anywhere, AreListening}
 use Rattle.epmd.specs.Words.{Serve, Item, asked_in, action_of, port_of, addresses_of, timeout_of, workers_of, recording_of, is_relaxed, is_debug, is_action, last_by, Spells}
 use Rattle.epmd.specs.declared.actions.TheConstants as actions
+use Rattle.epmd.specs.declared.words.TheConstants as words
 use Rattle.epmd.specs.declared.words.WordFault.{WordFault}
 use Rattle.epmd.specs.declared.words.WordFault.TheVariants.{Unknown, MissingValue, BadValue, TwoCommands, BadEnvPort, NoMemory}
 use Rattle.epmd.specs.declared.words.Command.{Command}
@@ -102,3 +106,20 @@ NamesWord count NoMemory = Unit {0}
 abbrev pub status_of_fault : WordFault → ℕ
 status_of_fault NoMemory = actions.FAILED
 status_of_fault fault = actions.REFUSED
+
+abbrev bad_word : ℕ → List ℕ
+bad_word place = words.BAD_WORD.now ++ decimal place ++ 10 ∷ []
+
+-- the line that tells it
+abbrev pub line_of_fault : WordFault → List ℕ
+line_of_fault (Unknown place) = bad_word place
+line_of_fault (MissingValue place) = bad_word place
+line_of_fault (BadValue place) = bad_word place
+line_of_fault (TwoCommands place) = bad_word place
+line_of_fault BadEnvPort = words.BAD_PORT.now
+line_of_fault NoMemory = actions.MEMORY_RAN_OUT.now
+
+-- why the system's words can't be had: where it is no want of memory, one is not UTF-8, which is called word 0
+abbrev pub fault_of_words : ErrorKind → WordFault
+fault_of_words OutOfMemory = NoMemory
+fault_of_words kind = Unknown 0

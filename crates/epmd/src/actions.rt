@@ -9,8 +9,9 @@ ghost use Rattle.portmap_link.specs.declared.single.OnceFault.{OnceFault};
 ghost use Rattle.portmap_record.specs.Playing.{local_record, IsRemoteRun, Plays, TellsFound};
 ghost use Rattle.portmap_record.specs.declared.verdict.Verdict.{Verdict};
 ghost use Rattle.portmap_record.specs.declared.playing.PlayFault.{PlayFault};
-ghost use Rattle.epmd.specs.Actions.{once_config, status_of, line_of, Passes, EndsWith, failure_of_once, failure_of_play, status_of_fate, status_of_found, status_of_verdict, IsOfFile, IsSilent, IsToShow, Refuses, tells};
+ghost use Rattle.epmd.specs.Actions.{once_config, status_of, line_of, Fails, TellsVerdict, TellsErrors, Passes, EndsWith, failure_of_once, failure_of_play, status_of_fate, status_of_found, status_of_verdict, IsOfFile, IsSilent, IsToShow, Refuses, tells};
 
+use crate::errors::{say, say_number};
 use crate::words::Action;
 use portmap_core::{Config, Fate};
 use portmap_link::{OnceFault, Reading, Writing, once};
@@ -49,13 +50,15 @@ const TURNS: u64 = 1_000_000;
 /// How many pulls and puts a recorded session gets.
 const FILE_TURNS: u64 = 1_000_000_000;
 
+const BROKEN_AT: &[u8] = b"broken at entry ";
+
 const BAD_RECORD: &[u8] = b"epmd: bad record\n";
 
 const DEVICE_FAILED: &[u8] = b"epmd: input or output failed\n";
 
 const POLLING_FAILED: &[u8] = b"epmd: polling failed\n";
 
-const MEMORY_RAN_OUT: &[u8] = b"epmd: out of memory\n";
+pub const MEMORY_RAN_OUT: &[u8] = b"epmd: out of memory\n";
 
 const NO_CONNECTION: &[u8] = b"epmd: Cannot connect to local epmd\n";
 
@@ -150,16 +153,17 @@ fn line_of(failure: Failure) -> &'static [u8]
 }
 
 /// Writes the line that tells a failure, and gives the status that does. A failure of `errors` changes nothing else.
-pub fn fail<E: Write>(errors: &mut E, failure: Failure) -> u8
-    ensures { result ≡ status_of failure }
+pub fn fail<E: Write>(errors: &mut Writing<E>, failure: Failure) -> u8
+    ensures status { result ≡ status_of failure }
+    ensures line { Fails E.contents errors.old errors.new failure }
 {
-    let _ = errors.write_all(line_of(failure));
+    let _ = say(errors, line_of(failure));
     status_of(failure)
 }
 
 /// Has the output pass on all that it took, and gives the status that was reached, or that of a device that failed.
-pub fn end<W: Write, E: Write>(output: &mut Writing<W>, errors: &mut E, status: u8) -> u8
-    ensures passes { Passes status result (writing_broken output.new) }
+pub fn end<W: Write, E: Write>(output: &mut Writing<W>, errors: &mut Writing<E>, status: u8) -> u8
+    ensures passes { Passes status result (writing_broken output.new) (errors.new ≡ errors.old) (Fails E.contents errors.old errors.new) }
     ensures silent { writing_broken output.new ≡ false → errors.new ≡ errors.old }
     ensures held { Keeps (W.contents (writing_inner output.old)) (W.contents (writing_inner output.new)) }
     ensures puts { writing_puts output.new ≡ writing_puts output.old }
@@ -198,7 +202,7 @@ pub fn do_once<R: Read, W: Write, E: Write>(
     alloc: Global,
     input: &mut Reading<R>,
     output: &mut Writing<W>,
-    errors: &mut E,
+    errors: &mut Writing<E>,
 ) -> u8
     ensures silent { result ≡ DONE → errors.new ≡ errors.old }
     // What was read and written, in how many turns, and why the status is so: one that is not 0 comes of a fault, or of an
@@ -207,7 +211,7 @@ pub fn do_once<R: Read, W: Write, E: Write>(
         × (let seen = streams R.remaining W.contents in
         Did once_config (seen input.old output.old) (seen input.new output.new) ended
         × MakesTurns TURNS (seen input.old output.old) (seen input.new output.new) ended (λ sent. Err (OnceFault.TooManyTurns sent)))
-        × EndsWith status_of_fate failure_of_once result ended (writing_broken output.new) }
+        × EndsWith status_of_fate failure_of_once result ended (writing_broken output.new) (λ _. errors.new ≡ errors.old) (Fails E.contents errors.old errors.new) }
 {
     match serve_once(alloc, input, output) {
         Ok(_) => end(output, errors, DONE),
@@ -248,7 +252,7 @@ fn do_shown<R: Read, W: Write, E: Write>(
     action: &Action,
     input: &mut Reading<R>,
     output: &mut Writing<W>,
-    errors: &mut E,
+    errors: &mut Writing<E>,
 ) -> u8
     requires { IsToShow action.now }
     ensures silent { (result ≡ DONE) ⊎ (result ≡ NOT_DONE) → errors.new ≡ errors.old }
@@ -256,7 +260,7 @@ fn do_shown<R: Read, W: Write, E: Write>(
         × (let seen = streams R.remaining W.contents in
         Plays (tells action.now) (Refuses action.now) (seen input.old output.old) (seen input.new output.new) ended
         × MakesTurns FILE_TURNS (seen input.old output.old) (seen input.new output.new) ended (λ sent. Err (PlayFault.TooManyTurns sent)))
-        × EndsWith status_of_verdict failure_of_play result ended (writing_broken output.new) }
+        × EndsWith status_of_verdict failure_of_play result ended (writing_broken output.new) (λ _. errors.new ≡ errors.old) (Fails E.contents errors.old errors.new) }
 {
     match show(alloc, action, input, output) {
         Ok(is_run) => end(output, errors, status_of_verdict(is_run)),
@@ -265,8 +269,12 @@ fn do_shown<R: Read, W: Write, E: Write>(
 }
 
 /// Ends with what is found of a session: where it is no run, `errors` is told where it is broken.
-fn end_found<W: Write, E: Write>(output: &mut Writing<W>, errors: &mut E, found: Verdict) -> u8
-    ensures passes { Passes (status_of_found found) result (writing_broken output.new) }
+fn end_found<W: Write, E: Write>(
+    output: &mut Writing<W>,
+    errors: &mut Writing<E>,
+    found: Verdict,
+) -> u8
+    ensures passes { Passes (status_of_found found) result (writing_broken output.new) (TellsVerdict E.contents errors.old errors.new found) (Fails E.contents errors.old errors.new) }
     ensures silent { result ≡ DONE → errors.new ≡ errors.old }
     ensures held { Keeps (W.contents (writing_inner output.old)) (W.contents (writing_inner output.new)) }
     ensures puts { writing_puts output.new ≡ writing_puts output.old }
@@ -274,11 +282,11 @@ fn end_found<W: Write, E: Write>(output: &mut Writing<W>, errors: &mut E, found:
     match found {
         Verdict::Run => end(output, errors, DONE),
         Verdict::Broken(at) => {
-            let status = end(output, errors, NOT_DONE);
-            if status == NOT_DONE {
-                let _ = writeln!(errors, "broken at entry {at}");
+            if !output.finish() {
+                return fail(errors, Failure::Device);
             }
-            status
+            let _ = say_number(errors, BROKEN_AT, at as u64, b"\n");
+            NOT_DONE
         }
     }
 }
@@ -288,14 +296,14 @@ fn do_local<R: Read, W: Write, E: Write>(
     alloc: Global,
     input: &mut Reading<R>,
     output: &mut Writing<W>,
-    errors: &mut E,
+    errors: &mut Writing<E>,
 ) -> u8
     ensures silent { result ≡ DONE → errors.new ≡ errors.old }
     ensures written { (ended : Result Verdict PlayFault)
         × (let seen = streams R.remaining W.contents in
         TellsFound local_record IsRemoteRun (seen input.old output.old) (seen input.new output.new) ended
         × MakesTurns FILE_TURNS (seen input.old output.old) (seen input.new output.new) ended (λ sent. Err (PlayFault.TooManyTurns sent)))
-        × EndsWith status_of_found failure_of_play result ended (writing_broken output.new) }
+        × EndsWith status_of_found failure_of_play result ended (writing_broken output.new) (TellsVerdict E.contents errors.old errors.new) (Fails E.contents errors.old errors.new) }
 {
     match write_local(alloc, input, output, FILE_TURNS) {
         Ok(found) => end_found(output, errors, found),
@@ -315,16 +323,16 @@ pub fn do_file<R: Read, W: Write, E: Write>(
     action: &Action,
     input: &mut Reading<R>,
     output: &mut Writing<W>,
-    errors: &mut E,
+    errors: &mut Writing<E>,
 ) -> u8
     requires { IsOfFile action.now }
     ensures silent { IsSilent action.now result → errors.new ≡ errors.old }
-    // What was read and written, in how many turns, and why the status is so.
-    ensures shown { (ended : Result Bool PlayFault)
+    // What was read and written, in how many turns, why the status is so, and what errors are told.
+    ensures shown { (ended : Result Verdict PlayFault)
         × (let seen = streams R.remaining W.contents in
-        Plays (tells action.now) (Refuses action.now) (seen input.old output.old) (seen input.new output.new) ended
+        TellsFound (tells action.now) (Refuses action.now) (seen input.old output.old) (seen input.new output.new) ended
         × MakesTurns FILE_TURNS (seen input.old output.old) (seen input.new output.new) ended (λ sent. Err (PlayFault.TooManyTurns sent)))
-        × EndsWith status_of_verdict failure_of_play result ended (writing_broken output.new) }
+        × EndsWith status_of_found failure_of_play result ended (writing_broken output.new) (TellsErrors action.now E.contents errors.old errors.new) (Fails E.contents errors.old errors.new) }
 {
     match action {
         Action::Check(_) | Action::Play(_) => do_shown(alloc, action, input, output, errors),

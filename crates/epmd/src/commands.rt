@@ -3,6 +3,7 @@ ghost use Rattle.std.specs.Prelude.{◌≡◌, ◌≢◌, ◌++◌, Result, Ok, 
 ghost use Rattle.portmap_link.specs.Adapters.{writing_inner, writing_broken};
 ghost use Rattle.portmap_client.specs.Exchange.{view};
 ghost use Rattle.portmap_client.specs.declared.fault.ClientFault.{ClientFault};
+ghost use Rattle.epmd.specs.Actions.{Fails};
 ghost use Rattle.epmd.specs.Commands.{IsOfClient, Asks, head_line, names_text, dump_text, kill_told, stop_told, answer_told, IsTold, IsToldOf, Prints, Tells};
 ghost use Rattle.epmd.specs.declared.actions.Failure.{Failure};
 ghost use Rattle.epmd.specs.declared.commands.Answer.{Answer};
@@ -177,8 +178,13 @@ fn learn<S: Input + Output>(alloc: Global, action: &Action, stream: &mut S) -> R
 }
 
 /// Prints a text, and gives the status that was reached, or that of a device that failed.
-fn print<W: Write, E: Write>(output: &mut Writing<W>, errors: &mut E, text: &[u8], status: u8) -> u8
-    ensures prints { Prints text.now status result (W.contents (writing_inner output.old)) (W.contents (writing_inner output.new)) (writing_broken output.new) }
+fn print<W: Write, E: Write>(
+    output: &mut Writing<W>,
+    errors: &mut Writing<E>,
+    text: &[u8],
+    status: u8,
+) -> u8
+    ensures prints { Prints text.now status result (W.contents (writing_inner output.old)) (W.contents (writing_inner output.new)) (writing_broken output.new) (errors.new ≡ errors.old) (Fails E.contents errors.old errors.new) }
     ensures silent { result ≢ FAILED → errors.new ≡ errors.old }
 {
     match tell(output, text, TURNS) {
@@ -199,7 +205,7 @@ pub fn do_client<S: Input + Output, W: Write, E: Write>(
     action: &Action,
     stream: &mut S,
     output: &mut Writing<W>,
-    errors: &mut E,
+    errors: &mut Writing<E>,
 ) -> u8
     requires { IsOfClient action.now }
     ensures silent { result ≡ DONE → errors.new ≡ errors.old }
@@ -208,7 +214,7 @@ pub fn do_client<S: Input + Output, W: Write, E: Write>(
         × (let seen = view S.left S.held S.pulls S.puts S.broken in
         Asks action.now (seen stream.old) (seen stream.new) ended)
         × IsToldOf ended told
-        × Tells told result (W.contents (writing_inner output.old)) (W.contents (writing_inner output.new)) (writing_broken output.new) (output.new ≡ output.old) (errors.new ≡ errors.old) }
+        × Tells told result (W.contents (writing_inner output.old)) (W.contents (writing_inner output.new)) (writing_broken output.new) (output.new ≡ output.old) (errors.new ≡ errors.old) (Fails E.contents errors.old errors.new) }
 {
     match learn(alloc, action, stream) {
         Ok(page) => print(output, errors, &page.text, page.status),

@@ -1,16 +1,34 @@
 //! The daemon: what it is set to, and how its end is told.
-ghost use Rattle.std.specs.Prelude.{◌≡◌, false, IfOk};
-ghost use Rattle.epmd.specs.Daemon.{SetsAs, first_by, status_of_end};
+ghost use Rattle.std.specs.Prelude.{◌≡◌, false, IfOk, IfSome, None};
+ghost use Rattle.portmap_link.specs.Adapters.{writing_inner};
+ghost use Rattle.epmd.specs.Daemon.{SetsAs, beside, first_by, status_of_end, served_line, served_lines, unheard_beside, unheard_line, text_of_end};
+ghost use Rattle.epmd.specs.Errors.{IsTaken, IsSpent, IsSaid};
 
 use crate::actions::{CONNECTIONS_MOST, DONE, FAILED, Failure, NAMES_MOST, NOT_DONE, fail};
+use crate::errors::{say_all, say_number};
 use crate::words::Command;
+use itoa::Buffer;
 use portmap_core::Config;
-use portmap_daemon::{RunEnd, RunFault, Settings};
-use portmap_link::NoMemory;
+use portmap_daemon::{HandedFault, RunEnd, RunFault, Settings};
+use portmap_link::{NoMemory, Writing};
 use std::alloc::Global;
 use std::io::Write;
-use std::net::Ipv4Addr;
 use std::time::Duration;
+
+const WORKER: &[u8] = b"epmd: worker ";
+
+const SERVED: &[u8] = b" served ";
+
+const UNHEARD: &[u8] = b"epmd: cannot listen on ";
+
+const DESCRIPTOR: &[u8] = b"epmd: descriptor ";
+
+const NOT_LISTENING: &[u8] = b" is no listening socket\n";
+
+/// Every IPv6 address of the host, and the host itself, in front of a port.
+const EVERYWHERE: &[u8] = b"[::]:";
+
+const ITSELF: &[u8] = b"[::1]:";
 
 /// Where creations start, by the time since 1970: its seconds, so that a name which registers with the next daemon most likely gets
 /// another creation. 0 where the time is not known.
@@ -44,20 +62,82 @@ pub fn settings(
     })
 }
 
+/// Tells how many acts of the port mapper this worker made.
+fn tell_worker<E: Write>(errors: &mut Writing<E>, worker: usize, count: u64) -> bool
+    ensures taken { IsTaken (served_line worker count) result (E.contents (writing_inner errors.old)) (E.contents (writing_inner errors.new)) }
+    ensures spent { result ≡ false → IsSpent errors.new }
+{
+    say_all(
+        errors,
+        &[
+            WORKER,
+            Buffer::new().format(worker).as_bytes(),
+            SERVED,
+            Buffer::new().format(count).as_bytes(),
+            b"\n",
+        ],
+    )
+}
+
 /// Tells how many acts of the port mapper each worker made.
-fn tell_served<E: Write>(errors: &mut E, served: &[u64]) {
+fn tell_served<E: Write>(errors: &mut Writing<E>, served: &[u64])
+    ensures { IsSaid E.contents (served_lines 1 served.now) errors.old errors.new }
+{
     for (place, count) in served.iter().enumerate() {
-        let worker = place + 1;
-        let _ = writeln!(errors, "epmd: worker {worker} served {count}");
+        if !tell_worker(errors, place + 1, *count) {
+            return;
+        }
     }
 }
 
-/// Tells at which address of the command's the daemon can't listen.
-fn tell_unheard<E: Write>(errors: &mut E, command: &Command, place: usize) {
-    if let Some(address) = command.addresses.get(place) {
-        let address = Ipv4Addr::from(*address);
-        let port = command.port;
-        let _ = writeln!(errors, "epmd: cannot listen on {address}:{port}");
+/// Tells that the daemon can't listen at this address.
+fn tell_unheard<E: Write>(errors: &mut Writing<E>, address: [u8; 4], port: u16)
+    ensures { IsSaid E.contents (unheard_line address port) errors.old errors.new }
+{
+    let [a, b, c, d] = address;
+    let _ = say_all(
+        errors,
+        &[
+            UNHEARD,
+            Buffer::new().format(a).as_bytes(),
+            b".",
+            Buffer::new().format(b).as_bytes(),
+            b".",
+            Buffer::new().format(c).as_bytes(),
+            b".",
+            Buffer::new().format(d).as_bytes(),
+            b":",
+            Buffer::new().format(port).as_bytes(),
+            b"\n",
+        ],
+    );
+}
+
+/// The IPv6 address beside this one, in front of a port.
+fn beside(address: [u8; 4]) -> &'static [u8]
+    ensures { result.now ≡ beside address }
+{
+    if address[0] == 0 { EVERYWHERE } else { ITSELF }
+}
+
+/// Tells that the daemon can't listen at the IPv6 address beside this one.
+fn tell_unheard_beside<E: Write>(errors: &mut Writing<E>, address: [u8; 4], port: u16)
+    ensures { IsSaid E.contents (unheard_beside address port) errors.old errors.new }
+{
+    let mut digits = Buffer::new();
+    let port = digits.format(port).as_bytes();
+    let _ = say_all(errors, &[UNHEARD, beside(address), port, b"\n"]);
+}
+
+/// Tells that what was handed over can't be served, and gives the status that does.
+pub fn refuse_handed<E: Write>(errors: &mut Writing<E>, fault: HandedFault) -> u8 {
+    match fault {
+        HandedFault::NotListening(number) => {
+            let number = u64::from(number.unsigned_abs());
+            let _ = say_number(errors, DESCRIPTOR, number, NOT_LISTENING);
+            NOT_DONE
+        }
+        HandedFault::NoMemory => fail(errors, Failure::Memory),
     }
 }
 
@@ -66,12 +146,14 @@ fn tell_unheard<E: Write>(errors: &mut E, command: &Command, place: usize) {
 /// end and its recording failed, which the daemon has told itself. With debug output a daemon that was told to end tells how many
 /// acts each worker made, by rising number from 1.
 pub fn end_daemon<E: Write>(
-    errors: &mut E,
+    errors: &mut Writing<E>,
     command: &Command,
     ended: &Result<RunEnd, RunFault>,
 ) -> u8
     ensures status { result ≡ status_of_end ended.now }
     ensures silent { IfOk ended.now (λ _. command.now.debug ≡ false → errors.new ≡ errors.old) }
+    ensures line { IfSome (text_of_end command.now ended.now) (λ text. IsSaid E.contents text errors.old errors.new) }
+    ensures none { text_of_end command.now ended.now ≡ None → errors.new ≡ errors.old }
 {
     match ended {
         Ok(end) => {
@@ -81,7 +163,15 @@ pub fn end_daemon<E: Write>(
             if end.recorded { DONE } else { FAILED }
         }
         Err(RunFault::Listen(place)) => {
-            tell_unheard(errors, command, *place);
+            if let Some(address) = command.addresses.get(*place) {
+                tell_unheard(errors, *address, command.port);
+            }
+            NOT_DONE
+        }
+        Err(RunFault::ListenBeside(place)) => {
+            if let Some(address) = command.addresses.get(*place) {
+                tell_unheard_beside(errors, *address, command.port);
+            }
             NOT_DONE
         }
         Err(RunFault::Poll) => fail(errors, Failure::Polling),

@@ -2,6 +2,7 @@
 //! crates below stand in crates of their own.
 mod actions;
 mod commands;
+mod handing;
 mod program;
 mod settings;
 mod typed;

@@ -2,17 +2,24 @@
 ghost use Rattle.std.specs.Prelude.{◌≡◌, ◌≤◌, List, [], length, map, string_bytes, IfOk, IfErr};
 ghost use Rattle.epmd.specs.Numbers.{IsWithin};
 ghost use Rattle.epmd.specs.Addresses.{AreListening};
-ghost use Rattle.epmd.specs.Meaning.{SaysCommand, Holds, NamesWord, status_of_fault};
+ghost use Rattle.epmd.specs.Errors.{IsSaid};
+ghost use Rattle.epmd.specs.Meaning.{SaysCommand, Holds, NamesWord, status_of_fault, line_of_fault};
 ghost use Rattle.epmd.specs.Words.{Spells, Item};
 
-use crate::actions::{FAILED, REFUSED};
+use crate::actions::{FAILED, MEMORY_RAN_OUT, REFUSED};
+use crate::errors::{say, say_number};
 use crate::items::read_word;
 use crate::plan::Plan;
-use portmap_link::NoMemory;
+use portmap_link::{NoMemory, Writing};
 use portmap_wire::Name;
 use std::alloc::Global;
-use std::io::Write;
+use std::io;
+use std::io::{ErrorKind, Write};
 use thiserror::Error;
+
+const BAD_WORD: &[u8] = b"epmd: bad word ";
+
+const BAD_PORT: &[u8] = b"epmd: bad port in environment\n";
 
 /// What the command is asked to do.
 #[derive(Drop)]
@@ -67,7 +74,7 @@ pub struct Command {
 /// Why words are no command. A word is named by its number, from 0.
 #[derive(Clone, Copy, Debug, PartialEq, Eq, Error)]
 pub enum WordFault {
-    /// No such word is known.
+    /// No such word is known, or one is not UTF-8: that is called word 0.
     #[error("bad word {0}")]
     Unknown(usize),
     /// No value is behind this word, which wants one.
@@ -97,6 +104,22 @@ impl From<NoMemory> for WordFault {
     }
 }
 
+impl From<io::Error> for WordFault {
+    ghost use Rattle.std.specs.Prelude.{◌≡◌};
+    ghost use Rattle.std.specs.IoError.{error_kind};
+    ghost use Rattle.epmd.specs.Meaning.{fault_of_words};
+
+    ghost from_gives = { λ error fault. fault ≡ fault_of_words (error_kind error) };
+
+    // The system's words can't be had for want of memory, or where one is not UTF-8.
+    fn from(error: io::Error) -> WordFault {
+        match error.kind() {
+            ErrorKind::OutOfMemory => WordFault::NoMemory,
+            _ => WordFault::Unknown(0),
+        }
+    }
+}
+
 /// The status that tells this fault.
 fn status_of(fault: WordFault) -> u8
     ensures { result ≡ status_of_fault fault }
@@ -108,10 +131,18 @@ fn status_of(fault: WordFault) -> u8
 }
 
 /// Tells why words are no command, and gives the status that does. A failure of `errors` changes nothing else.
-pub fn refuse<E: Write>(errors: &mut E, fault: WordFault) -> u8
-    ensures { result ≡ status_of_fault fault }
+pub fn refuse<E: Write>(errors: &mut Writing<E>, fault: WordFault) -> u8
+    ensures status { result ≡ status_of_fault fault }
+    ensures line { IsSaid E.contents (line_of_fault fault) errors.old errors.new }
 {
-    let _ = writeln!(errors, "epmd: {fault}");
+    let _ = match fault {
+        WordFault::Unknown(place)
+        | WordFault::MissingValue(place)
+        | WordFault::BadValue(place)
+        | WordFault::TwoCommands(place) => say_number(errors, BAD_WORD, place as u64, b"\n"),
+        WordFault::BadEnvPort => say(errors, BAD_PORT),
+        WordFault::NoMemory => say(errors, MEMORY_RAN_OUT),
+    };
     status_of(fault)
 }
 

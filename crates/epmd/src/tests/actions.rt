@@ -33,9 +33,9 @@ const FAILURES: &[Failed] = &[
 
 impl Case for Failed {
     fn holds(&self, alloc: Global) -> Result<bool, Fail> {
-        let mut errors = Vec::new(alloc);
+        let mut errors = Writing::new(Vec::new(alloc));
         let status = fail(&mut errors, self.0);
-        Ok(ending(alloc, status, b"", &errors)?.as_str() == self.1)
+        Ok(ending(alloc, status, b"", &errors.into_inner())?.as_str() == self.1)
     }
 }
 
@@ -106,7 +106,7 @@ fn status_of<R: Read + Drop, W: Write>(
     word: &str,
     input: R,
     output: &mut Writing<W>,
-    errors: &mut Vec<u8>,
+    errors: &mut Writing<Vec<u8>>,
 ) -> u8 {
     let mut input = Reading::new(input);
     if word == "once" {
@@ -123,7 +123,7 @@ fn acted<W: Write>(
     output: &mut Writing<W>,
 ) -> Result<(u8, Vec<u8>), Fail> {
     let (word, input) = given.split_once(' ').unwrap_or((given, ""));
-    let mut errors = Vec::new(alloc);
+    let mut errors = Writing::new(Vec::new(alloc));
     let status = if input == "broken" {
         status_of(alloc, word, Broken, output, &mut errors)
     } else if let Some(times) = input.strip_prefix("interrupted:") {
@@ -133,7 +133,7 @@ fn acted<W: Write>(
         let bytes = input_of(alloc, input)?;
         status_of(alloc, word, bytes.as_slice(), output, &mut errors)
     };
-    Ok((status, errors))
+    Ok((status, errors.into_inner()))
 }
 
 /// How an action ends with an output that is not shown.

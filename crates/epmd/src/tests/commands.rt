@@ -46,13 +46,16 @@ fn plan(word: &str) -> Plan {
 /// The first line of a list. In a table `4369:` stands for it, as it does for the first bytes of the answer.
 const HEAD: &str = "epmd: up and running on port 4369 with data:|";
 
+/// A line of a list. In a table `MANY` stands for three hundred of them.
+const LINE: &str = "name a at port 5000|";
+
 /// The status that ends an action over this stream, and whether its request was written whole.
 fn ended<W: Write>(
     alloc: Global,
     word: &str,
     tape: &mut Tape<'_>,
     output: &mut Writing<W>,
-    errors: &mut Vec<u8>,
+    errors: &mut Writing<Vec<u8>>,
 ) -> Result<(u8, bool), Fail> {
     let (action, request) = asked(alloc, word)?;
     let status = do_client(alloc, &action, tape, output, errors);
@@ -62,9 +65,9 @@ fn ended<W: Write>(
 /// How an action ends over this stream, behind `unasked` where its request was not written whole.
 fn told(alloc: Global, word: &str, tape: &mut Tape<'_>) -> Result<String, Fail> {
     let mut output = Writing::new(Vec::new(alloc));
-    let mut errors = Vec::new(alloc);
+    let mut errors = Writing::new(Vec::new(alloc));
     let (status, is_asked) = ended(alloc, word, tape, &mut output, &mut errors)?;
-    let ending = ending(alloc, status, &output.into_inner(), &errors)?;
+    let ending = ending(alloc, status, &output.into_inner(), &errors.into_inner())?;
     let asked = if is_asked { "" } else { "unasked " };
     Ok(format!(in alloc; "{asked}{ending}")?)
 }
@@ -76,9 +79,12 @@ impl Trial for Asks {
     fn came(&self, alloc: Global, given: &str) -> Result<String, Fail> {
         let (asked, answer) = given.split_once(' ').unwrap_or((given, ""));
         let (word, stream) = asked.split_once('/').unwrap_or((asked, ""));
+        let many = LINE.repeat(alloc, 300)?;
         let answer = answer.replace(alloc, "4369:", "\0\0\x11\x11")?;
+        let answer = answer.as_str().replace(alloc, "MANY", many.as_str())?;
         let answer = bytes_of(alloc, answer.as_str())?;
         let told = told(alloc, word, &mut Tape::new(alloc, &answer, plan(stream)))?;
+        let told = told.as_str().replace(alloc, many.as_str(), "MANY")?;
         Ok(told.as_str().replace(alloc, HEAD, "4369:")?)
     }
 }
@@ -91,10 +97,12 @@ fn what_is_asked_for_is_done_and_told(rt: HostRuntime) -> Result<(), Fail> {
         names/single 4369:name a at port 5000| -> 0 out 4369:name a at port 5000|
         names 4369:name a at port 00007| -> 0 out 4369:name a at port 7|
         names ????name a at port 1|name b at port 65535| -> 0 out epmd: up and running on port 4294967295 with data:|name a at port 1|name b at port 65535|
+        names 4369:MANY -> 0 out 4369:MANY
         names 4369: -> 0 out 4369:
         dump 4369:active name     a at port 5000, fd = 0| -> 0 out 4369:active name     a at port 5000, fd = 0|
         dump/pairs 4369:old/unused name a at port 5000, fd = -1| -> 0 out 4369:old/unused name a at port 5000, fd = -1|
         dump 4369:\0no line -> 0 out 4369:\0no line
+        dump 4369:MANY -> 0 out 4369:MANY
         dump 4369: -> 0 out 4369:
         kill OK -> 0 out Killed|
         stop STOPPED -> 0 out STOPPED|
@@ -160,9 +168,9 @@ fn is_told<W: Write>(
     line: &[u8],
 ) -> Result<bool, Fail> {
     let mut tape = Tape::new(alloc, A_LISTED, STEADY);
-    let mut errors = Vec::new(alloc);
+    let mut errors = Writing::new(Vec::new(alloc));
     let (came, _) = ended(alloc, "names", &mut tape, output, &mut errors)?;
-    Ok(came == status && errors.as_slice() == line)
+    Ok(came == status && errors.into_inner().as_slice() == line)
 }
 
 #[test]

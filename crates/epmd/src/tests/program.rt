@@ -7,8 +7,9 @@ use portmap_link::Writing;
 use portmap_testing::peers::sent;
 use portmap_testing::sessions::{SESSION, wrong_session};
 use std::fs::File;
-use std::io::Read;
+use std::io::{Read, Write};
 use std::net::{Ipv4Addr, Net, TcpListener, TcpStream};
+use std::os::fd::AsRawFd;
 use std::rt::Clock;
 use std::sync::Wait;
 use std::test::Fail;
@@ -88,7 +89,7 @@ fn is_between(
     }
 }
 
-/// Whether a command of this line ends so, as a daemon with this host. What it tells of errors goes to standard error.
+/// Whether a command of this line ends so, as a daemon with this host.
 fn ends_so<
     R: Net + Host<File = File> + Threads + Wait + Clock + Clone + Drop + Send + Sync + 'static,
 >(rt: &HostRuntime, host: &R, line: &str, wanted: &str) -> bool {
@@ -96,8 +97,14 @@ fn ends_so<
         return false;
     };
     let mut output = Writing::new(Vec::new(rt.alloc()));
-    let status = perform(rt, host, &command, &mut output);
-    match ending(rt.alloc(), status, &output.into_inner(), b"") {
+    let mut errors = Writing::new(Vec::new(rt.alloc()));
+    let status = perform(rt, host, &command, &mut output, &mut errors);
+    match ending(
+        rt.alloc(),
+        status,
+        &output.into_inner(),
+        &errors.into_inner(),
+    ) {
         Ok(told) => told.as_str() == wanted,
         Err(_) => false,
     }
@@ -127,29 +134,60 @@ fn a_daemon_and_its_commands_meet_at_the_port_of_their_words(rt: HostRuntime) ->
     Ok(())
 }
 
+const FAILED: &str = "3 err epmd: input or output failed|";
+
 #[test]
 fn a_file_is_judged_at_its_path(rt: HostRuntime) -> Result<(), Fail> {
-    for (bytes, wanted) in [
-        (SESSION.as_slice(), "0 out run of 4 entries|"),
-        (wrong_session().as_slice(), "1 out broken at entry 3|"),
-        (b"EPMX".as_slice(), "2"),
+    let wrong = wrong_session();
+    for (bytes, line, wanted) in [
+        (
+            SESSION.as_slice(),
+            "epmd -check judged",
+            "0 out run of 4 entries|",
+        ),
+        (
+            wrong.as_slice(),
+            "epmd -check judged",
+            "1 out broken at entry 3|",
+        ),
+        (
+            wrong.as_slice(),
+            "epmd -local judged",
+            "1 err broken at entry 3|",
+        ),
+        (
+            b"EPMX".as_slice(),
+            "epmd -play judged",
+            "2 err epmd: bad record|",
+        ),
     ] {
         fs::write(&rt, "judged", bytes)?;
-        assert!(rt; ends_so(&rt, &rt, "epmd -check judged", wanted), "{wanted}");
+        assert!(rt; ends_so(&rt, &rt, line, wanted), "{wanted}");
     }
     fs::remove_file(&rt, "judged")?;
-    assert!(rt; ends_so(&rt, &rt, "epmd -check judged", "3"));
+    assert!(rt; ends_so(&rt, &rt, "epmd -check judged", FAILED));
     Ok(())
 }
 
 #[test]
-fn where_nobody_listens_the_status_is_1(rt: HostRuntime) -> Result<(), Fail> {
-    assert!(rt; ends_so(&rt, &rt, "epmd -port 14452 -names", "1"));
+fn a_port_mapper_that_is_not_there_is_told(rt: HostRuntime) -> Result<(), Fail> {
+    let told = "1 err epmd: Cannot connect to local epmd|";
+    assert!(rt; ends_so(&rt, &rt, "epmd -port 14452 -names", told));
     Ok(())
 }
 
 #[test]
 fn what_is_open_needs_no_stand_in(rt: HostRuntime) -> Result<(), Fail> {
-    assert!(rt; stand_in(&rt).is_none());
+    for number in 0..3 {
+        assert!(rt; stand_in(&rt, number).is_none());
+    }
+    Ok(())
+}
+
+#[test]
+fn what_is_closed_gets_a_stand_in_that_takes_nothing(rt: HostRuntime) -> Result<(), Fail> {
+    let number = File::open(&rt, "/dev/null")?.as_raw_fd();
+    let refused = stand_in(&rt, number).map(|mut file| file.write(b"a").is_err());
+    assert_eq!(rt; refused, Some(true));
     Ok(())
 }

@@ -4,6 +4,7 @@ use super::typed::command;
 use crate::daemon::{end_daemon, settings};
 use crate::words::{Command, WordFault};
 use portmap_daemon::{RunEnd, RunFault, Settings};
+use portmap_link::Writing;
 use portmap_testing::cases::{Trial, all_come};
 use std::alloc::Global;
 use std::test::Fail;
@@ -81,6 +82,7 @@ fn end_of(alloc: Global, words: &str) -> Result<Result<RunEnd, RunFault>, Fail> 
     let (end, rest) = words.split_once(' ').unwrap_or((words, ""));
     Ok(match end {
         "listen" => Err(RunFault::Listen(rest.parse::<usize>()?)),
+        "beside" => Err(RunFault::ListenBeside(rest.parse::<usize>()?)),
         "poll" => Err(RunFault::Poll),
         "memory" => Err(RunFault::NoMemory),
         _ => {
@@ -96,9 +98,9 @@ fn end_of(alloc: Global, words: &str) -> Result<Result<RunEnd, RunFault>, Fail> 
 
 /// How the daemon of this command ends the program.
 fn ended(alloc: Global, command: &Command, end: &str) -> Result<String, Fail> {
-    let mut errors = Vec::new(alloc);
+    let mut errors = Writing::new(Vec::new(alloc));
     let status = end_daemon(&mut errors, command, &end_of(alloc, end)?);
-    Ok(ending(alloc, status, b"", &errors)?)
+    Ok(ending(alloc, status, b"", &errors.into_inner())?)
 }
 
 /// More words of the command, and behind `ends` how its daemon ended.
@@ -137,6 +139,8 @@ fn a_daemon_that_fails_tells_why(rt: HostRuntime) -> Result<(), Fail> {
     let table = "
         -d -record x ends listen 0 -> 1 err epmd: cannot listen on 10.0.0.1:4370|
         -d -record x ends listen 1 -> 1 err epmd: cannot listen on 127.0.0.1:4370|
+        -d -record x ends beside 1 -> 1 err epmd: cannot listen on [::1]:4370|
+        -address 0.0.0.0 ends beside 0 -> 1 err epmd: cannot listen on [::]:4370|
         -d -record x ends poll -> 3 err epmd: polling failed|
         -d -record x ends memory -> 3 err epmd: out of memory|
     ";

@@ -146,6 +146,7 @@ fn a_daemon_listens_on_the_host_too(rt: HostRuntime) -> Result<(), Fail> {
         epmd -address 10.0.0.1,10.0.0.1 -> serve on 10.0.0.1 127.0.0.1
         epmd -address 10.0.0.1,255.255.255.255,010.000.0.001 -> serve on 10.0.0.1 255.255.255.255 127.0.0.1
         epmd -address 10.0.0.1,127.0.0.1,192.168.1.20 -> serve on 10.0.0.1 127.0.0.1 192.168.1.20
+        epmd -address 1.0.0.1,2.0.0.1,3.0.0.1,4.0.0.1,5.0.0.1,6.0.0.1 -> serve on 1.0.0.1 2.0.0.1 3.0.0.1 4.0.0.1 5.0.0.1 6.0.0.1 127.0.0.1
         epmd -address 0.0.0.0 -address 10.0.0.1 -> serve on 10.0.0.1 127.0.0.1
     ";
     all_come(&rt, &Asks, table)

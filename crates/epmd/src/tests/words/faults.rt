@@ -2,6 +2,7 @@
 use super::Asks;
 use crate::tests::ending;
 use crate::words::{WordFault, refuse};
+use portmap_link::Writing;
 use portmap_testing::cases::{Case, all_come, all_hold, comes};
 use std::alloc::Global;
 use std::test::Fail;
@@ -149,9 +150,11 @@ const TOLD: &[Told] = &[
 
 impl Case for Told {
     fn holds(&self, alloc: Global) -> Result<bool, Fail> {
-        let mut errors = Vec::new(alloc);
+        let mut errors = Writing::new(Vec::new(alloc));
         let status = refuse(&mut errors, self.0);
-        Ok(ending(alloc, status, b"", &errors)?.as_str() == self.1)
+        let shown = format!(in alloc; "{status} err epmd: {}|", self.0)?;
+        let told = ending(alloc, status, b"", &errors.into_inner())?;
+        Ok(told.as_str() == self.1 && shown.as_str() == self.1)
     }
 }
 

@@ -1,0 +1,9 @@
+use Rattle.std.proofs.Common.{◌+◌, drop}
+use Rattle.portmap_link.specs.Adapters.{writing_inner}
+use Rattle.epmd.specs.Daemon.{served_lines}
+use Rattle.epmd.proofs.Pieces.{IsLeft}
+use Rattle.epmd.proofs.daemon.tell_served.Given as goal
+
+abbrev pub invariant-loop-place : goal.invariant-loop-place
+invariant-loop-place g l =
+    IsLeft (served_lines 1 l.served) (served_lines (l.place + 1) (drop l.place l.served)) (g.E.Write.contents (writing_inner l.initial.errors)) (g.E.Write.contents (writing_inner l.errors))

@@ -1,0 +1,52 @@
+//! What is told on standard error: texts, of which as much is written as it takes.
+ghost use Rattle.std.specs.Prelude.{◌≡◌, ◌++◌, false};
+ghost use Rattle.std.specs.Fmt.{decimal};
+ghost use Rattle.std.specs.List.{flat_map};
+ghost use Rattle.portmap_link.specs.Adapters.{writing_inner};
+ghost use Rattle.epmd.specs.Errors.{IsTaken, IsSpent};
+
+use itoa::Buffer;
+use portmap_link::{Writing, tell};
+use std::io::Write;
+
+/// How many puts each piece of a text gets.
+const PUTS_MOST: u64 = 1000;
+
+/// Writes a text, and says whether all of it was taken. A failure of `errors` changes nothing else.
+pub fn say<E: Write>(errors: &mut Writing<E>, text: &[u8]) -> bool
+    ensures taken { IsTaken text.now result (E.contents (writing_inner errors.old)) (E.contents (writing_inner errors.new)) }
+    ensures spent { result ≡ false → IsSpent errors.new }
+{
+    match tell(errors, text, PUTS_MOST) {
+        Ok(()) => true,
+        Err(_) => false,
+    }
+}
+
+/// The same, of a text in pieces.
+pub fn say_all<E: Write>(errors: &mut Writing<E>, pieces: &[&[u8]]) -> bool
+    ensures taken { IsTaken (flat_map (λ piece. piece.now) pieces.now) result (E.contents (writing_inner errors.old)) (E.contents (writing_inner errors.new)) }
+    ensures spent { result ≡ false → IsSpent errors.new }
+{
+    for piece in pieces {
+        if !say(errors, piece) {
+            return false;
+        }
+    }
+    true
+}
+
+/// The same, of a text with a number in it.
+pub fn say_number<E: Write>(
+    errors: &mut Writing<E>,
+    front: &[u8],
+    number: u64,
+    behind: &[u8],
+) -> bool
+    ensures taken { IsTaken (front.now ++ decimal number ++ behind.now) result (E.contents (writing_inner errors.old)) (E.contents (writing_inner errors.new)) }
+    ensures spent { result ≡ false → IsSpent errors.new }
+{
+    let mut digits = Buffer::new();
+    let digits = digits.format(number).as_bytes();
+    say_all(errors, &[front, digits, behind])
+}
