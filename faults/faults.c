@@ -1,6 +1,7 @@
 // Has calls of the C library fail: to be preloaded. The file of the environment's FAULT_PAGE is shared with who injects. While `on`
 // is set the calls of each kind are counted, and those of the wanted kind numbered nth to nth + run - 1 fail with `error` before
-// anything is done. Requests for memory of the sizes BEGIN and END, which are no others, set `on` and take it away.
+// anything is done. Requests for memory of the sizes BEGIN, END and ASK, which are no others, are not counted: the first two set `on` and
+// take it away, and the third can't be had exactly where one was refused since the last of these.
 #define _GNU_SOURCE
 #include <dlfcn.h>
 #include <errno.h>
@@ -17,7 +18,7 @@
 #include <time.h>
 #include <unistd.h>
 
-enum { BEGIN = 1000003, END = 1000033, FILES = 65536 };
+enum { BEGIN = 1000003, END = 1000033, ASK = 1000037, FILES = 65536 };
 enum kind {
     MEMORY, ACCEPT, RECEIVE, SEND, POLL_MAKE, POLL_CHANGE, POLL_WAIT, WAKE_MAKE, WAKE, CLOCK, THREAD, OPEN, WRITE,
     SOCKET, OPTION, OPTION_READ, BIND, LISTEN, COPY, MODE, KINDS
@@ -49,11 +50,15 @@ static int fails(enum kind kind) {
 
 static void *memory_fails(size_t n) {
     static char refused;
+    static int unasked;
+    if (n == ASK) return __sync_lock_test_and_set(&unasked, 0) ? &refused : 0;
     if (n == BEGIN || n == END) {
         page->on = n == BEGIN;
         return 0;
     }
-    return fails(MEMORY) ? &refused : 0;
+    if (!fails(MEMORY)) return 0;
+    __sync_add_and_fetch(&unasked, 1);
+    return &refused;
 }
 
 void *malloc(size_t n) { return memory_fails(n) ? 0 : __libc_malloc(n); }

@@ -62,13 +62,28 @@ session ten thousand entries come back
 times 1 10000 entry close $
 size -> 90016
 
+# Of how many of 256 values at each of the 109 bytes it is a record:
+# - 256 at 77: the port, the second last byte of both limits, four slots, what came, and the replies with the length of the last thing that
+#   came, 2 + 2 + 4 * 8 + 16 + 4 + 6 + 15;
+# - 255 at 2, the last byte of both limits: one is at least 1;
+# - 3 at 3: the two fates; and the length 6 of the first reply, which may end at entry 3 (16) or at the last byte (51);
+# - 2 at 6: whether checks are relaxed; the kinds of both connects, which may be late ones with the last byte of the slot as their fate;
+#   whether these are local; and the length 16 of what came first, which may end in front of the last fate (52);
+# - 1 at the other 21.
 session whatever a byte of a session is it is judged
 bytes SESSION
-judged -> yes
+judged -> 20264
 
+# The same of 85 bytes:
+# - 256 at 34: the port, the second last byte of both limits, the place, port and type and protocol and version 8 bits up and lowest version
+#   of the node, 3 bytes of its creation, the worker, the slot of the entry, 2 + 2 + 8 + 7 + 3 + 4 + 8;
+# - 255 at 2, the last byte of both limits; 250 at the last byte of the highest version, which is at least 6 where the creation is 4; 252 at
+#   the last byte of the creation, which is at least 4 then; 223 at the name, which is no control character;
+# - 2 at 3: whether checks are relaxed, whether the port mapper has ended, and whether the connection was closed or failed;
+# - 1 at the other 43.
 session whatever a byte of a start is it is judged
 bytes CLOSES
-judged -> yes
+judged -> 9988
 
 story a long log is taken out from its front on
 times 0 999 connect local -> $
@@ -163,19 +178,10 @@ let LINES LINE_0
 times 1 9999 more LINES "$ piece 0 get - say - stay" 0a
 play steady steady 1000 -> true LINES+"run of 10000 entries"0a
 
-# Connections that come and leave one after the other, in three slots, every other one of a remote peer.
-let LOCAL_0 01 01 0000000000000000 03 0000000000000000
-let LOCAL_1 01 01 0000000000000001 03 0000000000000001
-let LOCAL_2 01 01 0000000000000002 03 0000000000000002
-let REMOTE_0 01 00 0000000000000000 03 0000000000000000
-let REMOTE_1 01 00 0000000000000001 03 0000000000000001
-let REMOTE_2 01 00 0000000000000002 03 0000000000000002
-let SIX LOCAL_0 REMOTE_1 LOCAL_2 REMOTE_0 LOCAL_1 REMOTE_2
-let THREE LOCAL_0 LOCAL_2 LOCAL_1
-
 session half of ten thousand connections are left
 bytes HEADER_OF_ONE+SIX*1666+LOCAL_0+REMOTE_1+LOCAL_2+REMOTE_0
 leave steady steady 1000 -> Run HEADER_OF_ONE+THREE*1666+LOCAL_0+LOCAL_2
+local -> HEADER_OF_ONE+THREE*1666+LOCAL_0+LOCAL_2
 
 # 16,777,216 bytes are the most that is read, and one more tells that there are more.
 call a list without end is too long

@@ -81,3 +81,34 @@ leave steady:1 steady 3 -> ReadFault -
 # A name of an unknown slot is no run, whoever it is of.
 bytes HEADER+01000000000000000000+030000000000000001
 leave steady steady 2 -> Broken(1) -
+
+session two dozen entries are left without their remote peers
+bytes HEADER+SIX*2
+check -> Run
+local -> HEADER+THREE*2
+
+let RELAXED "EPMS" 01 01 1111 00000002 00000002
+let RELAXED_2 "EPMS" 02 01 1111 00000002 00000002
+
+session a relaxed session is left without its remote peers
+bytes RELAXED+SIX*2
+check -> Run
+local -> RELAXED+THREE*2
+leave steady steady 3 -> Run RELAXED+THREE*2
+bytes RELAXED_2+MIXED[16..]
+check -> Run
+local -> RELAXED_2+LOCAL_LEFT[16..]
+
+let HEADER_OF_MANY "EPMS" 01 00 1111 00000065 00000001
+let LOCAL_COMES 01 01 0000000000000064
+let LOCAL_LEAVES 03 0000000000000064
+
+session a hundred remote peers at once leave no trace
+let REMOTES_COME 00*0
+times 0 99 more REMOTES_COME 01 00 00000000%
+let REMOTES_LEAVE 00*0
+times 0 99 more REMOTES_LEAVE 03 00000000%
+bytes HEADER_OF_MANY+REMOTES_COME+LOCAL_COMES+REMOTES_LEAVE+LOCAL_LEAVES
+check -> Run
+local -> HEADER_OF_MANY+LOCAL_COMES+LOCAL_LEAVES
+leave steady steady 3 -> Run HEADER_OF_MANY+LOCAL_COMES+LOCAL_LEAVES

@@ -129,24 +129,37 @@ killed -> connect 0 local ; piece 0 get KILL say "OK" halt ; over
 idle -> over
 fresh 7 local -> over
 
-# Link 7 moves two bytes at a call, of which it makes 16 at most. It gets a front of its reply, and link 8 is told what it asks.
+# Link 7 moves two bytes at a call, of which it makes 16 at most: one for each two bytes of its request, then one for each two of its reply,
+# which it gets up to the call that fails. Link 8 is told what it asks.
 worker a link that fails ends alone
 gives 8 PORT_B
 gives 7 NAMES pairs
 turns fresh 7 local ; fresh 8 local ; ready 7 ; ready 8 ; ready 7 ; ready 7
-times 0 15 fails $ NONE_LISTED -> connected 2 ; gets 8 NOT_FOUND ; ends 8
+times 0 2 fails $ -> connected 2 ; gets 8 NOT_FOUND ; ends 8
+fails 3 -> connected 2 ; gets 7 NONE_LISTED[..2] ; gets 8 NOT_FOUND ; ends 8
+times 4 15 fails $ -> connected 2 ; gets 7 NONE_LISTED ; gets 8 NOT_FOUND ; ends 8
 gives 7 NAMES pairs
 turns fresh 7 local ; fresh 8 local ; ready 7 ; late 7 ; ready 8
-times 0 15 fails $ - -> connected 2 ; gets 8 NOT_FOUND ; ends 8
+times 0 15 fails $ -> connected 2 ; gets 8 NOT_FOUND ; ends 8
 gives 7 ALIVE_A pairs
 turns fresh 7 local ; ready 7 ; ready 7 ; fresh 8 local ; ready 7 ; ready 7 ; ready 7 ; ready 7 ; ready 8 ; ready 7 ; ready 7 ; ready 7
-times 0 15 fails $ FOURTH -> connected 2 ; gets 8 NOT_FOUND ; ends 8
+times 0 8 fails $ -> connected 2 ; gets 8 NOT_FOUND ; ends 8
+fails 9 -> connected 2 ; gets 7 FOURTH[..2] ; gets 8 NOT_FOUND ; ends 8
+fails 10 -> connected 2 ; gets 7 FOURTH[..4] ; gets 8 NOT_FOUND ; ends 8
+times 11 15 fails $ -> connected 2 ; gets 7 FOURTH ; gets 8 NOT_FOUND ; ends 8
 gives 7 ALIVE_A pairs
 turns fresh 7 local ; ready 7 ; ready 7 ; ready 7 ; ready 7 ; ready 7 ; ready 7 ; ready 7 ; ready 7 ; fresh 8 local ; ready 8
-times 0 15 fails $ FOURTH -> connected 2 ; gets 8 NOT_FOUND ; ends 8
+times 0 8 fails $ -> connected 2 ; gets 8 NOT_FOUND ; ends 8
+fails 9 -> connected 2 ; gets 7 FOURTH[..2] ; gets 8 NOT_FOUND ; ends 8
+fails 10 -> connected 2 ; gets 7 FOURTH[..4] ; gets 8 NOT_FOUND ; ends 8
+times 11 15 fails $ -> connected 2 ; gets 7 FOURTH ; gets 8 NOT_FOUND ; ends 8
 gives 7 ALIVE_A pairs
 turns fresh 7 local ; fresh 8 local ; ready 7 ; ready 7 ; ready 7 ; ready 7 ; ready 7 ; ready 7 ; ready 7 ; ready 7 ; idle ; ready 8
-times 0 15 fails $ FOURTH -> connected 2 ; gets 8 NOT_FOUND ; ends 8
+times 0 8 fails $ -> connected 2 ; gets 8 NOT_FOUND ; ends 8
+fails 9 -> connected 2 ; gets 7 FOURTH[..2] ; gets 8 NOT_FOUND ; ends 8
+fails 10 -> connected 2 ; gets 7 FOURTH[..4] ; gets 8 NOT_FOUND ; ends 8
+times 11 15 fails $ -> connected 2 ; gets 7 FOURTH ; gets 8 NOT_FOUND ; ends 8
 gives 7 KILL pairs
 turns fresh 8 local ; fresh 7 local ; ready 7 ; ready 8 ; ready 7
-times 0 15 fails $ "OK" -> connected 2 ; gets 8 NOT_FOUND ; ends 8
+times 0 2 fails $ -> connected 2 ; gets 8 NOT_FOUND ; ends 8
+times 3 15 fails $ -> connected 2 ; gets 7 "OK" ; gets 8 NOT_FOUND ; ends 8

@@ -3,7 +3,7 @@ use crate::events::{came_of, entry, event, line};
 use crate::recording::{is_recorded, recorded_part};
 use crate::run::{Told, runs_so};
 use crate::states::is_built_again;
-use crate::words::{answer, bytes, digits_of, joined, name, number};
+use crate::words::{answer, bytes, digits_of, is_relaxed, joined, name, number};
 use anyhow::{Result, bail};
 use portmap_book::{ActFault, Book, Segment, Ticket, gather};
 use portmap_core::{
@@ -87,7 +87,7 @@ impl Machine {
             bail!("no such settings")
         };
         let (conn_max, known_max) = (number(conn_max)?, number(known_max)?);
-        match Config::new(4369, checks == "relaxed", conn_max, known_max) {
+        match Config::new(4369, is_relaxed(checks)?, conn_max, known_max) {
             Ok(config) => self.begin_anew(alloc, config, number(first)?),
             Err(fault) => Ok(format!(in alloc; "{fault:?}")?),
         }

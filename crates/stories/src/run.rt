@@ -2,7 +2,7 @@
 use crate::events::{came_of, event};
 use anyhow::{Result, bail};
 use portmap_core::{Answer, Config, Core, Event, Refusal, State};
-use portmap_testing::marks::{begin, end};
+use portmap_testing::marks::{begin, end, was_refused};
 use std::alloc::Global;
 
 /// An event, and what came of it.
@@ -12,11 +12,11 @@ pub struct Told {
     pub came: String,
 }
 
-/// What a run tells of its events.
-type Results = Vec<(Event, Result<Answer, Refusal>)>;
+/// What a run tells of its events, and whether memory was refused to it.
+type Results = (Vec<(Event, Result<Answer, Refusal>)>, bool);
 
 /// Fails unless a run over the events of a story answers them as they were answered one by one, and ends in the same state. What
-/// memory is refused to is skipped.
+/// memory was refused to is skipped.
 pub fn runs_so(
     alloc: Global,
     config: Config,
@@ -45,9 +45,10 @@ fn results_of(alloc: Global, core: &mut Core, told: &[Told]) -> Result<Results> 
     begin(alloc);
     let results = core.run(alloc, events);
     end(alloc);
-    match results {
-        Ok(results) => Ok(results),
-        Err(_) => Ok(core.run(alloc, events_of(alloc, told)?)?),
+    match (results, was_refused(alloc)) {
+        (Ok(results), is_refused) => Ok((results, is_refused)),
+        (Err(_), true) => Ok((core.run(alloc, events_of(alloc, told)?)?, false)),
+        (Err(_), false) => bail!("memory was not refused to a run"),
     }
 }
 
@@ -75,32 +76,34 @@ fn followed(
 
 /// Whether memory was refused to none of the events, which another machine answers the same.
 fn follows(alloc: Global, other: &mut Core, told: &[Told], results: Results) -> Result<bool> {
+    let (results, is_refused) = results;
     let mut is_whole = true;
-    for (one, (event, result)) in told.iter().zip(results) {
-        is_whole = answers(alloc, other, one, event, result, is_whole)?;
+    for (one, (event, outcome)) in told.iter().zip(results) {
+        let came = came_of(alloc, one.act.as_str(), &outcome)?;
+        if is_refused && came.as_str() == "NoMemory" {
+            is_whole = false;
+        } else {
+            answers(alloc, other, one, event, came.as_str(), is_whole)?;
+        }
     }
     Ok(is_whole)
 }
 
-/// The same of one event, behind those of which it is said.
+/// Fails unless another machine answers an event like this, and it was answered so where memory was refused to none before.
 fn answers(
     alloc: Global,
     other: &mut Core,
     one: &Told,
     event: Event,
-    outcome: Result<Answer, Refusal>,
+    came: &str,
     is_whole: bool,
-) -> Result<bool> {
+) -> Result<()> {
     let act = one.act.as_str();
-    let came = came_of(alloc, act, &outcome)?;
-    if came.as_str() == "NoMemory" {
-        return Ok(false);
-    }
-    if came.as_str() != came_of(alloc, act, &other.event(alloc, event))?.as_str() {
+    if came != came_of(alloc, act, &other.event(alloc, event))?.as_str() {
         bail!("a machine answers {act} otherwise than a run");
     }
-    if is_whole && came.as_str() != one.came.as_str() {
+    if is_whole && came != one.came.as_str() {
         bail!("a run answers {act} otherwise");
     }
-    Ok(is_whole)
+    Ok(())
 }

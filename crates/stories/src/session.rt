@@ -3,14 +3,14 @@ use crate::listed;
 use crate::listed::workers;
 use crate::played::played;
 use crate::recorder::recorded;
-use crate::words::{Digits, answer, bytes, digits_of, number, yes};
+use crate::words::{Digits, bytes, digits_of, number, yes};
 use anyhow::{Result, bail};
 use portmap_core::{Entry, State};
 use portmap_record::{
-    Form, Record, RecordFault, Version, WriteRecordFault, check, local_record, read_record,
-    upgrade, whole_entries, write_record,
+    CheckFault, Form, Record, Version, WriteRecordFault, check, local_record, read_record, upgrade,
+    whole_entries, write_record,
 };
-use portmap_testing::marks::{begin, end};
+use portmap_testing::marks::{begin, end, was_refused};
 use std::alloc::Global;
 
 /// A recorded session, and entries to be recorded.
@@ -103,17 +103,18 @@ impl Session {
         counted(alloc, &all)
     }
 
-    /// Whether it is a record or none, and then a run or none, whatever one byte of it is.
+    /// How many records it is read as, whatever one byte of it is.
     fn judged(&self, alloc: Global) -> Result<String> {
         let mut all = self.bytes.clone()?;
+        let mut count = 0u32;
         for (place, byte) in self.bytes.iter().enumerate() {
             for new in 0..=255 {
                 put(&mut all, place, new);
-                is_judged(alloc, &all)?;
+                count = count.saturating_add(u32::from(is_judged(alloc, &all)?));
             }
             put(&mut all, place, *byte);
         }
-        answer(alloc, true)
+        Ok(format!(in alloc; "{count}")?)
     }
 }
 
@@ -123,16 +124,39 @@ fn put(bytes: &mut Vec<u8>, place: usize, new: u8) {
     }
 }
 
-/// Fails where memory is refused; it is ample.
-fn is_judged(alloc: Global, bytes: &[u8]) -> Result<()> {
-    match read_record(alloc, bytes) {
-        Ok(session) => {
-            found(alloc, &session)?;
-            Ok(())
-        }
-        Err(RecordFault::NoMemory) => bail!("memory is refused"),
-        Err(_) => Ok(()),
+/// Whether these bytes are a record. Fails unless its verdict, or why they are none, is what is told of them from one device to another.
+fn is_judged(alloc: Global, bytes: &[u8]) -> Result<bool> {
+    let (is_record, wanted) = match read_record(alloc, bytes) {
+        Ok(session) => (true, verdict_of(alloc, &session, bytes)?),
+        Err(fault) => (false, format!(in alloc; "Bad({fault:?}) -")?),
+    };
+    let told = played(alloc, "tell", bytes, &["steady", "steady", "3"])?;
+    if told.as_str() != wanted.as_str() {
+        bail!("{wanted} is told as {told}");
     }
+    Ok(is_record)
+}
+
+/// What is to be told of a record, which is written back as these bytes.
+fn verdict_of(alloc: Global, session: &Record, bytes: &[u8]) -> Result<String> {
+    is_written_back(alloc, session, bytes)?;
+    let (is_run, line) = match check(alloc, session) {
+        Ok(()) => (
+            true,
+            format!(in alloc; "run of {} entries\n", session.entries.len())?,
+        ),
+        Err(CheckFault::Illegal(at)) => (false, format!(in alloc; "broken at entry {at}\n")?),
+        Err(CheckFault::NoMemory) => bail!("memory is ample"),
+    };
+    Ok(format!(in alloc; "{is_run} {}", Digits(line.as_str().as_bytes()))?)
+}
+
+fn is_written_back(alloc: Global, session: &Record, bytes: &[u8]) -> Result<()> {
+    let written = written(alloc, session)?;
+    if written.as_str() != digits_of(alloc, bytes)?.as_str() {
+        bail!("it is written otherwise: {written}");
+    }
+    Ok(())
 }
 
 /// The record that these bytes are.
@@ -152,29 +176,26 @@ fn counted(alloc: Global, bytes: &[u8]) -> Result<String> {
         Ok(session) => session,
         Err(fault) => return Ok(format!(in alloc; "{fault:?}")?),
     };
-    let written = written(alloc, &session)?;
-    if written.as_str() != digits_of(alloc, bytes)?.as_str() {
-        bail!("it is written otherwise: {written}");
-    }
+    is_written_back(alloc, &session, bytes)?;
     Ok(format!(in alloc; "{}", session.entries.len())?)
 }
 
 /// How many of these bytes are whole entries.
 fn whole(alloc: Global, form: &str, bytes: &[u8]) -> Result<String> {
-    let form = if form == "numbered" {
-        Form::Numbered
-    } else {
-        Form::Plain
+    let form = match form {
+        "numbered" => Form::Numbered,
+        "plain" => Form::Plain,
+        _ => bail!("no form: {form}"),
     };
     Ok(format!(in alloc; "{}", whole_entries(form, bytes))?)
 }
 
-/// The bytes of a record, or why there are none. Where memory is refused, they are asked for once more.
+/// The bytes of a record, or why there are none. Where memory was refused, they are asked for once more.
 pub fn written(alloc: Global, session: &Record) -> Result<String> {
     begin(alloc);
     let mut written = write_record(alloc, session);
     end(alloc);
-    if matches!(&written, Err(WriteRecordFault::NoMemory)) {
+    if matches!(&written, Err(WriteRecordFault::NoMemory)) && was_refused(alloc) {
         written = write_record(alloc, session);
     }
     match written {

@@ -2,6 +2,7 @@
 use crate::part::Part;
 use crate::words::Names;
 use anyhow::{Result, bail};
+use portmap_testing::marks::was_refused;
 use std::alloc::Global;
 use std::sync::Wait;
 
@@ -129,10 +130,10 @@ impl<'a, R: Wait> Story<'a, R> {
         }
     }
 
-    /// What comes of an act, unless memory is refused to it: then nothing has changed.
+    /// What comes of an act, unless it is that memory was refused to it: then nothing has changed.
     fn tried(&mut self, alloc: Global, words: &[&str]) -> Result<Option<String>> {
         let came = self.part.came(self.host, alloc, words)?;
-        if !came.as_str().contains("NoMemory") {
+        if !was_refused(alloc) || !came.as_str().contains("NoMemory") {
             return Ok(Some(came));
         }
         if !self.part.stands(alloc)? {

@@ -111,7 +111,7 @@ fn made(alloc: Global, known_max: u32, first: u32, names: &[&str]) -> Result<Opt
     };
     let (active, retired) = names.split_at(place);
     let (mut rows, mut olds) = (Vec::new(alloc), Vec::new(alloc));
-    for words in active.chunks_exact(4) {
+    for words in active.chunks(4) {
         let [word, high, creation, slot] = *words else {
             bail!("no row")
         };
@@ -121,7 +121,7 @@ fn made(alloc: Global, known_max: u32, first: u32, names: &[&str]) -> Result<Opt
             slot: number(slot)?,
         })?;
     }
-    for words in retired.get(1..).unwrap_or(&[]).chunks_exact(2) {
+    for words in retired.get(1..).unwrap_or(&[]).chunks(2) {
         let [word, creation] = *words else {
             bail!("no retired name")
         };

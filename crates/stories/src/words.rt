@@ -88,9 +88,14 @@ impl Names {
         let Some((name, range)) = part.split_once('[') else {
             return Ok(self.meant(part));
         };
-        let len = number::<usize>(range.trim_end_matches(']').trim_matches('.'))?;
-        match self.meant(name).split_at_checked(len.saturating_mul(2)) {
-            Some((front, _)) if range.starts_with('.') => Ok(front),
+        let (len, is_front) = match range.trim_end_matches(']').split_once("..") {
+            Some(("", until)) => (until, true),
+            Some((from, "")) => (from, false),
+            _ => bail!("no range: {part}"),
+        };
+        let len = number::<usize>(len)?.saturating_mul(2);
+        match self.meant(name).split_at_checked(len) {
+            Some((front, _)) if is_front => Ok(front),
             Some((_, rest)) => Ok(rest),
             None => bail!("fewer bytes: {part}"),
         }
@@ -162,6 +167,15 @@ pub fn name(alloc: Global, word: &str) -> Result<Name> {
 /// The digits of bytes.
 pub fn digits_of(alloc: Global, bytes: &[u8]) -> Result<String> {
     Ok(format!(in alloc; "{}", Digits(bytes))?)
+}
+
+/// Whether a word is for relaxed checks, and not for strict ones.
+pub fn is_relaxed(word: &str) -> Result<bool> {
+    match word {
+        "relaxed" => Ok(true),
+        "strict" => Ok(false),
+        _ => bail!("neither relaxed nor strict: {word}"),
+    }
 }
 
 /// The word for whether something is so.

@@ -3,13 +3,14 @@ ghost use Rattle.std.specs.Prelude.{◌≡◌};
 
 use crate::devices::plan;
 use crate::events::is_local;
-use crate::words::{Digits, bytes, number};
+use crate::words::{Digits, bytes, is_relaxed, number};
 use anyhow::{Result, bail};
 use portmap_book::{Desk, PARTS, Seat};
 use portmap_core::Entry;
 use portmap_daemon::{Open, Outcome, Source, Turn, serve};
 use portmap_record::{Verdict, transcript};
 use portmap_testing::books::{book, is_killed};
+use portmap_testing::marks::{begin, end, was_refused};
 use portmap_testing::tape::{Plan, STEADY, Tape};
 use std::alloc::Global;
 use std::marker::Brand;
@@ -35,9 +36,11 @@ pub struct Scene {
 /// How many entries, bytes of link 7, bytes of link 8 and ended links were told.
 type Told = [usize; 4];
 
-/// The links 7 and 8, which were given up, and what is logged before the worker is told to stop.
+/// The links 7 and 8, which were given up, what is logged before the worker is told to stop, and how many turns are made before one to
+/// which memory may be refused.
 #[derive(Drop)]
 struct Wires<'a> {
+    unmarked: usize,
     seven: Tape<'a>,
     eight: Tape<'a>,
     ended: Vec<u64>,
@@ -59,8 +62,13 @@ impl<'a, 'b, L: Ledger, R: Wait> Source for Listed<'a, 'b, L, R> {
 
     fn turn(&mut self) -> Turn {
         if let Some(turn) = self.turns.next() {
+            if self.wires.unmarked == 0 {
+                begin(self.alloc);
+            }
+            self.wires.unmarked = self.wires.unmarked.saturating_sub(1);
             return *turn;
         }
+        end(self.alloc);
         self.wires.take_log(self.rt, self.alloc, self.desk);
         Turn::Stop
     }
@@ -102,11 +110,12 @@ impl<'a> Wires<'a> {
         ))
     }
 
-    /// How many connections have come, and what has come of link 8.
+    /// How many connections have come, what link 7 got, and what has come of link 8.
     fn line_of_8(&self, alloc: Global) -> Result<String> {
         let comes = |entry: &&Entry| matches!(entry, Entry::Connected { .. });
         let count = self.log.iter().filter(comes).count();
         let mut line = format!(in alloc; "connected {count}")?;
+        put_bytes(&mut line, 7, &self.seven.sink)?;
         put_bytes(&mut line, 8, &self.eight.sink)?;
         if self.ended.contains(&8) {
             line.push_str(" ; ends 8")?;
@@ -134,12 +143,7 @@ impl Scene {
         match *words {
             ["with" | "gives", ..] => self.set(alloc, words)?,
             ["turns", ref turns @ ..] => self.add(turns)?,
-            ["fails", call, reply] => return self.failed(
-                rt,
-                alloc,
-                number(call)?,
-                &bytes(alloc, reply)?,
-            ),
+            ["fails", call] => return self.failed(rt, alloc, number(call)?),
             ["killed"] => {
                 self.is_killed = true;
                 return self.tell(rt, alloc);
@@ -159,10 +163,10 @@ impl Scene {
         self.told = [0; 4];
         match *words {
             ["with", checks, "conn", count] => {
-                self.is_relaxed = checks == "relaxed";
+                self.is_relaxed = is_relaxed(checks)?;
                 self.conn_max = number(count)?;
             }
-            ["gives", "7", word, ref device @ ..] => {
+            ["gives", "7", word, ref device @ ..] if device.len() <= 1 => {
                 self.seven = bytes(alloc, word)?;
                 self.plan = plan(device.first().copied().unwrap_or("steady"))?;
             }
@@ -180,38 +184,56 @@ impl Scene {
         Ok(())
     }
 
-    /// Tells what has come of all turns and was not told.
+    /// Tells what has come of all turns and was not told. Where memory is refused to the last one, its link is given up, and all are made
+    /// once more.
     fn tell<R: Wait>(&mut self, rt: &R, alloc: Global) -> Result<String> {
-        let mut wires = self.wires(alloc, self.plan);
-        let is_over = serve_all(rt, alloc, self, &mut wires)?;
-        let (line, told) = wires.line(alloc, self.told, is_over)?;
-        drop(wires);
+        let given_up = end_of(alloc, self.turns.last())?;
+        let (mut line, mut told) = self.line(rt, alloc, !given_up.is_empty())?;
+        if was_refused(alloc) {
+            let refused = line;
+            (line, told) = self.line(rt, alloc, false)?;
+            if refused.as_str() != line.as_str() && !refused.as_str().contains(given_up.as_str()) {
+                bail!("where memory is refused comes {refused}");
+            }
+        }
         self.told = told;
         Ok(line)
     }
 
-    /// What comes of link 8 where link 7 fails at this call of it. That gets a front of its reply.
-    fn failed<R: Wait>(&self, rt: &R, alloc: Global, call: usize, reply: &[u8]) -> Result<String> {
+    /// What has come of all turns and was not told, and how much that is with it. Memory may be refused to the last one.
+    fn line<R: Wait>(&self, rt: &R, alloc: Global, is_marked: bool) -> Result<(String, Told)> {
+        let mut wires = self.wires(alloc, self.plan, is_marked)?;
+        let is_over = serve_all(rt, alloc, self, &mut wires)?;
+        wires.line(alloc, self.told, is_over)
+    }
+
+    /// What comes of both links where link 7 fails at this call of it.
+    fn failed<R: Wait>(&self, rt: &R, alloc: Global, call: usize) -> Result<String> {
         let plan = Plan {
             fault: Some(call),
             ..self.plan
         };
-        let mut wires = self.wires(alloc, plan);
+        let mut wires = self.wires(alloc, plan, false)?;
         serve_all(rt, alloc, self, &mut wires)?;
-        if !reply.starts_with(&wires.seven.sink) {
-            bail!("link 7 gets {}", Digits(&wires.seven.sink));
-        }
         wires.line_of_8(alloc)
     }
 
-    /// The links, where link 7 answers so.
-    fn wires(&self, alloc: Global, plan: Plan) -> Wires<'_> {
-        Wires {
+    /// The links, where link 7 answers so. What they get and give up is noted without memory.
+    fn wires(&self, alloc: Global, plan: Plan, is_marked: bool) -> Result<Wires<'_>> {
+        let mut wires = Wires {
+            unmarked: if is_marked {
+                self.turns.len().saturating_sub(1)
+            } else {
+                usize::MAX
+            },
             seven: Tape::new(alloc, &self.seven, plan),
             eight: Tape::new(alloc, &self.eight, STEADY),
-            ended: Vec::new(alloc),
+            ended: Vec::with_capacity(alloc, 100)?,
             log: Vec::new(alloc),
-        }
+        };
+        wires.seven.sink.reserve(1_000)?;
+        wires.eight.sink.reserve(1_000)?;
+        Ok(wires)
     }
 }
 
@@ -249,6 +271,7 @@ fn served<L: Ledger, R: Wait>(
         turns: scene.turns.iter(),
     };
     let Outcome { seat, served } = serve(rt, alloc, &desk, seat, 0, source, &Open);
+    end(alloc);
     if wires.log.is_empty() {
         wires.take_log(rt, alloc, &desk);
     }
@@ -278,6 +301,16 @@ fn turn(words: &[&str]) -> Result<Turn> {
         ["stop"] => Turn::Stop,
         _ => bail!("no such act"),
     })
+}
+
+/// How a line says that the link of a turn is given up; nothing where the turn has none.
+fn end_of(alloc: Global, turn: Option<&Turn>) -> Result<String> {
+    match turn {
+        Some(Turn::Fresh { key, .. } | Turn::Ready(key) | Turn::Late(key)) => {
+            Ok(format!(in alloc; "ends {key}")?)
+        }
+        _ => Ok(String::new(alloc)),
+    }
 }
 
 /// The words of a transcript for entries, each behind a `;`.

@@ -1,9 +1,6 @@
 //! A log in segments, and the tickets of its entries.
 use crate::desk::{book, ticket};
-use portmap_book::{
-    Book, GatherFault, Segment, Ticket, gather, segments_are_one_run, segments_lead_on,
-    tickets_agree,
-};
+use portmap_book::{Book, GatherFault, Segment, Ticket, gather};
 use portmap_core::{Event, Fate};
 use portmap_testing::bytes::{ALIVE_A, FIFTH, FOURTH};
 use portmap_testing::cases::{Case, all_hold};
@@ -83,7 +80,6 @@ impl Case for Gathered {
 
 #[test]
 fn tickets_are_the_log_or_the_first_fault_is_told(rt: HostRuntime) -> Result<(), Fail> {
-    tickets_agree();
     all_hold(&rt, GATHERED)
 }
 
@@ -159,7 +155,5 @@ impl Case for Chained {
 
 #[test]
 fn segments_follow_one_another_or_the_first_gap_is_told(rt: HostRuntime) -> Result<(), Fail> {
-    segments_are_one_run();
-    segments_lead_on();
     all_hold(&rt, CHAINED)
 }

@@ -1,5 +1,2 @@
-//! What no story shows of recorded sessions: their laws, and how long one may be.
+//! What no story shows of recorded sessions: nothing now.
 #![tactic(auto)]
-
-#[cfg(test)]
-mod laws;

@@ -2,11 +2,11 @@
 use crate::segments::{ALL, segments_of, tickets_of, two_nodes};
 use portmap_book::{GatherFault, gather};
 use portmap_testing::cases::is_so;
-use portmap_testing::marks::{begin, end};
+use portmap_testing::marks::{begin, end, was_refused};
 use std::alloc::Global;
 use std::test::Fail;
 
-/// Whether two segments and a book are found to be what was told, or memory is refused to that.
+/// Whether two segments and a book are found to be what was told, unless memory was refused to that.
 fn is_gathered(alloc: Global) -> Result<bool, Fail> {
     let tickets = tickets_of(alloc, ALL)?;
     let (Some(segments), Some(book)) = (segments_of(alloc, false, &[0, 1]), two_nodes(alloc)) else {
@@ -15,7 +15,7 @@ fn is_gathered(alloc: Global) -> Result<bool, Fail> {
     begin(alloc);
     let found = gather(alloc, &segments, &book, tickets);
     end(alloc);
-    Ok(found == Ok(()) || found == Err(GatherFault::NoMemory))
+    Ok(found == Ok(()) || (found == Err(GatherFault::NoMemory) && was_refused(alloc)))
 }
 
 #[test]
