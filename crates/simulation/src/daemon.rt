@@ -23,6 +23,15 @@ const HUNG_US: u64 = 30_000_000;
 /// The most bytes that the log takes for each thread, by its own reckoning: a second's pieces of links that are read slowly.
 const LOG_BYTES_MOST: u64 = 600_000;
 
+/// The log is taken out before workers have read so many bytes since it was, and each of them so many more: no entry takes less than
+/// was read for it.
+const LOG_BYTES_HEAVY: u64 = 262_144;
+
+const WEIGH_BYTES: u64 = 73_728;
+
+/// While memory is short the log is looked at again after so many milliseconds at most.
+const SHORT_OF_MEMORY_MS: u64 = 50;
+
 /// A worker of the daemon in the world.
 pub type SimWorker<'a, L, S, R> = Worker<'a, L, S, Open, SimHost<R>>;
 
@@ -38,6 +47,8 @@ pub struct Daemon<'a, L: Ledger, S: Steps, R: Wait + Drop> {
     pub(crate) seats: Vec<Seat<L>>,
     pub(crate) drain: Drain<'a>,
     pub(crate) writer: RecordWriter<'a, SimFile>,
+    /// How often who takes the log out has looked at it.
+    pub(crate) drains: u64,
     /// Whether all of the log was handed on, once the workers have ended.
     pub(crate) drained: Option<bool>,
     /// More may be written.
@@ -241,18 +252,45 @@ impl<'a, L: Ledger, S: Steps, R: Wait + Drop> Daemon<'a, L, S, R> {
         Some(())
     }
 
+    /// Whether who takes the log out hangs from now on.
+    fn is_behind(&self) -> Option<bool> {
+        let mut world = self.world().try_borrow_mut().ok()?;
+        let is_behind = world.happens(Fault::Behind);
+        if is_behind {
+            let until = world.now.saturating_add(HUNG_US);
+            world.hold(self.workers.len(), until);
+        }
+        Some(is_behind)
+    }
+
     /// A turn of who takes the log out.
     pub(crate) fn take_out(&mut self) -> Option<()> {
+        if self.is_behind()? {
+            return Some(());
+        }
+        let is_starved = self.world().try_borrow().ok()?.is_starved();
+        let is_owed = is_starved && self.shared.is_unanswered();
         let drained = self
             .drain
             .turn(self.host, self.alloc, self.desk, self.shared);
+        self.drains = self.drains.saturating_add(1);
         match drained {
             Drained::Done(is_out) => {
                 self.drained = Some(is_out);
                 self.queue.close(self.host);
             }
             Drained::Wait(timeout) => {
+                if timeout == 0 {
+                    self.note(Some("who takes the log out does not sleep"));
+                }
+                if is_owed && timeout > SHORT_OF_MEMORY_MS {
+                    self.note(Some("no memory is given back for who goes unanswered"));
+                }
+                let is_out = self.desk.weight(self.host) == 0;
                 let mut world = self.world().try_borrow_mut().ok()?;
+                if is_out {
+                    world.read_bytes = 0;
+                }
                 let until = world.now.saturating_add(timeout.saturating_mul(1000));
                 world.wait(self.workers.len(), until);
             }
@@ -298,8 +336,12 @@ impl<'a, L: Ledger, S: Steps, R: Wait + Drop> Daemon<'a, L, S, R> {
             .people
             .iter()
             .any(|person| person.is_kept(&world, slack));
+        let workers = self.workers.len();
+        let heavy = LOG_BYTES_HEAVY.saturating_add(WEIGH_BYTES.saturating_mul(workers as u64));
+        let is_due = world.due_at(workers).is_none_or(|at| at <= world.now);
+        let is_heavy = world.read_bytes > heavy && !is_due;
         drop(world);
-        if self.desk.weight(self.host) / LOG_BYTES_MOST > self.workers.len() as u64 {
+        if is_heavy || self.desk.weight(self.host) / LOG_BYTES_MOST > workers as u64 {
             self.note(Some("the log is not taken out"));
         }
         if is_late {

@@ -5,6 +5,9 @@ use portmap_core::Entry;
 use portmap_record::{Record, RecordFault, Version, check, read_record};
 use std::alloc::Global;
 
+/// A file goes on for a second or two once it is full. What comes in these takes no more bytes, also where each place is taken and used.
+const BEHIND_BYTES: u64 = 36_000;
+
 /// What each connection was told, by the log.
 #[derive(Drop)]
 struct Told {
@@ -118,26 +121,68 @@ fn judge_killed(alloc: Global, world: &mut World) -> Result<(), Wrong> {
     Ok(())
 }
 
-/// What is wrong with a daemon that opened these connections in this order and made so many acts; the outer none is want of memory.
+/// What is wrong with the sizes of the files, where each is full that has so many bytes and is a plain one.
+fn judge_sizes(world: &World, most: u64) -> Option<Wrong> {
+    let (_, ended) = world.files.split_last()?;
+    let room = most.saturating_add(BEHIND_BYTES);
+    let mut files = world.files.iter();
+    if !world.is_plain && !ended.is_empty() {
+        Some("a file follows what is no file")
+    } else if ended.iter().any(|file| (file.len() as u64) < most) {
+        Some("a file ends that is not full")
+    } else if world.is_plain && files.any(|file| file.len() as u64 > room) {
+        Some("a file goes on that is full")
+    } else {
+        None
+    }
+}
+
+/// What is wrong with the file that was cut: it has each whole entry that the disk took, and nothing behind it.
+fn judge_cut(alloc: Global, world: &World) -> Option<Wrong> {
+    let (number, uncut) = world.uncut.as_ref()?;
+    let whole = match read_record(alloc, uncut) {
+        Err(RecordFault::Truncated(place)) => place,
+        _ => uncut.len(),
+    };
+    let left = world.files.get(*number)?.len();
+    if left == whole {
+        None
+    } else {
+        Some("a file is not cut behind what the disk took whole")
+    }
+}
+
+/// What is wrong with what the operator was told, and with the files whatever is in them.
+fn judge_kept(alloc: Global, world: &mut World, most: u64) -> Option<Wrong> {
+    let failed = u32::from(world.is_disk_full);
+    if world.notices.failed != failed {
+        return Some("a recording that fails is told once");
+    }
+    world
+        .notices
+        .judge(world.now)
+        .or(judge_killed(alloc, world).err())
+        .or(judge_sizes(world, most))
+        .or(judge_cut(alloc, world))
+}
+
+/// What is wrong with a daemon that opened these connections in this order and made so many acts, with a recording of which a file that
+/// has so many bytes is full; the outer none is want of memory.
 pub fn judge(
     alloc: Global,
     world: &mut World,
     opened: &[usize],
     acts: u64,
+    most: u64,
 ) -> Option<Option<Wrong>> {
     if world.is_lost {
         return None;
     }
-    let has_failed = world.told_failed > 0;
-    if world.is_disk_full != has_failed || world.told_failed > 1 {
-        return Some(Some("a recording that fails is told once"));
+    let wrong = judge_kept(alloc, world, most);
+    if wrong.is_some() {
+        return Some(wrong);
     }
-    if world.unaccepted > 0 && world.told_unaccepted == 0 {
-        return Some(Some("the operator is not told of what can't be accepted"));
-    }
-    if let Err(wrong) = judge_killed(alloc, world) {
-        return Some(Some(wrong));
-    }
+    let has_failed = world.notices.failed > 0;
     let mut next = 0u64;
     let mut told = Told {
         slots: Vec::new(alloc),

@@ -5,6 +5,8 @@
 
 mod daemon;
 mod judge;
+mod least;
+mod notices;
 mod people;
 mod polls;
 mod random;
@@ -17,6 +19,7 @@ mod weather;
 mod wire;
 mod world;
 
+use crate::least::Totals;
 use crate::people::Tally;
 use crate::run::{Case, Outcome, run_case};
 use crate::scenario::SCENARIOS;
@@ -40,11 +43,12 @@ fn main(rt: HostRuntime) -> io::Result<()> {
     if words.len() > 1 {
         return tell_words(&rt, &rt, &words);
     }
+    let mut totals = Totals::new(rt.alloc())?;
     let input = io::BufReader::new(rt.alloc(), rt.stdin())?;
     for line in input.lines(rt.alloc()) {
-        tell(&rt, &rt, line?.as_str())?;
+        tell(&rt, &rt, line?.as_str(), &mut totals)?;
     }
-    Ok(())
+    totals.tell(&rt)
 }
 
 /// Tells what the case of these words comes to: those of a line, with hyphens before their names.
@@ -58,15 +62,21 @@ fn tell_words<R: Wait + Clone + Drop>(
         line.push_str(word.as_str().trim_start_matches('-'))?;
         line.push_str(" ")?;
     }
-    tell(rt, host, line.as_str())
+    tell(rt, host, line.as_str(), &mut Totals::new(rt.alloc())?)
 }
 
-/// Tells what a case comes to.
-fn tell<R: Wait + Clone + Drop>(rt: &HostRuntime, host: &R, line: &str) -> io::Result<()> {
+/// Tells what a case comes to, and notes what people did.
+fn tell<R: Wait + Clone + Drop>(
+    rt: &HostRuntime,
+    host: &R,
+    line: &str,
+    totals: &mut Totals,
+) -> io::Result<()> {
     let words: Vec<&str> = line.split_whitespace().collect(rt.alloc())?;
-    let Some(scenario) = SCENARIOS
+    let place = SCENARIOS
         .iter()
-        .find(|scenario| words.contains(&scenario.name))
+        .position(|scenario| words.contains(&scenario.name));
+    let Some((place, scenario)) = place.and_then(|place| Some((place, SCENARIOS.get(place)?)))
     else {
         return println!(rt; "no scenario: {line}");
     };
@@ -82,7 +92,10 @@ fn tell<R: Wait + Clone + Drop>(rt: &HostRuntime, host: &R, line: &str) -> io::R
     let own: R = host.clone()?;
     match run_case::<Brand, R>(own, rt.alloc(), Blank::new(PARTS), &case) {
         None => println!(rt; "WRONG {line}: no memory"),
-        Some(outcome) => tell_outcome(rt, line, &outcome),
+        Some(outcome) => {
+            totals.note(place, &outcome.tally);
+            tell_outcome(rt, line, &outcome)
+        }
     }
 }
 

@@ -74,6 +74,14 @@ impl World {
         )
     }
 
+    /// How many threads are told of connections that come.
+    pub fn listening(&self) -> usize {
+        let threads = self.threads.iter();
+        threads
+            .filter(|thread| thread.listens.contains(&true))
+            .count()
+    }
+
     /// A thread waits until this time, unless it is woken.
     pub fn wait(&mut self, number: usize, until: u64) {
         if let Some(thread) = self.threads.get_mut(number) {
@@ -213,6 +221,7 @@ impl World {
     /// Has a thread's poll report a listener.
     pub fn listen(&mut self, number: usize, place: usize) -> io::Result<()> {
         if self.happens(Fault::Unwatched) {
+            self.notices.note_unaccepted(self.now);
             return Err(io::Error::from(ErrorKind::OutOfMemory));
         }
         let now = self.now;
@@ -269,7 +278,7 @@ impl World {
             }
         }
         if self.now < self.exhausted_until {
-            self.unaccepted = self.unaccepted.saturating_add(1);
+            self.notices.note_unaccepted(self.now);
             return Err(io::Error::from(self.exhausted_kind));
         }
         let Some(number) = self

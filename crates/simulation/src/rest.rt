@@ -3,6 +3,7 @@ use crate::daemon::Daemon;
 use crate::scenario::Scenario;
 use crate::steps::Steps;
 use crate::weather::Fault;
+use crate::world::{Ending, LISTENERS};
 use portmap_daemon::RunFault;
 use portmap_wire::{Line, read_names};
 use std::sync::Wait;
@@ -18,6 +19,25 @@ const ROUND_US: u64 = 25_000;
 
 /// A connection that is as old may be given up for another one.
 const OLD_US: u64 = 3_000_000;
+
+/// A worker polls no more than so often in an hour at rest: three times for each look, since the world's poll answers at once, and once
+/// more when the wait is over.
+const POLLS_MOST: u64 = 25_000;
+
+const HOUR_US: u64 = 3_600_000_000;
+
+/// Who takes the log out looks at it once in so much time.
+const SECOND_US: u64 = 1_000_000;
+
+/// So many connections come one by one. Then so many workers are told of the next one: one, and one that was called for its help since.
+const TRICKLE: usize = 20;
+
+const LISTENING_MOST: usize = 2;
+
+/// What a node sends that has a name of its own.
+const REGISTRATION: &[u8] = &[
+    0, 15, 0x78, 0x13, 0x88, 0x4D, 0, 0, 6, 0, 5, 0, 2, 0x7A, 0x7A, 0, 0,
+];
 
 /// A daemon that is to end has ended by then.
 const END_US: u64 = 200_000;
@@ -66,8 +86,53 @@ impl<'a, L: Ledger, S: Steps, R: Wait + Drop> Daemon<'a, L, S, R> {
         if !is_out {
             self.note(Some("the log at rest is not taken out"));
         }
+        if self.shared.is_unanswered() {
+            self.note(Some("who went unanswered is never looked into"));
+        }
         if watched != self.holding() {
             self.note(Some("what is watched at rest is not what is open"));
+        }
+        Some(())
+    }
+
+    /// The world is at rest for so long, in microseconds: threads sleep.
+    pub(crate) fn sleep(&mut self, due: &mut Vec<usize>, time: u64) -> Option<()> {
+        let (polls, drains) = (self.polls()?, self.drains);
+        self.pass(due, time)?;
+        let polls = self.polls()?.saturating_sub(polls);
+        let most = POLLS_MOST.saturating_mul(self.workers.len() as u64);
+        if polls.saturating_mul(HOUR_US) > most.saturating_mul(time) {
+            self.note(Some("a worker does not sleep"));
+        }
+        if self.drains.saturating_sub(drains) > (time / SECOND_US).saturating_add(1) {
+            self.note(Some("who takes the log out does not sleep"));
+        }
+        Some(())
+    }
+
+    /// Connections that come one by one are accepted at each listener, and soon few workers are told of them.
+    pub(crate) fn trickle(&mut self, due: &mut Vec<usize>) -> Option<()> {
+        let mut are_accepted = true;
+        for turn in 0..TRICKLE {
+            let place = turn % LISTENERS;
+            let opened = self.world().try_borrow_mut().ok()?.connect(place, true);
+            let Some(number) = opened else {
+                // Too many wait at the listener.
+                are_accepted = false;
+                break;
+            };
+            self.pass(due, ROUND_US)?;
+            let mut world = self.world().try_borrow_mut().ok()?;
+            are_accepted = are_accepted && world.wires.get(number)?.accepted.is_some();
+            world.end(number, Ending::Gone);
+        }
+        self.pass(due, ROUND_US)?;
+        let listening = self.world().try_borrow().ok()?.listening();
+        if !are_accepted {
+            self.note(Some("a listener at rest gives no connection"));
+        }
+        if listening > LISTENING_MOST {
+            self.note(Some("more workers are told of connections than needed"));
         }
         Some(())
     }
@@ -90,6 +155,20 @@ impl<'a, L: Ledger, S: Steps, R: Wait + Drop> Daemon<'a, L, S, R> {
             }
         }
         Some(())
+    }
+
+    /// A node that comes at rest is let in. Then it leaves.
+    pub(crate) fn let_in(&mut self, due: &mut Vec<usize>) -> Option<()> {
+        let number = self.open(REGISTRATION)?;
+        self.hear(due, &[number])?;
+        let mut world = self.world().try_borrow_mut().ok()?;
+        let is_in = world.wires.get(number)?.received.get(1) == Some(&0);
+        world.end(number, Ending::Gone);
+        drop(world);
+        if !is_in {
+            self.note(Some("a node at rest is not let in"));
+        }
+        self.pass(due, ROUND_US)
     }
 
     /// The names that are listed at rest are those of the nodes that hold them.
@@ -210,7 +289,7 @@ impl<'a, L: Ledger, S: Steps, R: Wait + Drop> Daemon<'a, L, S, R> {
             None => !is_deaf && !is_starved,
             Some(RunFault::Poll) => is_deaf,
             Some(RunFault::NoMemory) => is_starved || self.has_happened(Fault::Starved)?,
-            Some(RunFault::Listen(_)) => false,
+            Some(RunFault::Listen(_) | RunFault::ListenBeside(_)) => false,
         })
     }
 }

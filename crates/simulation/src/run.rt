@@ -24,14 +24,8 @@ use std::sync::ledger::{Blank, Ledger};
 /// So long connections that have ended are still on their way out.
 const SETTLING_US: u64 = 10_000_000;
 
-/// A worker polls no more than so often in an hour at rest: three times for each look, since the world's poll answers at once, and once
-/// more when the wait is over.
-const POLLS_MOST: u64 = 25_000;
-
 /// It has ended so long after memory is gone.
 const STARVED_US: u64 = 20_000_000;
-
-const HOUR_US: u64 = 3_600_000_000;
 
 /// A case: a seed, so many workers, and so many steps of a scenario.
 #[derive(Drop)]
@@ -81,9 +75,13 @@ impl<'a, L: Ledger, S: Steps, R: Wait + Drop> Daemon<'a, L, S, R> {
             }
             self.step(&mut due, u64::MAX)?;
             self.look(case.scenario)?;
-            if self.wrong.is_some() || self.has_ended() {
+            let is_heavy = self.desk.weight(self.host) >= case.scenario.end_bytes;
+            if self.wrong.is_some() || self.has_ended() || is_heavy {
                 return Some(());
             }
+        }
+        if case.scenario.end_bytes < u64::MAX {
+            self.note(Some("the log never had as much as it is to end with"));
         }
         if self.has_happened(Fault::Famine)? {
             self.pass(&mut due, STARVED_US)?;
@@ -96,15 +94,10 @@ impl<'a, L: Ledger, S: Steps, R: Wait + Drop> Daemon<'a, L, S, R> {
         }
         self.retire()?;
         self.pass(&mut due, SETTLING_US)?;
-        let before = self.polls()?;
-        let rest = case.scenario.rest_us;
-        self.pass(&mut due, rest)?;
-        let polls = self.polls()?.saturating_sub(before);
-        let most = POLLS_MOST.saturating_mul(self.workers.len() as u64);
-        if polls.saturating_mul(HOUR_US) > most.saturating_mul(rest) {
-            self.note(Some("a worker does not sleep"));
-        }
+        self.sleep(&mut due, case.scenario.rest_us)?;
         self.rest()?;
+        self.trickle(&mut due)?;
+        self.let_in(&mut due)?;
         self.list(&mut due)?;
         self.fill(&mut due, case.scenario.conn_max)
     }
@@ -155,6 +148,7 @@ impl<'a, L: Ledger, S: Steps, R: Wait + Drop> Daemon<'a, L, S, R> {
             seats: Vec::new(alloc),
             drain: Drain::begin(host, alloc, desk, Some(queue)).ok()?,
             writer: RecordWriter::new("recording", case.scenario.file_bytes_most),
+            drains: 0,
             drained: None,
             is_writing: true,
             opened: Vec::new(alloc),
@@ -181,7 +175,8 @@ impl<'a, L: Ledger, S: Steps, R: Wait + Drop> Daemon<'a, L, S, R> {
             .seats
             .iter()
             .fold(0u64, |sum, seat| sum.saturating_add(seat.count()));
-        let found = judge(self.alloc, &mut world, &self.opened, acts)?;
+        let most = case.scenario.file_bytes_most;
+        let found = judge(self.alloc, &mut world, &self.opened, acts, most)?;
         let weather = &world.weather;
         Some(Outcome {
             wrong: self.wrong.or(found),
@@ -306,13 +301,11 @@ pub fn run_case<L: Ledger, R: Wait + Drop>(
     requires enough { blank.parts ≡ PARTS }
 {
     let threads = (case.workers as usize).saturating_add(1);
-    let Scenario {
-        chances,
-        backlog_most,
-        ..
-    } = case.scenario;
-    let mut world = World::new(alloc, case.seed, *chances, threads, *backlog_most)?;
-    world.places = case.scenario.conn_max as usize;
+    let scenario = case.scenario;
+    let backlog_most = scenario.backlog_most;
+    let mut world = World::new(alloc, case.seed, scenario.chances, threads, backlog_most)?;
+    world.places = scenario.conn_max as usize;
+    world.is_plain = scenario.is_plain;
     let world = Rc::new(alloc, RefCell::new(world)).ok()?;
     let host = SimHost { rt, world };
     at_desk::<L, R>(&host, alloc, blank, case)

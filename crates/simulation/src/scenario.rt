@@ -5,10 +5,23 @@ use crate::weather::{Chances, Fault};
 /// So many people of a role, on this host or on another one. Strangers come at the first address alone.
 pub struct Crowd(pub Role, pub u8, pub bool);
 
+/// So many registrations, restarts of nodes, answers, and registrations that were refused.
+#[derive(Clone, Copy, Debug, PartialEq, Eq)]
+pub struct Deeds(pub u32, pub u32, pub u32, pub u32);
+
+impl Deeds {
+    /// Whether they are as many as these.
+    pub fn reach(&self, least: &Deeds) -> bool {
+        self.0 >= least.0 && self.1 >= least.1 && self.2 >= least.2 && self.3 >= least.3
+    }
+}
+
 /// A scenario.
 pub struct Scenario {
     pub name: &'static str,
     pub people: &'static [Crowd],
+    /// What they do at least in all cases of a run together: about two thirds of what they did in ten when that was written.
+    pub least: Deeds,
     pub chances: Chances,
     /// What peers ask of the port mapper is not checked: it may be ended, and names may be stopped.
     pub is_relaxed: bool,
@@ -18,6 +31,10 @@ pub struct Scenario {
     pub known_max: u32,
     /// A file of the recording that has so many bytes is full.
     pub file_bytes_most: u64,
+    /// What is recorded to is a plain file, and no pipe.
+    pub is_plain: bool,
+    /// Once the log has so many bytes it is told to end, in the midst of the storm.
+    pub end_bytes: u64,
     /// A node that comes back has its name within so many microseconds.
     pub patience_us: u64,
     /// Who asks comes together with all others who do, each so many microseconds, and nodes leave then: so several workers accept. Who
@@ -139,6 +156,8 @@ const LOAD: &[Crowd] = &[
     Crowd(Role::Seeker, 40, true),
 ];
 
+const SURGE: &[Crowd] = &[Crowd(Role::Node, 12, true), Crowd(Role::Seeker, 45, true)];
+
 const NODES: &[Crowd] = &[Crowd(Role::Node, 12, true)];
 
 const KILLERS: &[Crowd] = &[
@@ -151,6 +170,7 @@ const KILLERS: &[Crowd] = &[
 /// What is not said of a scenario.
 const USUAL: Scenario = Scenario {
     name: "calm",
+    least: Deeds(128, 89, 2416, 0),
     people: BUSTLE,
     chances: &[],
     is_relaxed: false,
@@ -158,6 +178,8 @@ const USUAL: Scenario = Scenario {
     conn_max: 64,
     known_max: 64,
     file_bytes_most: PLENTY,
+    is_plain: true,
+    end_bytes: u64::MAX,
     patience_us: u64::MAX,
     burst_us: 1,
     hold_us: 2_000_000,
@@ -172,16 +194,19 @@ pub const SCENARIOS: &[Scenario] = &[
     USUAL,
     Scenario {
         name: "signals",
+        least: Deeds(120, 80, 2336, 0),
         chances: &[(Fault::Interrupted, 100), (Fault::Short, 200)],
         ..USUAL
     },
     Scenario {
         name: "edges",
+        least: Deeds(107, 67, 1852, 0),
         chances: &[(Fault::Late, 300), (Fault::Spurious, 50)],
         ..USUAL
     },
     Scenario {
         name: "accepts",
+        least: Deeds(153, 119, 1676, 0),
         backlog_most: 3,
         limit_ms: 3000,
         chances: &[
@@ -195,19 +220,38 @@ pub const SCENARIOS: &[Scenario] = &[
     },
     Scenario {
         name: "exhausted",
+        least: Deeds(980, 846, 2619, 0),
         people: RESTARTS,
         chances: &[(Fault::Exhausted, 20), (Fault::Unable, 10)],
         limit_ms: 3000,
         ..USUAL
     },
     Scenario {
+        name: "unheard",
+        least: Deeds(1010, 878, 2740, 0),
+        people: RESTARTS,
+        chances: &[(Fault::Exhausted, 20), (Fault::Unwatched, 100)],
+        limit_ms: 3000,
+        ..USUAL
+    },
+    Scenario {
+        name: "surges",
+        least: Deeds(410, 331, 18696, 0),
+        people: SURGE,
+        chances: &[(Fault::Behind, 1000)],
+        end_bytes: 1_150_000,
+        ..USUAL
+    },
+    Scenario {
         name: "watches",
+        least: Deeds(131, 91, 2369, 0),
         chances: &[(Fault::Unwatched, 50)],
         limit_ms: 3000,
         ..USUAL
     },
     Scenario {
         name: "threads",
+        least: Deeds(726, 647, 12050, 0),
         people: LOAD,
         conn_max: 512,
         burst_us: 100_000,
@@ -218,16 +262,19 @@ pub const SCENARIOS: &[Scenario] = &[
     },
     Scenario {
         name: "drips",
+        least: Deeds(102, 63, 1766, 0),
         chances: &[(Fault::Dripped, 500), (Fault::Shut, 300)],
         ..USUAL
     },
     Scenario {
         name: "plodders",
+        least: Deeds(149, 136, 757, 0),
         people: PLODDERS,
         ..USUAL
     },
     Scenario {
         name: "resets",
+        least: Deeds(128, 88, 2264, 0),
         chances: &[
             (Fault::Reset, 300),
             (Fault::Late, 50),
@@ -238,52 +285,71 @@ pub const SCENARIOS: &[Scenario] = &[
     },
     Scenario {
         name: "losses",
+        least: Deeds(153, 115, 2011, 0),
         chances: &[(Fault::Lost, 50)],
         limit_ms: 4000,
         ..USUAL
     },
     Scenario {
         name: "files",
+        least: Deeds(131, 92, 2374, 0),
         file_bytes_most: 4000,
         ..USUAL
     },
     Scenario {
+        name: "pipes",
+        least: Deeds(131, 91, 2403, 0),
+        file_bytes_most: 4000,
+        is_plain: false,
+        ..USUAL
+    },
+    Scenario {
         name: "restarts",
+        least: Deeds(994, 861, 2752, 0),
         people: RESTARTS,
         chances: &[(Fault::Late, 200), (Fault::Reset, 100)],
         ..USUAL
     },
     Scenario {
         name: "rivals",
+        least: Deeds(1287, 146, 1989, 552),
         people: RIVALS,
         ..USUAL
     },
     Scenario {
         name: "strangers",
+        least: Deeds(34, 7, 211, 0),
         people: STRANGERS,
         conn_max: 24,
         ..USUAL
     },
     Scenario {
         name: "crowded",
+        least: Deeds(48, 36, 101, 0),
         people: CROWDED,
         conn_max: 16,
+        hold_us: 300_000,
         is_strict: false,
         ..USUAL
     },
     Scenario {
         name: "talkers",
+        least: Deeds(133, 73, 159, 0),
         people: TALKERS,
+        hold_us: 20_000,
         ..USUAL
     },
     Scenario {
         name: "shouters",
+        least: Deeds(228, 93, 306, 0),
         people: TALKERS,
+        hold_us: 100_000,
         talk_bytes: 1000,
         ..USUAL
     },
     Scenario {
         name: "crests",
+        least: Deeds(528, 471, 15156, 0),
         people: CRESTS,
         chances: &[(Fault::Slow, 1000)],
         conn_max: 512,
@@ -294,6 +360,7 @@ pub const SCENARIOS: &[Scenario] = &[
     },
     Scenario {
         name: "hung",
+        least: Deeds(700, 100, 2100, 900),
         people: RIVALS,
         chances: &[(Fault::Hung, 2)],
         hold_us: 5_000_000,
@@ -303,18 +370,21 @@ pub const SCENARIOS: &[Scenario] = &[
     },
     Scenario {
         name: "readers",
+        least: Deeds(162, 83, 856, 0),
         people: READERS,
         chances: &[(Fault::Short, 100), (Fault::Interrupted, 50)],
         ..USUAL
     },
     Scenario {
         name: "unreading",
+        least: Deeds(198, 171, 1982, 0),
         people: UNREADING,
         conn_max: 32,
         ..USUAL
     },
     Scenario {
         name: "hours",
+        least: Deeds(850, 771, 850, 0),
         people: NODES,
         patience_us: 25_000,
         rest_us: 3_600_000_000,
@@ -322,6 +392,7 @@ pub const SCENARIOS: &[Scenario] = &[
     },
     Scenario {
         name: "bursts",
+        least: Deeds(682, 602, 13354, 0),
         people: LOAD,
         conn_max: 512,
         burst_us: 100_000,
@@ -331,6 +402,7 @@ pub const SCENARIOS: &[Scenario] = &[
     },
     Scenario {
         name: "besieged",
+        least: Deeds(0, 0, 1829, 0),
         people: BESIEGED,
         conn_max: 16,
         burst_us: 2_000_000,
@@ -340,6 +412,7 @@ pub const SCENARIOS: &[Scenario] = &[
     },
     Scenario {
         name: "encamped",
+        least: Deeds(59, 39, 709, 0),
         people: ENCAMPED,
         conn_max: 7,
         burst_us: 2_000_000,
@@ -349,6 +422,7 @@ pub const SCENARIOS: &[Scenario] = &[
     },
     Scenario {
         name: "loaded",
+        least: Deeds(1053, 945, 22382, 0),
         people: HEAVY_LOAD,
         conn_max: 512,
         chances: &[(Fault::Slow, 1000)],
@@ -359,6 +433,7 @@ pub const SCENARIOS: &[Scenario] = &[
     },
     Scenario {
         name: "stuck",
+        least: Deeds(260, 105, 7398, 212),
         chances: &[(Fault::Stuck, 1)],
         people: RIVALRY,
         conn_max: 512,
@@ -370,11 +445,13 @@ pub const SCENARIOS: &[Scenario] = &[
     },
     Scenario {
         name: "jumps",
+        least: Deeds(123, 83, 2284, 0),
         chances: &[(Fault::Jump, 2)],
         ..USUAL
     },
     Scenario {
         name: "stopped",
+        least: Deeds(267, 232, 3474, 0),
         people: LATE_COMERS,
         chances: &[(Fault::Stopped, 5), (Fault::Late, 200), (Fault::Lost, 200)],
         limit_ms: 30_000,
@@ -382,6 +459,7 @@ pub const SCENARIOS: &[Scenario] = &[
     },
     Scenario {
         name: "frozen",
+        least: Deeds(1940, 1876, 1940, 0),
         people: NODES,
         chances: &[(Fault::Stopped, 100), (Fault::Late, 200)],
         limit_ms: 1_000_000,
@@ -389,18 +467,21 @@ pub const SCENARIOS: &[Scenario] = &[
     },
     Scenario {
         name: "tardy",
+        least: Deeds(0, 0, 5870, 0),
         people: TARDY,
         conn_max: 256,
         ..USUAL
     },
     Scenario {
         name: "unread",
+        least: Deeds(134, 94, 2337, 0),
         chances: &[(Fault::Unread, 2)],
         limit_ms: 3000,
         ..USUAL
     },
     Scenario {
         name: "starved",
+        least: Deeds(15, 1000, 400, 0),
         chances: &[(Fault::Starved, 100)],
         is_strict: false,
         may_end: true,
@@ -408,6 +489,7 @@ pub const SCENARIOS: &[Scenario] = &[
     },
     Scenario {
         name: "famine",
+        least: Deeds(123, 13372, 123, 0),
         people: NODES,
         chances: &[(Fault::Famine, 100)],
         is_strict: false,
@@ -417,6 +499,7 @@ pub const SCENARIOS: &[Scenario] = &[
     },
     Scenario {
         name: "scarce",
+        least: Deeds(74, 25211, 14576, 0),
         chances: &[(Fault::Famine, 100)],
         is_strict: false,
         limit_ms: 3000,
@@ -424,17 +507,21 @@ pub const SCENARIOS: &[Scenario] = &[
     },
     Scenario {
         name: "stalls",
+        least: Deeds(130, 90, 2429, 0),
         chances: &[(Fault::Stalled, 700), (Fault::Short, 50)],
         ..USUAL
     },
     Scenario {
         name: "full",
+        least: Deeds(138, 98, 2384, 0),
         chances: &[(Fault::Full, 400)],
         ..USUAL
     },
     Scenario {
         name: "kills",
+        least: Deeds(50, 40, 80, 0),
         people: KILLERS,
+        hold_us: 5_000,
         is_relaxed: true,
         is_strict: false,
         may_end: true,
@@ -442,6 +529,7 @@ pub const SCENARIOS: &[Scenario] = &[
     },
     Scenario {
         name: "deaf",
+        least: Deeds(55, 20, 700, 0),
         chances: &[(Fault::Deaf, 2)],
         is_strict: false,
         may_end: true,
@@ -449,6 +537,7 @@ pub const SCENARIOS: &[Scenario] = &[
     },
     Scenario {
         name: "storm",
+        least: Deeds(154, 116, 1854, 0),
         chances: &[
             (Fault::Interrupted, 30),
             (Fault::Short, 50),

@@ -218,10 +218,12 @@ impl Write for SimFile {
 impl RecordFile for SimFile {
     fn cut(&mut self, size: u64) {
         if let Ok(mut world) = self.world.try_borrow_mut() {
-            if let Some(file) = world.files.get_mut(self.number) {
-                file.truncate(size as usize);
-            }
+            world.cut(self.number, size as usize);
         }
+    }
+
+    fn is_plain(&self) -> bool {
+        self.world.try_borrow().map_or(true, |world| world.is_plain)
     }
 }
 
@@ -269,10 +271,11 @@ impl<R: Wait + Drop> Host for SimHost<R> {
         if let Ok(mut world) = self.world.try_borrow_mut() {
             match notice {
                 Notice::RecordingFailed => {
-                    world.told_failed = world.told_failed.saturating_add(1);
+                    world.notices.failed = world.notices.failed.saturating_add(1);
                 }
                 Notice::CannotAccept => {
-                    world.told_unaccepted = world.told_unaccepted.saturating_add(1);
+                    let now = world.now;
+                    world.notices.tell_unaccepted(now);
                 }
             }
         }

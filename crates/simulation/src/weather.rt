@@ -32,6 +32,8 @@ pub enum Fault {
     Stuck,
     /// One thread hangs for half a minute, once.
     Hung,
+    /// Who takes the log out hangs for half a minute.
+    Behind,
     /// A step takes up to two milliseconds.
     Slow,
     /// The clock jumps forward by up to an hour.
@@ -59,7 +61,7 @@ pub enum Fault {
 }
 
 /// Each, with how it is told.
-pub const FAULTS: [(Fault, &str); 26] = [
+pub const FAULTS: [(Fault, &str); 27] = [
     (Fault::Interrupted, "interrupted"),
     (Fault::Short, "short"),
     (Fault::Aborted, "aborted"),
@@ -74,6 +76,7 @@ pub const FAULTS: [(Fault, &str); 26] = [
     (Fault::Held, "held"),
     (Fault::Stuck, "stuck"),
     (Fault::Hung, "hung"),
+    (Fault::Behind, "behind"),
     (Fault::Slow, "slow"),
     (Fault::Jump, "jumps"),
     (Fault::Unread, "unread"),
@@ -92,7 +95,7 @@ pub const FAULTS: [(Fault, &str); 26] = [
 pub type Chances = &'static [(Fault, u32)];
 
 /// How often each has happened.
-pub type Counts = [u32; 26];
+pub type Counts = [u32; 27];
 
 /// The weather: what may happen, and how often each has.
 #[derive(Drop)]
@@ -105,7 +108,7 @@ impl Weather {
     pub fn new(chances: Chances) -> Weather {
         Weather {
             chances,
-            happened: [0; 26],
+            happened: [0; 27],
         }
     }
 

@@ -1,6 +1,7 @@
 //! The world of a daemon: a network, a clock, memory and a disk that are values.
 ghost use Rattle.std.specs.Prelude.{◌≤◌, IfOk, length};
 
+use crate::notices::Notices;
 use crate::polls::Thread;
 use crate::random::Random;
 use crate::weather::{Chances, Fault, Weather};
@@ -67,11 +68,13 @@ pub struct World {
     pub files: Vec<Vec<u8>>,
     /// What was in them when the process was killed, if it had been.
     pub killed: Vec<Vec<u8>>,
-    /// How often the operator was told that the recording has failed.
-    pub told_failed: u32,
-    /// How often a connection could not be accepted, and how often the operator was told that.
-    pub unaccepted: u32,
-    pub told_unaccepted: u32,
+    /// What is recorded to is a plain file.
+    pub is_plain: bool,
+    /// The file that was cut last, as it was before.
+    pub uncut: Option<(usize, Vec<u8>)>,
+    pub notices: Notices,
+    /// How many bytes the daemon has read since the log was taken out.
+    pub read_bytes: u64,
     /// No memory for the world itself.
     pub is_lost: bool,
 }
@@ -112,9 +115,10 @@ impl World {
             wanting: 0,
             files: Vec::new(alloc),
             killed: Vec::new(alloc),
-            told_failed: 0,
-            unaccepted: 0,
-            told_unaccepted: 0,
+            is_plain: true,
+            uncut: None,
+            notices: Notices::new(),
+            read_bytes: 0,
             is_lost: false,
         };
         for _ in 0..threads {
@@ -162,6 +166,17 @@ impl World {
     /// A file with nothing in it.
     pub fn new_file(&self) -> Vec<u8> {
         Vec::new(self.alloc)
+    }
+
+    /// Leaves the first bytes of a file, so many.
+    pub fn cut(&mut self, number: usize, size: usize) {
+        if let Some(file) = self.files.get_mut(number) {
+            match Vec::from_slice(self.alloc, file) {
+                Ok(uncut) => self.uncut = Some((number, uncut)),
+                Err(_) => self.is_lost = true,
+            }
+            file.truncate(size);
+        }
     }
 
     // ---- what peers do
@@ -340,6 +355,7 @@ impl World {
                 *place = byte;
             }
         }
+        self.read_bytes = self.read_bytes.saturating_add(count as u64);
         Ok(count)
     }
 
@@ -432,6 +448,15 @@ impl World {
         if self.now > FAMINE_US && self.happens(Fault::Famine) {
             self.starved_until = self.now.saturating_add(60_000_000);
         }
-        self.now >= self.starved_until
+        let has_memory = !self.is_starved();
+        if !has_memory {
+            self.notices.note_refused(self.now);
+        }
+        has_memory
+    }
+
+    /// Whether no memory can be had now.
+    pub fn is_starved(&self) -> bool {
+        self.now < self.starved_until
     }
 }
