@@ -7,16 +7,17 @@
 //! - `serve`: the seat back, with a count higher by what it says it served. That it goes on through `ready` alone, answers every connection and ends:
 //!   tests and the simulation.
 //! - `Recorder::begin`, `add`: true: all text was written; false: a front of it, or nothing, and nothing from then on. One thread owns the file and its
-//!   `Recorder`. Of a write that failed only whole entries stay. That the files meet, and have all: tests.
+//!   `Recorder`. How much of a write that failed may stay is exact (`kept_size`). That the file is cut there, that the files meet, and have all: tests
+//!   and the simulation.
 //! - Which connections are open is decided by functions over values, each exact (`is_free`, `goes_before`, `spares_local`, `poll_timeout`, `note_poll`,
 //!   `is_held`, `acceptors_without`, `accept_error`, `starved_for`), and so are a link's times (`may_move`, `since_at`, `is_over`), when the log is taken
-//!   out, what waits and when a file is full (`fits`, `is_full`, `kept`), and what the operator is told (`accept_notice`). That workers ask them: tests
-//!   and the simulation.
+//!   out, what waits and when a file is full (`is_due`, `fits`, `is_full`), what the operator is told (`accept_notice`, `fault_of`, `has_recorded`), where
+//!   a socket listens (`address_at`) and what a poll reports (`report_of`). That they are asked: tests and the simulation.
 //! - `System`, `Stream`, `Wake`: what workers ask of the system. Nothing is asked of who answers but that a read or a write moves no more bytes than
 //!   there is room for.
-//! - `run`, `run_gated`, `run_in_files` ask for one address, 1 to 64 workers, a timeout of 1 to 86,400 seconds: one count for each worker, 0 where its
-//!   thread couldn't start; `recorded` is false exactly where there was to be a recording and it is not whole. `Listen(i)`: an address of the list.
-//!   Of sockets and threads only safety is proved.
+//! - `run`, `run_gated`, `run_in_files` ask for one address, 1 to 64 workers, a timeout of 1 to 86,400 seconds: one count for each worker. `Listen(i)`: an
+//!   address of the list. Of sockets and threads only safety is proved: what the counts are, and that `recorded` tells of a recording that is not whole,
+//!   is tested.
 #![tactic(auto)]
 
 mod accept_scheduler;

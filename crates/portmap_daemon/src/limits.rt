@@ -128,8 +128,9 @@ pub(crate) const FLUSH_SECONDS_MOST: u64 = 5;
 
 // ---- memory
 
-/// How many bytes are kept for the time when no other memory can be had: so many that the system has them back at once.
-pub(crate) const RESERVE_BYTES: usize = 1_048_576;
+/// How many bytes are kept for the time when no other memory can be had: so many that the system has them back at once, or, as long as
+/// these can't be had, the most of the others that can. Names that have left leave memory in pieces.
+pub(crate) const RESERVE_BYTES: [usize; 5] = [1_048_576, 524_288, 262_144, 131_072, 65_536];
 
 /// If so many can't be had memory is short.
 pub(crate) const PROBE_BYTES: usize = 65_536;

@@ -247,6 +247,12 @@ impl<S: Read + Write> Link<S> {
         }
     }
 
+    /// Memory is short: a local peer that has sent a part of a request, perhaps of a long registration, is late with the rest.
+    pub(crate) fn refuse_part(&mut self) {
+        let is_part = self.is_local && !self.is_answered && !self.is_unsent();
+        self.is_late = self.is_late || (is_part && matches!(self.first, FirstPiece::Past));
+    }
+
     /// It has rested.
     pub(crate) fn end_rest(&mut self, queue: &mut VecDeque<usize>, key: usize) {
         self.is_resting = false;

@@ -7,14 +7,19 @@ use crate::shared::News;
 use std::alloc::Global;
 use std::sync::atomic::{AtomicBool, Ordering};
 
-/// Memory that is kept for the time when no other can be had, if it can be had and more beside it.
-fn reserve<R: Host>(rt: &R, alloc: Global) -> Option<Vec<u8>> {
-    let reserve = Vec::with_capacity(alloc, RESERVE_BYTES).ok()?;
-    if rt.has_memory(alloc) {
-        Some(reserve)
-    } else {
-        None
+/// Memory that is kept for the time when no other can be had: as much as can be had and more beside it, if that is more than is held.
+fn reserve<R: Host>(rt: &R, alloc: Global, held: usize) -> Option<Vec<u8>> {
+    for size in RESERVE_BYTES {
+        if size <= held || !rt.has_memory(alloc) {
+            break;
+        }
+        if let Ok(reserve) = Vec::with_capacity(alloc, size) {
+            if rt.has_memory(alloc) {
+                return Some(reserve);
+            }
+        }
     }
+    None
 }
 
 /// For how many seconds on end nothing has got through for want of memory, after one more: in it no peer was answered, and entries
@@ -40,7 +45,7 @@ pub(crate) struct Memory {
 impl Memory {
     pub(crate) fn new<R: Host>(rt: &R, alloc: Global) -> Memory {
         Memory {
-            reserve: reserve(rt, alloc),
+            reserve: reserve(rt, alloc, 0),
             starved_seconds: 0,
         }
     }
@@ -76,8 +81,9 @@ impl Memory {
         if stuck || news.unanswered {
             self.relieve_if_short(rt, alloc, short);
         }
-        if self.is_short() && !stuck {
-            self.reserve = reserve(rt, alloc);
+        if !stuck {
+            let held = self.reserve.as_ref().map_or(0, |held| held.capacity());
+            self.reserve = reserve(rt, alloc, held).or(self.reserve.take());
         }
         self.starved_seconds = starved_for(self.starved_seconds, stuck, self.is_short(), news);
         self.starved_seconds >= STARVED_SECONDS_MOST

@@ -232,6 +232,9 @@ impl<'a, L: Ledger, S: System, R: Host + Wait + Clock> SocketSource<'a, L, S, R>
             self.left = self.left.saturating_sub(1);
             if let Some(held) = self.links.get_mut(key) {
                 self.last = Some(key);
+                if self.shared.short.load(Ordering::SeqCst) {
+                    held.link.refuse_part();
+                }
                 return Some(held.link.tell(key));
             }
         }

@@ -16,6 +16,7 @@ use std::rt::Clock;
 use std::sync::Wait;
 use std::sync::ledger::{Blank, Ledger};
 use std::test::Fail;
+use std::thread::Threads;
 use std::time::Duration;
 use std::{fs, thread};
 
@@ -178,27 +179,25 @@ fn a_file_that_waits_for_the_one_before_it_is_not_full(rt: HostRuntime) -> Resul
     Ok(())
 }
 
-/// How long who waits for the end of a recording does so that ends a moment later.
-fn waited_for_end(rt: &HostRuntime, queue: &RecordQueue) -> Option<Duration> {
-    let before = rt.monotonic().ok()?;
-    let (_, is_written) = thread::join(
-        rt,
-        || {
-            thread::sleep(rt, Duration::from_millis(100));
-            queue.close(rt);
-            write_recording(rt, rt.alloc(), queue, "none", 93)
-        },
-        || queue.is_written(rt, Duration::from_secs(10)),
-    );
-    let waited = rt.monotonic().ok()?.saturating_sub(before);
-    is_written.then_some(waited)
+/// Ends a recording to which nothing is put, after a moment.
+fn end_late<R: Files<File = File> + Wait + Clock>(rt: &R, alloc: Global, queue: &RecordQueue) {
+    thread::sleep(rt, Duration::from_millis(100));
+    write_recording(rt, alloc, queue, "none", 93);
 }
 
 #[test]
 fn who_waits_for_the_end_of_a_recording_is_told_at_once(rt: HostRuntime) -> Result<(), Fail> {
-    let queue = RecordQueue::new(rt.alloc());
-    let waited = waited_for_end(&rt, &queue).unwrap_or(Duration::MAX);
-    assert!(rt; waited < Duration::from_secs(5));
+    let (alloc, patience) = (rt.alloc(), Duration::from_secs(10));
+    let queue = RecordQueue::new(alloc);
+    queue.close(&rt);
+    let before = rt.monotonic()?;
+    let (_, is_written) = thread::join(
+        &rt,
+        || end_late(&rt, alloc, &queue),
+        || queue.is_written(&rt, patience),
+    );
+    let waited = rt.monotonic()?.saturating_sub(before);
+    assert!(rt; is_written && waited < Duration::from_secs(5));
     Ok(())
 }
 

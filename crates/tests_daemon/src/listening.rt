@@ -1,13 +1,14 @@
 //! Where a daemon listens: at the IPv6 addresses beside its own, and over sockets that are handed over to it.
 use crate::daemon::{is_answered, settings_at};
-use portmap_daemon::{HandedFault, RunEnd, RunFault, beside, handed_over, run, run_over};
+use portmap_daemon::{HandedFault, beside, handed_over, run, run_over};
 use portmap_testing::bytes::{ALIVE_A, KILL, NOT_FOUND, PORT_A};
+use std::alloc::Global;
 use std::fs::File;
-use std::io::{Read, Write};
+use std::io::{ErrorKind, Read, Write};
 use std::net::{IpAddr, Ipv4Addr, Ipv6Addr, TcpListener, TcpStream};
 use std::os::fd::IntoRawFd;
 use std::test::Fail;
-use std::thread;
+use std::{io, thread};
 
 /// Ports of these tests alone. The second is 0x386E.
 const PORT: u16 = 14_445;
@@ -71,14 +72,12 @@ fn socket(rt: &HostRuntime) -> Result<TcpListener, Fail> {
     }
 }
 
-/// How a daemon ends that serves over a socket, and which was set to another port.
-fn served(rt: &HostRuntime, socket: &TcpListener) -> Result<Result<RunEnd, RunFault>, Fail> {
-    let settings = settings_at(rt.alloc(), 1, 60, 2, None)?;
-    let number = socket.try_clone()?.into_raw_fd();
-    let Ok(listening) = handed_over(rt.alloc(), number, 1) else {
-        return Err(Fail);
-    };
-    Ok(run_over(rt, rt.alloc(), settings, listening))
+/// A socket as it is handed over.
+fn handed(alloc: Global, socket: &TcpListener) -> io::Result<Vec<TcpListener>> {
+    match handed_over(alloc, socket.try_clone()?.into_raw_fd(), 1) {
+        Ok(listening) => Ok(listening),
+        Err(_) => Err(io::Error::from(ErrorKind::InvalidInput)),
+    }
 }
 
 /// Whether a daemon over the socket tells its port as its own, a peer of this host registers, and it ends.
@@ -92,10 +91,18 @@ fn is_served(rt: &HostRuntime) -> bool {
 /// The first one has left the socket as it was.
 #[test]
 fn who_connects_between_two_daemons_is_served_by_the_second(rt: HostRuntime) -> Result<(), Fail> {
+    let alloc = rt.alloc();
     let socket = socket(&rt)?;
     for _ in 0..2u32 {
-        let (told, ended) = thread::join(&rt, || is_served(&rt), || served(&rt, &socket));
-        assert!(rt; told && ended?.is_ok());
+        // It is set to another port.
+        let settings = settings_at(alloc, 1, 60, 2, None)?;
+        let listening = handed(alloc, &socket)?;
+        let (told, ended) = thread::join(
+            &rt,
+            || is_served(&rt),
+            || run_over(&rt, alloc, settings, listening),
+        );
+        assert!(rt; told && ended.is_ok());
     }
     Ok(())
 }

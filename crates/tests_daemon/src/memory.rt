@@ -2,7 +2,9 @@
 use crate::clocks::{Pushed, Pushing};
 use crate::daemon::{is_answered, registered, settings_at};
 use portmap_daemon::{RunFault, run};
-use portmap_testing::bytes::{NOT_FOUND, PORT_A};
+use portmap_testing::bytes::{ALIVE_A, NOT_FOUND, PORT_A};
+use portmap_testing::peers::sent;
+use std::io::{Read, Write};
 use std::net::{Ipv4Addr, Net, TcpStream};
 use std::rt::Clock;
 use std::sync::atomic::Ordering;
@@ -33,11 +35,21 @@ fn has_begun<R: Clock>(rt: &R, host: &Pushing) -> bool {
     false
 }
 
+/// Whether a registration is answered that comes in two pieces.
+fn is_taken_in_two<R: Net<Stream = TcpStream> + Clock>(rt: &R) -> Option<bool> {
+    let (front, rest) = ALIVE_A.split_at(4);
+    let mut stream = sent(rt, PORT, front)?;
+    thread::sleep(rt, Duration::from_millis(LOOK));
+    let is_sent = stream.write_all(rest).is_ok();
+    Some(is_sent && stream.read_exact(&mut [0; 6]).is_ok())
+}
+
 /// Memory can be had again, but that which is kept for want of it is not yet: whether a look-up is answered then, and no name registered.
 fn is_spared<R: Net<Stream = TcpStream> + Clock>(rt: &R, host: &Pushing) -> Option<bool> {
     host.is_short.store(false, Ordering::SeqCst);
     let is_answered = is_answered(rt, PORT, PORT_A, NOT_FOUND)?;
-    Some(is_answered && registered(rt, PORT).is_none())
+    let is_taken = registered(rt, PORT).is_some() || is_taken_in_two(rt)?;
+    Some(is_answered && !is_taken)
 }
 
 /// Whether a name is registered, once the next second is over.
