@@ -20,9 +20,9 @@ mod listening;
 #[cfg(test)]
 mod memory;
 #[cfg(test)]
-mod mio;
-#[cfg(test)]
 mod places;
+#[cfg(test)]
+mod polls;
 #[cfg(test)]
 mod recordings;
 #[cfg(test)]
