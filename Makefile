@@ -84,7 +84,7 @@ bench: build/epmd
 # A first look, in minutes: compiles and runs the tests and the stories with nothing proved. Not those of the daemon: unproved, a byte
 # costs a hundred times as much, and a client of theirs runs into its timeout.
 quick:
-	@for crate in tests_machine tests_book tests_client tests_record epmd; do \
+	@for crate in tests_machine tests_book tests_client epmd; do \
 	    echo "$$crate, with nothing proved:"; (cd crates/$$crate && rt try --test) || exit 1; done
 	@echo "stories, with nothing proved:"; cd crates/stories && rt try -- $$(grep -v ^large args | sed s,^,data/,)
 

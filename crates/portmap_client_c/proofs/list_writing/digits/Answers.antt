@@ -13,4 +13,5 @@ returns-clause-exact c = omega (arith, c.loop-rest.invariant, one_digit c.loop-r
 
 pub returns-clause-most : goal.returns-clause-most
 returns-clause-most c =
-    omega (arith, c.loop-rest.invariant, one_digit c.loop-rest.rest (omega (arith, c.loop-rest-test.false)), port_digits c.args.port (omega (arith, c.ranges.port)))
+    let last = one_digit c.loop-rest.rest (omega (arith, c.loop-rest-test.false)) in
+    omega (arith, c.loop-rest.invariant, last, port_digits c.args.port (omega (arith, c.ranges.port)))

@@ -1,2 +1,0 @@
-//! What no story shows of recorded sessions: nothing now.
-#![tactic(auto)]
