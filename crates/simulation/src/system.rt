@@ -6,7 +6,7 @@ use std::alloc::Global;
 use std::cell::{RefCell, RefMut};
 use std::io;
 use std::io::{ErrorKind, Read, Write};
-use std::net::{IpAddr, Ipv4Addr};
+use std::net::{IpAddr, Ipv4Addr, Ipv6Addr};
 use std::rc::Rc;
 use std::rt::Clock;
 use std::sync::Wait;
@@ -16,6 +16,19 @@ use std::time::Duration;
 const OWN: [u8; 4] = [10, 0, 0, 1];
 
 const OTHER: [u8; 4] = [10, 0, 0, 2];
+
+/// The address of a host as the connection of this number has it: of three one each by IPv4, by IPv4 at a socket of both families, and by IPv6.
+fn address(host: [u8; 4], number: usize) -> IpAddr {
+    let ipv4 = Ipv4Addr::from(host);
+    match number % 3 {
+        0 => IpAddr::V4(ipv4),
+        1 => IpAddr::V6(ipv4.to_ipv6_mapped()),
+        _ => {
+            let [a, b, c, d] = host.map(u16::from);
+            IpAddr::V6(Ipv6Addr::new(0xFD00, 0, 0, 0, a, b, c, d))
+        }
+    }
+}
 
 /// A world that all parts of a daemon share.
 pub type SharedWorld = Rc<RefCell<World>>;
@@ -82,7 +95,7 @@ impl Write for SimStream {
 
 impl Stream for SimStream {
     fn own_ip(&self) -> Option<IpAddr> {
-        Some(IpAddr::V4(Ipv4Addr::from(OWN)))
+        Some(address(OWN, self.number))
     }
 
     fn reset(&mut self) {
@@ -166,12 +179,12 @@ impl System for SimSystem {
         let mut world = borrow(&self.world)?;
         let number = world.accept(self.thread, place)?;
         let is_local = world.wires.get(number).is_some_and(|wire| wire.is_local);
-        let peer = if is_local { OWN } else { OTHER };
+        let peer = address(if is_local { OWN } else { OTHER }, number);
         let stream = SimStream {
             world: shared,
             number,
         };
-        Ok((stream, IpAddr::V4(Ipv4Addr::from(peer))))
+        Ok((stream, peer))
     }
 }
 
