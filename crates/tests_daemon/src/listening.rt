@@ -56,9 +56,10 @@ fn told(rt: &HostRuntime) -> ([Option<bool>; 2], bool) {
 /// Where the host has no IPv6 nobody can be asked there.
 #[test]
 fn a_daemon_of_the_host_serves_its_ipv6_peers_too(rt: HostRuntime) -> Result<(), Fail> {
+    let alloc = rt.alloc();
     let has_ipv6 = TcpListener::bind(&rt, (LOOPBACK_OF_IPV6, 0)).is_ok();
-    let settings = settings_at(rt.alloc(), PORT, 60, 2, None)?;
-    let (ended, told) = thread::join(&rt, || run(&rt, rt.alloc(), settings), || told(&rt));
+    let settings = settings_at(alloc, PORT, 60, 2, None)?;
+    let (ended, told) = thread::join(&rt, || run(&rt, alloc, settings), || told(&rt));
     assert_eq!(rt; told, ([has_ipv6.then_some(true); 2], true));
     assert!(rt; ended.is_ok());
     Ok(())

@@ -122,7 +122,7 @@ fn is_full_of(rt: &HostRuntime, port: u16, count: usize) -> Option<bool> {
     }
     drop(stream);
     let is_last = system.poll(PATIENCE) && system.report(count).is_none();
-    system.report(count - 1)?;
+    system.report(count.checked_sub(1)?)?;
     is_last.then_some(system.is_full())
 }
 
