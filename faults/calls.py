@@ -13,6 +13,7 @@ AT_ONCE = 8  # So many daemons are tried at a time.
 PART = 16  # So many places are tried before it is looked whether there are more.
 COUNTINGS = 3  # How often the calls are counted. One more or less is made each time.
 SEALED = 1.2  # After so many seconds the log was written out once more.
+RESERVED = 1.2  # No name is registered while the reserve of memory is gone, which is looked for once a second.
 ROOM = 4096  # For what is not sent yet, where a reader takes its time.
 NAMES = [b"%0250d" % i for i in range(40)]
 
@@ -95,8 +96,10 @@ def told_under_fault(case, session, faults):
     return cut
 
 
-def told_after(session):
+def told_after(case, session):
     """What follows without faults, of which nothing is lost."""
+    if case.call == "memory":
+        time.sleep(RESERVED)
     session.cut = 0
     session.list()
     session.register(b"three")
@@ -108,11 +111,11 @@ def told_after(session):
         raise Wrong("afterwards answers are cut")
 
 
-def killed(session, faults):
+def killed(case, session, faults):
     """All leave and the daemon is killed, again where the first time met the fault."""
     if not session.end() and faults.on and session.daemon.ended(0.5) is None:
         faults.on = 0
-        told_after(session)
+        told_after(case, session)
         session.end()
 
 
@@ -131,9 +134,9 @@ def tried(case, faults, daemon, file):
         if faults.refused >= case.run:
             faults.on = 0
         if daemon.runs() and not faults.on:
-            told_after(session)
+            told_after(case, session)
         if daemon.runs():
-            killed(session, faults)
+            killed(case, session, faults)
         how = ended_well(case, daemon, file)
     return f"{'answers cut' if cut else 'all answered'}, {how}"
 

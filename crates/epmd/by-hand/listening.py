@@ -204,13 +204,12 @@ def refused(path):
                     say(ended == wanted, f"{name} as descriptor {2 + len(sockets)}: {ended}:")
     with daemon(path, sockets=[socket_of_both], env={"OF": "1"}) as (_, told):
         say(registers("127.0.0.1", b"one") and told() == "", "sockets of another process are left alone:")
-    with Faults() as faults:
-        for error in CALLS["getsockopt"].split():
+    for error in CALLS["getsockopt"].split():
+        with Faults() as faults:
             faults.refuse("getsockopt", 1, error)
             faults.on = 1
             ended = told_of(path, sockets=[socket_of_both], env=faults.env)
             say(ended == (1, "epmd: descriptor 3 is no listening socket\n"), f"getsockopt {error}: {ended}:")
-            faults.on = 0
     far.close()
 
 
