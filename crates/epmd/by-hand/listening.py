@@ -46,7 +46,7 @@ def registers(address, name, seconds=5.0):
     """Whether a name is registered there. It leaves at once."""
     with made(address) as s:
         s.settimeout(seconds)
-        s.connect((address, PORT))
+        s.connect(socket.getaddrinfo(address, PORT, type=socket.SOCK_STREAM)[0][4])
         s.sendall(framed(alive(name)))
         return (read_most(s, 6) or b"")[:2] == b"v\0"
 
@@ -118,7 +118,9 @@ def other_host(path):
         for words in ("link set lo up", "link set there up", f"addr add {THERE[0]}/24 dev there", f"addr add {THERE[1]}/64 dev there nodad"):
             subprocess.run([*inside, "ip", *words.split()], check=True)
         time.sleep(1.5)
-        say(registers(HERE[0], b"one") and registers(HERE[1], b"one"), "a peer of this host registers by its other addresses:")
+        words = subprocess.run(["ip", "-6", "-o", "addr", "show", "dev", "here", "scope", "link"], capture_output=True, text=True).stdout.split()
+        own = [*HERE, f"{words[3].split('/')[0]}%here"]
+        say(all(registers(address, b"one") for address in own), f"a peer of this host registers by its other addresses: {own}:")
         done = subprocess.run([*inside, sys.executable, __file__, "--from", *HERE], capture_output=True, text=True, timeout=30)
         say(done.stdout.split() == ["listed", "closed"] * 2, f"another host: {done.stdout.split()} {done.stderr[-200:]}:")
         space.kill()
