@@ -1,5 +1,5 @@
 //! The answer to NAMES_REQ, spelled into the caller's buffer. How many bytes it has is reckoned first, which takes no memory.
-ghost use Rattle.std.specs.Prelude.{◌≡◌, ◌*◌, ◌≤◌, ◌^◌, IfOk, decimal, length};
+ghost use Rattle.std.specs.Prelude.{◌≡◌, ◌*◌, ◌≤◌, ◌^◌, IfOk, length};
 ghost use Rattle.std.specs.List.{flat_map};
 ghost use Rattle.portmap_wire.specs.List.{names_line, names_reply};
 ghost use Rattle.portmap_client_c.specs.Writing.{PutsList};
@@ -7,32 +7,19 @@ ghost use Rattle.portmap_client_c.specs.Writing.{PutsList};
 use crate::lists::HEAD;
 use crate::status::{EPMD_BUFFER_TOO_SMALL, EPMD_NO_MEMORY};
 use crate::writing::put;
+use itoa::Buffer;
 use portmap_wire::{Line, NAMES_LINE_REST, NoMemory, put_names_line};
 use std::alloc::Global;
 
 /// How many digits `NAMES_LINE_REST` has room for.
 const DIGITS_MOST: usize = 5;
 
-/// How many digits a port has.
-fn digits(port: u16) -> usize
-    ensures exact { result ≡ length (decimal port) }
-    ensures most { result ≤ DIGITS_MOST }
-{
-    let mut count = 1;
-    let mut rest = port;
-    while rest >= 10 {
-        rest /= 10;
-        count += 1;
-    }
-    count
-}
-
 /// How many bytes a line has.
 fn line_size(line: &Line) -> usize
     ensures exact { result ≡ length (names_line line.now) }
     ensures most { result ≤ 1040 }
 {
-    NAMES_LINE_REST - DIGITS_MOST + digits(line.port) + line.name.bytes().len()
+    NAMES_LINE_REST - DIGITS_MOST + Buffer::new().format(line.port).len() + line.name.bytes().len()
 }
 
 /// How many bytes a list of these lines has, behind the port mapper's own port. One that was read has at most 2^24, and no more lines.
