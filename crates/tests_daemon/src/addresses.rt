@@ -1,9 +1,9 @@
 //! The addresses that a daemon listens on.
-use crate::daemon::{is_answered, settings_at};
+use crate::daemon::{is_answered, settings_at, told_at};
 use portmap_daemon::{RunFault, run};
 use portmap_testing::bytes::{KILL, NOT_FOUND, PORT_A};
-use std::io::{ErrorKind, Read, Write};
-use std::net::{Ipv4Addr, TcpStream};
+use std::io::ErrorKind;
+use std::net::IpAddr;
 use std::test::Fail;
 use std::thread;
 
@@ -12,13 +12,9 @@ const PORT: u16 = 14_443;
 
 const TAKEN_PORT: u16 = 14_441;
 
-/// What comes of a look-up at this address of the host: whether it is answered, or why it can't be asked.
+/// What comes of a look-up at this address of the host.
 fn looked_up(rt: &HostRuntime, last: u8) -> Result<bool, ErrorKind> {
-    let address = Ipv4Addr::new(127, 0, 0, last);
-    let mut stream = TcpStream::connect(rt, (address, PORT)).map_err(|error| error.kind())?;
-    let mut reply = [0; 2];
-    let is_read = stream.write_all(PORT_A).is_ok() && stream.read_exact(&mut reply).is_ok();
-    Ok(is_read && reply.as_slice() == NOT_FOUND)
+    told_at(rt, IpAddr::from([127, 0, 0, last]), PORT, PORT_A, NOT_FOUND)
 }
 
 /// What comes of look-ups at three addresses of the host, of which a daemon listens on the first two, and whether it ends then.

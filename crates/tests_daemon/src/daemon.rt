@@ -13,8 +13,8 @@ use portmap_testing::cases::is_so;
 use portmap_testing::peers::{connect, sent};
 use std::alloc::Global;
 use std::fs::File;
-use std::io::{Read, Write};
-use std::net::{Net, TcpStream};
+use std::io::{ErrorKind, Read, Write};
+use std::net::{IpAddr, Net, TcpStream};
 use std::rt::Clock;
 use std::test::Fail;
 use std::time::Duration;
@@ -62,12 +62,30 @@ pub fn is_answered<R: Net<Stream = TcpStream> + Clock>(
     reply: &[u8],
 ) -> Option<bool> {
     let mut stream = sent(rt, port, request)?;
+    let is_same = begins(&mut stream, reply)?;
+    let behind = stream.read(&mut [0; 1]).ok()?;
+    Some(is_same && behind == 0)
+}
+
+/// Whether these bytes, 64 at most, come first; none if fewer come.
+fn begins(stream: &mut TcpStream, reply: &[u8]) -> Option<bool> {
     let mut whole = [0; 64];
     let got = whole.get_mut(..reply.len())?;
     stream.read_exact(got).ok()?;
-    let is_same = *got == *reply;
-    let behind = stream.read(&mut [0; 1]).ok()?;
-    Some(is_same && behind == 0)
+    Some(*got == *reply)
+}
+
+/// What comes of a request to this address of the host: whether it is answered by these bytes at first, or why it can't be asked.
+pub fn told_at(
+    rt: &HostRuntime,
+    ip: IpAddr,
+    port: u16,
+    request: &[u8],
+    reply: &[u8],
+) -> Result<bool, ErrorKind> {
+    let mut stream = TcpStream::connect(rt, (ip, port)).map_err(|error| error.kind())?;
+    let is_asked = stream.write_all(request).is_ok();
+    Ok(is_asked && begins(&mut stream, reply) == Some(true))
 }
 
 /// Whether the request comes to be answered so, within ten seconds.

@@ -1,10 +1,10 @@
 //! Where a daemon listens: at the IPv6 addresses beside its own, and over sockets that are handed over to it.
-use crate::daemon::{is_answered, settings_at};
+use crate::daemon::{is_answered, settings_at, told_at};
 use portmap_daemon::{HandedFault, beside, handed_over, run, run_over};
-use portmap_testing::bytes::{ALIVE_A, KILL, NOT_FOUND, PORT_A};
+use portmap_testing::bytes::{ALIVE_A, KILL, NAMES, NOT_FOUND, PORT_A};
 use std::alloc::Global;
 use std::fs::File;
-use std::io::{ErrorKind, Read, Write};
+use std::io::ErrorKind;
 use std::net::{IpAddr, Ipv4Addr, Ipv6Addr, TcpListener, TcpStream};
 use std::os::fd::IntoRawFd;
 use std::test::Fail;
@@ -15,8 +15,6 @@ const PORT: u16 = 14_445;
 
 const HANDED_PORT: u16 = 14_446;
 
-const NAMES_REQ: &[u8] = &[0x00, 0x01, 0x6E];
-
 const NONE_LISTED: &[u8] = &[0x00, 0x00, 0x38, 0x6E];
 
 /// A registration that was taken.
@@ -25,16 +23,6 @@ const TAKEN: &[u8] = &[0x76, 0x00];
 const LOOPBACK: IpAddr = IpAddr::V4(Ipv4Addr::LOCALHOST);
 
 const LOOPBACK_OF_IPV6: IpAddr = IpAddr::V6(Ipv6Addr::LOCALHOST);
-
-/// Whether a request to this address of the host is answered by these bytes at first; none if nobody can be asked there.
-fn begins(rt: &HostRuntime, ip: IpAddr, port: u16, request: &[u8], reply: &[u8]) -> Option<bool> {
-    let mut stream = TcpStream::connect(rt, (ip, port)).ok()?;
-    stream.write_all(request).ok()?;
-    let mut whole = [0; 8];
-    let got = whole.get_mut(..reply.len())?;
-    stream.read_exact(got).ok()?;
-    Some(*got == *reply)
-}
 
 #[test]
 fn beside_an_ipv4_address_stands_one_of_ipv6(rt: HostRuntime) -> Result<(), Fail> {
@@ -47,8 +35,8 @@ fn beside_an_ipv4_address_stands_one_of_ipv6(rt: HostRuntime) -> Result<(), Fail
 /// What comes of a look-up and of a registration at the host's IPv6 address, and whether the daemon at 127.0.0.1 ends then.
 fn told(rt: &HostRuntime) -> ([Option<bool>; 2], bool) {
     let is_up = is_answered(rt, PORT, PORT_A, NOT_FOUND) == Some(true);
-    let looked_up = begins(rt, LOOPBACK_OF_IPV6, PORT, PORT_A, NOT_FOUND);
-    let registered = begins(rt, LOOPBACK_OF_IPV6, PORT, ALIVE_A, TAKEN);
+    let looked_up = told_at(rt, LOOPBACK_OF_IPV6, PORT, PORT_A, NOT_FOUND).ok();
+    let registered = told_at(rt, LOOPBACK_OF_IPV6, PORT, ALIVE_A, TAKEN).ok();
     let has_ended = is_answered(rt, PORT, KILL, b"OK") == Some(true);
     ([looked_up, registered], is_up && has_ended)
 }
@@ -83,10 +71,10 @@ fn handed(alloc: Global, socket: &TcpListener) -> io::Result<Vec<TcpListener>> {
 
 /// Whether a daemon over the socket tells its port as its own, a peer of this host registers, and it ends.
 fn is_served(rt: &HostRuntime) -> bool {
-    let is_listed = begins(rt, LOOPBACK, HANDED_PORT, NAMES_REQ, NONE_LISTED);
-    let is_taken = begins(rt, LOOPBACK, HANDED_PORT, ALIVE_A, TAKEN);
-    let has_ended = begins(rt, LOOPBACK, HANDED_PORT, KILL, b"OK");
-    [is_listed, is_taken, has_ended] == [Some(true); 3]
+    let is_listed = told_at(rt, LOOPBACK, HANDED_PORT, NAMES, NONE_LISTED);
+    let is_taken = told_at(rt, LOOPBACK, HANDED_PORT, ALIVE_A, TAKEN);
+    let has_ended = told_at(rt, LOOPBACK, HANDED_PORT, KILL, b"OK");
+    [is_listed, is_taken, has_ended] == [Ok(true); 3]
 }
 
 /// The first one has left the socket as it was.
