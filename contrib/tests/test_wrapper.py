@@ -7,8 +7,16 @@ import unittest
 
 WRAPPER = os.path.join(os.path.dirname(os.path.abspath(__file__)), "..", "epmd")
 
-# Notes its words. With -names it ends well once it is up; else it says what it is told to say, and ends or stays.
+# Tells the place of a word that it does not know, does nothing with -once in front, and notes its words. With -names it ends well once it is
+# up; else it says what it is told to say, and ends or stays.
 STAND_IN = """#!/bin/sh
+place=0
+for word in "$@"; do
+    case $word in -bogus | *.300) echo "epmd: bad word $place" >&2; exit 2 ;; esac
+    place=$((place + 1))
+done
+if [ "$ERL_EPMD_PORT" = x ]; then echo "epmd: bad port in environment" >&2; exit 2; fi
+if [ "$1" = -once ]; then exit 0; fi
 echo "$@" >> "$FOLDER/words"
 for word in "$@"; do
     if [ "$word" = -names ]; then [ -e "$FOLDER/up" ]; exit; fi
@@ -45,17 +53,80 @@ class Wrapper(unittest.TestCase):
         self.assertEqual(self.words(), ["-port 5000 -stop a b"])
 
     def test_its_status_and_its_line_are_those_of_the_program(self):
-        done = self.call(FAILS="bad word 0")
-        self.assertEqual((done.returncode, done.stderr), (3, "epmd: bad word 0\n"))
+        for words in ([], ["-kill"]):
+            done = self.call(*words, FAILS="out of memory")
+            self.assertEqual((done.returncode, done.stderr), (3, "epmd: out of memory\n"))
+
+    def refused(self, line, *words, **env):
+        done = self.call(*words, **env)
+        self.assertEqual((done.returncode, done.stdout, done.stderr), (2, "", f"epmd: {line}\n"))
+        self.assertFalse(os.path.exists(os.path.join(self.folder, "words")))
+
+    def test_a_bad_word_is_told_itself_at_its_place(self):
+        self.refused("bad word 1: -bogus", "-d", "-bogus")
+        self.refused("bad word 1: -bogus", "-d", "-bogus", ERL_EPMD_ADDRESS="10.0.0.5")
+        self.refused("bad word 0: -bogus", "-bogus", "-daemon")
+        self.refused("bad word 2: -bogus", "-port", "1", "-bogus", "-names")
+        self.refused("bad word 1: -bogus", "-names", "-bogus", ERL_EPMD_ADDRESS="10.0.0.5")
+
+    def test_what_is_bad_in_the_environment_is_told(self):
+        self.refused("bad address in environment: 10.0.0.300", "-d", ERL_EPMD_ADDRESS="10.0.0.300")
+        for words in ([], ["-names"]):
+            self.refused("bad port in environment: x", *words, ERL_EPMD_PORT="x")
+
+    def handed(self, *words, **env):
+        """What it says and calls where sockets are handed over to it."""
+        call = ["sh", "-c", 'LISTEN_PID=$$ exec "$@"', "sh", WRAPPER, *words]
+        done = subprocess.run(call, capture_output=True, text=True, timeout=30, env=self.env(LISTEN_FDS="1", **env))
+        self.assertEqual((done.returncode, done.stdout), (0, ""))
+        return done.stderr, self.words()
+
+    def test_with_sockets_that_are_handed_over_it_serves_whatever_the_words(self):
+        self.assertEqual(self.handed("-systemd", "-d", "-bogus"), ("epmd: bad word 1: -bogus: no option counts\n", [""]))
+        self.assertEqual(self.handed("-d", ERL_EPMD_PORT="x"), ("epmd: bad port in environment: x: no option counts\n", ["", ""]))
+        self.assertEqual(self.handed("-d"), ("", ["", "", "-d"]))
+
+    def left(self, name, count=38):
+        with open(os.path.join(self.folder, name), "wb") as file:
+            file.write(bytes(count))
+        os.utime(os.path.join(self.folder, name), (0, 1000000000))
+
+    def files(self):
+        return sorted(name for name in os.listdir(self.folder) if name.startswith("session"))
+
+    def test_a_service_keeps_what_the_run_before_has_recorded(self):
+        words = ["-record", "other", "-record", os.path.join(self.folder, "session")]
+        self.handed(*words)
+        self.assertEqual(self.files(), [])
+        for name in ("session", "session.1", "session.12"):
+            self.left(name)
+        self.handed(*words)
+        first = [f"session-20010909T014640Z{number}" for number in ("", ".1", ".12")]
+        self.assertEqual(self.files(), first)
+        self.left("session.3")
+        self.call("-systemd", *words)
+        self.assertEqual(self.files(), first + ["session-20010909T014640Za.3"])
+
+    def test_a_recording_without_an_entry_is_not_kept_nor_one_of_no_service(self):
+        self.left("session", count=37)
+        words = ["-record", os.path.join(self.folder, "session")]
+        self.handed(*words)
+        self.left("session")
+        self.call(*words)
+        self.assertEqual(self.files(), ["session"])
+        os.remove(os.path.join(self.folder, "session"))
+        os.mkfifo(os.path.join(self.folder, "session"))
+        self.handed(*words)
+        self.assertEqual(self.files(), ["session"])
 
     def test_addresses_of_the_environment_are_passed_on(self):
         self.call("-port", "1", ERL_EPMD_ADDRESS="10.0.0.5,10.0.0.6")
         self.assertEqual(self.words(), ["-address 127.0.0.1,10.0.0.5,10.0.0.6 -port 1"])
 
-    def test_addresses_of_IPv6_are_left_out_aloud(self):
-        done = self.call(ERL_EPMD_ADDRESS="::1,10.0.0.5")
-        self.assertEqual(self.words(), ["-address 127.0.0.1,10.0.0.5"])
-        self.assertEqual(done.stderr, "epmd: only IPv4: ::1 of ERL_EPMD_ADDRESS is left out\n")
+    def test_addresses_of_IPv6_are_left_out_aloud_but_for_those_that_come_with_others(self):
+        done = self.call(ERL_EPMD_ADDRESS="fd09::1,::1,10.0.0.5,::")
+        self.assertEqual(self.words(), ["-address 127.0.0.1,10.0.0.5,0.0.0.0"])
+        self.assertEqual(done.stderr, "epmd: fd09::1 of ERL_EPMD_ADDRESS is left out\n")
 
     def test_where_only_those_are_given_it_listens_on_loopback(self):
         self.call(ERL_EPMD_ADDRESS="::1")
@@ -69,8 +140,18 @@ class Wrapper(unittest.TestCase):
         self.assertTrue(0.4 < time.monotonic() - began < 4)
 
     def test_a_daemon_that_fails_is_told(self):
-        done = self.call("-daemon", FAILS="cannot listen on 0.0.0.0:4369")
-        self.assertEqual((done.returncode, done.stderr), (3, "epmd: cannot listen on 0.0.0.0:4369\n"))
+        for folder in (self.folder, "/none"):
+            done = self.call("-daemon", FAILS="cannot listen on 0.0.0.0:4369", TMPDIR=folder)
+            self.assertEqual((done.returncode, done.stderr), (3, "epmd: cannot listen on 0.0.0.0:4369\n"))
+
+    def test_where_nothing_can_be_written_its_status_is_told(self):
+        with open(os.path.join(self.folder, "mktemp"), "w") as file:
+            file.write("#!/bin/sh\nexit 1\n")
+        os.chmod(os.path.join(self.folder, "mktemp"), 0o755)
+        path = f"{self.folder}:{os.environ['PATH']}"
+        done = self.call("-daemon", FAILS="polling failed", PATH=path)
+        self.assertEqual((done.returncode, done.stderr), (3, "epmd: the start failed with status 3\n"))
+        self.assertEqual(self.call("-daemon", STAYS="yes", PATH=path).returncode, 0)
 
     def test_where_one_is_up_a_daemon_is_well(self):
         open(os.path.join(self.folder, "up"), "w").close()
@@ -78,8 +159,8 @@ class Wrapper(unittest.TestCase):
         self.assertEqual((done.returncode, done.stderr), (0, ""))
 
     def test_where_the_service_manager_starts_it_it_stays_in_the_foreground(self):
-        done = self.call("-systemd", "-daemon", "-record", "a b", FAILS="bad word 0")
-        self.assertEqual((done.returncode, done.stderr), (3, "epmd: bad word 0\n"))
+        done = self.call("-systemd", "-daemon", "-record", "a b", FAILS="polling failed")
+        self.assertEqual((done.returncode, done.stderr), (3, "epmd: polling failed\n"))
         self.assertEqual(self.words(), ["-record a b"])
 
     def test_the_program_is_the_process_that_the_service_manager_started(self):
@@ -109,8 +190,14 @@ class Wrapper(unittest.TestCase):
     def test_it_tells_its_version_and_its_words(self):
         with open(os.path.join(os.path.dirname(WRAPPER), "..", "VERSION")) as file:
             version = file.read().strip()
-        self.assertEqual(self.call("-version").stdout, f"epmd-proved {version}\n")
-        self.assertIn("-packet_timeout SECONDS", self.call("-help").stdout)
+        for word in ("-version", "--version"):
+            self.assertEqual(self.call(word).stdout, f"epmd-proved {version}\n")
+        for word in ("-help", "--help", "-h"):
+            self.assertIn("-packet_timeout SECONDS", self.call(word).stdout)
+
+    def test_a_command_without_an_output_ends_as_the_program_does(self):
+        done = subprocess.run(["sh", "-c", f"{WRAPPER} -kill >&-"], capture_output=True, text=True, timeout=30, env=self.env(FAILS="is closed"))
+        self.assertEqual((done.returncode, done.stderr), (3, "epmd: is closed\n"))
 
 
 if __name__ == "__main__":
