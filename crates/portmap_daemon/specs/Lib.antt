@@ -6,4 +6,5 @@ pub mod Peers
 pub mod Queue
 pub mod Quota
 pub mod Recording
+pub mod Refused
 pub mod Running

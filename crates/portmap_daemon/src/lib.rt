@@ -11,7 +11,7 @@
 //!   and the simulation.
 //! - Which connections are open is decided by functions over values, each exact (`is_free`, `goes_before`, `spares_local`, `poll_timeout`, `note_poll`,
 //!   `is_held`, `acceptors_without`, `accept_error`, `starved_for`), and so are a link's times (`may_move`, `since_at`, `is_over`), when the log is taken
-//!   out, what waits and when a file is full (`is_due`, `fits`, `is_full`), what the operator is told (`accept_notice`, `fault_of`, `has_recorded`), where
+//!   out, what waits and when a file is full (`is_due`, `fits`, `is_full`), what the operator is told (`notice`, `Refused`, `fault_of`, `has_recorded`), where
 //!   a socket listens (`address_at`) and what a poll reports (`report_of`). That they are asked: tests and the simulation.
 //! - `System`, `Stream`, `Wake`: what workers ask of the system. Nothing is asked of who answers but that a read or a write moves no more bytes than
 //!   there is room for.
@@ -41,6 +41,7 @@ mod queue;
 mod quota;
 mod recorder;
 mod recording;
+mod refused;
 mod serving;
 mod shared;
 mod socket_source;
@@ -60,6 +61,7 @@ pub use crate::peer::is_local_peer;
 pub use crate::queue::{Beginning, Part, RecordQueue};
 pub use crate::recorder::{Recorder, recordings_are_fronts, recordings_are_records};
 pub use crate::recording::{RecordWriter, write_recording};
+pub use crate::refused::Refused;
 pub use crate::serving::{Outcome, Worker, serve};
 pub use crate::shared::{Shared, WorkerState};
 pub use crate::socket_source::{SocketSource, Sockets};

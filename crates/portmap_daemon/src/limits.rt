@@ -142,7 +142,7 @@ pub(crate) const STARVED_SECONDS_MOST: u32 = 5;
 /// memory is short.
 pub(crate) const FIRST_BYTES: usize = 64;
 
-/// Between two notices that no connection can be accepted so many seconds pass at least.
+/// Between two notices of a kind, that no connection can be accepted or that names were refused, so many seconds pass at least.
 pub(crate) const NOTICE_SECONDS: u32 = 10;
 
 /// A law: the numbers that definitions take from the code are those of this profile.

@@ -8,6 +8,9 @@ use std::alloc::Global;
 /// A file goes on for a second or two once it is full. What comes in these takes no more bytes, also where each place is taken and used.
 const BEHIND_BYTES: u64 = 36_000;
 
+/// What a node is told whose name is in use begins so.
+const IN_USE: &[u8] = b"v\x01";
+
 /// What each connection was told, by the log.
 #[derive(Drop)]
 struct Told {
@@ -17,6 +20,8 @@ struct Told {
     told: Vec<Vec<u8>>,
     /// How many were opened.
     opened: usize,
+    /// How many registrations were refused since their names are in use.
+    in_use: u64,
 }
 
 impl Told {
@@ -38,6 +43,9 @@ impl Told {
                         self.told.push(Vec::new(alloc)).ok()?;
                     }
                     self.told.get_mut(*number)?.extend_from_slice(reply).ok()?;
+                }
+                if reply.starts_with(IN_USE) {
+                    self.in_use = self.in_use.saturating_add(1);
                 }
             }
             Entry::Closed { slot } | Entry::Faulted { slot } => {
@@ -188,6 +196,7 @@ pub fn judge(
         slots: Vec::new(alloc),
         told: Vec::new(alloc),
         opened: 0,
+        in_use: 0,
     };
     for file in &world.files {
         if has_failed && file.is_empty() {
@@ -208,6 +217,9 @@ pub fn judge(
     }
     if next != acts {
         return Some(Some("acts are missing in the recording"));
+    }
+    if world.notices.in_use_told > told.in_use {
+        return Some(Some("the operator is told of names that were not refused"));
     }
     Some(told.find(world, opened))
 }

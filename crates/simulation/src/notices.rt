@@ -1,23 +1,69 @@
 //! What the operator is told.
 use crate::people::Wrong;
 
-/// Between two notices that no connection can be accepted so much time passes at least: ten seconds, but for a part of a millisecond.
+/// Between two notices of a kind so much time passes at least: ten seconds, but for a part of a millisecond.
 const NOTICE_US: u64 = 9_999_000;
 
 /// What has happened is told within this time.
 const NEWS_US: u64 = 5_000_000;
 
-/// What was refused to the daemon, and what the operator was told of that. Times are in microseconds.
+/// Notices of a kind. Times are in microseconds.
+#[derive(Clone, Copy, Debug, PartialEq, Eq)]
+struct Telling {
+    /// Since when there is something to tell.
+    untold_since: Option<u64>,
+    /// When the operator was told last.
+    told_at: Option<u64>,
+}
+
+impl Telling {
+    /// Whether nothing was told yet, nor is to be.
+    fn new() -> Telling {
+        Telling {
+            untold_since: None,
+            told_at: None,
+        }
+    }
+
+    /// From when on the next one may come.
+    fn free_at(&self) -> u64 {
+        self.told_at.map_or(0, |at| at.saturating_add(NOTICE_US))
+    }
+
+    /// From this time on, or from when it may be, there is something to tell.
+    fn note(&mut self, now: u64) {
+        if self.untold_since.is_none() {
+            self.untold_since = Some(now.max(self.free_at()));
+        }
+    }
+
+    /// The operator is told. Whether it may be.
+    fn tell(&mut self, now: u64) -> bool {
+        let is_free = self.free_at() <= now;
+        self.told_at = Some(now);
+        self.untold_since = None;
+        is_free
+    }
+
+    /// Whether the operator should have been told by now.
+    fn is_late(&self, now: u64) -> bool {
+        self.untold_since
+            .is_some_and(|since| now > since.saturating_add(NEWS_US))
+    }
+}
+
+/// What was refused to the daemon or by it, and what the operator was told of that. Times are in microseconds.
 #[derive(Clone, Copy, Debug, PartialEq, Eq)]
 pub struct Notices {
     /// How often it was told that the recording has failed.
     pub failed: u32,
     /// When a connection, a listener or memory was refused last.
     refused_at: u64,
-    /// Since when it is to be told that no connection can be accepted.
-    untold_since: Option<u64>,
-    /// When that was told last.
-    told_at: Option<u64>,
+    /// That no connection can be accepted.
+    accept: Telling,
+    /// That names are in use, and of how many such refusals it was told.
+    in_use: Telling,
+    pub in_use_told: u64,
     wrong: Option<Wrong>,
 }
 
@@ -27,16 +73,11 @@ impl Notices {
         Notices {
             failed: 0,
             refused_at: 0,
-            untold_since: None,
-            told_at: None,
+            accept: Telling::new(),
+            in_use: Telling::new(),
+            in_use_told: 0,
             wrong: None,
         }
-    }
-
-    /// Whether it was told within ten seconds that no connection can be accepted.
-    fn is_quiet(&self, now: u64) -> bool {
-        self.told_at
-            .is_some_and(|at| now < at.saturating_add(NOTICE_US))
     }
 
     /// Memory is refused: if a connection isn't accepted for that, it may be told.
@@ -47,31 +88,42 @@ impl Notices {
     /// A connection can't be accepted, or a listener not be watched: that is told, unless it just was.
     pub fn note_unaccepted(&mut self, now: u64) {
         self.note_refused(now);
-        if self.untold_since.is_none() && !self.is_quiet(now) {
-            self.untold_since = Some(now);
+        if self.accept.free_at() <= now {
+            self.accept.note(now);
         }
     }
 
     /// It is told that no connection can be accepted.
     pub fn tell_unaccepted(&mut self, now: u64) {
-        if self.is_quiet(now) {
-            self.wrong = Some("the operator is told twice within ten seconds");
-        }
         if now > self.refused_at.saturating_add(NEWS_US) {
             self.wrong = Some("the operator is told of what has not happened");
         }
-        self.told_at = Some(now);
-        self.untold_since = None;
+        if !self.accept.tell(now) {
+            self.wrong = Some("the operator is told twice within ten seconds");
+        }
+    }
+
+    /// A node has heard that its name is in use.
+    pub fn note_in_use(&mut self, now: u64) {
+        self.in_use.note(now);
+    }
+
+    /// It is told that so many names were refused.
+    pub fn tell_in_use(&mut self, now: u64, count: u64) {
+        self.in_use_told = self.in_use_told.saturating_add(count);
+        if !self.in_use.tell(now) {
+            self.wrong = Some("the operator is told of names twice within ten seconds");
+        }
     }
 
     /// What is wrong about what was told by now.
     pub fn judge(&self, now: u64) -> Option<Wrong> {
-        let is_untold = self
-            .untold_since
-            .is_some_and(|since| now > since.saturating_add(NEWS_US));
-        if is_untold {
-            return Some("the operator is not told of what can't be accepted");
+        if self.accept.is_late(now) {
+            Some("the operator is not told of what can't be accepted")
+        } else if self.in_use.is_late(now) {
+            Some("the operator is not told that a name is in use")
+        } else {
+            self.wrong
         }
-        self.wrong
     }
 }

@@ -483,6 +483,10 @@ impl Person {
             Some(wire) => wire.received.get(1).copied(),
             None => None,
         };
+        let is_node = matches!(self.role, Role::Node | Role::Talker | Role::Rival);
+        if is_node && result == Some(1) {
+            world.notices.note_in_use(world.now);
+        }
         match self.role {
             Role::Node | Role::Talker if result == Some(0) => {
                 tally.registrations = tally.registrations.saturating_add(1);

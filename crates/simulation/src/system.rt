@@ -1,7 +1,7 @@
 //! The world as a daemon's system: its streams, its polls, its clock and its disk.
 use crate::weather::Fault;
 use crate::world::{LISTENERS, World};
-use portmap_daemon::{Host, Interest, Notice, RecordFile, Report, Stream, System, Wake};
+use portmap_daemon::{Host, Interest, Notice, RecordFile, Refused, Report, Stream, System, Wake};
 use std::alloc::Global;
 use std::cell::{RefCell, RefMut};
 use std::io;
@@ -291,6 +291,13 @@ impl<R: Wait + Drop> Host for SimHost<R> {
                     world.notices.tell_unaccepted(now);
                 }
             }
+        }
+    }
+
+    fn tell_refused(&self, _alloc: Global, refused: &Refused) {
+        if let Ok(mut world) = self.world.try_borrow_mut() {
+            let now = world.now;
+            world.notices.tell_in_use(now, refused.count());
         }
     }
 

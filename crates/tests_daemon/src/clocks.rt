@@ -1,5 +1,5 @@
 //! A clock that a test pushes forward.
-use portmap_daemon::{Host, Notice};
+use portmap_daemon::{Host, Notice, Refused};
 use std::alloc::{AllocError, Global};
 use std::fs::{File, Files};
 use std::io;
@@ -30,6 +30,8 @@ pub struct Pushing {
     pub asked: AtomicU64,
     /// How often the operator was told that the recording has failed.
     pub told: AtomicU64,
+    /// Of how many refused names it was told.
+    pub refused: AtomicU64,
 }
 
 impl<R: Clock + Copy> Pushed<R> {
@@ -40,6 +42,7 @@ impl<R: Clock + Copy> Pushed<R> {
             is_short: AtomicBool::new(false),
             asked: AtomicU64::new(0),
             told: AtomicU64::new(0),
+            refused: AtomicU64::new(0),
         };
         let shared = Arc::new(alloc, pushing)?;
         Ok(Pushed { rt, shared })
@@ -120,6 +123,12 @@ impl<R: Clock + Files<File = File>> Host for Pushed<R> {
         if notice == Notice::RecordingFailed {
             self.shared.told.fetch_add(1, Ordering::SeqCst);
         }
+    }
+
+    fn tell_refused(&self, _alloc: Global, refused: &Refused) {
+        self.shared
+            .refused
+            .fetch_add(refused.count(), Ordering::SeqCst);
     }
 
     fn has_memory(&self, _alloc: Global) -> bool {

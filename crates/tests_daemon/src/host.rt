@@ -1,5 +1,9 @@
 //! The file of a recording as the host makes it, and what an operator reads.
-use portmap_daemon::{Host, Notice, RecordFile};
+use portmap_core::Fate;
+use portmap_daemon::{Host, Notice, RecordFile, Refused};
+use portmap_testing::bytes::{ALIVE_A, ALIVE_B, FOURTH, NOT_FOUND, PORT_A};
+use portmap_testing::entries::{Kept, entry};
+use std::alloc::Global;
 use std::fs;
 use std::fs::{File, Permissions};
 use std::io::Write;
@@ -102,5 +106,47 @@ fn an_operator_reads_one_line(rt: HostRuntime) -> Result<(), Fail> {
         Notice::CannotAccept.line(),
         b"epmd: cannot accept connections\n".as_slice()
     );
+    Ok(())
+}
+
+/// A wide answer and a short one that the name is in use, and one that there is no room for it.
+const IN_USE: &[u8] = &[0x76, 0x01, 0x00, 0x00, 0x00, 0x00];
+
+const IN_USE_SHORT: &[u8] = &[0x79, 0x01, 0x00, 0x00];
+
+const NO_ROOM: &[u8] = &[0x76, 0x02, 0x00, 0x00, 0x00, 0x00];
+
+/// Of these none is refused since its name is in use.
+const OTHERS: &[Kept] = &[
+    Kept::Connected(true, 0),
+    Kept::Piece(0, PORT_A, NOT_FOUND, Fate::Close),
+    Kept::Piece(1, ALIVE_A, FOURTH, Fate::Stay),
+    Kept::Piece(2, ALIVE_B, NO_ROOM, Fate::Close),
+];
+
+/// The end of a registration, and two whole ones.
+const REFUSED: &[Kept] = &[
+    Kept::Piece(3, b"c\0\0", IN_USE, Fate::Close),
+    Kept::Piece(4, ALIVE_A, IN_USE_SHORT, Fate::Close),
+    Kept::Piece(5, ALIVE_B, IN_USE, Fate::Close),
+];
+
+/// Whether so many of these entries count, and this line tells of them.
+fn is_told(alloc: Global, entries: &[Kept], count: u64, line: &[u8]) -> Result<bool, Fail> {
+    let mut refused = Refused::new();
+    for kept in entries {
+        refused.note(alloc, &entry(alloc, kept)?);
+    }
+    Ok(refused.count() == count && refused.line(alloc)?.as_slice() == line)
+}
+
+#[test]
+fn an_operator_reads_of_names_that_are_in_use(rt: HostRuntime) -> Result<(), Fail> {
+    let alloc = rt.alloc();
+    let unknown = &REFUSED[..1];
+    assert!(rt; is_told(alloc, OTHERS, 0, b"epmd: a name is in use\n")?);
+    assert!(rt; is_told(alloc, unknown, 1, b"epmd: a name is in use\n")?);
+    assert!(rt; is_told(alloc, &REFUSED[1..2], 1, b"epmd: name a is in use\n")?);
+    assert!(rt; is_told(alloc, REFUSED, 3, b"epmd: name a is in use, and 2 more\n")?);
     Ok(())
 }

@@ -1,0 +1,28 @@
+-- Registrations that are refused since their names are in use, and what is told of that: profile.
+use Rattle.std.specs.Prelude.{ℕ, ◌≡◌, ◌⊎◌, ◌==◌, List, [], ◌++◌, codes, Option, Some, None, if◌then◌else◌}
+use Rattle.std.specs.Fmt.{decimal}
+use Rattle.portmap_core.specs.Entry.{Entry, Connected, Piece, Closed, Faulted, Late}
+use Rattle.portmap_wire.specs.Reply.{alive_reply}
+use Rattle.portmap_wire.specs.declared.reply_writing.TheConstants.{WIDE_VERSION}
+
+-- result 1, as a short answer or a wide one
+abbrev pub TellsInUse : List ℕ → Type 0
+TellsInUse reply = (reply ≡ alive_reply WIDE_VERSION 1 0) ⊎ (reply ≡ alive_reply 0 1 0)
+
+-- a piece asked to register a name that is in use
+abbrev pub IsInUse : Entry → Type 0
+IsInUse (Connected local slot) = ⊥
+IsInUse (Piece slot bytes reply fate) = TellsInUse reply
+IsInUse (Closed slot) = ⊥
+IsInUse (Faulted slot) = ⊥
+IsInUse (Late slot fate) = ⊥
+
+-- by its name, where that is known
+abbrev pub named : Option (List ℕ) → List ℕ
+named None = codes "a name"
+named (Some name) = codes "name " ++ name
+
+-- the line that tells of the first one, and of so many more
+abbrev pub in_use_line : Option (List ℕ) → ℕ → List ℕ
+in_use_line name more =
+    codes "epmd: " ++ named name ++ codes " is in use" ++ (if more == 0 then [] else codes ", and " ++ decimal more ++ codes " more") ++ codes "\n"
