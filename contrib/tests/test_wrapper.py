@@ -86,10 +86,10 @@ class Wrapper(unittest.TestCase):
         self.assertEqual(self.handed("-d", ERL_EPMD_PORT="x"), ("epmd: bad port in environment: x: no option counts\n", ["", ""]))
         self.assertEqual(self.handed("-d"), ("", ["", "", "-d"]))
 
-    def left(self, name, count=38):
+    def left(self, name, count=38, written=1000000000):
         with open(os.path.join(self.folder, name), "wb") as file:
             file.write(bytes(count))
-        os.utime(os.path.join(self.folder, name), (0, 1000000000))
+        os.utime(os.path.join(self.folder, name), (0, written))
 
     def files(self):
         return sorted(name for name in os.listdir(self.folder) if name.startswith("session"))
@@ -98,8 +98,8 @@ class Wrapper(unittest.TestCase):
         words = ["-record", "other", "-record", os.path.join(self.folder, "session")]
         self.handed(*words)
         self.assertEqual(self.files(), [])
-        for name in ("session", "session.1", "session.12"):
-            self.left(name)
+        for number, name in enumerate(("session", "session.1", "session.12")):
+            self.left(name, written=999999998 + number)
         self.handed(*words)
         first = [f"session-20010909T014640Z{number}" for number in ("", ".1", ".12")]
         self.assertEqual(self.files(), first)
