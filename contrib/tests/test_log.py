@@ -254,6 +254,7 @@ class Told(unittest.TestCase):
         self.addCleanup(running.stderr.close)
         self.addCleanup(running.stdout.close)
         self.assertEqual(running.stderr.readline(), f"epmd-log: {self.path} is not there yet\n")
+        time.sleep(0.5)
         self.write(start() + visit(b"a"))
         self.assertRegex(running.stdout.readline(), f"^{STAMP}1 lookup a ")
         os.rename(self.path, self.path + "-20261128T040632Z")
@@ -313,13 +314,14 @@ class Followed(unittest.TestCase):
         return [f"{event.place} {event.name.decode()}" for event in self.recording.events()]
 
     def test_what_is_not_whole_is_waited_for(self):
-        whole = start() + visit(b"a") + visit(b"b")
+        whole = start(0, [(b"n", 1, 4, 3)], [(b"o", 2, 5)], [(2, 1, 0, b"\0"), (3, 1, 1, b"")]) + visit(b"a") + late(2) + close(3)
         for size in range(len(whole)):
             self.write(whole[:size])
             recording = Recording(self.path, True)
-            first = [event.name for event in recording.events()]
+            first = [event.event for event in recording.events()]
             self.add(whole[size:])
-            self.assertEqual(first + [event.name for event in recording.events()], [b"a", b"b"], size)
+            self.assertEqual(first + [event.event for event in recording.events()], ["lookup", "timeout", "leave"], size)
+            self.assertFalse(recording.is_cut())
             recording.close()
 
     def test_it_waits_for_a_file(self):
@@ -341,7 +343,9 @@ class Followed(unittest.TestCase):
         self.assertEqual(self.seen(), ["4 b"])
         self.add(start(6)[30:] + visit(b"c"), ".1")
         self.write(start(9) + visit(b"d"), ".2")
+        opened = len(os.listdir("/proc/self/fd"))
         self.assertEqual(self.seen(), ["7 c", "10 d"])
+        self.assertEqual(len(os.listdir("/proc/self/fd")), opened)
 
     def test_a_run_that_was_renamed_is_finished_first(self):
         self.write(start() + visit(b"a"))
@@ -369,6 +373,56 @@ class Followed(unittest.TestCase):
         self.assertEqual(self.seen(), [])
         self.add(start() + visit(b"d"))
         self.assertEqual(self.seen(), ["1 d"])
+
+    def test_the_newest_file_is_renamed_before_older_ones(self):
+        for each, name in enumerate((b"a", b"b", b"c")):
+            self.write(start(3 * each) + visit(name), f".{each}" if each else "")
+        self.assertEqual(self.seen(), ["1 a", "4 b", "7 c"])
+        for each in (".2", "", ".1"):
+            self.rename("20261128T040632Z", each)
+            self.assertEqual(self.seen(), [])
+        self.write(start() + visit(b"d"))
+        self.assertEqual(self.seen(), ["1 d"])
+
+    def test_the_open_file_is_renamed_before_the_others(self):
+        self.write(start() + visit(b"a"))
+        self.write(start(3) + visit(b"b"), ".1")
+        self.assertEqual(self.seen(), ["1 a", "4 b"])
+        self.write(start(6) + visit(b"c"), ".2")
+        told = []
+        for each in (".1", "", ".2"):
+            self.rename("20261128T040632Z", each)
+            told += self.seen()
+        self.assertEqual(told, ["7 c"])
+
+    def test_what_comes_between_a_read_and_a_look_is_told(self):
+        self.write(start() + visit(b"a"))
+        self.assertEqual(self.seen(), ["1 a"])
+        self.rename("20261128T040632Z", "")
+        self.write(start() + visit(b"c"))
+        look = self.recording.following
+
+        def late_look():
+            self.recording.following = look
+            self.add(visit(b"b"), "-20261128T040632Z")
+            return look()
+
+        self.recording.following = late_look
+        self.assertEqual(self.seen(), ["4 b", "1 c"])
+
+    def test_a_file_that_is_renamed_between_a_look_and_its_opening_is_looked_for_again(self):
+        self.write(start() + visit(b"a"))
+        look = self.recording.following
+
+        def early_look():
+            self.recording.following = look
+            found = look()
+            self.rename("20261128T040632Z", "")
+            self.write(start() + visit(b"b"))
+            return found
+
+        self.recording.following = early_look
+        self.assertEqual(self.seen() + self.seen() + self.seen(), ["1 b"])
 
     def test_a_run_that_writes_over_the_file_is_told_from_its_beginning(self):
         self.write(start() + visit(b"a") + visit(b"b"))
@@ -428,6 +482,13 @@ class Followed(unittest.TestCase):
         os.remove(self.path)
         self.write(start(70) + visit(b"d"), ".2")
         self.assertEqual(self.seen(), ["4 b", "71 d"])
+
+    def test_the_first_files_of_the_next_run_are_pruned(self):
+        self.write(start() + visit(b"a"))
+        self.assertEqual(self.seen(), ["1 a"])
+        self.rename("20261128T040632Z", "")
+        self.write(start(70) + visit(b"b"), ".3")
+        self.assertEqual(self.seen(), ["71 b"])
 
     def test_a_pruned_run_is_followed_by_one_that_is_not_renamed(self):
         self.write(start(70) + visit(b"a"), ".5")

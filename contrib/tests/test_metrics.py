@@ -10,6 +10,7 @@ import sys
 import tempfile
 import threading
 import unittest
+import unittest.mock
 
 from test_log import FOUND, GRANTED, IN_USE, NO_ROOM, alive, close, connect, late, piece, sized, start, visit
 
@@ -199,6 +200,26 @@ class Counted(unittest.TestCase):
         found = self.given()
         self.assertEqual((found["epmd_recording_counted"][""], found["epmd_lookups_total"]['{result="missing"}']), (0, 3))
 
+    def test_a_run_is_read_to_its_end_over_several_calls(self):
+        self.tool.BYTES_MOST = 100
+        self.write(start() + visit(b"a") * 20)
+        with unittest.mock.patch("epmd_recording.CHUNK", 100):
+            self.given()
+            os.rename(self.path, self.path + "-20261128T040632Z")
+            self.write(start() + visit(b"b"))
+            for _ in range(20):
+                self.given()
+        self.assertEqual(self.lookups(), 21)
+
+    def test_a_long_start_is_read_whole(self):
+        self.tool.BYTES_MOST = 1
+        slots = range(10)
+        self.write(start(0, [(bytes([65 + slot]) * 1000, 1, 4, slot) for slot in slots], (), [(slot, 1, 1, b"") for slot in slots]) + visit(b"a"))
+        with unittest.mock.patch("epmd_recording.CHUNK", 1000):
+            self.given()
+            self.given()
+        self.assertEqual(self.lookups(), 1)
+
     def test_it_goes_on_across_files_and_runs(self):
         self.write(start() + visit(b"a"))
         self.assertEqual(self.lookups(), 1)
@@ -246,7 +267,10 @@ class Counted(unittest.TestCase):
     def test_without_its_state_it_begins_anew(self):
         self.write(start() + visit(b"a"))
         self.assertEqual([self.lookups(), self.lookups()], [1, 1])
-        for state in ("", "{", "[]", '{"format": 0}', json.dumps({"format": 1, "recording": "/another", "counts": {}, "at": None, "was_whole": True})):
+        with open(self.state) as file:
+            kept = json.load(file)
+        kept["counts"]["epmd_lookups_total"]["missing"] = 7
+        for state in ("", "{", "[]", "{}", json.dumps({**kept, "format": 0}), json.dumps({**kept, "recording": "/another"})):
             with open(self.state, "w") as file:
                 file.write(state)
             self.assertEqual(self.lookups(), 1)

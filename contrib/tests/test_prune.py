@@ -42,7 +42,8 @@ class Prune(unittest.TestCase):
             self.assertEqual(self.left(runs, keep), sorted(runs[-keep:]), keep)
 
     def test_earlier_runs_alone(self):
-        self.assertEqual(self.left([DAY + "000000Z.3", DAY + "000001Z"], 1), [DAY + "000001Z"])
+        for keep in (-1, 0, 1):
+            self.assertEqual(self.left([DAY + "000000Z.3", DAY + "000001Z"], keep), [DAY + "000001Z"])
 
     def test_what_a_run_writes_over_an_earlier_one_stays(self):
         self.assertEqual(self.left(["s", "s.1", "s.2", "s.3"], 2, written=["s"]), ["s", "s.3"])
