@@ -310,6 +310,19 @@ class Followed(unittest.TestCase):
         for each in behind:
             os.rename(self.path + each, f"{self.path}-{time}{each}")
 
+    def at_the_next_look(self, before=lambda: None, after=lambda: None):
+        """What happens just before or after it looks which files there are."""
+        look = self.recording.following
+
+        def following():
+            self.recording.following = look
+            before()
+            found = look()
+            after()
+            return found
+
+        self.recording.following = following
+
     def seen(self):
         return [f"{event.place} {event.name.decode()}" for event in self.recording.events()]
 
@@ -343,9 +356,7 @@ class Followed(unittest.TestCase):
         self.assertEqual(self.seen(), ["4 b"])
         self.add(start(6)[30:] + visit(b"c"), ".1")
         self.write(start(9) + visit(b"d"), ".2")
-        opened = len(os.listdir("/proc/self/fd"))
         self.assertEqual(self.seen(), ["7 c", "10 d"])
-        self.assertEqual(len(os.listdir("/proc/self/fd")), opened)
 
     def test_a_run_that_was_renamed_is_finished_first(self):
         self.write(start() + visit(b"a"))
@@ -400,29 +411,15 @@ class Followed(unittest.TestCase):
         self.assertEqual(self.seen(), ["1 a"])
         self.rename("20261128T040632Z", "")
         self.write(start() + visit(b"c"))
-        look = self.recording.following
-
-        def late_look():
-            self.recording.following = look
-            self.add(visit(b"b"), "-20261128T040632Z")
-            return look()
-
-        self.recording.following = late_look
+        self.at_the_next_look(before=lambda: self.add(visit(b"b"), "-20261128T040632Z"))
         self.assertEqual(self.seen(), ["4 b", "1 c"])
 
     def test_a_file_that_is_renamed_between_a_look_and_its_opening_is_looked_for_again(self):
         self.write(start() + visit(b"a"))
-        look = self.recording.following
-
-        def early_look():
-            self.recording.following = look
-            found = look()
-            self.rename("20261128T040632Z", "")
-            self.write(start() + visit(b"b"))
-            return found
-
-        self.recording.following = early_look
-        self.assertEqual(self.seen() + self.seen() + self.seen(), ["1 b"])
+        self.at_the_next_look(after=lambda: (self.rename("20261128T040632Z", ""), self.write(start() + visit(b"b"))))
+        self.assertEqual(self.seen() + self.seen(), ["1 b"])
+        self.at_the_next_look(before=lambda: self.add(visit(b"c")))
+        self.assertEqual(self.seen() + self.seen(), ["4 c"])
 
     def test_a_run_that_writes_over_the_file_is_told_from_its_beginning(self):
         self.write(start() + visit(b"a") + visit(b"b"))
