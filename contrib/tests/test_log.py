@@ -2,6 +2,7 @@
 import json
 import os
 import re
+import shutil
 import signal
 import subprocess
 import sys
@@ -249,6 +250,19 @@ class Told(unittest.TestCase):
         for word in ("usage: epmd-log", "The status is 0", "-json", "-f ", "-n NAME"):
             self.assertIn(word, done.stdout)
 
+    def test_installed_it_finds_what_the_tools_share_and_leaves_nothing_beside_it(self):
+        places = [os.path.join(self.folder.name, *each) for each in (("bin",), ("lib", "epmd-proved"), ("links",))]
+        for place in places:
+            os.makedirs(place)
+        shutil.copy(os.path.join(CONTRIB, "epmd_recording.py"), places[1])
+        for name in ("epmd-log", "epmd-metrics", "epmd-prune"):
+            shutil.copy(os.path.join(CONTRIB, name), places[0])
+            os.symlink(os.path.join(places[0], name), os.path.join(places[2], name))
+            for place in (places[0], places[2]):
+                done = subprocess.run([sys.executable, os.path.join(place, name), "-h"], capture_output=True, text=True, timeout=30)
+                self.assertEqual((done.returncode, done.stderr), (0, ""))
+        self.assertEqual(os.listdir(places[1]), ["epmd_recording.py"])
+
     def test_a_live_recording_is_followed_across_a_restart(self):
         running = subprocess.Popen([sys.executable, LOG, "-f", self.path], stdout=subprocess.PIPE, stderr=subprocess.PIPE, text=True)
         self.addCleanup(running.stderr.close)
@@ -286,16 +300,14 @@ class Told(unittest.TestCase):
         self.assertTrue(re.fullmatch(f"{STAMP}1 register a port 5000 creation 4\n", told))
 
 
-class Followed(unittest.TestCase):
-    """Which files a live recording is read from, look by look. Each write has a later time than the one before."""
+class Written:
+    """Files of a recording, in a folder of their own. Each write has a later time than the one before."""
 
     def setUp(self):
         self.folder = tempfile.TemporaryDirectory()
         self.addCleanup(self.folder.cleanup)
         self.path = os.path.join(self.folder.name, "session")
         self.now = 1_800_000_000
-        self.recording = Recording(self.path, True)
-        self.addCleanup(self.recording.close)
 
     def write(self, data, behind="", how="wb"):
         self.now += 1
@@ -309,6 +321,15 @@ class Followed(unittest.TestCase):
     def rename(self, time, *behind):
         for each in behind:
             os.rename(self.path + each, f"{self.path}-{time}{each}")
+
+
+class Followed(Written, unittest.TestCase):
+    """Which files a live recording is read from, look by look."""
+
+    def setUp(self):
+        super().setUp()
+        self.recording = Recording(self.path, True)
+        self.addCleanup(self.recording.close)
 
     def at_the_next_look(self, before=lambda: None, after=lambda: None):
         """What happens just before or after it looks which files there are."""

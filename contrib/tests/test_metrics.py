@@ -12,7 +12,7 @@ import threading
 import unittest
 import unittest.mock
 
-from test_log import FOUND, GRANTED, IN_USE, NO_ROOM, alive, close, connect, late, piece, sized, start, visit
+from test_log import FOUND, GRANTED, IN_USE, NO_ROOM, Written, alive, close, connect, late, piece, sized, start, visit
 
 HERE = os.path.dirname(os.path.abspath(__file__))
 DUMP = b"\0\0\x11\x11active name     a at port 1, fd = 3\nactive name     b at port 2, fd = 4\nold/unused name c at port 3, fd = -1\n"
@@ -132,25 +132,13 @@ class Metrics(unittest.TestCase):
         played.end()
 
 
-class Counted(unittest.TestCase):
-    """The counters, call by call. Each write has a later time than the one before."""
+class Counted(Written, unittest.TestCase):
+    """The counters, call by call."""
 
     def setUp(self):
-        self.folder = tempfile.TemporaryDirectory()
-        self.addCleanup(self.folder.cleanup)
-        self.path = os.path.join(self.folder.name, "session")
+        super().setUp()
         self.state = os.path.join(self.folder.name, "state")
-        self.now = 1_800_000_000
         self.tool = tool()
-
-    def write(self, data, behind="", how="wb"):
-        self.now += 1
-        with open(self.path + behind, how) as file:
-            file.write(data)
-        os.utime(self.path + behind, (self.now, self.now))
-
-    def add(self, data, behind=""):
-        self.write(data, behind, "ab")
 
     def given(self):
         return {name: values for name, _, _, values in self.tool.counters(self.path, self.state)}
@@ -205,7 +193,7 @@ class Counted(unittest.TestCase):
         self.write(start() + visit(b"a") * 20)
         with unittest.mock.patch("epmd_recording.CHUNK", 100):
             self.given()
-            os.rename(self.path, self.path + "-20261128T040632Z")
+            self.rename("20261128T040632Z", "")
             self.write(start() + visit(b"b"))
             for _ in range(20):
                 self.given()
@@ -227,8 +215,7 @@ class Counted(unittest.TestCase):
         self.write(start(6) + visit(b"c"), ".1")
         self.assertEqual(self.lookups(), 3)
         self.add(visit(b"d"), ".1")
-        for behind in ("", ".1"):
-            os.rename(self.path + behind, f"{self.path}-20261128T040632Z{behind}")
+        self.rename("20261128T040632Z", "", ".1")
         self.assertEqual(self.lookups(), 4)
         self.write(start() + visit(b"e"))
         self.assertEqual(self.lookups(), 5)
