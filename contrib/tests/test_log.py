@@ -1,6 +1,8 @@
-"""What epmd-log tells of recorded bytes, which are put together here as docs/FORMATS.md has them."""
+"""What epmd-log tells of recorded bytes, which are put together here as docs/FORMATS.md has them; and in which order files are read."""
+import json
 import os
 import re
+import shutil
 import signal
 import subprocess
 import sys
@@ -8,7 +10,11 @@ import tempfile
 import time
 import unittest
 
-LOG = os.path.join(os.path.dirname(os.path.abspath(__file__)), "..", "epmd-log")
+CONTRIB = os.path.join(os.path.dirname(os.path.abspath(__file__)), "..")
+sys.path.append(CONTRIB)
+from epmd_recording import Recording
+
+LOG = os.path.join(CONTRIB, "epmd-log")
 STAMP = r"\d{4}-\d\d-\d\dT\d\d:\d\d:\d\dZ "
 
 
@@ -54,6 +60,11 @@ def sized(body):
 
 def alive(name, port):
     return sized(b"x" + number(port, 2) + b"\x4d\0\0\6\0\5" + number(len(name), 2) + name + b"\0\0")
+
+
+def visit(name):
+    """Three entries: a look-up of a name that is not registered, in a connection of its own."""
+    return connect(9) + piece(9, sized(b"z" + name), 1, b"w\1") + close(9)
 
 
 GRANTED = b"v\0" + number(4, 4)
@@ -180,6 +191,92 @@ class Told(unittest.TestCase):
         self.write(start() + WORKER + b"\6")
         self.assertEqual(self.run_log().returncode, 2)
 
+    def test_the_examples_of_the_formats(self):
+        one = """45 50 4D 53 01 00 11 11 00 00 00 02 00 00 00 02 01 01 00 00 00 00 00 00 00 00
+            02 00 00 00 00 00 00 00 00 00 10 00 0E 78 13 88 4D 00 00 06 00 05 00 01 61 00 00 00 00 00 00 06 76 00 00 00 00 04
+            01 01 00 00 00 00 00 00 00 01
+            02 00 00 00 00 00 00 00 01 00 04 00 02 7A 61 01 00 00 00 0F 77 00 13 88 4D 00 00 06 00 05 00 01 61 00 00"""
+        two = """45 50 4D 53 02 00 11 11 00 00 00 02 00 00 00 02 00 00 00 00 00 00 00 02 00 00 00 00 01 00 00 00 00 00 00 00 01
+            13 88 4D 00 00 06 00 05 00 01 61 00 00 00 00 00 04 00 00 00 00 00 00 00 00 00 00 00 00 00 00 00 00 01 01
+            00 00 00 02 03 00 00 00 00 00 00 00 00"""
+        self.assertEqual(self.told(bytes.fromhex(one)), ["1 register a port 5000 creation 4", "3 lookup a by a local peer: port 5000"])
+        self.assertEqual(self.told(bytes.fromhex(two)), ["2 leave a port 5000"])
+
+    def test_each_event_as_json(self):
+        entries = connect(0) + piece(0, alive(b"a", 5000), 0, GRANTED) + connect(1, 0) + piece(1, sized(b"za"), 1, FOUND)
+        entries += connect(2) + piece(2, alive(b"a", 1), 1, IN_USE) + connect(3) + late(3) + close(0, 4)
+        entries += connect(4) + piece(4, sized(b"n"), 1, number(4369, 4)) + connect(5) + piece(5, sized(b"d"), 1, number(4369, 4))
+        entries += connect(6) + piece(6, sized(b"sq"), 1, b"NOEXIST") + connect(7) + piece(7, sized(b"k"), 1, b"NO")
+        entries += connect(8) + piece(8, sized(b"zq"), 1, b"w\1") + connect(9) + piece(9, b"\0\0", 1)
+        self.assertEqual([json.loads(line) for line in self.told(start() + entries, "-json")], [
+            {"place": 1, "event": "register", "name": "a", "port": 5000, "creation": 4, "peer": "local"},
+            {"place": 3, "event": "lookup", "name": "a", "port": 5000, "peer": "remote"},
+            {"place": 5, "event": "refuse", "name": "a", "port": 1, "peer": "local", "reason": "in_use"},
+            {"place": 7, "event": "timeout", "peer": "local"},
+            {"place": 8, "event": "leave", "name": "a", "port": 5000, "peer": "local", "reason": "fault"},
+            {"place": 10, "event": "list", "peer": "local"},
+            {"place": 12, "event": "dump", "peer": "local", "answer": "listed"},
+            {"place": 14, "event": "stop", "name": "q", "peer": "local", "answer": "NOEXIST"},
+            {"place": 16, "event": "kill", "peer": "local", "answer": "NO"},
+            {"place": 18, "event": "lookup", "name": "q", "peer": "local"},
+            {"place": 20, "event": "malformed", "peer": "local", "request": "0000"},
+        ])
+
+    def test_a_name_that_is_no_text_can_be_had_back_from_json(self):
+        line, = self.told(start() + visit(b"\xff\n\x9b"[:1] + "é\u202e".encode() + b"\xfe"), "-json")
+        self.assertTrue(line.isascii())
+        self.assertEqual(bytes.fromhex(json.loads(line)["name_hex"]), b"\xff\xc3\xa9\xe2\x80\xae\xfe")
+        line, = self.told(start() + visit("é\ufffd".encode()), "-json")
+        self.assertEqual(json.loads(line), {"place": 1, "event": "lookup", "name": "é\ufffd", "peer": "local"})
+
+    def test_a_name_that_is_no_text_can_be_asked_for(self):
+        self.write(start() + visit(b"a\xff") + visit(b"a"))
+        done = subprocess.run([sys.executable, LOG, "-n", b"a\xff", self.path], capture_output=True, text=True, timeout=30)
+        self.assertEqual(done.stdout, "1 lookup a\\xff by a local peer: not registered\n")
+
+    def test_it_begins_with_the_oldest_file_that_is_there(self):
+        self.write(start(70) + visit(b"a"), self.path + ".9")
+        self.write(start(73) + visit(b"b"), self.path + ".10")
+        done = self.run_log()
+        self.assertEqual([line.split(" by")[0] for line in done.stdout.splitlines()], ["71 lookup a", "74 lookup b"])
+        self.assertEqual(done.returncode, 0)
+
+    def test_one_that_is_not_there_is_told(self):
+        done = self.run_log()
+        self.assertEqual((done.returncode, done.stderr), (2, f"epmd-log: {self.path}: No such file\n"))
+
+    def test_help_is_whole(self):
+        done = subprocess.run([sys.executable, LOG, "--help"], capture_output=True, text=True, timeout=30)
+        for word in ("usage: epmd-log", "The status is 0", "-json", "-f ", "-n NAME"):
+            self.assertIn(word, done.stdout)
+
+    def test_installed_it_finds_what_the_tools_share_and_leaves_nothing_beside_it(self):
+        places = [os.path.join(self.folder.name, *each) for each in (("bin",), ("lib", "epmd-proved"), ("links",))]
+        for place in places:
+            os.makedirs(place)
+        shutil.copy(os.path.join(CONTRIB, "epmd_recording.py"), places[1])
+        for name in ("epmd-log", "epmd-metrics", "epmd-prune"):
+            shutil.copy(os.path.join(CONTRIB, name), places[0])
+            os.symlink(os.path.join(places[0], name), os.path.join(places[2], name))
+            for place in (places[0], places[2]):
+                done = subprocess.run([sys.executable, os.path.join(place, name), "-h"], capture_output=True, text=True, timeout=30)
+                self.assertEqual((done.returncode, done.stderr), (0, ""))
+        self.assertEqual(os.listdir(places[1]), ["epmd_recording.py"])
+
+    def test_a_live_recording_is_followed_across_a_restart(self):
+        running = subprocess.Popen([sys.executable, LOG, "-f", self.path], stdout=subprocess.PIPE, stderr=subprocess.PIPE, text=True)
+        self.addCleanup(running.stderr.close)
+        self.addCleanup(running.stdout.close)
+        self.assertEqual(running.stderr.readline(), f"epmd-log: {self.path} is not there yet\n")
+        time.sleep(0.5)
+        self.write(start() + visit(b"a"))
+        self.assertRegex(running.stdout.readline(), f"^{STAMP}1 lookup a ")
+        os.rename(self.path, self.path + "-20261128T040632Z")
+        self.write(start() + visit(b"b"))
+        self.assertRegex(running.stdout.readline(), f"^{STAMP}1 lookup b ")
+        running.send_signal(signal.SIGINT)
+        self.assertEqual((running.wait(10), running.stderr.read()), (0, ""))
+
     def test_a_live_recording_is_followed_into_the_next_file(self):
         self.write(start())
         running = subprocess.Popen([sys.executable, LOG, "-f", self.path], stdout=subprocess.PIPE, text=True)
@@ -201,6 +298,221 @@ class Told(unittest.TestCase):
             pipe.write(start() + connect(0) + piece(0, alive(b"a", 5000), 0, GRANTED))
         told, _ = running.communicate(timeout=10)
         self.assertTrue(re.fullmatch(f"{STAMP}1 register a port 5000 creation 4\n", told))
+
+
+class Written:
+    """Files of a recording, in a folder of their own. Each write has a later time than the one before."""
+
+    def setUp(self):
+        self.folder = tempfile.TemporaryDirectory()
+        self.addCleanup(self.folder.cleanup)
+        self.path = os.path.join(self.folder.name, "session")
+        self.now = 1_800_000_000
+
+    def write(self, data, behind="", how="wb"):
+        self.now += 1
+        with open(self.path + behind, how) as file:
+            file.write(data)
+        os.utime(self.path + behind, (self.now, self.now))
+
+    def add(self, data, behind=""):
+        self.write(data, behind, "ab")
+
+    def rename(self, time, *behind):
+        for each in behind:
+            os.rename(self.path + each, f"{self.path}-{time}{each}")
+
+
+class Followed(Written, unittest.TestCase):
+    """Which files a live recording is read from, look by look."""
+
+    def setUp(self):
+        super().setUp()
+        self.recording = Recording(self.path, True)
+        self.addCleanup(self.recording.close)
+
+    def at_the_next_look(self, before=lambda: None, after=lambda: None):
+        """What happens just before or after it looks which files there are."""
+        look = self.recording.following
+
+        def following():
+            self.recording.following = look
+            before()
+            found = look()
+            after()
+            return found
+
+        self.recording.following = following
+
+    def seen(self):
+        return [f"{event.place} {event.name.decode()}" for event in self.recording.events()]
+
+    def test_what_is_not_whole_is_waited_for(self):
+        whole = start(0, [(b"n", 1, 4, 3)], [(b"o", 2, 5)], [(2, 1, 0, b"\0"), (3, 1, 1, b"")]) + visit(b"a") + late(2) + close(3)
+        for size in range(len(whole)):
+            self.write(whole[:size])
+            recording = Recording(self.path, True)
+            first = [event.event for event in recording.events()]
+            self.add(whole[size:])
+            self.assertEqual(first + [event.event for event in recording.events()], ["lookup", "timeout", "leave"], size)
+            self.assertFalse(recording.is_cut())
+            recording.close()
+
+    def test_it_waits_for_a_file(self):
+        self.assertEqual(self.seen(), [])
+        self.write(start() + visit(b"a"))
+        self.assertEqual(self.seen(), ["1 a"])
+
+    def test_an_earlier_run_that_was_kept_is_not_told(self):
+        self.write(start() + visit(b"a"), "-20261128T040632Z")
+        self.assertEqual(self.seen(), [])
+        self.write(start() + visit(b"b"))
+        self.assertEqual(self.seen(), ["1 b"])
+
+    def test_it_goes_on_in_further_files(self):
+        self.write(start() + visit(b"a"))
+        self.assertEqual(self.seen(), ["1 a"])
+        self.add(visit(b"b"))
+        self.write(start(6)[:30], ".1")
+        self.assertEqual(self.seen(), ["4 b"])
+        self.add(start(6)[30:] + visit(b"c"), ".1")
+        self.write(start(9) + visit(b"d"), ".2")
+        self.assertEqual(self.seen(), ["7 c", "10 d"])
+
+    def test_a_run_that_was_renamed_is_finished_first(self):
+        self.write(start() + visit(b"a"))
+        self.assertEqual(self.seen(), ["1 a"])
+        self.add(visit(b"b"))
+        self.write(start(6) + visit(b"c"), ".1")
+        self.write(start(9) + visit(b"d") + b"\0\0", ".2")
+        self.rename("20261128T040632Z", "", ".1", ".2")
+        self.write(start() + visit(b"e"))
+        self.rename("20261128T040632Za", "")
+        self.assertEqual(self.seen(), ["4 b", "7 c", "10 d", "1 e"])
+        self.write(start() + visit(b"f"))
+        self.write(start(3) + visit(b"g"), ".1")
+        self.assertEqual(self.seen(), ["1 f", "4 g"])
+
+    def test_files_are_renamed_one_by_one(self):
+        self.write(start() + visit(b"a"))
+        self.write(start(3) + visit(b"b"), ".1")
+        self.write(start(6) + visit(b"c"), ".2")
+        self.assertEqual(self.seen(), ["1 a", "4 b", "7 c"])
+        for each in ("", ".1", ".2"):
+            self.rename("20261128T040632Z", each)
+            self.assertEqual(self.seen(), [])
+        self.write(b"")
+        self.assertEqual(self.seen(), [])
+        self.add(start() + visit(b"d"))
+        self.assertEqual(self.seen(), ["1 d"])
+
+    def test_the_newest_file_is_renamed_before_older_ones(self):
+        for each, name in enumerate((b"a", b"b", b"c")):
+            self.write(start(3 * each) + visit(name), f".{each}" if each else "")
+        self.assertEqual(self.seen(), ["1 a", "4 b", "7 c"])
+        for each in (".2", "", ".1"):
+            self.rename("20261128T040632Z", each)
+            self.assertEqual(self.seen(), [])
+        self.write(start() + visit(b"d"))
+        self.assertEqual(self.seen(), ["1 d"])
+
+    def test_the_open_file_is_renamed_before_the_others(self):
+        self.write(start() + visit(b"a"))
+        self.write(start(3) + visit(b"b"), ".1")
+        self.assertEqual(self.seen(), ["1 a", "4 b"])
+        self.write(start(6) + visit(b"c"), ".2")
+        told = []
+        for each in (".1", "", ".2"):
+            self.rename("20261128T040632Z", each)
+            told += self.seen()
+        self.assertEqual(told, ["7 c"])
+
+    def test_what_comes_between_a_read_and_a_look_is_told(self):
+        self.write(start() + visit(b"a"))
+        self.assertEqual(self.seen(), ["1 a"])
+        self.rename("20261128T040632Z", "")
+        self.write(start() + visit(b"c"))
+        self.at_the_next_look(before=lambda: self.add(visit(b"b"), "-20261128T040632Z"))
+        self.assertEqual(self.seen(), ["4 b", "1 c"])
+
+    def test_a_file_that_is_renamed_between_a_look_and_its_opening_is_looked_for_again(self):
+        self.write(start() + visit(b"a"))
+        self.at_the_next_look(after=lambda: (self.rename("20261128T040632Z", ""), self.write(start() + visit(b"b"))))
+        self.assertEqual(self.seen() + self.seen(), ["1 b"])
+        self.at_the_next_look(before=lambda: self.add(visit(b"c")))
+        self.assertEqual(self.seen() + self.seen(), ["4 c"])
+
+    def test_a_run_that_writes_over_the_file_is_told_from_its_beginning(self):
+        self.write(start() + visit(b"a") + visit(b"b"))
+        self.assertEqual(self.seen(), ["1 a", "4 b"])
+        self.write(start() + visit(b"c"))
+        self.assertEqual(self.seen(), ["1 c"])
+        self.write(start() + visit(b"d") + visit(b"e") + visit(b"f"))
+        self.assertEqual(self.seen(), ["1 d", "4 e", "7 f"])
+
+    def test_a_run_that_writes_over_the_first_of_several_files(self):
+        self.write(start() + visit(b"a"))
+        self.write(start(3) + visit(b"b"), ".1")
+        self.assertEqual(self.seen(), ["1 a", "4 b"])
+        self.write(start() + visit(b"c"))
+        self.assertEqual(self.seen(), ["1 c"])
+        self.add(visit(b"d"))
+        self.assertEqual(self.seen(), ["4 d"])
+        self.write(start(6) + visit(b"e"), ".1")
+        self.assertEqual(self.seen(), ["7 e"])
+
+    def test_a_left_over_file_is_not_told_even_where_its_place_fits(self):
+        self.write(start(6) + visit(b"old"), ".1")
+        self.write(start() + visit(b"a"))
+        self.assertEqual(self.seen(), ["1 a"])
+        self.add(visit(b"b"))
+        self.assertEqual(self.seen(), ["4 b"])
+        self.add(visit(b"c"))
+        self.write(start(9) + visit(b"d"), ".1")
+        self.assertEqual(self.seen(), ["7 c", "10 d"])
+
+    def test_a_newer_file_is_not_told_before_its_place(self):
+        self.write(start() + visit(b"a"))
+        self.write(start(6) + visit(b"c"), ".1")
+        self.assertEqual(self.seen(), ["1 a"])
+        self.add(visit(b"b"))
+        self.assertEqual(self.seen(), ["4 b"])
+        self.add(visit(b"c"), ".1")
+        self.assertEqual(self.seen(), ["7 c", "10 c"])
+
+    def test_the_first_files_are_pruned(self):
+        self.write(start() + visit(b"a"))
+        self.write(start(3) + visit(b"b"), ".1")
+        self.assertEqual(self.seen(), ["1 a", "4 b"])
+        os.remove(self.path)
+        self.assertEqual(self.seen(), [])
+        self.add(visit(b"c"), ".1")
+        self.write(start(9) + visit(b"d"), ".2")
+        self.assertEqual(self.seen(), ["7 c", "10 d"])
+        self.rename("20261128T040632Z", ".1", ".2")
+        self.write(start() + visit(b"e"))
+        self.assertEqual(self.seen(), ["1 e"])
+
+    def test_files_that_were_not_read_yet_are_pruned(self):
+        self.write(start() + visit(b"a"))
+        self.assertEqual(self.seen(), ["1 a"])
+        self.add(visit(b"b"))
+        os.remove(self.path)
+        self.write(start(70) + visit(b"d"), ".2")
+        self.assertEqual(self.seen(), ["4 b", "71 d"])
+
+    def test_the_first_files_of_the_next_run_are_pruned(self):
+        self.write(start() + visit(b"a"))
+        self.assertEqual(self.seen(), ["1 a"])
+        self.rename("20261128T040632Z", "")
+        self.write(start(70) + visit(b"b"), ".3")
+        self.assertEqual(self.seen(), ["71 b"])
+
+    def test_a_pruned_run_is_followed_by_one_that_is_not_renamed(self):
+        self.write(start(70) + visit(b"a"), ".5")
+        self.assertEqual(self.seen(), ["71 a"])
+        self.write(start() + visit(b"b"))
+        self.assertEqual(self.seen(), ["1 b"])
 
 
 if __name__ == "__main__":

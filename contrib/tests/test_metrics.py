@@ -1,4 +1,7 @@
-"""What epmd-metrics prints of a port mapper that a test plays, and what epmd-prune removes."""
+"""What epmd-metrics prints of a port mapper that a test plays, and what it counts in recorded bytes."""
+import importlib.machinery
+import importlib.util
+import json
 import os
 import re
 import socket
@@ -7,22 +10,47 @@ import sys
 import tempfile
 import threading
 import unittest
+import unittest.mock
+
+from test_log import FOUND, GRANTED, IN_USE, NO_ROOM, Written, alive, close, connect, late, piece, sized, start, visit
 
 HERE = os.path.dirname(os.path.abspath(__file__))
 DUMP = b"\0\0\x11\x11active name     a at port 1, fd = 3\nactive name     b at port 2, fd = 4\nold/unused name c at port 3, fd = -1\n"
 
 
-def printed(port, *words):
-    done = subprocess.run([sys.executable, os.path.join(HERE, "..", "epmd-metrics"), *words], capture_output=True, text=True, timeout=60,
-                          env={**os.environ, "ERL_EPMD_PORT": str(port)})
+TOOL = os.path.join(HERE, "..", "epmd-metrics")
+
+
+def run(port, *words, **environment):
+    return subprocess.run([sys.executable, TOOL, *words], capture_output=True, text=True, timeout=60,
+                          env={**os.environ, "ERL_EPMD_PORT": str(port), **environment})
+
+
+def printed(port, *words, **environment):
+    done = run(port, *words, **environment)
     assert (done.returncode, done.stderr) == (0, ""), done
     return done.stdout
+
+
+def tool():
+    """The tool as a module, of which a test may change a constant."""
+    loader = importlib.machinery.SourceFileLoader("epmd_metrics", TOOL)
+    module = importlib.util.module_from_spec(importlib.util.spec_from_loader("epmd_metrics", loader))
+    loader.exec_module(module)
+    return module
+
+
+def free_port():
+    with socket.create_server(("127.0.0.1", 0)) as listener:
+        return listener.getsockname()[1]
 
 
 def figures(text):
     """The values by their names and labels, where each name has its two lines of comment before it."""
     for name in {line.split("{")[0].split(" ")[0] for line in text.splitlines() if not line.startswith("#")}:
-        assert re.search(f"^# HELP {name} .+\n# TYPE {name} gauge\n{name}[ {{]", text, re.M), name
+        kind = "counter" if name.endswith("_total") else "gauge"
+        assert re.search(f"^# HELP {name} .+\n# TYPE {name} {kind}\n{name}[ {{]", text, re.M), name
+        assert text.count(f"# TYPE {name} ") == 1, name
     return {line.rsplit(" ", 1)[0]: float(line.rsplit(" ", 1)[1]) for line in text.splitlines() if not line.startswith("#")}
 
 
@@ -53,6 +81,7 @@ class Metrics(unittest.TestCase):
         self.folder = tempfile.TemporaryDirectory()
         self.addCleanup(self.folder.cleanup)
         self.path = os.path.join(self.folder.name, "session")
+        self.recorded = "-recording", self.path, "-state", self.path + ".state"
 
     def write(self, path, data):
         with open(path, "ab") as file:
@@ -77,10 +106,7 @@ class Metrics(unittest.TestCase):
         self.assertIn(found["epmd_connections"], (1, 2))
 
     def test_none_answers(self):
-        listener = socket.create_server(("127.0.0.1", 0))
-        port = listener.getsockname()[1]
-        listener.close()
-        self.assertEqual(figures(printed(port)), {"epmd_up": 0, "epmd_connections": 0})
+        self.assertEqual(figures(printed(free_port())), {"epmd_up": 0, "epmd_connections": 0})
 
     def test_half_an_answer_is_none(self):
         played = Played(b"\0\0\x11")
@@ -90,43 +116,180 @@ class Metrics(unittest.TestCase):
     def test_a_recording_moves(self):
         self.write(self.path, b"EPMS")
         played = Played(DUMP, does=lambda: self.write(self.path, b"more"))
-        self.assertEqual(figures(printed(played.port, "-recording", self.path))["epmd_recording_moves"], 1)
+        self.assertEqual(figures(printed(played.port, *self.recorded))["epmd_recording_moves"], 1)
         played.end()
 
     def test_a_recording_moves_into_the_next_file(self):
         self.write(self.path, b"EPMS")
         played = Played(DUMP, does=lambda: self.write(self.path + ".1", b"EPMS"))
-        self.assertEqual(figures(printed(played.port, "-recording", self.path))["epmd_recording_moves"], 1)
+        self.assertEqual(figures(printed(played.port, *self.recorded))["epmd_recording_moves"], 1)
         played.end()
 
     def test_a_recording_stands_still(self):
         self.write(self.path, b"EPMS")
         played = Played(DUMP)
-        self.assertEqual(figures(printed(played.port, "-recording", self.path))["epmd_recording_moves"], 0)
+        self.assertEqual(figures(printed(played.port, *self.recorded))["epmd_recording_moves"], 0)
         played.end()
 
 
-class Prune(unittest.TestCase):
-    def left(self, names, keep):
-        with tempfile.TemporaryDirectory() as folder:
-            for name in names:
-                open(os.path.join(folder, name), "w").close()
-            tool = os.path.join(HERE, "..", "epmd-prune")
-            subprocess.run([sys.executable, tool, "-keep", str(keep), os.path.join(folder, "s")], check=True, timeout=30)
-            return sorted(os.listdir(folder))
+class Counted(Written, unittest.TestCase):
+    """The counters, call by call."""
 
-    def test_the_newest_stay(self):
-        self.assertEqual(self.left(["s", "s.1", "s.2", "s.9", "s.10"], 2), ["s.10", "s.9"])
+    def setUp(self):
+        super().setUp()
+        self.state = os.path.join(self.folder.name, "state")
+        self.tool = tool()
 
-    def test_few_all_stay(self):
-        self.assertEqual(self.left(["s", "s.1"], 2), ["s", "s.1"])
-        self.assertEqual(self.left([], 2), [])
+    def given(self):
+        return {name: values for name, _, _, values in self.tool.counters(self.path, self.state)}
 
-    def test_the_newest_one_always_stays(self):
-        self.assertEqual(self.left(["s", "s.1"], 0), ["s.1"])
+    def lookups(self):
+        return self.given()["epmd_lookups_total"]['{result="missing"}']
 
-    def test_others_stay(self):
-        self.assertEqual(self.left(["s", "s.1", "s.2", "s.last", "s.01", "s.1.last", "t"], 1), ["s.01", "s.1.last", "s.2", "s.last", "t"])
+    def test_each_counter_moves_by_what_it_counts(self):
+        self.write(start())
+        zeros = figures(printed(free_port(), "-recording", self.path, "-state", self.state))
+        entries = connect(0) + piece(0, alive(b"a", 5000), 0, GRANTED) + connect(1) + piece(1, sized(b"za"), 1, FOUND) + visit(b"q") * 2
+        entries += connect(2) + piece(2, alive(b"a", 1), 1, IN_USE) + connect(3) + piece(3, alive(b"b", 1), 1, NO_ROOM)
+        entries += connect(4, 0) + piece(4, alive(b"c", 1), 1) + connect(5) + late(5) + connect(6) + piece(6, b"\0\0", 1) + close(0)
+        self.add(entries)
+        counts = figures(printed(free_port(), "-recording", self.path, "-state", self.state))
+        self.assertEqual({name: (zeros[name], count) for name, count in counts.items() if "_total" in name}, {
+            'epmd_lookups_total{result="found"}': (0, 1), 'epmd_lookups_total{result="missing"}': (0, 2), "epmd_registrations_total": (0, 1),
+            'epmd_refusals_total{reason="in_use"}': (0, 1), 'epmd_refusals_total{reason="no_room"}': (0, 1),
+            'epmd_refusals_total{reason="remote"}': (0, 1), "epmd_timeouts_total": (0, 1), "epmd_malformed_total": (0, 1)})
+        self.assertEqual(counts["epmd_recording_counted"], 1)
+
+    def test_a_recording_that_is_cut_anywhere_is_counted_once(self):
+        whole = start() + connect(0) + piece(0, b"\0", 0) + piece(0, b"\2z", 0) + piece(0, b"a", 1, b"w\1") + close(0) + visit(b"b")
+        for size in range(len(whole)):
+            self.write(whole[:size])
+            self.given()
+            self.add(whole[size:])
+            self.assertEqual([self.lookups(), self.lookups()], [2, 2], size)
+            os.remove(self.state)
+
+    def test_a_call_reads_only_what_is_new(self):
+        self.write(start() + visit(b"a") * 200)
+        self.assertEqual(self.lookups(), 200)
+        self.add(visit(b"b"))
+        self.tool.BYTES_MOST = len(visit(b"b"))
+        self.assertEqual([self.lookups(), self.lookups()], [201, 201])
+
+    def test_a_long_recording_is_counted_over_several_calls(self):
+        self.tool.BYTES_MOST = 1
+        self.write(start() + visit(b"a"))
+        self.write(start(3) + visit(b"b"), ".1")
+        self.assertEqual(self.given(), {"epmd_recording_counted": {"": 0}})
+        self.assertEqual(self.given(), {"epmd_recording_counted": {"": 0}})
+        found = self.given()
+        self.assertEqual((found["epmd_recording_counted"][""], found["epmd_lookups_total"]['{result="missing"}']), (1, 2))
+        self.add(visit(b"c"), ".1")
+        found = self.given()
+        self.assertEqual((found["epmd_recording_counted"][""], found["epmd_lookups_total"]['{result="missing"}']), (0, 3))
+
+    def test_a_run_is_read_to_its_end_over_several_calls(self):
+        self.tool.BYTES_MOST = 100
+        self.write(start() + visit(b"a") * 20)
+        with unittest.mock.patch("epmd_recording.CHUNK", 100):
+            self.given()
+            self.rename("20261128T040632Z", "")
+            self.write(start() + visit(b"b"))
+            for _ in range(20):
+                self.given()
+        self.assertEqual(self.lookups(), 21)
+
+    def test_a_long_start_is_read_whole(self):
+        self.tool.BYTES_MOST = 1
+        slots = range(10)
+        self.write(start(0, [(bytes([65 + slot]) * 1000, 1, 4, slot) for slot in slots], (), [(slot, 1, 1, b"") for slot in slots]) + visit(b"a"))
+        with unittest.mock.patch("epmd_recording.CHUNK", 1000):
+            self.given()
+            self.given()
+        self.assertEqual(self.lookups(), 1)
+
+    def test_it_goes_on_across_files_and_runs(self):
+        self.write(start() + visit(b"a"))
+        self.assertEqual(self.lookups(), 1)
+        self.add(visit(b"b"))
+        self.write(start(6) + visit(b"c"), ".1")
+        self.assertEqual(self.lookups(), 3)
+        self.add(visit(b"d"), ".1")
+        self.rename("20261128T040632Z", "", ".1")
+        self.assertEqual(self.lookups(), 4)
+        self.write(start() + visit(b"e"))
+        self.assertEqual(self.lookups(), 5)
+        self.write(start() + visit(b"f") * 2)
+        self.assertEqual(self.lookups(), 7)
+
+    def test_it_goes_on_where_files_were_pruned(self):
+        self.write(start() + visit(b"a"))
+        self.assertEqual(self.lookups(), 1)
+        self.write(start(30) + visit(b"b"), ".1")
+        os.remove(self.path)
+        self.assertEqual(self.lookups(), 2)
+        os.remove(self.path + ".1")
+        self.assertEqual(self.lookups(), 2)
+        self.write(start() + visit(b"c"))
+        self.assertEqual(self.lookups(), 3)
+
+    def test_a_run_that_wrote_over_the_first_of_several_files(self):
+        self.write(start() + visit(b"a"))
+        self.write(start(3) + visit(b"b"), ".1")
+        self.assertEqual([self.lookups(), self.lookups()], [2, 2])
+        self.write(start() + visit(b"c"))
+        self.assertEqual([self.lookups(), self.lookups()], [3, 3])
+
+    def test_what_was_open_is_known_at_the_next_call(self):
+        self.write(start() + connect(0, 0) + piece(0, sized(b"z\xff\xfe")[:4], 0) + connect(1) + piece(1, alive(b"a", 5000), 0, GRANTED))
+        self.given()
+        self.add(piece(0, b"\xfe", 1, b"w\1") + close(0) + close(1))
+        self.assertEqual(self.lookups(), 1)
+        source = self.tool.Recording(self.path, True)
+        self.assertEqual([event.event for event in source.events()], ["register", "lookup", "leave"])
+        with open(self.state) as file:
+            self.assertEqual(json.load(file)["at"]["session"], source.session.kept())
+        source.close()
+
+    def test_without_its_state_it_begins_anew(self):
+        self.write(start() + visit(b"a"))
+        self.assertEqual([self.lookups(), self.lookups()], [1, 1])
+        with open(self.state) as file:
+            kept = json.load(file)
+        kept["counts"]["epmd_lookups_total"]["missing"] = 7
+        for state in ("", "{", "[]", "{}", json.dumps({**kept, "format": 0}), json.dumps({**kept, "recording": "/another"})):
+            with open(self.state, "w") as file:
+                file.write(state)
+            self.assertEqual(self.lookups(), 1)
+
+    def test_no_recording_has_no_counters(self):
+        self.assertEqual(self.given(), {})
+        os.mkfifo(self.path)
+        self.assertEqual(self.given(), {})
+        self.assertFalse(os.path.exists(self.state))
+
+    def test_what_can_not_be_read_or_kept_is_told(self):
+        for data, state in ((b"EPMS\3\0" + bytes(40), self.state), (start(), os.path.join(self.path, "state"))):
+            self.write(data)
+            done = run(free_port(), "-recording", self.path, "-state", state)
+            self.assertEqual((done.returncode, "_total" in done.stdout), (0, False))
+            self.assertRegex(done.stderr, "^epmd-metrics: no counters: .+\n$")
+            self.assertIn("epmd_up 0", done.stdout)
+
+    def test_the_state_is_kept_for_its_owner_alone_and_beside_no_recording(self):
+        self.write(start())
+        state = os.path.join(self.folder.name, "home", "epmd-metrics", self.path.replace("/", "%2F"))
+        for _ in range(2):
+            printed(free_port(), "-recording", self.path, XDG_STATE_HOME=os.path.join(self.folder.name, "home"))
+        self.assertEqual(os.listdir(os.path.dirname(state)), [os.path.basename(state)])
+        self.assertEqual([os.stat(path).st_mode & 0o777 for path in (os.path.dirname(state), state)], [0o700, 0o600])
+
+    def test_wrong_words_and_help(self):
+        self.assertEqual((run("70000").returncode, run("70000").stderr), (2, "epmd-metrics: bad port in environment\n"))
+        self.assertEqual(run(4369, "-nothing").returncode, 2)
+        told = printed(4369, "--help")
+        for word in ("usage: epmd-metrics", "cd FOLDER && epmd-metrics", "The status is 0", "-recording FILE", "-state FILE"):
+            self.assertIn(word, told)
 
 
 if __name__ == "__main__":

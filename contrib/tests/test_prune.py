@@ -1,0 +1,68 @@
+"""What epmd-prune removes of the files of a recording, and what stays."""
+import os
+import subprocess
+import sys
+import tempfile
+import unittest
+
+TOOL = os.path.join(os.path.dirname(os.path.abspath(__file__)), "..", "epmd-prune")
+DAY = "s-20261128T"
+
+
+class Prune(unittest.TestCase):
+    def left(self, names, keep, written=()):
+        """What is left of these files, which are written in their order and then those of `written` once more."""
+        with tempfile.TemporaryDirectory() as folder:
+            for time, name in enumerate([*names, *written]):
+                path = os.path.join(folder, name)
+                open(path, "w").close()
+                os.utime(path, (time, time))
+            done = subprocess.run([sys.executable, TOOL, "-keep", str(keep), os.path.join(folder, "s")], capture_output=True, text=True, timeout=30)
+            self.assertEqual((done.returncode, done.stdout, done.stderr), (0, "", ""))
+            return sorted(os.listdir(folder))
+
+    def test_the_newest_stay(self):
+        self.assertEqual(self.left(["s", "s.1", "s.2", "s.9", "s.10"], 2), ["s.10", "s.9"])
+
+    def test_few_all_stay(self):
+        self.assertEqual(self.left(["s", "s.1"], 2), ["s", "s.1"])
+        self.assertEqual(self.left([], 2), [])
+
+    def test_the_newest_one_always_stays(self):
+        self.assertEqual(self.left(["s", "s.1"], 0), ["s.1"])
+
+    def test_others_stay(self):
+        self.assertEqual(self.left(["s", "s.1", "s.2", "s.last", "s.01", "s.1.last", "t"], 1), ["s.01", "s.1.last", "s.2", "s.last", "t"])
+        others = ["s-", "s-2026", "s-20261128", DAY + "000000", DAY + "000000z", DAY + "000000Zb", DAY + "000000Z.0", "s-.1", "s.-1", "ss"]
+        self.assertEqual(self.left(["s", *others], 1), sorted(["s", *others]))
+
+    def test_earlier_runs_go_first_and_the_oldest_of_them_before_all(self):
+        runs = [DAY + "000000Z", DAY + "000000Z.1", DAY + "000000Z.10", DAY + "000000Za", DAY + "000000Zaa.2", DAY + "235959Z", "s", "s.1", "s.2"]
+        for keep in (1, 3, 4, 6, 8, 9, 10):
+            self.assertEqual(self.left(runs, keep), sorted(runs[-keep:]), keep)
+
+    def test_earlier_runs_alone(self):
+        for keep in (-1, 0, 1):
+            self.assertEqual(self.left([DAY + "000000Z.3", DAY + "000001Z"], keep), [DAY + "000001Z"])
+
+    def test_what_a_run_writes_over_an_earlier_one_stays(self):
+        self.assertEqual(self.left(["s", "s.1", "s.2", "s.3"], 2, written=["s"]), ["s", "s.3"])
+        self.assertEqual(self.left(["s", "s.1", "s.2", "s.3"], 1, written=["s", "s.1"]), ["s.1", "s.3"])
+
+    def test_a_pipe_is_no_file_of_it(self):
+        with tempfile.TemporaryDirectory() as folder:
+            os.mkfifo(os.path.join(folder, "s"))
+            open(os.path.join(folder, "s.1"), "w").close()
+            subprocess.run([sys.executable, TOOL, "-keep", "1", os.path.join(folder, "s")], check=True, timeout=30)
+            self.assertEqual(sorted(os.listdir(folder)), ["s", "s.1"])
+
+    def test_wrong_words_and_help(self):
+        for words in ([], ["-keep", "1"], ["-keep", "x", "s"], ["s"]):
+            self.assertEqual(subprocess.run([sys.executable, TOOL, *words], capture_output=True, timeout=30).returncode, 2)
+        done = subprocess.run([sys.executable, TOOL, "--help"], capture_output=True, text=True, timeout=30)
+        for word in ("usage: epmd-prune", "always stays", "The status is 0", "-keep N"):
+            self.assertIn(word, done.stdout)
+
+
+if __name__ == "__main__":
+    unittest.main()
