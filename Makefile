@@ -105,8 +105,8 @@ endif
 deb:
 	$(built)@contrib/deb
 
-# Tests what is in contrib, with python3 and no port mapper; the client for C where it is in build, with cc, rustc and a port mapper where
-# they are there.
+# Tests what is in contrib, with python3 and no port mapper: packages where dpkg-deb and strip are there, and the client for C where it is in
+# build, with cc, rustc and a port mapper where they are there.
 check-contrib:
 	python3 -B -m unittest discover -s contrib/tests
 

@@ -322,7 +322,12 @@ class Package(Checkout):
         self.run_in("/", "dpkg-deb", "--raw-extract", package, tree)
         self.assertEqual(self.run_in(tree, "md5sum", "--check", "--quiet", "DEBIAN/md5sums").returncode, 0)
         self.assertEqual(len(read(os.path.join(tree, "DEBIAN", "md5sums")).splitlines()), len(wanted))
-        self.assertNotIn("@", read(os.path.join(tree, "DEBIAN", "control")).replace("epmd@cekhtsoni", ""))
+        control = read(os.path.join(tree, "DEBIAN", "control"))
+        self.assertNotIn("@", control.replace("epmd@cekhtsoni", ""))
+        shutil.rmtree(os.path.join(tree, "DEBIAN"))
+        # As Debian's policy has it: each file in whole kibibytes, and one for each folder.
+        sizes = [-(-os.path.getsize(os.path.join(folder, name)) // 1024) for folder, _, names in os.walk(tree) for name in names]
+        self.assertIn(f"\nInstalled-Size: {sum(sizes) + sum(1 for _ in os.walk(tree))}\n", control)
 
     def test_without_a_toolchain_it_takes_what_was_told_or_says_that_nothing_is(self):
         self.assertIn("does not tell of what it is made", self.made("deb"))
@@ -354,6 +359,7 @@ class Parts(Checkout):
         self.assertEqual((document["spdxVersion"], document["dataLicense"], document["SPDXID"]), ("SPDX-2.3", "CC0-1.0", "SPDXRef-DOCUMENT"))
         self.assertEqual(document["creationInfo"]["created"], "2023-11-14T22:13:20Z")
         self.assertTrue(document["documentNamespace"].startswith("https://"))
+        self.assertRegex(document["creationInfo"]["creators"][0], r"^Tool: \S+$")
         packages = {package["name"]: package for package in document["packages"]}
         ids = {package["SPDXID"] for package in document["packages"]} | {"SPDXRef-DOCUMENT"}
         self.assertEqual((len(packages) + 1, len(ids)), (len(document["packages"]) + 1, len(document["packages"]) + 1))
@@ -362,7 +368,10 @@ class Parts(Checkout):
         for package in document["packages"]:
             for field in ("versionInfo", "downloadLocation", "licenseConcluded", "licenseDeclared", "copyrightText"):
                 self.assertTrue(package[field], package)
-        ends = [(each["spdxElementId"], each["relatedSpdxElement"]) for each in document["relationships"]]
+        relations = {(each["spdxElementId"], each["relationshipType"], each["relatedSpdxElement"]) for each in document["relationships"]}
+        self.assertIn(("SPDXRef-DOCUMENT", "DESCRIBES", packages["epmd-proved"]["SPDXID"]), relations)
+        self.assertIn((packages["epmd-proved"]["SPDXID"], "CONTAINS", packages["epmd"]["SPDXID"]), relations)
+        ends = [(one, other) for one, _, other in relations]
         self.assertEqual({end for pair in ends for end in pair} - ids, set())
         self.assertEqual(ids - {end for pair in ends for end in pair}, set())
         return packages
