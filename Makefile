@@ -67,7 +67,7 @@ install-program:
 	for each in $(ADDED); do install -D -m 644 contrib/units/$${each#*/} $(DESTDIR)$(UNITS)/$$each || exit 1; done
 	install -D -m 644 -t $(DESTDIR)$(MAN)/man1 $(addprefix docs/,$(PAGES))
 	install -D -m 644 -t $(DESTDIR)$(DOC) README.md
-	$(call fill,$(BIN)/epmd $(addprefix $(MAN)/man1/,$(PAGES)) $(addprefix $(UNITS)/,$(SERVICES) $(ADDED)))
+	@$(call fill,$(BIN)/epmd $(addprefix $(MAN)/man1/,$(PAGES)) $(addprefix $(UNITS)/,$(SERVICES) $(ADDED)))
 
 install-client:
 	install -D -m 644 build/libepmd_client.so $(DESTDIR)$(LIBRARIES)/libepmd_client.so.0
@@ -76,7 +76,7 @@ install-client:
 	install -D -m 644 -t $(DESTDIR)$(INCLUDE) include/epmd_client.h
 	install -D -m 644 -t $(DESTDIR)$(LIBRARIES)/pkgconfig contrib/epmd_client.pc
 	install -D -m 644 -t $(DESTDIR)$(MAN)/man3 docs/epmd_client.3
-	$(call fill,$(LIBRARIES)/pkgconfig/epmd_client.pc)
+	@$(call fill,$(LIBRARIES)/pkgconfig/epmd_client.pc)
 
 # Removes what `install` puts there. On the machine itself the units end first, with what enables them, and then erlang-base's port mapper
 # has its socket back. That is unmasked, as the units of the first version were started by masking it.

@@ -308,6 +308,10 @@ class Package(Checkout):
         self.assertEqual({name for name in self.listed("libepmd-client-dev") if "_client." in name},
                          {library + ".a", library + ".so -> libepmd_client.so.0", "./usr/lib/x86_64-linux-gnu/pkgconfig/epmd_client.pc",
                           "./usr/include/epmd_client.h", "./usr/share/man/man3/epmd_client.3.gz"})
+        package, = glob.glob(os.path.join(self.top, "build", "libepmd-client-dev_*.deb"))
+        self.run_in("/", "dpkg-deb", "--extract", package, os.path.join(self.folder, "tree"))
+        told = read(os.path.join(self.folder, "tree/usr/lib/x86_64-linux-gnu/pkgconfig/epmd_client.pc"))
+        self.assertIn("prefix=/usr\nlibdir=/usr/lib/x86_64-linux-gnu\n", told)
 
     def test_it_has_the_files_of_an_installation_and_what_a_package_has(self):
         self.stand_in("rt", RT)
