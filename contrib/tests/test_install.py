@@ -353,6 +353,12 @@ class Parts(Checkout):
     OWN = {"epmd", "portmap_wire", "portmap_feed", "portmap_table", "portmap_core", "portmap_book", "portmap_link", "portmap_client", "portmap_record",
            "portmap_daemon"}
 
+    # How pages of the kit tell after what a crate is written.
+    PAGES = {"slab": "Keys. A port of the Rust crate `slab` 0.4.12 (MIT, `LICENSE`).",
+             "itoa": "Text, after the API of the Rust crate `itoa` 1.0.18 (MIT or Apache-2.0, `LICENSE`).",
+             "http_server": "Targets, after the module `uri` of the Rust crate `http` 1.5.0 (MIT or Apache-2.0, taken under MIT, `LICENSE`).",
+             "thiserror": "Errors, ported from the Rust crate `this-error` 2.0 (MIT or Apache-2.0; both are here).", "mio": "New code."}
+
     def document(self, **env):
         done = self.run_in(self.top, "contrib/sbom", SOURCE_DATE_EPOCH="1700000000", **env)
         self.assertEqual((done.returncode, done.stderr), (0, ""))
@@ -393,10 +399,10 @@ class Parts(Checkout):
         for name, below_it in (("slab", ["std", "os"]), ("std", ["std_io"]), ("std_io", [])):
             for each in below_it:
                 os.makedirs(os.path.join(kit, "rlibs", f"{name}.rlib", "below", each))
-        write(os.path.join(kit, "rattle", "slab", "README.md"), "# `slab`\n\nKeys. A port of the Rust crate `slab` 0.4.12 (MIT, `LICENSE`).\n")
-        write(os.path.join(kit, "rattle", "slab", "LICENSE"), "Copyright (c) 2019 Carl Lerche\n\nPermission is hereby granted\nAUTHORS OR COPYRIGHT HOLDERS\n")
-        write(os.path.join(kit, "rattle", "itoa", "README.md"), "Text, after the API of the Rust crate `itoa` 1.0.18 (MIT or Apache-2.0, `LICENSE`).\n")
-        write(os.path.join(kit, "rattle", "mio", "README.md"), "# `mio`\n\nNew code.\n")
+        for name, page in self.PAGES.items():
+            write(os.path.join(kit, "rattle", name, "README.md"), f"# `{name}`\n\n{page}\n")
+        notice = "Copyright (c) 2019 Carl Lerche\n\nPermission is hereby granted\nAUTHORS OR COPYRIGHT HOLDERS\n"
+        write(os.path.join(kit, "rattle", "slab", "LICENSE"), notice)
         return kit
 
     def test_each_crate_is_told_with_what_it_uses(self):
@@ -417,6 +423,8 @@ class Parts(Checkout):
         told = {name: (package["licenseDeclared"], package["copyrightText"], package.get("sourceInfo")) for name, package in packages.items()}
         self.assertEqual(told["slab"], ("MIT", "Copyright (c) 2019 Carl Lerche", "After the Rust crate slab 0.4.12"))
         self.assertEqual(told["itoa"], ("MIT OR Apache-2.0", "NOASSERTION", "After the API of the Rust crate itoa 1.0.18"))
+        self.assertEqual(told["http_server"], ("MIT", "NOASSERTION", "After the module uri of the Rust crate http 1.5.0"))
+        self.assertEqual(told["thiserror"], ("MIT OR Apache-2.0", "NOASSERTION", "After the Rust crate this-error 2.0"))
         self.assertEqual((told["mio"], told["std"]), (("NOASSERTION", "NOASSERTION", None),) * 2)
         self.assertEqual((packages["slab"]["versionInfo"], packages["rattle-kit"]["versionInfo"]), ("rattle-kit-7", "rattle-kit-7 logic 0123"))
         version = read(os.path.join(TOP, "VERSION")).strip()
