@@ -414,7 +414,7 @@ class Parts(Checkout):
         self.assertEqual(set(packages), self.OWN | named | {"std", "os", "std_io", "core", "epmd-proved", "rattle-kit"})
         edges = self.edges(document)
         for crate in self.OWN:
-            self.assertEqual(edges.get(crate, set()), own[crate] - {"portmap_testing"}, crate)
+            self.assertEqual(edges[crate], own[crate] - {"portmap_testing"} | {"std"}, crate)
         self.assertEqual((edges["slab"], edges["std"], edges["os"]), ({"std", "os", "core"}, {"std_io", "core"}, {"core"}))
 
     def test_what_the_kit_tells_is_told_and_nothing_else(self):
