@@ -16,7 +16,7 @@ PARTS = ["Makefile", "VERSION", "README.md", "CHANGELOG.md", "crates.txt", "cont
 PROGRAM = shutil.which("true")
 COMMANDS = ["epmd", "epmd-log", "epmd-metrics", "epmd-prune"]
 UNITS = ["epmd-proved-prune.service", "epmd-proved-prune.timer", "epmd-proved.service", "epmd-proved.service.d/proved.conf", "epmd-proved.socket",
-         "epmd.service.d/proved.conf", "epmd.socket.d/socket.conf"]
+         "epmd.service.d/proved.conf", "epmd.socket.d/proved.conf"]
 
 # Notes its words. Of units that are enabled or masked there are links in ETC, as the service manager has them, and $ACTIVE is what is active.
 SYSTEMCTL = """#!/bin/sh
@@ -166,8 +166,11 @@ class Install(Checkout):
             if not name.startswith("opt/own/share/doc/"):
                 with open(os.path.join(self.root, name), "rb") as file:
                     self.assertIsNone(re.search(rb"/usr/local|@[A-Z]+@", file.read()), name)
-        unit = read(os.path.join(self.root, "opt/own/lib/systemd/system/epmd.service.d/proved.conf"))
-        self.assertIn("\nExecStart=/opt/own/bin/epmd -systemd $EPMD_OPTIONS\n", unit)
+        units = os.path.join(self.root, "opt/own/lib/systemd/system")
+        for service in ("epmd.service", "epmd-proved.service"):
+            self.assertIn("\nExecStart=/opt/own/bin/epmd -systemd $EPMD_OPTIONS\n", read(os.path.join(units, f"{service}.d", "proved.conf")))
+        self.assertIn("\n[Unit]\n", read(os.path.join(units, "epmd.socket.d", "proved.conf")))
+        self.assertNotIn("\n[Service]\n", read(os.path.join(units, "epmd.socket.d", "proved.conf")))
         version = read(os.path.join(TOP, "VERSION")).strip()
         self.assertIn("prefix=/opt/own\nlibdir=/opt/own/lib\n", read(os.path.join(self.root, "opt/own/lib/pkgconfig/epmd_client.pc")))
         self.assertEqual(self.run_in("/", os.path.join(self.root, "opt/own/bin/epmd"), "-version").stdout, f"epmd-proved {version}\n")
