@@ -93,7 +93,7 @@ endif
 	rmdir $(addprefix $(DESTDIR)$(UNITS)/,$(dir $(ADDED))) 2> /dev/null || true
 ifneq ($(MANAGED),)
 	systemctl daemon-reload || true
-	if systemctl is-active --quiet epmd.socket; then $(LIB)/renew; fi
+	if [ -x $(LIB)/renew ] && systemctl is-active --quiet epmd.socket; then $(LIB)/renew; fi
 endif
 	rm -rf $(DESTDIR)$(LIB) $(DESTDIR)$(DOC)
 	rm -f $(addprefix $(DESTDIR),$(addprefix $(BIN)/,$(COMMANDS)) $(addprefix $(MAN)/man1/,$(PAGES)))

@@ -263,6 +263,7 @@ class Machine(Checkout):
         self.assertNotIn("renew", "".join(self.noted()[:reloaded]))
         self.assertNotIn("enable --now", said)
         self.assertEqual(below(self.prefix)[0], {})
+        self.on("uninstall", active="epmd.socket")
 
 
 @needs("dpkg-deb", "strip")
