@@ -1,6 +1,6 @@
-# `make epmd`, `make run` and `make test` need `rt`, the command of the Rattle toolchain, on the path, and nothing else.
-# `make install` and `make deb` need it only where build/epmd or the client for C is missing; `make bench` needs `cc`, and another
-# port mapper; `make client` needs `cc` and binutils too, `make faults` `gcc` and `python3`, and `make check-contrib` `python3` alone.
+# `make epmd`, `make run` and `make test` need `rt`, the command of the Rattle toolchain, on the path, and nothing else. `make install` and
+# `make deb` take what is in build, and need no toolchain; the latter needs `dpkg-deb` and `strip`. `make bench` needs `cc`, and another port
+# mapper; `make client` needs `cc` and binutils too, `make faults` `gcc` and `python3`, and `make check-contrib` `python3` alone.
 
 PREFIX = /usr/local
 
@@ -10,7 +10,7 @@ OTHER = /usr/bin/epmd
 # The crates of tests that refuse memory.
 REFUSING = tests_book
 
-.PHONY: run epmd client install uninstall deb check-contrib quick test bench faults
+.PHONY: run epmd client install install-program install-client uninstall deb check-contrib quick test bench faults
 
 # Builds the proved daemon and serves on port 4369.
 run: epmd
@@ -28,51 +28,87 @@ build/epmd:
 client:
 	@contrib/build-client
 
-build/libepmd_client.a build/libepmd_client.so &:
-	@$(MAKE) --no-print-directory client
+# Where things lie below DESTDIR and PREFIX.
+BIN = $(PREFIX)/bin
+LIB = $(PREFIX)/lib/epmd-proved
+UNITS = $(PREFIX)/lib/systemd/system
+MAN = $(PREFIX)/share/man
+DOC = $(PREFIX)/share/doc/epmd-proved
+INCLUDE = $(PREFIX)/include
+LIBRARIES = $(PREFIX)/lib
+COMMANDS = epmd epmd-log epmd-metrics epmd-prune
+PAGES = $(addsuffix .1,$(COMMANDS))
+SERVICES = epmd-proved.socket epmd-proved.service epmd-proved-prune.service epmd-proved-prune.timer
+# What is added to units of erlang-base and to ours.
+ADDED = $(addsuffix /proved.conf,epmd.socket.d epmd.service.d epmd-proved.service.d)
 
-# Puts the program, the wrapper that is called `epmd`, what reads recordings and figures, the manual page and the units in their places
-# below DESTDIR and PREFIX, and the client for C with its header, its manual page and its file for pkg-config.
-LIB = $(DESTDIR)$(PREFIX)/lib/epmd-proved
-BIN = $(DESTDIR)$(PREFIX)/bin
-UNITS = $(DESTDIR)$(PREFIX)/lib/systemd/system
-MAN = $(DESTDIR)$(PREFIX)/share/man/man1
-DOC = $(DESTDIR)$(PREFIX)/share/doc/epmd-proved
-MAN3 = $(DESTDIR)$(PREFIX)/share/man/man3
-CLIENT = $(DESTDIR)$(PREFIX)/lib
-INCLUDE = $(DESTDIR)$(PREFIX)/include
-TOOLS = epmd-log epmd-metrics epmd-prune
-SERVICES = epmd-proved.service epmd-proved-prune.service epmd-proved-prune.timer
+# The client is there once `make client` has made it. Nothing is proved for an installation or a package: they may be root's.
+CLIENT = $(and $(wildcard build/libepmd_client.a),$(wildcard build/libepmd_client.so))
+built = $(if $(shell ls build/epmd 2> /dev/null),,$(error there is no build/epmd: `make epmd` first))
 
-install: build/epmd build/libepmd_client.a build/libepmd_client.so
-	install -D build/epmd $(LIB)/epmd
-	mkdir -p $(BIN) $(UNITS) $(MAN)
-	sed 's/@VERSION@/$(shell cat VERSION)/' contrib/epmd > $(BIN)/epmd
-	chmod 755 $(BIN)/epmd
-	for tool in $(TOOLS); do install contrib/$$tool $(BIN) || exit 1; done
-	for unit in $(SERVICES); do sed 's|/usr/local/|$(PREFIX)/|g' contrib/$$unit > $(UNITS)/$$unit || exit 1; done
-	sed 's|/usr/local/|$(PREFIX)/|g' docs/epmd.1 > $(MAN)/epmd.1
-	install -D -m 644 README.md $(DOC)/README.md
-	mkdir -p $(CLIENT)/pkgconfig $(INCLUDE) $(MAN3)
-	install -m 644 build/libepmd_client.a $(CLIENT)
-	install -m 644 build/libepmd_client.so $(CLIENT)/libepmd_client.so.0
-	ln -sf libepmd_client.so.0 $(CLIENT)/libepmd_client.so
-	install -m 644 include/epmd_client.h $(INCLUDE)
-	sed 's|/usr/local|$(PREFIX)|; s/@VERSION@/$(shell cat VERSION)/' contrib/epmd_client.pc > $(CLIENT)/pkgconfig/epmd_client.pc
-	install -m 644 docs/epmd_client.3 $(MAN3)
+# Says in files that are in place which version they are of, and where they lie.
+fill = sed -i 's|/usr/local|$(PREFIX)|g; s|@LIBRARIES@|$(LIBRARIES)|; s|@VERSION@|$(shell cat VERSION)|' $(addprefix $(DESTDIR),$(1))
 
-# Removes what `install` puts there.
+# Puts the program, the wrapper that is called `epmd`, the tools, the manual pages and the units in their places, and the client for C with
+# its header, its manual page and its file for pkg-config. How to start it is told where this is the machine that it is for.
+install: install-program $(if $(CLIENT),install-client)
+ifeq ($(DESTDIR),)
+	@echo 'To start it where erlang-base is installed, whose epmd.socket stays open:'
+	@echo '    systemctl daemon-reload && $(LIB)/renew'
+	@echo 'To start it where it is not:'
+	@echo '    systemctl daemon-reload && systemctl enable --now epmd-proved.socket'
+endif
+
+install-program:
+	$(built)install -D -m 755 -t $(DESTDIR)$(LIB) build/epmd contrib/renew
+	install -m 644 contrib/epmd_recording.py $(DESTDIR)$(LIB)
+	install -D -m 755 -t $(DESTDIR)$(BIN) $(addprefix contrib/,$(COMMANDS))
+	install -D -m 644 -t $(DESTDIR)$(UNITS) $(addprefix contrib/units/,$(SERVICES))
+	install -D -m 644 contrib/units/socket.conf $(DESTDIR)$(UNITS)/epmd.socket.d/proved.conf
+	install -D -m 644 -t $(DESTDIR)$(UNITS)/epmd.service.d contrib/units/proved.conf
+	install -D -m 644 -t $(DESTDIR)$(UNITS)/epmd-proved.service.d contrib/units/proved.conf
+	install -D -m 644 -t $(DESTDIR)$(MAN)/man1 $(addprefix docs/,$(PAGES))
+	install -D -m 644 -t $(DESTDIR)$(DOC) README.md
+	@$(call fill,$(BIN)/epmd $(addprefix $(MAN)/man1/,$(PAGES)) $(addprefix $(UNITS)/,$(SERVICES) $(ADDED)))
+
+install-client:
+	install -D -m 644 build/libepmd_client.so $(DESTDIR)$(LIBRARIES)/libepmd_client.so.0
+	ln -sf libepmd_client.so.0 $(DESTDIR)$(LIBRARIES)/libepmd_client.so
+	install -m 644 build/libepmd_client.a $(DESTDIR)$(LIBRARIES)
+	install -D -m 644 -t $(DESTDIR)$(INCLUDE) include/epmd_client.h
+	install -D -m 644 -t $(DESTDIR)$(LIBRARIES)/pkgconfig contrib/epmd_client.pc
+	install -D -m 644 -t $(DESTDIR)$(MAN)/man3 docs/epmd_client.3
+	@$(call fill,$(LIBRARIES)/pkgconfig/epmd_client.pc)
+
+# Removes what `install` puts there. On the machine itself the units end first, with what enables them, and then erlang-base's port mapper
+# has its socket back. That is unmasked, as the units of the first version were started by masking it.
+MANAGED = $(if $(DESTDIR),,$(shell command -v systemctl 2> /dev/null))
+
 uninstall:
-	rm -rf $(LIB) $(DOC)
-	rm -f $(BIN)/epmd $(addprefix $(BIN)/,$(TOOLS)) $(addprefix $(UNITS)/,$(SERVICES)) $(MAN)/epmd.1
-	rm -f $(CLIENT)/libepmd_client.* $(CLIENT)/pkgconfig/epmd_client.pc $(INCLUDE)/epmd_client.h $(MAN3)/epmd_client.3
+ifneq ($(MANAGED),)
+	for unit in $(SERVICES); do systemctl disable --now $$unit 2> /dev/null || true; done
+	systemctl unmask epmd.socket 2> /dev/null || true
+endif
+	rm -f $(addprefix $(DESTDIR)$(UNITS)/,$(SERVICES) $(ADDED))
+	rmdir $(addprefix $(DESTDIR)$(UNITS)/,$(dir $(ADDED))) 2> /dev/null || true
+ifneq ($(MANAGED),)
+	systemctl daemon-reload || true
+	if [ -x $(LIB)/renew ] && systemctl is-active --quiet epmd.socket; then $(LIB)/renew; fi
+endif
+	rm -rf $(DESTDIR)$(LIB) $(DESTDIR)$(DOC)
+	rm -f $(addprefix $(DESTDIR),$(addprefix $(BIN)/,$(COMMANDS)) $(addprefix $(MAN)/man1/,$(PAGES)))
+	rm -f $(addprefix $(DESTDIR),$(LIBRARIES)/libepmd_client.* $(LIBRARIES)/pkgconfig/epmd_client.pc $(INCLUDE)/epmd_client.h $(MAN)/man3/epmd_client.3)
+ifneq ($(MANAGED),)
+	@if ! systemctl is-active --quiet epmd.socket; then \
+	    echo 'To have the port mapper of erlang-base back, where that is installed:'; echo '    systemctl enable --now epmd.socket'; fi
+endif
 
-# A package for Debian, in build.
-deb: build/epmd build/libepmd_client.a build/libepmd_client.so
-	contrib/deb
+# Packages for Debian, in build: the program, and the client for C.
+deb:
+	$(built)@contrib/deb
 
-# Tests what is in contrib, with python3 and no port mapper; the client for C where it is in build, with cc, rustc and a port mapper where
-# they are there.
+# Tests what is in contrib, with python3 and no port mapper: packages where dpkg-deb and strip are there, and the client for C where it is in
+# build, with cc, rustc and a port mapper where they are there.
 check-contrib:
 	python3 -B -m unittest discover -s contrib/tests
 
