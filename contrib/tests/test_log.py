@@ -179,7 +179,7 @@ class Told(unittest.TestCase):
         self.write(start() + connect(0))
         done = self.run_log()
         self.assertEqual(done.returncode, 2)
-        self.assertIn("another run wrote it", done.stderr)
+        self.assertEqual(done.stderr, f"epmd-log: {self.path}.1: it begins at place 9, and the one before it ends at 1: another run wrote it\n")
 
     def test_what_is_cut_or_strange_is_told(self):
         for cut, where in ((start()[:20], "its start"), (start() + connect(0)[:-1], "place 0")):
@@ -243,7 +243,7 @@ class Told(unittest.TestCase):
 
     def test_one_that_is_not_there_is_told(self):
         done = self.run_log()
-        self.assertEqual((done.returncode, done.stderr), (2, f"epmd-log: {self.path}: No such file\n"))
+        self.assertEqual((done.returncode, done.stderr), (2, f"epmd-log: {self.path}: no such file\n"))
 
     def test_help_is_whole(self):
         done = subprocess.run([sys.executable, LOG, "--help"], capture_output=True, text=True, timeout=30)
