@@ -10,7 +10,7 @@ OTHER = /usr/bin/epmd
 # The crates of tests that refuse memory.
 REFUSING = tests_book
 
-.PHONY: run epmd client install install-program install-client uninstall deb check-contrib quick test bench faults
+.PHONY: run epmd client install install-program install-client uninstall deb check-contrib quick attack test bench faults
 
 # Builds the proved daemon and serves on port 4369.
 run: epmd
@@ -123,6 +123,10 @@ quick:
 	@for crate in tests_machine tests_book tests_client epmd; do \
 	    echo "$$crate, with nothing proved:"; (cd crates/$$crate && rt try --test) || exit 1; done
 	@echo "stories, with nothing proved:"; cd crates/stories && rt try -- $$(grep -v ^large args | sed s,^,data/,)
+
+# Tries the wrong bodies that the gate leaves out, some forty minutes of four processors: before a contract of their crate changes.
+attack:
+	contrib/attack
 
 # The gate: every proof from nothing, the must-fail edits, the tests, and the program as two compilers build it.
 test:
