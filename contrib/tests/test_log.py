@@ -7,6 +7,7 @@ import signal
 import subprocess
 import sys
 import tempfile
+import threading
 import time
 import unittest
 
@@ -85,6 +86,15 @@ class Told(unittest.TestCase):
 
     def run_log(self, *words):
         return subprocess.run([sys.executable, LOG, *words, self.path], capture_output=True, text=True, timeout=30)
+
+    def follower(self):
+        """One that follows the recording, and is ended where it says nothing for long."""
+        running = subprocess.Popen([sys.executable, LOG, "-f", self.path], stdout=subprocess.PIPE, stderr=subprocess.PIPE, text=True)
+        patience = threading.Timer(20, running.kill)
+        patience.start()
+        for each in (running.stdout.close, running.stderr.close, running.wait, running.kill, patience.cancel):
+            self.addCleanup(each)
+        return running
 
     def told(self, data, *words):
         self.write(data)
@@ -264,9 +274,7 @@ class Told(unittest.TestCase):
         self.assertEqual(os.listdir(places[1]), ["epmd_recording.py"])
 
     def test_a_live_recording_is_followed_across_a_restart(self):
-        running = subprocess.Popen([sys.executable, LOG, "-f", self.path], stdout=subprocess.PIPE, stderr=subprocess.PIPE, text=True)
-        self.addCleanup(running.stderr.close)
-        self.addCleanup(running.stdout.close)
+        running = self.follower()
         self.assertEqual(running.stderr.readline(), f"epmd-log: {self.path} is not there yet\n")
         time.sleep(0.5)
         self.write(start() + visit(b"a"))
@@ -279,8 +287,7 @@ class Told(unittest.TestCase):
 
     def test_a_live_recording_is_followed_into_the_next_file(self):
         self.write(start())
-        running = subprocess.Popen([sys.executable, LOG, "-f", self.path], stdout=subprocess.PIPE, text=True)
-        self.addCleanup(running.stdout.close)
+        running = self.follower()
         with open(self.path, "ab", buffering=0) as file:
             file.write(connect(0))
             time.sleep(0.5)
