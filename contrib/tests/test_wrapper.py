@@ -104,8 +104,9 @@ class Wrapper(unittest.TestCase):
         first = [f"session-20010909T014640Z{number}" for number in ("", ".1", ".12")]
         self.assertEqual(self.files(), first)
         self.left("session.3")
+        self.left("session.3.copy")
         self.call("-systemd", *words)
-        self.assertEqual(self.files(), first + ["session-20010909T014640Za.3"])
+        self.assertEqual(self.files(), first + ["session-20010909T014640Za.3", "session.3.copy"])
 
     def test_a_recording_without_an_entry_is_not_kept_nor_one_of_no_service(self):
         self.left("session", count=37)
