@@ -105,6 +105,24 @@ class Metrics(unittest.TestCase):
         held[0].close()
         self.assertIn(found["epmd_connections"], (1, 2))
 
+    def holder(self, listener, name):
+        """A process of this name that holds a socket."""
+        named = f"import time; open('/proc/self/comm', 'w').write('{name}'); print(flush=True); time.sleep(60)"
+        process = subprocess.Popen([sys.executable, "-c", named], pass_fds=[listener.fileno()], stdout=subprocess.PIPE)
+        self.addCleanup(process.communicate)
+        self.addCleanup(process.kill)
+        process.stdout.readline()
+        return process
+
+    def test_the_service_manager_is_not_the_port_mapper(self):
+        with socket.create_server(("127.0.0.1", 0)) as listener:
+            port = listener.getsockname()[1]
+            own, _ = self.holder(listener, "epmd"), self.holder(listener, "systemd")
+        self.assertEqual(tool().process_at(port)[0], f"/proc/{own.pid}")
+        own.kill()
+        own.wait()
+        self.assertIsNone(tool().process_at(port))
+
     def test_none_answers(self):
         self.assertEqual(figures(printed(free_port())), {"epmd_up": 0, "epmd_connections": 0})
 
