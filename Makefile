@@ -39,8 +39,8 @@ LIBRARIES = $(PREFIX)/lib
 COMMANDS = epmd epmd-log epmd-metrics epmd-prune
 PAGES = $(addsuffix .1,$(COMMANDS))
 SERVICES = epmd-proved.socket epmd-proved.service epmd-proved-prune.service epmd-proved-prune.timer
-# What is added to units of erlang-base and to ours.
-ADDED = $(addsuffix /proved.conf,epmd.socket.d epmd.service.d epmd-proved.service.d)
+# What is added to units of erlang-base and to ours: an operator's own additions come after it.
+ADDED = $(addsuffix /10-proved.conf,epmd.socket.d epmd.service.d epmd-proved.service.d)
 
 # The client is there once `make client` has made it. Nothing is proved for an installation or a package: they may be root's.
 CLIENT = $(and $(wildcard build/libepmd_client.a),$(wildcard build/libepmd_client.so))
@@ -64,9 +64,9 @@ install-program:
 	install -m 644 contrib/epmd_recording.py $(DESTDIR)$(LIB)
 	install -D -m 755 -t $(DESTDIR)$(BIN) $(addprefix contrib/,$(COMMANDS))
 	install -D -m 644 -t $(DESTDIR)$(UNITS) $(addprefix contrib/units/,$(SERVICES))
-	install -D -m 644 contrib/units/socket.conf $(DESTDIR)$(UNITS)/epmd.socket.d/proved.conf
-	install -D -m 644 -t $(DESTDIR)$(UNITS)/epmd.service.d contrib/units/proved.conf
-	install -D -m 644 -t $(DESTDIR)$(UNITS)/epmd-proved.service.d contrib/units/proved.conf
+	install -D -m 644 contrib/units/socket.conf $(DESTDIR)$(UNITS)/epmd.socket.d/10-proved.conf
+	install -D -m 644 contrib/units/proved.conf $(DESTDIR)$(UNITS)/epmd.service.d/10-proved.conf
+	install -D -m 644 contrib/units/proved.conf $(DESTDIR)$(UNITS)/epmd-proved.service.d/10-proved.conf
 	install -D -m 644 -t $(DESTDIR)$(MAN)/man1 $(addprefix docs/,$(PAGES))
 	install -D -m 644 -t $(DESTDIR)$(DOC) README.md
 	@$(call fill,$(BIN)/epmd $(addprefix $(MAN)/man1/,$(PAGES)) $(addprefix $(UNITS)/,$(SERVICES) $(ADDED)))

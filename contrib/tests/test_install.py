@@ -15,8 +15,8 @@ PARTS = ["Makefile", "VERSION", "README.md", "CHANGELOG.md", "crates.txt", "cont
 # A small program, and a library, as good as any.
 PROGRAM = shutil.which("true")
 COMMANDS = ["epmd", "epmd-log", "epmd-metrics", "epmd-prune"]
-UNITS = ["epmd-proved-prune.service", "epmd-proved-prune.timer", "epmd-proved.service", "epmd-proved.service.d/proved.conf", "epmd-proved.socket",
-         "epmd.service.d/proved.conf", "epmd.socket.d/proved.conf"]
+UNITS = ["epmd-proved-prune.service", "epmd-proved-prune.timer", "epmd-proved.service", "epmd-proved.service.d/10-proved.conf", "epmd-proved.socket",
+         "epmd.service.d/10-proved.conf", "epmd.socket.d/10-proved.conf"]
 
 # Notes its words. Of units that are enabled or masked there are links in ETC, as the service manager has them, and $ACTIVE is what is active.
 SYSTEMCTL = """#!/bin/sh
@@ -168,9 +168,9 @@ class Install(Checkout):
                     self.assertIsNone(re.search(rb"/usr/local|@[A-Z]+@", file.read()), name)
         units = os.path.join(self.root, "opt/own/lib/systemd/system")
         for service in ("epmd.service", "epmd-proved.service"):
-            self.assertIn("\nExecStart=/opt/own/bin/epmd -systemd $EPMD_OPTIONS\n", read(os.path.join(units, f"{service}.d", "proved.conf")))
-        self.assertIn("\n[Unit]\n", read(os.path.join(units, "epmd.socket.d", "proved.conf")))
-        self.assertNotIn("\n[Service]\n", read(os.path.join(units, "epmd.socket.d", "proved.conf")))
+            self.assertIn("\nExecStart=/opt/own/bin/epmd -systemd $EPMD_OPTIONS\n", read(os.path.join(units, f"{service}.d", "10-proved.conf")))
+        self.assertIn("\n[Unit]\n", read(os.path.join(units, "epmd.socket.d", "10-proved.conf")))
+        self.assertNotIn("\n[Service]\n", read(os.path.join(units, "epmd.socket.d", "10-proved.conf")))
         version = read(os.path.join(TOP, "VERSION")).strip()
         self.assertIn("prefix=/opt/own\nlibdir=/opt/own/lib\n", read(os.path.join(self.root, "opt/own/lib/pkgconfig/epmd_client.pc")))
         self.assertEqual(self.run_in("/", os.path.join(self.root, "opt/own/bin/epmd"), "-version").stdout, f"epmd-proved {version}\n")
