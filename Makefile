@@ -38,7 +38,7 @@ INCLUDE = $(PREFIX)/include
 LIBRARIES = $(PREFIX)/lib
 COMMANDS = epmd epmd-log epmd-metrics epmd-prune
 PAGES = $(addsuffix .1,$(COMMANDS))
-SERVICES = epmd-proved.socket epmd-proved.service epmd-proved-prune.service epmd-proved-prune.timer
+SERVICES = epmd-proved.socket epmd-proved.service epmd-proved-away.target epmd-proved-prune.service epmd-proved-prune.timer
 # What is added to units of erlang-base and to ours: an operator's own additions come after it.
 ADDED = $(addsuffix /10-proved.conf,epmd.socket.d epmd.service.d epmd-proved.service.d)
 
