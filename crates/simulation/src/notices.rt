@@ -61,8 +61,9 @@ pub struct Notices {
     refused_at: u64,
     /// That no connection can be accepted.
     accept: Telling,
-    /// That names are in use, and of how many such refusals it was told.
+    /// That names are in use, how many nodes have heard that, and of how many it was told.
     in_use: Telling,
+    in_use_heard: u64,
     pub in_use_told: u64,
     wrong: Option<Wrong>,
 }
@@ -75,6 +76,7 @@ impl Notices {
             refused_at: 0,
             accept: Telling::new(),
             in_use: Telling::new(),
+            in_use_heard: 0,
             in_use_told: 0,
             wrong: None,
         }
@@ -106,11 +108,15 @@ impl Notices {
     /// A node has heard that its name is in use.
     pub fn note_in_use(&mut self, now: u64) {
         self.in_use.note(now);
+        self.in_use_heard = self.in_use_heard.saturating_add(1);
     }
 
-    /// It is told that so many names were refused.
+    /// It is told that so many names were refused: all that nodes have heard of were in the log before.
     pub fn tell_in_use(&mut self, now: u64, count: u64) {
         self.in_use_told = self.in_use_told.saturating_add(count);
+        if self.in_use_told < self.in_use_heard {
+            self.wrong = Some("the operator is told of fewer names than were refused");
+        }
         if !self.in_use.tell(now) {
             self.wrong = Some("the operator is told of names twice within ten seconds");
         }
