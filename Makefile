@@ -124,7 +124,7 @@ quick:
 	    echo "$$crate, with nothing proved:"; (cd crates/$$crate && rt try --test) || exit 1; done
 	@echo "stories, with nothing proved:"; cd crates/stories && rt try -- $$(grep -v ^large args | sed s,^,data/,)
 
-# Tries the wrong bodies that the gate leaves out, some forty minutes of four processors: before a contract of their crate changes.
+# Tries the wrong bodies that the gate leaves out, in some twenty minutes once all is proved: before a contract of their crate changes.
 attack:
 	contrib/attack
 
