@@ -15,8 +15,8 @@ PARTS = ["Makefile", "VERSION", "README.md", "CHANGELOG.md", "crates.txt", "cont
 # A small program, and a library, as good as any.
 PROGRAM = shutil.which("true")
 COMMANDS = ["epmd", "epmd-log", "epmd-metrics", "epmd-prune"]
-UNITS = ["epmd-proved-away.target", "epmd-proved-prune.service", "epmd-proved-prune.timer", "epmd-proved.service", "epmd-proved.service.d/10-proved.conf", "epmd-proved.socket",
-         "epmd.service.d/10-proved.conf", "epmd.socket.d/10-proved.conf"]
+UNITS = ["epmd-proved-away.target", "epmd-proved-prune.service", "epmd-proved-prune.timer", "epmd-proved.service",
+         "epmd-proved.service.d/10-proved.conf", "epmd-proved.socket", "epmd.service.d/10-proved.conf", "epmd.socket.d/10-proved.conf"]
 
 # Notes its words. Of units that are enabled or masked there are links in ETC, as the service manager has them, and $ACTIVE is what is active.
 SYSTEMCTL = """#!/bin/sh
