@@ -47,7 +47,7 @@ CLIENT = $(and $(wildcard build/libepmd_client.a),$(wildcard build/libepmd_clien
 built = $(if $(shell ls build/epmd 2> /dev/null),,$(error there is no build/epmd: `make epmd` first))
 
 # Says in files that are in place which version they are of, and where they lie.
-fill = sed -i 's|/usr/local|$(PREFIX)|g; s|@LIBRARIES@|$(LIBRARIES)|; s|@VERSION@|$(shell cat VERSION)|' $(addprefix $(DESTDIR),$(1))
+fill = sed -i 's|/usr/local/lib/systemd/system|$(UNITS)|g; s|/usr/local|$(PREFIX)|g; s|@LIBRARIES@|$(LIBRARIES)|; s|@VERSION@|$(shell cat VERSION)|' $(addprefix $(DESTDIR),$(1))
 
 # Puts the program, the wrapper that is called `epmd`, the tools, the manual pages and the units in their places, and the client for C with
 # its header, its manual page and its file for pkg-config. How to start it is told where this is the machine that it is for.

@@ -123,6 +123,11 @@ class Metrics(unittest.TestCase):
         own.wait()
         self.assertIsNone(tool().process_at(port))
 
+    def test_a_recording_that_is_not_there_is_told(self):
+        done = run(free_port(), *self.recorded)
+        told = f"epmd-metrics: no counters: {self.path}: there is no recording, or it can't be seen\n"
+        self.assertEqual((done.returncode, done.stderr, "_total" in done.stdout), (0, told, False))
+
     def test_none_answers(self):
         self.assertEqual(figures(printed(free_port())), {"epmd_up": 0, "epmd_connections": 0})
 

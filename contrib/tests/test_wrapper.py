@@ -86,6 +86,9 @@ class Wrapper(unittest.TestCase):
         self.assertEqual(self.handed("-d", ERL_EPMD_PORT="x"), ("epmd: bad port in environment: x: no option counts\n", ["", ""]))
         self.assertEqual(self.handed("-d"), ("", ["", "", "-d"]))
 
+    def test_with_such_sockets_no_command_is_carried_out(self):
+        self.assertEqual(self.handed("-systemd", "-record", "a", "-names"), ("epmd: -names is a command: no option counts\n", [""]))
+
     def left(self, name, count=38, written=1000000000):
         with open(os.path.join(self.folder, name), "wb") as file:
             file.write(bytes(count))
