@@ -30,8 +30,6 @@ pub struct Pushing {
     pub asked: AtomicU64,
     /// How often the operator was told that the recording has failed.
     pub told: AtomicU64,
-    /// Of how many refused names it was told.
-    pub refused: AtomicU64,
 }
 
 impl<R: Clock + Copy> Pushed<R> {
@@ -42,7 +40,6 @@ impl<R: Clock + Copy> Pushed<R> {
             is_short: AtomicBool::new(false),
             asked: AtomicU64::new(0),
             told: AtomicU64::new(0),
-            refused: AtomicU64::new(0),
         };
         let shared = Arc::new(alloc, pushing)?;
         Ok(Pushed { rt, shared })
@@ -125,11 +122,7 @@ impl<R: Clock + Files<File = File>> Host for Pushed<R> {
         }
     }
 
-    fn tell_refused(&self, _alloc: Global, refused: &Refused) {
-        self.shared
-            .refused
-            .fetch_add(refused.count(), Ordering::SeqCst);
-    }
+    fn tell_refused(&self, _alloc: Global, _refused: &Refused) {}
 
     fn has_memory(&self, _alloc: Global) -> bool {
         self.shared.asked.fetch_add(1, Ordering::SeqCst);
