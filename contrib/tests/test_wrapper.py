@@ -111,6 +111,11 @@ class Wrapper(unittest.TestCase):
         self.call("-systemd", *words)
         self.assertEqual(self.files(), first + ["session-20010909T014640Za.3", "session.3.copy"])
 
+    def test_a_recording_is_left_where_no_option_counts(self):
+        self.left("session")
+        self.handed("-record", os.path.join(self.folder, "session"), "-bogus")
+        self.assertEqual(self.files(), ["session"])
+
     def test_a_recording_without_an_entry_is_not_kept_nor_one_of_no_service(self):
         self.left("session", count=37)
         words = ["-record", os.path.join(self.folder, "session")]
@@ -131,6 +136,7 @@ class Wrapper(unittest.TestCase):
         done = self.call(ERL_EPMD_ADDRESS="fd09::1,::1,10.0.0.5,::")
         self.assertEqual(self.words(), ["-address 127.0.0.1,10.0.0.5,0.0.0.0"])
         self.assertEqual(done.stderr, "epmd: fd09::1 of ERL_EPMD_ADDRESS is left out\n")
+        self.assertEqual(self.call("-kill", ERL_EPMD_ADDRESS="fd09::1").stderr, "")
 
     def test_where_only_those_are_given_it_listens_on_loopback(self):
         self.call(ERL_EPMD_ADDRESS="::1")
