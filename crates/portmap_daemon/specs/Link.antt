@@ -5,6 +5,8 @@ use Rattle.std.specs.declared.io.Error.{Error}
 use Rattle.std.specs.declared.io.ErrorKind.TheVariants as kind
 use Rattle.portmap_daemon.specs.declared.link.Reading.{Reading}
 use Rattle.portmap_daemon.specs.declared.link.Reading.TheVariants.{Open, Dry}
+use Rattle.portmap_daemon.specs.declared.source.Turn.{Turn}
+use Rattle.portmap_daemon.specs.declared.source.Turn.TheVariants.{Fresh, Ready, Late, Idle, Stop}
 use Rattle.portmap_daemon.specs.declared.link.Writing.{Writing}
 use Rattle.portmap_daemon.specs.declared.link.Writing.TheVariants.{Free, CutShort, Waits}
 
@@ -19,6 +21,14 @@ may_move Dry Free = false
 abbrev pub IsOver : Option ℕ → ℕ → ℕ → Type 0
 IsOver (Some since) then_ timeout = timeout ≤ then_ - since
 IsOver None then_ timeout = ⊥
+
+-- what is told is news of the link with this key, or that its time is over
+abbrev pub IsOf : Option ℕ → Turn → Type 0
+IsOf key (Ready k) = key ≡ Some k
+IsOf key (Late k) = key ≡ Some k
+IsOf key (Fresh k local) = ⊥
+IsOf key Idle = ⊥
+IsOf key Stop = ⊥
 
 -- a call that has failed for good
 abbrev pub IsBroken : Result ℕ Error → Type 0

@@ -9,8 +9,10 @@
 //! - `Recorder::begin`, `add`: true: all text was written; false: a front of it, or nothing, and nothing from then on. One thread owns the file and its
 //!   `Recorder`. How much of a write that failed may stay is exact (`kept_size`). That the file is cut there, that the files meet, and have all: tests
 //!   and the simulation.
+//! - Where each link of a worker stands, and that each is told in its turn: `portmap_ready`. By clauses of the source, a turn tells of the queue's
+//!   first (`pop`), what was told last is put to a place before the next one is told, and the poll may wait only while nothing is queued (`ask`).
 //! - Which connections are open is decided by functions over values, each exact (`is_free`, `goes_before`, `spares_local`, `poll_timeout`, `note_poll`,
-//!   `is_held`, `acceptors_without`, `accept_error`, `starved_for`), and so are a link's times (`may_move`, `since_at`, `is_over`), when the log is taken
+//!   `is_held`, `acceptors_without`, `accept_error`, `starved_for`), and so are a link's times (`may_move`, `since_at`, `expire`), when the log is taken
 //!   out, what waits and when a file is full (`is_due`, `fits`, `is_full`), what the operator is told (`notice`, `Refused`, `fault_of`, `has_recorded`), where
 //!   a socket listens (`address_at`) and what a poll reports (`report_of`). That they are asked: tests and the simulation.
 //! - `System`, `Stream`, `Wake`: what workers ask of the system. Nothing is asked of who answers but that a read or a write moves no more bytes than
@@ -42,6 +44,7 @@ mod quota;
 mod recorder;
 mod recording;
 mod refused;
+mod rounds;
 mod serving;
 mod shared;
 mod socket_source;

@@ -1,15 +1,16 @@
 //! A connection that a worker holds: its stream as a device, and what the worker's source has to know of it.
 ghost use Rattle.std.specs.Prelude.{◌≡◌, ◌↔◌, ◌-◌, ◌≤◌, ℕ, [], Option, Some, None, true, false};
-ghost use Rattle.portmap_daemon.specs.Link.{IsBroken, IsOver, may_move};
+ghost use Rattle.portmap_daemon.specs.Link.{IsBroken, IsOf, IsOver, may_move};
 
 use crate::Turn;
 use crate::first_piece::FirstPiece;
 use crate::limits::YOUNG_MS;
+use crate::pending::Waiting;
+use crate::rounds::Rounds;
 use crate::system::{Interest, Stream, System};
 use portmap_core::Name;
 use portmap_link::{Device, Input, Output, Past, Pull, Put, pull_from, put_from};
 use std::alloc::Global;
-use std::collections::VecDeque;
 use std::io;
 use std::io::{ErrorKind, Read, Write};
 
@@ -40,54 +41,166 @@ enum Watched {
     Both,
 }
 
-/// A connection that a worker holds. Times are in milliseconds since the daemon began.
-///
-/// Its time begins anew at looks alone: at the first look after it came, or, for a local peer, after bytes have moved. The time of a
-/// look is read before the poll is asked for all that it has to report, so whatever pauses come, one whose time is over by it had no
-/// news up to it. So a connection times out up to about a second after its time was over, and never before.
-#[derive(Drop)]
-pub struct Link<S: Read + Write> {
-    stream: S,
-    failed: bool,
-    pulls: Past<Pull>,
-    puts: Past<Put>,
-    first: FirstPiece,
+/// Which calls may move bytes, and what of that the poll reports.
+#[derive(Clone, Copy)]
+struct Readiness {
     reading: Reading,
     writing: Writing,
     watched: Watched,
-    /// The peer has all of its answer, and sends no more.
-    has_left: bool,
+}
+
+impl Readiness {
+    /// That of a stream which has just come: it may have bytes.
+    fn new() -> Readiness {
+        Readiness {
+            reading: Reading::Open,
+            writing: Writing::Free,
+            watched: Watched::Nothing,
+        }
+    }
+
+    /// Whether a call may do more than answer Later.
+    fn may_move(self) -> bool
+        ensures { result ≡ may_move self.reading self.writing }
+    {
+        match self.writing {
+            Writing::Free => self.reading == Reading::Open,
+            Writing::CutShort => true,
+            Writing::Waits => false,
+        }
+    }
+
+    /// Whether bytes wait to be written.
+    fn is_unsent(self) -> bool
+        ensures { (result ≡ false) ↔ (self.writing ≡ Writing.Free) }
+    {
+        self.writing != Writing::Free
+    }
+
+    /// What the poll is to report: that it may be read, and written too if bytes wait.
+    fn wanted(self) -> Watched {
+        if self.is_unsent() {
+            Watched::Both
+        } else {
+            Watched::Reading
+        }
+    }
+
+    /// Whether the poll reports all that is wanted.
+    fn is_watched(self) -> bool {
+        self.watched == Watched::Both || self.watched == self.wanted()
+    }
+
+    /// The poll has reported it, or it is to be asked without that.
+    fn note_report(&mut self)
+        ensures { may_move self.new.reading self.new.writing ≡ true }
+    {
+        self.reading = Reading::Open;
+        if self.writing == Writing::Waits {
+            self.writing = Writing::CutShort;
+        }
+    }
+
+    /// A pull with so much room has answered so, and would have waited or not. If fewer bytes came than there was room for no more were
+    /// there. A stream that no poll reports yet is reported, once it is to be, with all that has come by then: so it needn't be asked
+    /// whether it is dry.
+    fn note_pull(&mut self, answer: &Pull, room: usize, is_blocked: bool) {
+        let is_dry = match answer {
+            Pull::Piece(count) => *count < room && self.watched == Watched::Nothing,
+            Pull::Later => is_blocked,
+            Pull::End | Pull::Fault => false,
+        };
+        self.reading = if is_dry { Reading::Dry } else { Reading::Open };
+    }
+
+    /// A put has answered so, and would have waited or not.
+    fn note_put(&mut self, answer: &Put, is_blocked: bool) {
+        self.writing = match answer {
+            Put::Later if is_blocked => Writing::Waits,
+            Put::Later => Writing::CutShort,
+            Put::Wrote(_) | Put::Fault => Writing::Free,
+        };
+    }
+}
+
+/// How far a connection is.
+#[derive(Clone, Copy, Debug, PartialEq, Eq)]
+enum Progress {
+    /// Nothing was ever written to it.
+    Asked,
+    /// Bytes of its answer were.
+    Answered,
+    /// Its peer has all of its answer, and sends no more.
+    Left,
+}
+
+/// The time that a peer has: for its request, or for the bytes that wait to be written.
+///
+/// It begins anew at looks alone: at the first look after it came, or, for a local peer, after bytes have moved. The time of a look is read
+/// before the poll is asked for all that it has to report, so whatever pauses come, one whose time is over by it had no news up to it. So a
+/// connection times out up to about a second after its time was over, and never before.
+#[derive(Clone, Copy)]
+struct Timer {
+    /// At which look it began.
+    since: Option<u64>,
+    /// Bytes have moved since the last look.
+    has_moved: bool,
+    /// It is over, which is to be told. There was no report since.
+    is_late: bool,
+}
+
+impl Timer {
+    /// It has not begun.
+    fn new() -> Timer {
+        Timer {
+            since: None,
+            has_moved: false,
+            is_late: false,
+        }
+    }
+
+    /// A look: it begins, if it is to begin, or to begin anew.
+    fn begin(&mut self, is_timed: bool, is_local: bool, now: u64) {
+        let renews = self.has_moved && is_local;
+        self.has_moved = false;
+        self.since = since_at(self.since, is_timed, renews, now);
+    }
+
+    /// Whether it was over at this time, which is to be told.
+    fn expire(&mut self, then: u64, timeout: u64) -> bool
+        ensures over { (result ≡ true) ↔ IsOver self.old.since then timeout }
+        ensures told { self.new ≡ record self.old { is_late = result } }
+    {
+        self.is_late = is_over(self.since, then, timeout);
+        self.is_late
+    }
+}
+
+/// What the calls of a device have answered. Only proofs read the lists.
+#[derive(Drop)]
+struct History {
+    failed: bool,
+    pulls: Past<Pull>,
+    puts: Past<Put>,
+}
+
+/// A connection that a worker holds. Times are in milliseconds since the daemon began.
+#[derive(Drop)]
+pub struct Link<S: Read + Write> {
+    stream: S,
+    history: History,
+    first: FirstPiece,
+    readiness: Readiness,
+    progress: Progress,
+    timer: Timer,
     pub(crate) is_local: bool,
     /// When it came.
     pub(crate) came: u64,
-    /// A put has ever answered Wrote.
-    pub(crate) is_answered: bool,
     /// It was answered and goes on sending: what it sends is of no use, and is read piece by piece with rests in between. Or the poll
     /// has refused to report it.
     is_resting: bool,
     /// How many bytes have moved since that was last asked.
     moved_bytes: usize,
-    /// Some have since the last look.
-    has_moved: bool,
-    /// It is among those of which there is something to tell.
-    is_queued: bool,
-    /// The registration that it asks for waits for its name, and nothing is told of it until then.
-    is_pending: bool,
-    /// At which look its time began.
-    since: Option<u64>,
-    /// Its time is over, which is to be told. There was no report since.
-    is_late: bool,
-}
-
-/// Whether a call may do more than answer Later.
-fn may_move(reading: Reading, writing: Writing) -> bool
-    ensures { result ≡ may_move reading writing }
-{
-    match writing {
-        Writing::Free => reading == Reading::Open,
-        Writing::CutShort => true,
-        Writing::Waits => false,
-    }
 }
 
 /// Since when the time of a connection goes on, after a look at this time: that of a local peer whose bytes have moved is renewed. Those
@@ -126,39 +239,34 @@ fn would_block(told: &io::Result<usize>) -> bool {
 }
 
 impl<S: Read + Write> Link<S> {
-    /// One that comes now, of which there is something to tell: it may have bytes. It is to stand in the queue. If a local peer asks
-    /// to register a name at once, that is kept back for one pull.
+    /// One that comes now, of which there is something to tell: it may have bytes. If a local peer asks to register a name at once, that
+    /// is kept back for one pull.
     pub fn new(alloc: Global, stream: S, is_local: bool, now: u64) -> Link<S>
-        ensures pulls { result.pulls ≡ [] }
-        ensures puts { result.puts ≡ [] }
-        ensures whole { result.failed ≡ false }
+        ensures pulls { result.history.pulls ≡ [] }
+        ensures puts { result.history.puts ≡ [] }
+        ensures whole { result.history.failed ≡ false }
         ensures is_local { result.is_local ≡ is_local }
         ensures came { result.came ≡ now }
     {
         Link {
             stream,
-            failed: false,
-            pulls: Past::new(),
-            puts: Past::new(),
+            history: History {
+                failed: false,
+                pulls: Past::new(),
+                puts: Past::new(),
+            },
             first: if is_local {
                 FirstPiece::Expected(alloc)
             } else {
                 FirstPiece::Past
             },
-            reading: Reading::Open,
-            writing: Writing::Free,
-            watched: Watched::Nothing,
-            has_left: false,
+            readiness: Readiness::new(),
+            progress: Progress::Asked,
+            timer: Timer::new(),
             is_local,
             came: now,
-            is_answered: false,
             is_resting: false,
             moved_bytes: 0,
-            has_moved: false,
-            is_queued: true,
-            is_pending: false,
-            since: None,
-            is_late: false,
         }
     }
 
@@ -176,9 +284,14 @@ impl<S: Read + Write> Link<S> {
 
     /// Whether a call may do more than answer Later.
     pub fn may_move(&self) -> bool
-        ensures { result ≡ may_move self.now.reading self.now.writing }
+        ensures { result ≡ may_move self.now.readiness.reading self.now.readiness.writing }
     {
-        may_move(self.reading, self.writing)
+        self.readiness.may_move()
+    }
+
+    /// Whether a put has ever answered Wrote.
+    pub(crate) fn is_answered(&self) -> bool {
+        self.progress != Progress::Asked
     }
 
     /// How many bytes have moved since this was last asked.
@@ -191,198 +304,157 @@ impl<S: Read + Write> Link<S> {
     /// Whether its peer has only so much time: for its request, or for the bytes that wait to be written. One that was answered
     /// and has read the answer may be silent for as long as it likes.
     fn is_timed(&self) -> bool {
-        !self.is_answered || self.is_unsent()
+        !self.is_answered() || self.readiness.is_unsent()
     }
 
-    /// Whether bytes wait to be written.
-    fn is_unsent(&self) -> bool {
-        self.writing != Writing::Free
-    }
-
-    /// Whether it may be given up for another one: it has been there for a while, and waits for its peer.
+    /// Whether it may be given up for another one: it has been there for a while, and waits for its peer. One that is answered and has read
+    /// its answer may not, so none that holds a name, but for the moment in which its answer waits to be written.
     pub(crate) fn may_go(&self, now: u64) -> bool {
-        self.is_timed() && !self.is_pending && now.saturating_sub(self.came) > YOUNG_MS
+        self.is_timed() && now.saturating_sub(self.came) > YOUNG_MS
     }
 
     /// It is given up for another one, if it can be. If it is kept it has come anew.
     pub(crate) fn give_way(&mut self, now: u64) {
         self.came = now;
-        self.is_late = false;
-    }
-
-    /// There is something to tell of the link with this key. Each stands in the queue once, and there is room for all.
-    fn enqueue(&mut self, queue: &mut VecDeque<usize>, key: usize) {
-        if !self.is_queued && !self.is_pending {
-            self.is_queued = queue.push_back(key).is_ok();
-        }
-    }
-
-    /// Nothing is told of it until it is resumed.
-    pub(crate) fn hold_back(&mut self) {
-        self.is_pending = true;
+        self.timer.is_late = false;
     }
 
     /// What it asks for is to be told, or that its time is over.
-    pub(crate) fn resume(&mut self, queue: &mut VecDeque<usize>, key: usize, is_late: bool) {
-        self.is_pending = false;
-        self.is_late = is_late;
-        self.enqueue(queue, key);
-    }
-
-    /// The poll has reported it, or it is to be asked without that.
-    fn note_report(&mut self) {
-        self.reading = Reading::Open;
-        if self.writing == Writing::Waits {
-            self.writing = Writing::CutShort;
-        }
+    pub(crate) fn set_late(&mut self, is_late: bool) {
+        self.timer.is_late = is_late;
     }
 
     /// The poll has reported it, and perhaps that its peer sends no more: what is reported goes before what is late.
-    pub(crate) fn report(&mut self, queue: &mut VecDeque<usize>, key: usize, is_closed: bool) {
-        self.is_late = false;
-        self.note_report();
-        self.has_left = is_closed && !self.is_timed();
-        if is_closed || !self.is_resting {
-            self.enqueue(queue, key);
-        }
+    pub(crate) fn note_event(&mut self, is_closed: bool) {
+        self.timer.is_late = false;
+        self.readiness.note_report();
+        self.progress = match self.progress {
+            Progress::Asked => Progress::Asked,
+            Progress::Answered | Progress::Left if is_closed && !self.readiness.is_unsent() =>
+                Progress::Left,
+            Progress::Answered | Progress::Left => Progress::Answered,
+        };
     }
 
     /// Memory is short: a local peer that has sent a part of a request, perhaps of a long registration, is late with the rest.
     pub(crate) fn refuse_part(&mut self) {
-        let is_part = self.is_local && !self.is_answered && !self.is_unsent();
-        self.is_late = self.is_late || (is_part && matches!(self.first, FirstPiece::Past));
+        let is_part = self.is_local && !self.is_answered() && !self.readiness.is_unsent();
+        if is_part && matches!(self.first, FirstPiece::Past) {
+            self.timer.is_late = true;
+        }
     }
 
-    /// It has rested.
-    pub(crate) fn end_rest(&mut self, queue: &mut VecDeque<usize>, key: usize) {
+    /// It has rested. Whether there is something to tell of it.
+    pub(crate) fn end_rest(&mut self) -> bool {
         self.is_resting = false;
-        if !self.is_watched() {
-            self.note_report();
+        if !self.readiness.is_watched() {
+            self.readiness.note_report();
         }
-        if self.may_move() {
-            self.enqueue(queue, key);
-        }
+        self.may_move()
     }
 
-    /// What is to be told of it, which is taken from the queue. If one that is late is kept its time begins anew.
-    pub(crate) fn tell(&mut self, key: usize) -> Turn {
-        self.is_queued = false;
-        if !self.is_late {
+    /// What is to be told of it. If one that is late is kept its time begins anew.
+    pub(crate) fn tell(&mut self, key: usize) -> Turn
+        ensures { IsOf (Some key) result }
+    {
+        if !self.timer.is_late {
             return Turn::Ready(key as u64);
         }
-        self.is_late = false;
-        self.since = None;
+        self.timer.is_late = false;
+        self.timer.since = None;
         Turn::Late(key as u64)
     }
 
-    /// What the poll is to report of it: that it may be read, and written too if bytes wait.
-    fn wanted(&self) -> Watched {
-        if self.is_unsent() {
-            Watched::Both
-        } else {
-            Watched::Reading
+    /// Looks at it, now that the poll has reported all up to this time. Whether there is something to tell of it: nothing while it is
+    /// pending.
+    pub(crate) fn look(&mut self, rounds: &Rounds, timeout: u64, is_pending: bool) -> bool {
+        let is_timed = self.is_timed();
+        self.timer.begin(is_timed, self.is_local, rounds.time);
+        if is_pending {
+            return false;
         }
-    }
-
-    /// Whether the poll reports all that is wanted.
-    fn is_watched(&self) -> bool {
-        self.watched == Watched::Both || self.watched == self.wanted()
-    }
-
-    /// Looks at it at this time, up to which the poll has reported all. The look before was at that one. If there is something to tell
-    /// of it, it is queued.
-    pub(crate) fn look(
-        &mut self,
-        queue: &mut VecDeque<usize>,
-        key: usize,
-        now: u64,
-        before: u64,
-        timeout: u64,
-    ) {
-        self.begin_time(now);
-        if self.is_pending {
-            return;
+        if self.may_move() {
+            return true;
         }
-        let may_move = self.may_move();
-        if !may_move && self.is_watched() {
-            self.is_late = is_over(self.since, now, timeout);
-        } else if !may_move {
-            // The poll has refused to report it, so it was asked after the look before, and no more is known of it than up to then.
-            self.is_late = is_over(self.since, before, timeout);
-            if !self.is_late {
-                self.note_report();
-            }
+        if self.readiness.is_watched() {
+            return self.timer.expire(rounds.time, timeout);
         }
-        if self.is_late || self.may_move() {
-            self.enqueue(queue, key);
+        // The poll has refused to report it, so it was asked after the look before, and no more is known of it than up to then.
+        if !self.timer.expire(rounds.looked, timeout) {
+            self.readiness.note_report();
         }
-    }
-
-    /// Its time begins at this look, if it is to begin, or to begin anew.
-    fn begin_time(&mut self, now: u64) {
-        let renews = self.has_moved && self.is_local;
-        self.has_moved = false;
-        self.since = since_at(self.since, self.is_timed(), renews, now);
+        true
     }
 
     /// So many bytes have moved.
     fn note_moved(&mut self, count: usize)
-        ensures pulls { self.new.pulls ≡ self.old.pulls }
-        ensures puts { self.new.puts ≡ self.old.puts }
-        ensures failed { self.new.failed ≡ self.old.failed }
+        ensures { self.new.history ≡ self.old.history }
     {
-        self.has_moved = true;
+        self.timer.has_moved = true;
         self.moved_bytes = self.moved_bytes.saturating_add(count);
     }
 }
 
 impl<S: Stream> Link<S> {
-    /// It was told, and is told again, at once or once it has rested, unless a call on it would have waited: then the poll is to
-    /// report it. If the poll refuses, it is asked again once it has rested.
-    pub(crate) fn put_back<P: System<Stream = S>>(
-        &mut self,
-        queue: &mut VecDeque<usize>,
-        resting: &mut VecDeque<usize>,
-        system: &mut P,
-        key: usize,
-    ) {
-        if (self.is_resting || !self.may_move()) && !self.is_watched() {
+    /// Where it goes, now that it was told. If no call on it is to be made the poll is asked to report it, and if that refuses, it is
+    /// asked again once the link has rested.
+    pub(crate) fn fate<P: System<Stream = S>>(&mut self, system: &mut P, key: usize) -> Fate {
+        let is_asked = !self.is_resting && self.may_move();
+        if !is_asked && !self.readiness.is_watched() {
             if self.watch(system, key).is_ok() {
-                self.watched = self.wanted();
+                self.readiness.watched = self.readiness.wanted();
             } else {
                 self.is_resting = true;
             }
         }
         if self.is_resting {
-            self.is_resting = resting.push_back(key).is_ok();
+            Fate::Rests
         } else if self.may_move() {
-            self.enqueue(queue, key);
+            Fate::Again
+        } else {
+            Fate::Waits
         }
     }
 
     /// Has the poll report the stream under this key, as far as it is wanted.
     fn watch<P: System<Stream = S>>(&mut self, system: &mut P, key: usize) -> io::Result<()> {
-        let interest = match self.wanted() {
+        let interest = match self.readiness.wanted() {
             Watched::Both => Interest::Both,
             Watched::Nothing | Watched::Reading => Interest::Reading,
         };
-        let was_watched = self.watched != Watched::Nothing;
+        let was_watched = self.readiness.watched != Watched::Nothing;
         system.watch(&mut self.stream, key, interest, was_watched)
     }
+}
+
+/// What becomes of a link that was told.
+#[derive(Clone, Copy, Debug, PartialEq, Eq)]
+pub(crate) enum Fate {
+    /// There is more to tell of it.
+    Again,
+    /// It rests.
+    Rests,
+    /// The poll is to report it.
+    Waits,
 }
 
 /// A link that a worker holds. However it is given up, a peer that doesn't have all of its answer sees that: its connection ends by a
 /// reset in place of an end.
 pub(crate) struct OpenLink<S: Stream> {
     pub(crate) link: Link<S>,
+    /// How long its registration goes on waiting, while it is pending.
+    pub(crate) waiting: Waiting,
 }
 
 impl<S: Stream> Drop for OpenLink<S> {
     fn drop(mut self) {
-        if self.link.is_unsent() {
+        if self.link.readiness.is_unsent() {
             self.link.stream.reset();
         }
-        let OpenLink { link: _link } = self;
+        let OpenLink {
+            link: _link,
+            waiting: _,
+        } = self;
     }
 }
 
@@ -393,11 +465,11 @@ impl<S: Read + Write> Device for Link<S> {
 
     ghost held = { λ _. None };
 
-    ghost pulls = { λ l. l.pulls };
+    ghost pulls = { λ l. l.history.pulls };
 
-    ghost puts = { λ l. l.puts };
+    ghost puts = { λ l. l.history.puts };
 
-    ghost broken = { λ l. l.failed };
+    ghost broken = { λ l. l.history.failed };
 }
 
 /// What a device that has failed tells.
@@ -409,61 +481,52 @@ fn broken() -> io::Result<usize>
 
 impl<S: Read + Write> Input for Link<S> {
     fn pull(&mut self, buffer: &mut [u8]) -> Pull {
-        let told = if self.failed {
+        let told = if self.history.failed {
             broken()
-        } else if self.has_left {
+        } else if self.progress == Progress::Left {
             Ok(0)
         } else {
             self.first.read(&mut self.stream, buffer)
         };
         let is_blocked = would_block(&told);
         let answer = pull_from(told);
-        self.failed = answer == Pull::Fault;
-        self.pulls.note(&answer);
+        self.history.failed = answer == Pull::Fault;
+        self.history.pulls.note(&answer);
+        self.readiness.note_pull(&answer, buffer.len(), is_blocked);
         if let Pull::Piece(count) = answer {
             self.note_moved(count);
-            self.is_resting = self.is_answered;
+            self.is_resting = self.is_answered();
         }
-        // If fewer bytes came than there was room for no more were there. A stream that no poll reports yet is reported, once it is
-        // to be, with all that has come by then: so it needn't be asked whether it is dry.
-        let is_dry = match answer {
-            Pull::Piece(count) => count < buffer.len() && self.watched == Watched::Nothing,
-            Pull::Later => is_blocked,
-            Pull::End | Pull::Fault => false,
-        };
-        self.reading = if is_dry { Reading::Dry } else { Reading::Open };
         answer
     }
 
     fn failed(&self) -> bool {
-        self.failed
+        self.history.failed
     }
 }
 
 impl<S: Read + Write> Output for Link<S> {
     fn put(&mut self, bytes: &[u8]) -> Put {
-        let told = if self.failed {
+        let told = if self.history.failed {
             broken()
         } else {
             self.stream.write(bytes)
         };
         let is_blocked = would_block(&told);
         let answer = put_from(told);
-        self.failed = answer == Put::Fault;
-        self.puts.note(&answer);
-        self.writing = match answer {
-            Put::Later if is_blocked => Writing::Waits,
-            Put::Later => Writing::CutShort,
-            Put::Wrote(_) | Put::Fault => Writing::Free,
-        };
+        self.history.failed = answer == Put::Fault;
+        self.history.puts.note(&answer);
+        self.readiness.note_put(&answer, is_blocked);
         if let Put::Wrote(count) = answer {
-            self.is_answered = true;
+            if self.progress == Progress::Asked {
+                self.progress = Progress::Answered;
+            }
             self.note_moved(count);
         }
         answer
     }
 
     fn failed(&self) -> bool {
-        self.failed
+        self.history.failed
     }
 }

@@ -1,6 +1,7 @@
 //! What the threads of a daemon share.
 ghost use Rattle.std.specs.Prelude.{◌≡◌, vec_len, IfOk};
 
+use crate::limits::WEIGH_BYTES;
 use crate::quota::Quota;
 use crate::system::Wake;
 use portmap_link::NoMemory;
@@ -59,11 +60,57 @@ pub(crate) struct News {
 }
 
 /// No news.
-pub(crate) const NO_NEWS: News = News {
+const NO_NEWS: News = News {
     answered: false,
     unanswered: false,
     exhausted: false,
 };
+
+/// What a worker is to tell the others soon.
+#[derive(Drop)]
+pub(crate) struct Tally {
+    pub(crate) news: News,
+    /// How many bytes its links have moved since the log was weighed.
+    unweighed_bytes: usize,
+}
+
+impl Tally {
+    /// Nothing.
+    pub(crate) fn new() -> Tally {
+        Tally {
+            news: NO_NEWS,
+            unweighed_bytes: 0,
+        }
+    }
+
+    /// Whether all news are told.
+    pub(crate) fn is_told(&self) -> bool {
+        self.news == NO_NEWS
+    }
+
+    /// A link has moved so many bytes. Whether the log is to be weighed.
+    pub(crate) fn note_moved(&mut self, bytes: usize) -> bool {
+        self.news.answered = self.news.answered || bytes > 0;
+        self.unweighed_bytes = self.unweighed_bytes.saturating_add(bytes);
+        let is_due = self.unweighed_bytes >= WEIGH_BYTES;
+        if is_due {
+            self.unweighed_bytes = 0;
+        }
+        is_due
+    }
+
+    /// A connection has ended, or was closed at once, to which nothing was ever written: perhaps for want of memory.
+    pub(crate) fn note_unanswered<W: Wake>(&mut self, shared: &Shared<W>) {
+        self.news.unanswered = true;
+        self.tell(shared);
+    }
+
+    /// The news are told.
+    pub(crate) fn tell<W: Wake>(&mut self, shared: &Shared<W>) {
+        shared.note(self.news);
+        self.news = NO_NEWS;
+    }
+}
 
 /// What threads share. Workers have numbers from 0.
 #[derive(Drop)]

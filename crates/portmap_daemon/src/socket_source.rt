@@ -1,25 +1,24 @@
 //! The source of a worker over sockets.
-ghost use Rattle.std.specs.Prelude.{◌≡◌, ◌-◌, ◌≤◌, ◌==◌, true, false, max, IfOk};
+ghost use Rattle.std.specs.Prelude.{◌≡◌, ◌<◌, ◌-◌, ◌≤◌, ◌==◌, true, false, [], Some, None, max, slice_get, IfOk, IfNone, IfSome};
 ghost use Rattle.portmap_daemon.specs.declared.limits.TheConstants.{SHORT_TIMEOUT_MS};
+ghost use Rattle.portmap_daemon.specs.Link.{IsOf};
 
-use crate::accept_scheduler::LoadMeter;
-use crate::admission::Newcomer;
+use crate::admission::Door;
 use crate::host::Host;
 use crate::limits::{
-    BACKLOG_MOST, EVENTS_MOST, IDLE_TIMEOUT_MS, LOG_BYTES_HEAVY, LOOK_INTERVAL_MS, POLLS_MOST,
-    RESTS_MOST, SHORT_TIMEOUT_MS, TURNS_MOST, WEIGH_BYTES,
+    BACKLOG_MOST, EVENTS_MOST, IDLE_TIMEOUT_MS, LOG_BYTES_HEAVY, POLLS_MOST, RESTS_MOST,
+    SHORT_TIMEOUT_MS, TURNS_MOST,
 };
-use crate::link::{Link, OpenLink};
+use crate::link::{Fate, Link, OpenLink};
 use crate::listener::Listeners;
-use crate::pending::Pending;
-use crate::shared::{IDLE, NO_CONNECTIONS, NO_NEWS, News, Shared, WorkerState};
-use crate::system::{Report, System};
+use crate::rounds::Rounds;
+use crate::shared::{IDLE, NO_CONNECTIONS, Shared, Tally, WorkerState};
+use crate::system::{Report, Stream, System};
 use crate::{Source, Turn};
 use portmap_book::Desk;
 use portmap_link::NoMemory;
-use slab::Slab;
+use portmap_ready::{Place, Ready};
 use std::alloc::Global;
-use std::collections::VecDeque;
 use std::rt::Clock;
 use std::sync::Wait;
 use std::sync::atomic::Ordering;
@@ -47,37 +46,12 @@ pub struct SocketSource<'a, L: Ledger, S: System, R: Host + Wait + Clock> {
     /// What the others know of this worker.
     pub(crate) state: &'a WorkerState<S::Waker>,
     pub(crate) sockets: Sockets<S>,
-    pub(crate) links: Slab<OpenLink<S::Stream>>,
-    /// The links of which there is something to tell, in the order in which it came.
-    pub(crate) queue: VecDeque<usize>,
-    /// The links that rest, in the order in which they began to.
-    resting: VecDeque<usize>,
-    /// The link that was told last.
-    pub(crate) last: Option<usize>,
-    /// The last turn accepted a connection, so the next one goes on with another.
-    has_accepted: bool,
-    /// How many more connections are accepted in a row, to learn whether so many wait.
-    backlog: u32,
-    /// The connection that waits for a place. While it does none is accepted.
-    pub(crate) newcomer: Option<Newcomer<S::Stream>>,
-    /// No link is looked for before this time that may be given up for another one.
-    pub(crate) room_backoff: u64,
-    /// The registrations that wait for their names, in the order in which they came.
-    pub(crate) pending: VecDeque<Pending>,
-    /// The epoch that is passed once all is told that was to be told when the poll had answered, and how much of that is left.
-    epoch: u64,
-    left: usize,
-    /// How many turns since the poll was asked.
-    turns: u32,
-    load: LoadMeter,
-    /// The time when the poll answered last.
-    pub(crate) now: u64,
-    /// When the next look is due, and the time of the last one.
-    look_due: u64,
-    looked: u64,
-    /// How many bytes the links have moved since the log was weighed.
-    unweighed_bytes: usize,
-    pub(crate) news: News,
+    /// The links, each at its place.
+    pub(crate) ready: Ready<OpenLink<S::Stream>>,
+    pub(crate) door: Door<S::Stream>,
+    pub(crate) rounds: Rounds,
+    /// What is to be told to others soon.
+    pub(crate) tally: Tally,
 }
 
 impl<S: System> Sockets<S> {
@@ -131,24 +105,10 @@ impl<'a, L: Ledger, S: System, R: Host + Wait + Clock> SocketSource<'a, L, S, R>
             shared,
             state,
             sockets,
-            links: Slab::new(alloc),
-            queue: VecDeque::new(alloc),
-            resting: VecDeque::new(alloc),
-            last: None,
-            has_accepted: false,
-            backlog: 0,
-            newcomer: None,
-            room_backoff: 0,
-            pending: VecDeque::new(alloc),
-            epoch: 0,
-            left: 0,
-            turns: 0,
-            load: LoadMeter::new(),
-            now: 0,
-            look_due: LOOK_INTERVAL_MS,
-            looked: 0,
-            unweighed_bytes: 0,
-            news: NO_NEWS,
+            ready: Ready::new(alloc),
+            door: Door::new(),
+            rounds: Rounds::new(),
+            tally: Tally::new(),
         })
     }
 
@@ -156,52 +116,48 @@ impl<'a, L: Ledger, S: System, R: Host + Wait + Clock> SocketSource<'a, L, S, R>
     fn time_us(&self) -> u64 {
         match self.shared.time_us(self.rt) {
             Some(time) => time,
-            None => self.now.saturating_add(1).saturating_mul(1000),
+            None => self.rounds.time.saturating_add(1).saturating_mul(1000),
         }
     }
 
-    /// Notes how many bytes a link has moved. Has the log taken out once it has become heavy by what links move.
-    fn note_moved(&mut self, bytes: usize) {
-        self.news.answered = self.news.answered || bytes > 0;
-        self.unweighed_bytes = self.unweighed_bytes.saturating_add(bytes);
-        if self.unweighed_bytes >= WEIGH_BYTES {
-            self.unweighed_bytes = 0;
-            if self.desk.weight(self.rt) >= LOG_BYTES_HEAVY {
-                self.shared.wake_drain();
-            }
+    /// Has the log taken out if it has become heavy.
+    fn weigh(&self) {
+        if self.desk.weight(self.rt) >= LOG_BYTES_HEAVY {
+            self.shared.wake_drain();
         }
     }
 
-    /// What was told last is told again, unless a call on it would have waited: then the poll is to report it.
-    fn put_back(&mut self) {
-        let Some(key) = self.last.take() else {
+    /// What was told last goes where there is more to tell of it, where it rests, or where the poll is to report it.
+    fn put_back(&mut self)
+        ensures { self.new.ready.told ≡ None }
+    {
+        let Some(key) = self.ready.told() else {
             return;
         };
-        let Some(held) = self.links.get_mut(key) else {
-            return;
-        };
-        let bytes = held.link.take_moved_bytes();
-        let system = &mut self.sockets.system;
-        held.link
-            .put_back(&mut self.queue, &mut self.resting, system, key);
-        self.note_moved(bytes);
+        let bytes = put_back(&mut self.ready, &mut self.sockets.system, key);
+        if self.tally.note_moved(bytes) {
+            self.weigh();
+        }
     }
 
     /// What is to be told without a poll. A connection that comes and a link that is held are told by turns.
-    fn next(&mut self) -> Option<Turn> {
-        if self.turns >= TURNS_MOST {
+    fn next(&mut self) -> Option<Turn>
+        requires { self.old.ready.told ≡ None }
+        ensures { IfNone result (self.new.ready.told ≡ None) }
+    {
+        if self.rounds.turns >= TURNS_MOST {
             return None;
         }
-        self.turns = self.turns.saturating_add(1);
-        if !self.has_accepted || self.backlog > 0 {
+        self.rounds.turns = self.rounds.turns.saturating_add(1);
+        if self.door.is_next() {
             if let Some(turn) = self.admit() {
-                self.has_accepted = true;
-                self.count_one();
+                if self.door.note_accepted() {
+                    self.shared.add_acceptor(self.sockets.worker);
+                }
                 return Some(turn);
             }
-            self.backlog = 0;
         }
-        self.has_accepted = false;
+        self.door.pass();
         self.pop()
     }
 
@@ -218,42 +174,41 @@ impl<'a, L: Ledger, S: System, R: Host + Wait + Clock> SocketSource<'a, L, S, R>
         }
     }
 
-    /// One was accepted. If so many waited, a further worker is to accept too.
-    fn count_one(&mut self) {
-        if self.backlog == 1 {
-            self.shared.add_acceptor(self.sockets.worker);
+    /// The link that has waited longest of those of which there is something to tell.
+    fn pop(&mut self) -> Option<Turn>
+        requires { self.old.ready.told ≡ None }
+        ensures first { IfSome result (λ turn. IsOf (slice_get self.old.ready.queue 0) turn) }
+        ensures none { IfNone result ((self.old.ready.queue ≡ []) × (self.new.ready.told ≡ None)) }
+    {
+        let is_short = self.shared.short.load(Ordering::SeqCst);
+        let key = self.ready.next();
+        self.rounds.note_turn(key.is_some());
+        let key = key?;
+        let Some(held) = self.ready.get_mut(key) else {
+            return Some(Turn::Ready(key as u64));
+        };
+        if is_short {
+            held.link.refuse_part();
         }
-        self.backlog = self.backlog.saturating_sub(1);
-    }
-
-    /// The next link of which there is something to tell.
-    fn pop(&mut self) -> Option<Turn> {
-        while let Some(key) = self.queue.pop_front() {
-            self.left = self.left.saturating_sub(1);
-            if let Some(held) = self.links.get_mut(key) {
-                self.last = Some(key);
-                if self.shared.short.load(Ordering::SeqCst) {
-                    held.link.refuse_part();
-                }
-                return Some(held.link.tell(key));
-            }
-        }
-        None
+        Some(held.link.tell(key))
     }
 
     /// Polls. What is to be told by the time alone, or if the poll has failed.
-    fn poll(&mut self) -> Option<Turn> {
+    fn poll(&mut self) -> Option<Turn>
+        requires { self.old.ready.told ≡ None }
+    {
         self.retry_pending();
         let before = self.time_us();
         self.state.busy_since.store(IDLE, Ordering::SeqCst);
         let is_well = self.wait();
         let after = self.time_us();
-        if after / 1000 > self.now {
+        if after / 1000 > self.rounds.time {
             self.end_rests();
         }
-        self.now = after / 1000;
-        self.begin_pending();
-        self.state.busy_since.store(self.now, Ordering::SeqCst);
+        self.rounds.time = after / 1000;
+        self.state
+            .busy_since
+            .store(self.rounds.time, Ordering::SeqCst);
         if !is_well {
             return Some(self.fail());
         }
@@ -261,11 +216,11 @@ impl<'a, L: Ledger, S: System, R: Host + Wait + Clock> SocketSource<'a, L, S, R>
             return Some(Turn::Stop);
         }
         let worker = self.sockets.worker;
-        if self.load.note_poll(before, after) && self.shared.may_add_acceptor(worker) {
-            self.backlog = BACKLOG_MOST;
+        if self.rounds.load.note_poll(before, after) && self.shared.may_add_acceptor(worker) {
+            self.door.backlog = BACKLOG_MOST;
         }
         self.pass_listeners();
-        let is_due = self.now >= self.look_due;
+        let is_due = self.rounds.is_look_due();
         if is_due && !self.look_round() {
             return Some(self.fail());
         }
@@ -275,12 +230,15 @@ impl<'a, L: Ledger, S: System, R: Host + Wait + Clock> SocketSource<'a, L, S, R>
         }
     }
 
-    /// A millisecond is over: the links that have rested longest are told again, a few of them.
+    /// A millisecond is over: of the links that have rested longest a few may move again.
     fn end_rests(&mut self) {
         for _ in 0..RESTS_MOST {
-            if let Some(key) = self.resting.pop_front() {
-                if let Some(held) = self.links.get_mut(key) {
-                    held.link.end_rest(&mut self.queue, key);
+            let Some(key) = self.ready.end_rest() else {
+                return;
+            };
+            if let Some(held) = self.ready.get_mut(key) {
+                if held.link.end_rest() {
+                    self.ready.report(key);
                 }
             }
         }
@@ -290,58 +248,65 @@ impl<'a, L: Ledger, S: System, R: Host + Wait + Clock> SocketSource<'a, L, S, R>
     fn pass_listeners(&mut self) {
         let is_on = self.shared.accepts(self.sockets.worker);
         let listeners = &mut self.sockets.listeners;
-        listeners.pass(&mut self.sockets.system, self.now, is_on);
+        listeners.pass(&mut self.sockets.system, self.rounds.time, is_on);
         if listeners.take_exhausted() {
-            self.news.exhausted = true;
+            self.tally.news.exhausted = true;
         }
     }
 
     /// The poll has failed: the worker ends, and with it the others.
-    fn fail(&mut self) -> Turn {
+    fn fail(&self) -> Turn {
         self.shared.poll_failed.store(true, Ordering::SeqCst);
         Turn::Stop
     }
 
     /// Until when a poll may wait if there is nothing to do.
     fn until(&self) -> u64 {
-        if self.newcomer.is_some() || !self.resting.is_empty() {
-            return self.now;
+        let now = self.rounds.time;
+        if self.door.newcomer.is_some() || self.ready.resting() > 0 {
+            return now;
         }
-        let look = if self.links.is_empty() && self.news == NO_NEWS {
-            self.now.saturating_add(IDLE_TIMEOUT_MS)
+        let look = if self.ready.is_empty() && self.tally.is_told() {
+            now.saturating_add(IDLE_TIMEOUT_MS)
         } else {
-            self.look_due
+            self.rounds.look_due
         };
-        self.sockets.listeners.until(self.pending_until(look))
+        let pending = self.rounds.pending_until.unwrap_or(look);
+        self.sockets.listeners.until(pending.min(look))
     }
 
     /// Polls, and waits if there is nothing else to do. False if the poll has failed.
     fn wait(&mut self) -> bool {
-        self.turns = 0;
-        let begins = self.left == 0;
+        self.rounds.turns = 0;
+        let begins = self.rounds.left == 0;
         if begins {
             // All is told that the poll knew of when it answered: so of the epoch that had begun before.
-            if !self.links.is_empty() {
-                self.state.epoch.fetch_max(self.epoch, Ordering::SeqCst);
+            if !self.ready.is_empty() {
+                self.state
+                    .epoch
+                    .fetch_max(self.rounds.epoch, Ordering::SeqCst);
             }
-            self.epoch = self.shared.last_epoch();
+            self.rounds.epoch = self.shared.last_epoch();
         }
-        let has_passed = self.state.epoch.load(Ordering::SeqCst) >= self.epoch;
+        let has_passed = self.state.epoch.load(Ordering::SeqCst) >= self.rounds.epoch;
         let is_waiting = self.sockets.listeners.is_waiting();
-        let is_busy = !has_passed || !self.queue.is_empty() || is_waiting;
-        if !self.ask(poll_timeout(is_busy, self.now, self.until())) {
+        let is_busy = !has_passed || self.ready.backlog() > 0 || is_waiting;
+        if !self.ask(poll_timeout(is_busy, self.rounds.time, self.until())) {
             return false;
         }
         if begins {
             let is_all = !self.sockets.system.is_full() || self.ask_for_all();
-            self.left = self.queue.len();
+            self.rounds.left = self.ready.backlog();
             return is_all;
         }
         true
     }
 
-    /// Asks the poll, which may wait for so many milliseconds, and notes what it reports. False if it has failed.
-    fn ask(&mut self, timeout: u64) -> bool {
+    /// Asks the poll, which may wait for so many milliseconds where nothing is to be told, and notes what it reports. False if it has
+    /// failed.
+    fn ask(&mut self, timeout: u64) -> bool
+        requires { 0 < timeout → self.old.ready.queue ≡ [] }
+    {
         let is_well = self.sockets.system.poll(timeout);
         if is_well {
             self.take_events();
@@ -357,9 +322,7 @@ impl<'a, L: Ledger, S: System, R: Host + Wait + Clock> SocketSource<'a, L, S, R>
                 Some(Report::Woken) => {}
                 Some(Report::Listener(place)) => self.sockets.listeners.report(place),
                 Some(Report::Stream { key, is_closed }) => {
-                    if let Some(held) = self.links.get_mut(key) {
-                        held.link.report(&mut self.queue, key, is_closed);
-                    }
+                    report(&mut self.ready, key, is_closed);
                 }
             }
         }
@@ -368,20 +331,22 @@ impl<'a, L: Ledger, S: System, R: Host + Wait + Clock> SocketSource<'a, L, S, R>
     /// Looks at every link: whether its time is over, and whether the poll has refused to report it. The time was read before, and
     /// however long this thread was stopped since, all that came meanwhile is noted first. False if the poll has failed.
     fn look_round(&mut self) -> bool {
-        self.look_due = self.now.saturating_add(LOOK_INTERVAL_MS);
         if !self.ask_for_all() {
             return false;
         }
-        for key in 0..self.links.capacity() {
-            if let Some(held) = self.links.get_mut(key) {
-                let queue = &mut self.queue;
-                held.link
-                    .look(queue, key, self.now, self.looked, self.sockets.timeout);
+        for key in 0..self.ready.keys() {
+            let is_pending = self.ready.place(key) == Some(Place::Pending);
+            if let Some(held) = self.ready.get_mut(key) {
+                if held
+                    .link
+                    .look(&self.rounds, self.sockets.timeout, is_pending)
+                {
+                    self.ready.report(key);
+                }
             }
         }
-        self.looked = self.now;
-        self.shared.note(self.news);
-        self.news = NO_NEWS;
+        self.rounds.note_look();
+        self.tally.tell(self.shared);
         true
     }
 
@@ -389,7 +354,7 @@ impl<'a, L: Ledger, S: System, R: Host + Wait + Clock> SocketSource<'a, L, S, R>
     /// as hold one report of each that is watched are enough. False if it has failed.
     fn ask_for_all(&mut self) -> bool {
         let watched = self
-            .links
+            .ready
             .len()
             .saturating_add(self.sockets.listeners.len());
         for _ in 0..watched / EVENTS_MOST + 1 {
@@ -401,6 +366,36 @@ impl<'a, L: Ledger, S: System, R: Host + Wait + Clock> SocketSource<'a, L, S, R>
             }
         }
         true
+    }
+}
+
+/// The link that was told last is put at the place that it is to stand at. How many bytes it has moved.
+fn put_back<S: System>(ready: &mut Ready<OpenLink<S::Stream>>, system: &mut S, key: usize) -> usize
+    requires { ready.old.told ≡ Some key }
+    ensures { ready.new.told ≡ None }
+{
+    let Some(held) = ready.get_mut(key) else {
+        ready.leave(key);
+        return 0;
+    };
+    let bytes = held.link.take_moved_bytes();
+    match held.link.fate(system, key) {
+        Fate::Again => ready.put_back(key),
+        Fate::Rests => ready.rest(key),
+        Fate::Waits => ready.leave(key),
+    }
+    bytes
+}
+
+/// The poll has reported a link, and perhaps that its peer sends no more. There is something to tell of it, unless it rests and goes on
+/// sending.
+fn report<S: Stream>(ready: &mut Ready<OpenLink<S>>, key: usize, is_closed: bool) {
+    let rests = ready.place(key) == Some(Place::Resting);
+    if let Some(held) = ready.get_mut(key) {
+        held.link.note_event(is_closed);
+    }
+    if is_closed || !rests {
+        ready.report(key);
     }
 }
 
@@ -417,23 +412,25 @@ impl<L: Ledger, S: System, R: Host + Wait + Clock> Source for SocketSource<'_, L
     }
 
     fn link(&mut self, key: u64) -> Option<&mut Link<S::Stream>> {
-        match self.links.get_mut(key as usize) {
+        match self.ready.get_mut(key as usize) {
             Some(held) => Some(&mut held.link),
             None => None,
         }
     }
 
     fn end(&mut self, key: u64) {
-        let Some(mut held) = self.links.try_remove(key as usize) else {
+        let Some(mut held) = self.ready.remove(key as usize) else {
             return;
         };
-        self.note_moved(held.link.take_moved_bytes());
-        if !held.link.is_answered {
-            self.note_unanswered();
+        if self.tally.note_moved(held.link.take_moved_bytes()) {
+            self.weigh();
+        }
+        if !held.link.is_answered() {
+            self.tally.note_unanswered(self.shared);
         }
         self.shared.quota.give_back(held.link.is_local);
         self.shared.wake_pending(self.sockets.worker);
-        if self.links.is_empty() {
+        if self.ready.is_empty() {
             self.state.epoch.store(NO_CONNECTIONS, Ordering::SeqCst);
         }
     }

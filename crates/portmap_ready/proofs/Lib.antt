@@ -1,0 +1,6 @@
+pub mod Times
+pub mod Tables
+pub mod Steps
+pub mod Calls
+pub mod Turns
+pub mod Callers

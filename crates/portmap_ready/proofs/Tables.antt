@@ -1,0 +1,167 @@
+-- What a change of one says of where it stands: lemmas.
+use Rattle.std.proofs.Common.{◌≡◌, ◌+◌, Bool, true, false, ◌&&◌, ◌||◌, not, Option, Some, None, is_some, refl, sym, ap, ◌∙◌}
+use Rattle.std.specs.Prelude.{option_map}
+use Rattle.portmap_ready.specs.declared.Held.{Held}
+use Rattle.portmap_ready.specs.declared.Place.{Place}
+use Rattle.portmap_ready.specs.declared.Place.TheVariants.{Idle, Queued, Pending, Resting, Told}
+use Rattle.portmap_ready.specs.Links.{is_queued, is_pending, is_resting, is_told}
+use Rattle.portmap_ready.specs.Held.{is_free}
+use Rattle.portmap_ready.specs.Held.{Marks, one, left, woken, is_idle, may_stand, link_of, is_live, rests, marks_of, is_fine, placed}
+use Rattle.portmap_ready.specs.Held.{is_out, taken, unlisted, cleared, tidied}
+
+-- ---- places
+
+pub marks_is : (m n : Marks) → m.queue ≡ n.queue → m.pending ≡ n.pending → m.resting ≡ n.resting → m.told ≡ n.told → m ≡ n
+marks_is m n a b c d = λ i. record { queue = a i; pending = b i; resting = c i; told = d i }
+
+fine_placed : (p : Place) (b : Bool) → may_stand p true (b || is_resting p) ≡ true
+fine_placed Resting true = refl
+fine_placed Resting false = refl
+fine_placed p b = refl
+
+one_listed : (x b : Bool) → one b + one (x && not b) ≡ one (b || x)
+one_listed true true = refl
+one_listed true false = refl
+one_listed false true = refl
+one_listed false false = refl
+
+woken_marks : (p : Place)
+    → (is_queued (woken p) ≡ is_queued p) × (is_pending (woken p) ≡ is_pending p) × (is_told (woken p) ≡ is_told p) ×
+    (is_resting (woken p) ≡ false)
+woken_marks Resting = (refl, refl, refl, refl)
+woken_marks p = (refl, refl, refl, refl)
+
+woken_fine : (p : Place) (here b : Bool) → may_stand p here b ≡ true → is_idle (woken p) ≡ false → may_stand (woken p) here false ≡ true
+woken_fine Idle here b f e = absurd (cc)
+woken_fine Resting here b f e = absurd (cc)
+woken_fine Told here b f e = f
+woken_fine p here b f e = refl
+
+left_marks : (p : Place)
+    → (is_queued (left p) ≡ is_queued p) × (is_pending (left p) ≡ is_pending p) × (is_told (left p) ≡ false) × (is_resting (left p) ≡ false)
+left_marks Queued = (refl, refl, refl, refl)
+left_marks p = (refl, refl, refl, refl)
+
+left_fine : (p : Place) (b : Bool) → is_idle (left p) ≡ false → may_stand (left p) false b ≡ true
+left_fine Queued b e = refl
+left_fine Pending b e = refl
+left_fine p b e = absurd (cc)
+
+pub some_map : {A B : Type 0} (f : A → B) (o : Option A) → is_some (option_map f o) ≡ is_some o
+some_map f None = refl
+some_map f (Some x) = refl
+
+module _ {T : Type 0} where
+  abbrev pub held_as : Place → Option T → Bool → Option (Held T)
+  held_as p v b = Some (record { value = v; place = p; is_listed = b })
+
+  -- to give back what is gone changes nothing that is seen
+  tidied-as : {X : Type 0} (f : Option (Held T) → X) → f None ≡ f (held_as Idle None false) → (o : Option (Held T)) → f (tidied o) ≡ f o
+  tidied-as f e None = refl
+  tidied-as f e (Some h) = go h.place h.value h.is_listed
+    where
+      go : (p : Place) (v : Option T) (b : Bool) → f (tidied (held_as p v b)) ≡ f (held_as p v b)
+      go Idle None false = e
+      go Idle None true = refl
+      go Idle (Some x) b = refl
+      go p v b = refl
+
+  fine-tidied : (p : Place) (v : Option T) (b : Bool) → (is_idle p ≡ false → may_stand p (is_some v) b ≡ true)
+      → is_fine (tidied (held_as p v b)) ≡ true
+  fine-tidied Idle None false h = refl
+  fine-tidied Idle None true h = refl
+  fine-tidied Idle (Some x) b h = refl
+  fine-tidied p v b h = h refl
+
+  -- what is held shows where its key stands, its link, and whether that rests
+  pub record Shows (o : Option (Held T)) (m : Marks) (l : Option (T × Place)) (b : Bool) : Type 0 where
+    pub marks : marks_of o ≡ m
+    pub link : link_of o ≡ l
+    pub rests : rests o ≡ b
+    pub fine : is_fine o ≡ true
+
+  abbrev pub to_place : Place → T × Place → T × Place
+  to_place p link = (link.0, p)
+
+  abbrev pub wake : T × Place → T × Place
+  wake link = (link.0, woken link.1)
+
+  abbrev ShowsPlaced : Place → Option (Held T) → Type 0
+  ShowsPlaced p o =
+      Shows (placed p o)
+      (record {
+        queue = one (is_queued p);
+        pending = one (is_pending p);
+        resting = (marks_of o).resting + one (is_out p o);
+        told = is_told p;
+      }) (option_map (to_place p) (link_of o)) (is_resting p)
+
+  pub shows-placed : (p : Place) (o : Option (Held T)) → is_live o ≡ true → ShowsPlaced p o
+  shows-placed p None l = absurd (cc)
+  shows-placed p (Some h) l = go h.value h.place h.is_listed l
+    where
+      go : (v : Option T) (q : Place) (b : Bool) → is_live (held_as q v b) ≡ true → ShowsPlaced p (held_as q v b)
+      go None q b l = absurd (cc)
+      go (Some x) q b l =
+          record {
+            marks = marks_is _ _ refl refl (sym (one_listed (is_resting p) b)) refl;
+            link = refl;
+            rests = refl;
+            fine = fine_placed p b;
+          }
+
+  abbrev ShowsTaken : Option (Held T) → Type 0
+  ShowsTaken o =
+      Shows (tidied (taken o)) (record { queue = 0; pending = 0; resting = (marks_of o).resting; told = is_live o })
+      (option_map (to_place Told) (link_of o)) false
+
+  pub shows-taken : (o : Option (Held T)) → ShowsTaken o
+  shows-taken None = record { marks = refl; link = refl; rests = refl; fine = refl }
+  shows-taken (Some h) = go h.value h.place h.is_listed
+    where
+      go : (v : Option T) (p : Place) (b : Bool) → ShowsTaken (held_as p v b)
+      go (Some x) p b = record { marks = refl; link = refl; rests = refl; fine = refl }
+      go None p true = record { marks = refl; link = refl; rests = refl; fine = refl }
+      go None p false = record { marks = refl; link = refl; rests = refl; fine = refl }
+
+  pub shows-unlisted : (o : Option (Held T)) → is_fine o ≡ true
+      → Shows (tidied (unlisted o)) (record (marks_of o) { resting = 0 }) (option_map wake (link_of o)) false
+  shows-unlisted None f = record { marks = refl; link = refl; rests = refl; fine = refl }
+  shows-unlisted (Some h) f =
+      let w = woken_marks h.place in
+      record {
+        marks = tidied-as marks_of refl (unlisted (Some h)) ∙ marks_is _ _ (ap one w.0) (ap one w.1) refl w.2;
+        link = tidied-as link_of refl (unlisted (Some h)) ∙ go h.value;
+        rests = tidied-as rests refl (unlisted (Some h)) ∙ w.3;
+        fine = fine-tidied (woken h.place) h.value false (woken_fine h.place (is_some h.value) h.is_listed f);
+      }
+    where
+      go : (v : Option T) → option_map (λ x. (x, woken h.place)) v ≡ option_map wake (option_map (λ x. (x, h.place)) v)
+      go None = refl
+      go (Some x) = refl
+
+  pub shows-cleared : (o : Option (Held T))
+      → Shows (tidied (cleared o)) (record (marks_of o) { told = false }) None false
+  shows-cleared None = record { marks = refl; link = refl; rests = refl; fine = refl }
+  shows-cleared (Some h) =
+      let w = left_marks h.place in
+      record {
+        marks = tidied-as marks_of refl (cleared (Some h)) ∙ marks_is _ _ (ap one w.0) (ap one w.1) refl w.2;
+        link = tidied-as link_of refl (cleared (Some h));
+        rests = tidied-as rests refl (cleared (Some h)) ∙ w.3;
+        fine = fine-tidied (left h.place) None h.is_listed (left_fine h.place h.is_listed);
+      }
+
+  -- ---- what a place says of the lists
+
+  pub free_marks : (o : Option (Held T)) → is_free (option_map (λ link. link.1) (link_of o)) ≡ true
+      → ((marks_of o).queue ≡ 0) × ((marks_of o).pending ≡ 0) × (is_live o ≡ true)
+  free_marks None f = absurd (cc)
+  free_marks (Some h) f = go h.value h.place f
+    where
+      go : (v : Option T) (p : Place) → is_free (option_map (λ (link : T × Place). link.1) (option_map (λ x. (x, p)) v)) ≡ true
+          → (one (is_queued p) ≡ 0) × (one (is_pending p) ≡ 0) × (is_live (held_as p v false) ≡ true)
+      go None p f = absurd (cc)
+      go (Some x) Queued f = absurd (cc)
+      go (Some x) Pending f = absurd (cc)
+      go (Some x) p f = (refl, refl, refl)

@@ -1,0 +1,133 @@
+-- How often a key stands in a list of keys: lemmas.
+use Rattle.std.proofs.Common.{◌≡◌, ◌≢◌, ℕ, ◌+◌, ◌<◌, ◌≤◌, Bool, true, false, not, cond, eqb, List, [], ◌∷◌, ◌++◌, length, refl, sym, ap}
+use Rattle.std.proofs.Common.{◌∙◌, inl, inr, arith, filter}
+use Rattle.std.specs.List.{All, IsDistinct, list_any}
+use Rattle.std.proofs.lemmas.Bool.{cases_eq, cases_Bool, false≢true}
+use Rattle.std.proofs.lemmas.Bool.Decides.{nat_tests}
+use Rattle.std.proofs.lemmas.List.{append-nil}
+use Rattle.std.proofs.lemmas.List.Sums.{sum_by-append, sum_by-cons}
+use Rattle.std.proofs.lemmas.List.Elements.{All-nil, All-cons, filter-append, recursion_from_All}
+use Rattle.std.proofs.lemmas.Map.Steps.{length-le_from_distinct_below}
+use Rattle.portmap_ready.specs.Held.{one}
+use Rattle.portmap_ready.specs.Links.{pushed, times, without}
+
+pub times-cons : (k x : ℕ) (xs : List ℕ) → times k (x ∷ xs) ≡ one (eqb x k) + times k xs
+times-cons k x xs = sum_by-cons (λ j. cond (eqb j k) 1 0) x xs
+
+pub times-pushed : (b : Bool) (k : ℕ) (xs : List ℕ) → times k (pushed b k xs) ≡ times k xs + one b
+times-pushed false k xs = omega arith
+times-pushed true k xs = grind (arith, nat_tests, sum_by-append (λ j. cond (eqb j k) 1 0) xs (k ∷ []), times-cons k k [])
+
+times-pushed_other : (b : Bool) (j k : ℕ) (xs : List ℕ) → j ≢ k → times j (pushed b k xs) ≡ times j xs
+times-pushed_other false j k xs d = refl
+times-pushed_other true j k xs d = grind (arith, nat_tests, sum_by-append (λ i. cond (eqb i j) 1 0) xs (k ∷ []), times-cons j k [], d)
+
+-- once a key went to the end, it stands there once more, and each other one as often as before
+pub joined : (b : Bool) (k : ℕ) (xs : List ℕ) {ys : List ℕ} → ys ≡ pushed b k xs → times k ys ≡ times k xs + one b
+joined b k xs e = ap (times k) e ∙ times-pushed b k xs
+
+pub joined_other : (b : Bool) (k : ℕ) (xs : List ℕ) {ys : List ℕ} → ys ≡ pushed b k xs → (j : ℕ) → j ≢ k → times j ys ≡ times j xs
+joined_other b k xs e j d = ap (times j) e ∙ times-pushed_other b j k xs d
+
+-- a list with a key before it, if it stands there
+abbrev pub front : Bool → ℕ → List ℕ → List ℕ
+front true k xs = k ∷ xs
+front false k xs = xs
+
+-- a key that stood first stood there once more than now, and each other one as often
+pub first_left : (b : Bool) (k : ℕ) {xs : List ℕ} (ys : List ℕ) → xs ≡ front b k ys → one b + times k ys ≡ times k xs
+first_left false k ys e = rw e (omega arith)
+first_left true k ys e = rw e (grind (arith, nat_tests, times-cons k k ys))
+
+pub first_left_other : (b : Bool) (k : ℕ) {xs : List ℕ} (ys : List ℕ) → xs ≡ front b k ys → (j : ℕ) → j ≢ k → times j ys ≡ times j xs
+first_left_other false k ys e j d = rw e refl
+first_left_other true k ys e j d = rw e (grind (arith, nat_tests, times-cons j k ys, d))
+
+pub times-filter : (p : ℕ → Bool) (k : ℕ) (xs : List ℕ) → times k (filter p xs) ≡ cond (p k) (times k xs) 0
+times-filter p k [] = grind arith
+times-filter p k (x ∷ xs) = elim (cases_Bool (p x)) [
+  | inl passes ↦ grind (arith, nat_tests, passes, times-filter p k xs, times-cons k x xs, times-cons k x (filter p xs))
+  | inr fails ↦ grind (arith, nat_tests, fails, times-filter p k xs, times-cons k x xs)
+]
+
+-- ---- keys that are pairwise different
+
+absent_all : (x : ℕ) (xs : List ℕ) → times x xs ≡ 0 → All (λ y. eqb x y ≡ false) xs
+absent_all x [] h = All-nil (λ y. eqb x y ≡ false)
+absent_all x (y ∷ ys) h =
+    All-cons (λ z. eqb x z ≡ false) y ys (grind (arith, nat_tests, times-cons x y ys))
+    (absent_all x ys (grind (arith, nat_tests, times-cons x y ys)))
+
+distinct_from_times : (xs : List ℕ) → ((k : ℕ) → times k xs ≤ 1) → IsDistinct eqb xs
+unfolding IsDistinct
+distinct_from_times [] h = tt
+distinct_from_times (x ∷ xs) h = (
+  recursion_from_All (λ y. eqb x y ≡ false) xs (absent_all x xs (grind (arith, nat_tests, times-cons x x xs, h x))),
+  distinct_from_times xs (λ k. omega (arith, times-cons k x xs, h k)),
+)
+
+present : (q : ℕ) (xs : List ℕ) → list_any (eqb q) xs ≡ true → 0 < times q xs
+present q [] h = absurd (cc)
+present q (x ∷ xs) h = elim (cases_eq x q) [
+  | inl same ↦ grind (arith, nat_tests, times-cons q x xs)
+  | inr differs ↦ grind (arith, nat_tests, times-cons q x xs, present q xs)
+]
+
+-- keys below n, each once, are fewer than n, where one below n is not among them
+pub times_fit : (xs : List ℕ) (n j : ℕ) → ((k : ℕ) → times k xs ≤ 1) → ((k : ℕ) → 0 < times k xs → k < n) → times j xs ≡ 0 → j < n
+    → length xs < n
+times_fit xs n j once below absent within =
+    let more = λ (k : ℕ). times-cons k j xs in
+    let each : (k : ℕ) → times k (j ∷ xs) ≤ 1 = λ k. grind (arith, nat_tests, more k, once k, absent) in
+    let all : (q : ℕ) → list_any (eqb q) (j ∷ xs) ≡ true → q < n = λ q h. grind (arith, nat_tests, more q, below q, present q (j ∷ xs) h) in
+    let fit = length-le_from_distinct_below (j ∷ xs) n (distinct_from_times (j ∷ xs) each) all in
+    omega arith
+
+-- ---- keys that pass a test
+
+-- tests that agree at each key of a list keep the same of it
+pub filter_same : (p q : ℕ → Bool) (xs : List ℕ) → ((k : ℕ) → 0 < times k xs → p k ≡ q k) → filter p xs ≡ filter q xs
+filter_same p q [] h = refl
+filter_same p q (x ∷ xs) h =
+    let here : p x ≡ q x = h x (grind (arith, nat_tests, times-cons x x xs)) in
+    let rest : filter p xs ≡ filter q xs = filter_same p q xs (λ k l. h k (grind (arith, nat_tests, times-cons k x xs))) in
+    rw (here, rest)
+
+pub filter-pushed : (p : ℕ → Bool) (b : Bool) (x : ℕ) (xs : List ℕ) → p x ≡ true → filter p (pushed b x xs) ≡ pushed b x (filter p xs)
+filter-pushed p false x xs h = refl
+filter-pushed p true x xs h = filter-append p xs (x ∷ []) ∙ rw h
+
+-- what is kept without a key, whether the key passes or not
+without-first : (p : ℕ → Bool) (k : ℕ) (xs : List ℕ) → without k (filter p (k ∷ xs)) ≡ without k (filter p xs)
+without-first p k xs = elim (cases_Bool (p k)) [
+  | inl passes ↦ grind (arith, nat_tests, passes)
+  | inr fails ↦ grind (arith, nat_tests, fails)
+]
+
+pub without-pushed : (p : ℕ → Bool) (b : Bool) (k : ℕ) (xs : List ℕ) → without k (filter p (pushed b k xs)) ≡ without k (filter p xs)
+without-pushed p false k xs = refl
+without-pushed p true k xs =
+    ap (without k) (filter-append p xs (k ∷ [])) ∙ filter-append (λ j. not (eqb j k)) (filter p xs) (filter p (k ∷ []))
+    ∙ ap (λ ys. without k (filter p xs) ++ ys) (without-first p k []) ∙ append-nil _
+
+-- tests that agree but at one key keep the same others
+pub without-filter : (p q : ℕ → Bool) (k : ℕ) (xs : List ℕ) → ((j : ℕ) → j ≢ k → q j ≡ p j)
+    → without k (filter q xs) ≡ without k (filter p xs)
+without-filter p q k [] g = refl
+without-filter p q k (x ∷ xs) g = elim (cases_eq x k) [
+  | inl same ↦ rw same (without-first q k xs ∙ without-filter p q k xs g ∙ sym (without-first p k xs))
+  | inr differs ↦ elim (cases_Bool (p x)) [
+    | inl passes ↦ grind (arith, nat_tests, without-filter p q k xs g, g x differs, passes)
+    | inr fails ↦ grind (arith, nat_tests, without-filter p q k xs g, g x differs, fails)
+  ]
+]
+
+pub without_absent : (p : ℕ → Bool) (k : ℕ) (xs : List ℕ) → p k ≡ false → without k (filter p xs) ≡ filter p xs
+without_absent p k [] h = refl
+without_absent p k (x ∷ xs) h = elim (cases_Bool (p x)) [
+  | inl passes ↦ elim (cases_eq x k) [
+    | inl same ↦ absurd (false≢true (sym h ∙ ap p (sym same) ∙ passes))
+    | inr differs ↦ grind (arith, nat_tests, without_absent p k xs h, passes)
+  ]
+  | inr fails ↦ grind (arith, nat_tests, without_absent p k xs h, fails)
+]

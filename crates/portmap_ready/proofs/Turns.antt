@@ -1,0 +1,134 @@
+-- A key that waits in a list comes in its turn: lemmas.
+use Rattle.std.proofs.Common.{◌≡◌, ◌≢◌, ℕ, ◌+◌, ◌<◌, ◌≤◌, Bool, true, false, not, cond, eqb, List, [], ◌∷◌, length, Some}
+use Rattle.std.proofs.Common.{refl, sym, ap, subst, ◌∙◌, inl, inr, arith}
+use Rattle.std.specs.Prelude.{slice_get, drop, option_to_list}
+use Rattle.std.proofs.lemmas.Bool.{cases_eq}
+use Rattle.std.proofs.lemmas.Bool.Decides.{nat_tests}
+use Rattle.std.proofs.lemmas.List.Sums.{count_by-le-length, length-filter, sum_by-append}
+use Rattle.portmap_ready.specs.Held.{one}
+use Rattle.portmap_ready.specs.Links.{Links, is_quiet, moved, place_at, pushed, times, without}
+use Rattle.portmap_ready.specs.declared.Place.TheVariants.{Queued}
+use Rattle.portmap_ready.specs.Runs.{AllSpare, Call, Change, ComesInOrder, ComesInTurn, Does, Line, Run, Spares, all_taken, before, change}
+use Rattle.portmap_ready.specs.Runs.{first_taken, keys_of, turn, turns, Queue, Held, Stays, Joins, Takes, Leaves, Insert, Report, Next}
+use Rattle.portmap_ready.specs.Runs.{NextPending, PutBack, Hold, Rest}
+use Rattle.portmap_ready.proofs.Times.{times-cons, times-filter, joined_other, times-pushed}
+
+-- what a change does to a list
+abbrev pub Becomes : Change → List ℕ → List ℕ → Type 0
+Becomes Stays old new = new ≡ old
+Becomes (Joins j) old new = (b : Bool) × (new ≡ pushed b j old)
+Becomes (Takes first) old new = (first ≡ slice_get old 0) × (new ≡ drop 1 old)
+Becomes (Leaves j) old new = new ≡ without j old
+
+-- the key stands in the list, and those that were taken, and those before it now, are among those before it at first
+pub record Comes (k n : ℕ) (taken old new : List ℕ) : Type 0 where
+  pub there : 0 < times k new
+  pub nearer : n + length (before k new) ≤ length (before k old)
+  pub ordered : (j : ℕ) → times j taken + times j (before k new) ≤ times j (before k old)
+
+same_before : (k : ℕ) (old new : List ℕ) → 0 < times k new → before k new ≡ before k old → Comes k 0 [] old new
+same_before k old new h e = record { there = h; nearer = rw e (omega arith); ordered = λ j. rw e (omega arith) }
+
+before-pushed : (b : Bool) (k j : ℕ) (xs : List ℕ) → 0 < times k xs → before k (pushed b j xs) ≡ before k xs
+before-pushed false k j xs h = refl
+before-pushed true k j [] h = absurd (omega (arith, h))
+before-pushed true k j (y ∷ ys) h = elim (cases_eq y k) [
+  | inl same ↦ grind (arith, nat_tests, same)
+  | inr differs ↦ grind (arith, nat_tests, differs, times-cons k y ys, before-pushed true k j ys)
+]
+
+before-without : (k j : ℕ) (xs : List ℕ) → j ≢ k → before k (without j xs) ≡ without j (before k xs)
+before-without k j [] d = refl
+before-without k j (y ∷ ys) d = elim (cases_eq y j) [
+  | inl same ↦ grind (arith, nat_tests, same, d, before-without k j ys d)
+  | inr other ↦ elim (cases_eq y k) [
+    | inl here ↦ grind (arith, nat_tests, other, here)
+    | inr there ↦ grind (arith, nat_tests, other, there, before-without k j ys d)
+  ]
+]
+
+still_there : (b : Bool) (k j : ℕ) (xs : List ℕ) → 0 < times k xs → 0 < times k (pushed b j xs)
+still_there b k j xs h = elim (cases_eq k j) [
+  | inl same ↦ rw same (omega (arith, times-pushed b j xs, rw same at h))
+  | inr differs ↦ rw (joined_other b j xs refl k differs) h
+]
+
+one_turn : (k : ℕ) (change : Change) (old new : List ℕ) → Becomes change old new → 0 < times k old → Spares k change
+    → Comes k (turn change) (first_taken change) old new
+one_turn k Stays old new d h s = same_before k old new (rw d h) (ap (before k) d)
+one_turn k (Joins j) old new d h s = same_before k old new (rw d.1 (still_there d.0 k j old h))
+    (ap (before k) d.1 ∙ before-pushed d.0 k j old h)
+one_turn k (Takes first) [] new d h s = absurd (omega (arith, h))
+one_turn k (Takes first) (x ∷ rest) new d h s =
+    let differs : x ≢ k = λ e. s (d.0 ∙ ap Some e) in
+    subst (λ f. Comes k 1 (option_to_list f) (x ∷ rest) new) (sym d.0) (record {
+      there = rw d.1 (grind (arith, nat_tests, times-cons k x rest, differs, h));
+      nearer = rw d.1 (grind (arith, nat_tests, differs));
+      ordered = λ j. rw d.1 (grind (arith, nat_tests, differs, times-cons j x [], times-cons j x (before k rest)));
+    })
+one_turn k (Leaves j) old new d h s =
+    let less = ap (before k) d ∙ before-without k j old s in
+    record {
+      there = rw d (grind (arith, nat_tests, times-filter (λ i. not (eqb i j)) k old, s, h));
+      nearer = rw less (omega
+          (arith, length-filter (λ i. not (eqb i j)) (before k old), count_by-le-length (λ i. not (eqb i j)) (before k old)));
+      ordered = λ i. rw less (fewer (not (eqb i j)) (times-filter (λ i. not (eqb i j)) i (before k old)));
+    }
+  where
+    fewer : (b : Bool) {x y : ℕ} → x ≡ cond b y 0 → 0 + x ≤ y
+    fewer true e = omega arith
+    fewer false e = omega arith
+
+module _ {T : Type 0} where
+  becomes : (line : Line) (call : Call T) (old new : Links T) → Does call old new
+      → Becomes (change line call) (keys_of line old) (keys_of line new)
+  becomes Queue (Insert j value) old new d = (true, ap (λ r. r.queue) d)
+  becomes Queue (Report j) old new d = (is_quiet (place_at old j), ap (λ r. r.queue) d ∙ go (is_quiet (place_at old j)))
+    where
+      go : (b : Bool) → (cond b (moved Queued j old) old).queue ≡ pushed b j old.queue
+      go true = refl
+      go false = refl
+  becomes Queue (Next told) old new d = (d.0, ap (λ r. r.queue) d.1)
+  becomes Queue (PutBack j) old new d = (true, ap (λ r. r.queue) d)
+  becomes Queue (NextPending told) old new d = ap (λ r. r.queue) d.1
+  becomes Queue (Rest j) old new d = ap (λ r. r.queue) d.moved
+  becomes Queue call old new d = ap (λ r. r.queue) d
+  becomes Held (Report j) old new d = ap (λ r. r.pending) d ∙ go (is_quiet (place_at old j))
+    where
+      go : (b : Bool) → (cond b (moved Queued j old) old).pending ≡ old.pending
+      go true = refl
+      go false = refl
+  becomes Held (Next told) old new d = ap (λ r. r.pending) d.1
+  becomes Held (NextPending told) old new d = (d.0, ap (λ r. r.pending) d.1)
+  becomes Held (Hold j) old new d = (true, ap (λ r. r.pending) d)
+  becomes Held (Rest j) old new d = ap (λ r. r.pending) d.moved
+  becomes Held call old new d = ap (λ r. r.pending) d
+
+  comes : (line : Line) (k : ℕ) (calls : List (Call T)) (old new : Links T) → Run calls old new → 0 < times k (keys_of line old)
+      → AllSpare line k calls
+      → Comes k (turns line calls) (all_taken line calls) (keys_of line old) (keys_of line new)
+  comes line k [] old new d h s = same_before k (keys_of line old) (keys_of line new) (rw d h) (ap (λ r. before k (keys_of line r)) d)
+  comes line k (call ∷ calls) old new d h s =
+      let first = one_turn k (change line call) (keys_of line old) (keys_of line d.0) (becomes line call old d.0 d.1) h s.0 in
+      let rest = comes line k calls d.0 new d.2 first.there s.1 in
+      let a = first.nearer in
+      let b = rest.nearer in
+      record {
+        there = rest.there;
+        nearer = omega arith;
+        ordered = λ j. omega (
+          arith,
+          first.ordered j,
+          rest.ordered j,
+          sum_by-append (λ i. one (eqb i j)) (first_taken (change line call))
+              (all_taken line calls),
+        );
+      }
+
+  pub comes_in_turn : (line : Line) → ComesInTurn T line
+  comes_in_turn line k calls old new d h s = let c = comes line k calls old new d h s in (c.there, c.nearer)
+
+  pub comes_in_order : (line : Line) → ComesInOrder T line
+  comes_in_order line k calls old new d h s j = let c = (comes line k calls old new d h s).ordered j in omega arith
+
+pub ruleset laws = (comes_in_turn, comes_in_order)

@@ -1,0 +1,23 @@
+-- What the links are, once a link is no longer lent.
+use Rattle.std.specs.Prelude.{ℕ, Option, Some}
+use Rattle.std.specs.Borrow.{Lends, LendsIf, Fml, RattleType, MutBor}
+use Rattle.portmap_ready.specs.declared.Held.{Held}
+use Rattle.portmap_ready.specs.Links.{Links, written}
+use Rattle.portmap_ready.specs.contracts.Held.{the_row as held_row}
+use Rattle.portmap_ready.specs.contracts.Ready.{the_row}
+
+module _ (T : RattleType) where
+  abbrev pub with_item : Held T.Denot → T.Denot → Held T.Denot
+  with_item h w = record h { value = Some w }
+
+  abbrev pub lends_item : MutBor (Held T.Denot) → MutBor T.Denot → Fml
+  lends_item h r = Lends (held_row T) T h r (with_item h.now)
+
+  module _ (s : MutBor (Links T.Denot)) (key : ℕ) where
+    -- the key has the last value written through r, and stands where it stood
+    abbrev pub lends_value : MutBor T.Denot → Fml
+    lends_value r = Lends (the_row T) T s r (written key s.now)
+
+    -- the same, and at `None` nothing changes
+    abbrev pub lends_link : Option (MutBor T.Denot) → Fml
+    lends_link r = LendsIf (the_row T) T s r (written key s.now) s.now

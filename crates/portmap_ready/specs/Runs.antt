@@ -1,0 +1,109 @@
+-- Calls in a row, and what comes of those that wait in a list: profile.
+use Rattle.std.specs.Prelude.{◌≡◌, ◌≢◌, ℕ, ◌+◌, ◌<◌, ◌≤◌, cond, ◌==◌, List, [], ◌∷◌, ◌++◌, length, slice_get, Option, Some, option_to_list}
+use Rattle.portmap_ready.specs.declared.Place.TheVariants.{Idle, Queued, Pending}
+use Rattle.portmap_ready.specs.Links.{Links, IsButForRoom, Rests, inserted, moved, removed, reported, rest_ended, taken_next, times}
+use Rattle.portmap_ready.specs.Links.{told_next, written}
+
+-- a call, with what comes of it
+pub data Call (T : Type 0) : Type 0 where
+  Insert : ℕ → T → Call T
+  Report : ℕ → Call T
+  Next : Option ℕ → Call T
+  NextPending : Option ℕ → Call T
+  PutBack : ℕ → Call T
+  Leave : ℕ → Call T
+  Hold : ℕ → Call T
+  Rest : ℕ → Call T
+  EndRest : Call T
+  Remove : ℕ → Call T
+  Write : ℕ → T → Call T
+
+-- the lists from which links are taken in turn
+pub data Line : Type 0 where
+  Queue : Line
+  Held : Line
+
+-- what a call does to a list: nothing; a key joins it, if any does; its first is taken; or a key leaves it, wherever it stands
+pub data Change : Type 0 where
+  Stays : Change
+  Joins : ℕ → Change
+  Takes : Option ℕ → Change
+  Leaves : ℕ → Change
+
+-- those that stand before a key
+abbrev pub before : ℕ → List ℕ → List ℕ
+before k [] = []
+before k (x ∷ xs) = cond (x == k) [] (x ∷ before k xs)
+
+abbrev pub turn : Change → ℕ
+turn (Takes first) = 1
+turn _ = 0
+
+abbrev pub first_taken : Change → List ℕ
+first_taken (Takes first) = option_to_list first
+first_taken _ = []
+
+-- the key is neither taken nor leaves
+abbrev pub Spares : ℕ → Change → Type 0
+Spares k (Takes first) = first ≢ Some k
+Spares k (Leaves j) = j ≢ k
+Spares k _ = Unit {0}
+
+module _ {T : Type 0} where
+  -- what each call ensures
+  abbrev pub Does : Call T → Links T → Links T → Type 0
+  Does (Insert k value) old new = IsButForRoom new (inserted k value old)
+  Does (Report k) old new = new ≡ reported k old
+  Does (Next told) old new = (told ≡ slice_get old.queue 0) × IsButForRoom new (told_next old)
+  Does (NextPending told) old new = (told ≡ slice_get old.pending 0) × IsButForRoom new (taken_next old)
+  Does (PutBack k) old new = new ≡ moved Queued k old
+  Does (Leave k) old new = new ≡ moved Idle k old
+  Does (Hold k) old new = new ≡ moved Pending k old
+  Does (Rest k) old new = Rests k old new
+  Does EndRest old new = IsButForRoom new (rest_ended old)
+  Does (Remove k) old new = IsButForRoom new (removed k old)
+  Does (Write k value) old new = new ≡ written k old value
+
+  abbrev pub Run : List (Call T) → Links T → Links T → Type 0
+  Run [] old new = new ≡ old
+  Run (call ∷ calls) old new = (between : Links T) × Does call old between × Run calls between new
+
+  abbrev pub keys_of : Line → Links T → List ℕ
+  keys_of Queue r = r.queue
+  keys_of Held r = r.pending
+
+  abbrev pub change : Line → Call T → Change
+  change Queue (Insert k value) = Joins k
+  change Queue (Report k) = Joins k
+  change Queue (Next told) = Takes told
+  change Queue (PutBack k) = Joins k
+  change Held (NextPending told) = Takes told
+  change Held (Hold k) = Joins k
+  change line (Remove k) = Leaves k
+  change line call = Stays
+
+  -- the calls neither take this key from the list nor remove its link
+  abbrev pub AllSpare : Line → ℕ → List (Call T) → Type 0
+  AllSpare line k [] = Unit {0}
+  AllSpare line k (call ∷ calls) = Spares k (change line call) × AllSpare line k calls
+
+  -- how often the first of the list was asked for, and which keys were taken
+  abbrev pub turns : Line → List (Call T) → ℕ
+  turns line [] = 0
+  turns line (call ∷ calls) = turn (change line call) + turns line calls
+
+  abbrev pub all_taken : Line → List (Call T) → List ℕ
+  all_taken line [] = []
+  all_taken line (call ∷ calls) = first_taken (change line call) ++ all_taken line calls
+
+-- while a key waits it stands in the list, and each turn brings it one further to the front
+abbrev pub ComesInTurn : (T : Type 0) → Line → Type 0
+ComesInTurn T line =
+    (k : ℕ) (calls : List (Call T)) (old new : Links T) → Run calls old new → 0 < times k (keys_of line old) → AllSpare line k calls
+    → (0 < times k (keys_of line new)) × (turns line calls + length (before k (keys_of line new)) ≤ length (before k (keys_of line old)))
+
+-- while a key waits none is taken but those that stood before it, each as often as it stood there
+abbrev pub ComesInOrder : (T : Type 0) → Line → Type 0
+ComesInOrder T line =
+    (k : ℕ) (calls : List (Call T)) (old new : Links T) → Run calls old new → 0 < times k (keys_of line old) → AllSpare line k calls
+    → (j : ℕ) → times j (all_taken line calls) ≤ times j (before k (keys_of line old))

@@ -1,0 +1,54 @@
+-- What the fields hold, and what callers see of it: no public clause cites this module.
+use Rattle.std.specs.Prelude.{◌≡◌, ℕ, ◌<◌, Bool, true, false, ◌&&◌, ◌==◌, nat_lt, nat_le, min, List, filter, map as list_map, Option, Some}
+use Rattle.std.specs.Prelude.{None, IsSome}
+use Rattle.std.specs.Ordering.{nat_cmp}
+use Rattle.std.specs.FinMap as map
+use Rattle.std.specs.VecDeque.{deque_capacity}
+use Rattle.slab.specs.Slab.{Slab, get, slab_len, entries_from}
+use Rattle.portmap_ready.specs.declared.Place.{Place}
+use Rattle.portmap_ready.specs.declared.Held.{Held}
+use Rattle.portmap_ready.specs.declared.Ready.TheInside.{Inside}
+use Rattle.portmap_ready.specs.Links.{Links, times}
+use Rattle.portmap_ready.specs.Held.{Marks, link_of, is_live, rests, marks_of, is_fine}
+
+abbrev pub is_key : Option ℕ → ℕ → Bool
+is_key None k = false
+is_key (Some j) k = j == k
+
+module _ {T : Type 0} where
+  abbrev pub links_of : List (Option (Held T)) → map.FinMap nat_cmp (T × Place)
+  links_of slots = map.from_entries (entries_from 0 (list_map link_of slots))
+
+  -- the keys of a list under which such is held
+  abbrev pub kept : (Option (Held T) → Bool) → Slab (Held T) → List ℕ → List ℕ
+  kept test held keys = filter (λ k. test (get held k)) keys
+
+  -- each list has room for the keys below this one
+  abbrev pub room : Inside T → ℕ
+  room r = min (deque_capacity r.queue) (min (deque_capacity r.pending) (deque_capacity r.resting))
+
+  abbrev pub has_room : Inside T → Bool
+  has_room r = nat_lt (slab_len r.held) r.held.capacity && nat_le r.held.capacity (room r)
+
+  abbrev pub seen : Inside T → Links T
+  seen r =
+      record {
+        links = links_of r.held.slots;
+        queue = kept is_live r.held r.queue.items;
+        pending = kept is_live r.held r.pending.items;
+        resting = kept rests r.held r.resting.items;
+        told = r.told;
+        has_room = has_room r;
+      }
+
+  abbrev pub marks : Inside T → ℕ → Marks
+  marks r k =
+      record { queue = times k r.queue.items; pending = times k r.pending.items; resting = times k r.resting.items; told = is_key r.told k }
+
+  -- each key stands where what is held under it says, once in a list or not at all; there is room for all keys in each list; and so many
+  -- links are there
+  pub record IsWhole (r : Inside T) : Type 0 where
+    pub marks : (k : ℕ) → marks r k ≡ marks_of (get r.held k)
+    pub fine : (k : ℕ) → is_fine (get r.held k) ≡ true
+    pub fits : (k : ℕ) → IsSome (get r.held k) → k < room r
+    pub counted : r.count ≡ map.len (links_of r.held.slots)
