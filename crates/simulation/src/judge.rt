@@ -25,35 +25,46 @@ struct Told {
 }
 
 impl Told {
+    /// A connection has this slot, or none has.
+    fn put(&mut self, slot: usize, number: Option<usize>) -> Option<()> {
+        for _ in self.slots.len()..slot.saturating_add(1) {
+            self.slots.push(None).ok()?;
+        }
+        *self.slots.get_mut(slot)? = number;
+        Some(())
+    }
+
+    /// A connection was told these bytes.
+    fn tell(&mut self, alloc: Global, number: usize, reply: &[u8]) -> Option<()> {
+        for _ in self.told.len()..number.saturating_add(1) {
+            self.told.push(Vec::new(alloc)).ok()?;
+        }
+        self.told.get_mut(number)?.extend_from_slice(reply).ok()
+    }
+
     /// Notes an entry, where the connections were opened in this order.
     fn note(&mut self, alloc: Global, opened: &[usize], entry: &Entry) -> Option<()> {
         match entry {
             Entry::Connected { local: _, slot } => {
                 let number = opened.get(self.opened).copied();
                 self.opened = self.opened.saturating_add(1);
-                let slot = *slot as usize;
-                for _ in self.slots.len()..slot.saturating_add(1) {
-                    self.slots.push(None).ok()?;
-                }
-                *self.slots.get_mut(slot)? = number;
+                self.put(*slot as usize, number)
             }
             Entry::Piece { slot, reply, .. } => {
-                if let Some(Some(number)) = self.slots.get(*slot as usize) {
-                    for _ in self.told.len()..number.saturating_add(1) {
-                        self.told.push(Vec::new(alloc)).ok()?;
-                    }
-                    self.told.get_mut(*number)?.extend_from_slice(reply).ok()?;
-                }
                 if reply.starts_with(IN_USE) {
                     self.in_use = self.in_use.saturating_add(1);
+                }
+                match self.slots.get(*slot as usize).copied() {
+                    Some(Some(number)) => self.tell(alloc, number, reply),
+                    _ => Some(()),
                 }
             }
             Entry::Closed { slot } | Entry::Faulted { slot } => {
                 *self.slots.get_mut(*slot as usize)? = None;
+                Some(())
             }
-            Entry::Late { .. } => {}
+            Entry::Late { .. } => Some(()),
         }
-        Some(())
     }
 
     /// What is wrong about what peers were told.
@@ -78,6 +89,22 @@ impl Told {
     }
 }
 
+/// What is wrong with what a file has, which is to be a run that begins with this entry; and with which one the next file begins.
+fn judge_record(alloc: Global, record: &Record, next: &mut u64) -> Result<(), Wrong> {
+    if check(alloc, record).is_err() {
+        return Err("a file is no run");
+    }
+    let first = match &record.version {
+        Version::One => 0,
+        Version::Two { first, .. } => *first,
+    };
+    if first != *next {
+        return Err("a file does not begin where the one before it ended");
+    }
+    *next = first.saturating_add(record.entries.len() as u64);
+    Ok(())
+}
+
 /// What a file has, as a run that goes on where the files before it have ended. None if it has no beginning: it was cut before that, or
 /// couldn't be begun.
 fn read_file(
@@ -96,17 +123,7 @@ fn read_file(
     let Ok(record) = read else {
         return Err("a file is no record");
     };
-    if check(alloc, &record).is_err() {
-        return Err("a file is no run");
-    }
-    let first = match &record.version {
-        Version::One => 0,
-        Version::Two { first, .. } => *first,
-    };
-    if first != *next {
-        return Err("a file does not begin where the one before it ended");
-    }
-    *next = first.saturating_add(record.entries.len() as u64);
+    judge_record(alloc, &record, next)?;
     Ok(Some(record))
 }
 

@@ -13,6 +13,7 @@ mod random;
 mod rest;
 mod run;
 mod scenario;
+mod scene;
 mod steps;
 mod system;
 mod weather;
@@ -124,7 +125,7 @@ fn tell_outcome(rt: &HostRuntime, line: &str, outcome: &Outcome) -> io::Result<(
         " {restarts} restarts, {answers} answers within {longest} ms, {unanswered} without,"
     )?;
     print!(rt; " {acts} acts in {seconds} s")?;
-    for ((_, fault), count) in FAULTS.iter().zip(outcome.happened) {
+    for (fault, count) in FAULTS.iter().zip(outcome.happened) {
         if count > 0 {
             print!(rt; ", {fault} {count}")?;
         }

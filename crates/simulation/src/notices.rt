@@ -8,7 +8,7 @@ const NOTICE_US: u64 = 9_999_000;
 const NEWS_US: u64 = 5_000_000;
 
 /// Notices of a kind. Times are in microseconds.
-#[derive(Clone, Copy, Debug, PartialEq, Eq)]
+#[derive(Clone, Copy)]
 struct Telling {
     /// Since when there is something to tell.
     untold_since: Option<u64>,
@@ -53,7 +53,7 @@ impl Telling {
 }
 
 /// What was refused to the daemon or by it, and what the operator was told of that. Times are in microseconds.
-#[derive(Clone, Copy, Debug, PartialEq, Eq)]
+#[derive(Clone, Copy)]
 pub struct Notices {
     /// How often it was told that the recording has failed.
     pub failed: u32,

@@ -1,10 +1,12 @@
 //! Nodes, tools and strangers: the peers of a daemon.
+use crate::random::Random;
 use crate::weather::Fault;
+use crate::wire::Wire;
 use crate::world::{Ending, LISTENERS, World};
 use std::alloc::Global;
 
 /// What somebody wants of a port mapper.
-#[derive(Clone, Copy, Debug, PartialEq, Eq)]
+#[derive(Clone, Copy, PartialEq, Eq)]
 pub enum Role {
     /// Registers a name of its own, holds it for a while, leaves and comes back at once.
     Node,
@@ -38,8 +40,30 @@ pub enum Role {
     Tardy,
 }
 
+impl Role {
+    /// Whether it registers a name.
+    fn registers(self) -> bool {
+        matches!(self, Role::Node | Role::Rival | Role::Talker)
+    }
+
+    /// What it asks, and whether a name follows.
+    fn request(self) -> (&'static [u8], bool) {
+        match self {
+            Role::Node | Role::Talker | Role::Rival => (REGISTRATION, true),
+            Role::Seeker => (&[0, 3, 0x7A], true),
+            Role::Stopper => (&[0, 3, 0x73], true),
+            Role::Lister | Role::Slow | Role::Plodder => (&[0, 1, 0x6E], false),
+            Role::Unreading | Role::Tardy => (&[0, 1, 0x6E], false),
+            Role::Dumper => (&[0, 1, 0x64], false),
+            Role::Killer => (&[0, 1, 0x6B], false),
+            Role::Dripper => (&[0, 200], false),
+            Role::Silent | Role::Babbler => (&[], false),
+        }
+    }
+}
+
 /// What somebody is about.
-#[derive(Clone, Copy, Debug, PartialEq, Eq)]
+#[derive(Clone, Copy, PartialEq, Eq)]
 pub enum Stage {
     /// Is not connected.
     Away,
@@ -54,7 +78,7 @@ pub enum Stage {
 }
 
 /// What has been seen of people.
-#[derive(Clone, Copy, Debug, PartialEq, Eq)]
+#[derive(Clone, Copy)]
 pub struct Tally {
     pub connections: u32,
     pub registrations: u32,
@@ -118,6 +142,9 @@ const PLODDER_US: u64 = 3_500_000;
 /// When the look comes at which those are late who came at the beginning.
 const TARDY_US: u64 = 6_850_000;
 
+/// The beginning of a registration, up to the name.
+const REGISTRATION: &[u8] = &[0, 15, 0x78, 0x13, 0x88, 0x4D, 0, 0, 6, 0, 5, 0, 2];
+
 /// What a talker says.
 const TALK: &[u8] = &[0x61; 1000];
 
@@ -154,8 +181,13 @@ impl Person {
         }
     }
 
+    /// Its connection.
+    fn own<'a>(&self, world: &'a World) -> Option<&'a Wire> {
+        world.wires.get(self.wire?)
+    }
+
     fn has_news(&self, world: &World) -> bool {
-        match self.wire.and_then(|wire| world.wires.get(wire)) {
+        match self.own(world) {
             Some(wire) => wire.has_peer_news && self.role != Role::Slow,
             None => false,
         }
@@ -177,10 +209,11 @@ impl Person {
             _ => true,
         };
         let limit = GIVEN_UP_US.saturating_add(slack);
-        match self.wire.and_then(|wire| world.wires.get(wire)) {
-            Some(wire) if !wire.is_down_ended && !is_served => wire
-                .accepted
-                .is_some_and(|accepted| world.now.saturating_sub(accepted.1) > limit),
+        match self.own(world) {
+            Some(wire) if !wire.is_down_ended && !is_served => match wire.accepted {
+                Some((_, at)) => world.now.saturating_sub(at) > limit,
+                None => false,
+            },
             _ => false,
         }
     }
@@ -191,10 +224,10 @@ impl Person {
             Role::Slow | Role::Unreading => false,
             _ => self.is_local,
         };
-        let wire = self.wire.and_then(|wire| world.wires.get(wire));
-        let worker = wire
-            .and_then(|wire| wire.accepted)
-            .map(|accepted| accepted.0);
+        let worker = match self.own(world) {
+            Some(wire) => wire.worker(),
+            None => None,
+        };
         let since = world.held_until(worker).saturating_add(limit);
         reads && world.now > since && self.waited(world.now) > limit
     }
@@ -205,37 +238,21 @@ impl Person {
     }
 
     /// Writes what it asks.
-    fn ask(&mut self, world: &mut World) -> Option<()> {
+    fn ask(&mut self, random: &mut Random) -> Option<()> {
+        let name = self.name();
+        let (kind, is_named) = self.role.request();
         self.request.clear();
         self.sent = 0;
-        let name = self.name();
-        let request = &mut self.request;
-        match self.role {
-            Role::Node | Role::Talker | Role::Rival => {
-                let fields = [0, 15, 0x78, 0x13, 0x88, 0x4D, 0, 0, 6, 0, 5, 0, 2];
-                request.extend_from_slice(&fields).ok()?;
-                request.extend_from_slice(&name).ok()?;
-                request.extend_from_slice(&[0, 0]).ok()?;
-            }
-            Role::Seeker => {
-                request.extend_from_slice(&[0, 3, 0x7A]).ok()?;
-                request.extend_from_slice(&name).ok()?;
-            }
-            Role::Stopper => {
-                request.extend_from_slice(&[0, 3, 0x73]).ok()?;
-                request.extend_from_slice(&name).ok()?;
-            }
-            Role::Lister | Role::Slow | Role::Plodder | Role::Unreading | Role::Tardy => request
-                .extend_from_slice(&[0, 1, 0x6E])
-                .ok()?,
-            Role::Dumper => request.extend_from_slice(&[0, 1, 0x64]).ok()?,
-            Role::Killer => request.extend_from_slice(&[0, 1, 0x6B]).ok()?,
-            Role::Silent => {}
-            Role::Dripper => request.extend_from_slice(&[0, 200]).ok()?,
-            Role::Babbler => {
-                for _ in 0..world.random.below(40) {
-                    request.push(world.random.below(256) as u8).ok()?;
-                }
+        self.request.extend_from_slice(kind).ok()?;
+        if is_named {
+            self.request.extend_from_slice(&name).ok()?;
+        }
+        if self.role.registers() {
+            self.request.extend_from_slice(&[0, 0]).ok()?;
+        }
+        if self.role == Role::Babbler {
+            for _ in 0..random.below(40) {
+                self.request.push(random.below(256) as u8).ok()?;
             }
         }
         Some(())
@@ -249,13 +266,13 @@ impl Person {
             0
         };
         self.wire = world.connect(place, self.is_local);
-        if self.wire.is_none() || self.ask(world).is_none() {
+        if self.wire.is_none() || self.ask(&mut world.random).is_none() {
             // Too many wait: it tries again after a second, as TCP does.
             self.next_at = world.now.saturating_add(1_000_000);
             return;
         }
-        if let Some(wire) = self.wire.and_then(|wire| world.wires.get_mut(wire)) {
-            if self.role == Role::Unreading {
+        if self.role == Role::Unreading {
+            if let Some(wire) = world.wires.last_mut() {
                 wire.room = 1;
             }
         }
@@ -269,38 +286,45 @@ impl Person {
         self.next_at = world.now;
     }
 
+    /// How many of so many bytes it sends at once.
+    fn piece(&self, world: &mut World, left: usize) -> usize {
+        // A node writes its registration at once.
+        let most = match self.role {
+            Role::Node => left,
+            Role::Tardy => 2,
+            Role::Dripper | Role::Plodder => 1,
+            _ if world.happens(Fault::Dripped) => 1,
+            _ => world.random.between(1, 64) as usize,
+        };
+        left.min(most)
+    }
+
+    /// When it sends the next part of its request.
+    fn goes_on_at(&self, now: u64, random: &mut Random) -> u64 {
+        let most = match self.role {
+            Role::Plodder => PLODDER_US,
+            // Its time has begun with the first look, and is over at the look behind its end.
+            Role::Tardy => TARDY_US.saturating_sub(now).saturating_add(20_000),
+            _ => 3000,
+        };
+        let next_at = now.saturating_add(random.between(most.saturating_sub(20_000), most));
+        if self.role == Role::Tardy && self.burst > 1 {
+            self.burst_after(now)
+        } else {
+            next_at
+        }
+    }
+
     /// Sends a part of its request.
     fn say(&mut self, world: &mut World, wire: usize) {
         let left = self.request.len().saturating_sub(self.sent);
-        let count = if self.role == Role::Node {
-            // A node writes its registration at once.
-            left
-        } else if self.role == Role::Tardy {
-            left.min(2)
-        } else if self.is_dripping() || world.happens(Fault::Dripped) {
-            left.min(1)
-        } else {
-            left.min(world.random.between(1, 64) as usize)
-        };
-        let end = self.sent.saturating_add(count);
+        let end = self.sent.saturating_add(self.piece(world, left));
         if let Some(piece) = self.request.get(self.sent..end) {
             world.send(wire, piece);
         }
         self.sent = end;
         if self.sent < self.request.len() {
-            let most = if self.role == Role::Plodder {
-                PLODDER_US
-            } else if self.role == Role::Tardy {
-                // Its time has begun with the first look, and is over at the look behind its end.
-                TARDY_US.saturating_sub(world.now).saturating_add(20_000)
-            } else {
-                3000
-            };
-            let least = most.saturating_sub(20_000);
-            self.next_at = world.now.saturating_add(world.random.between(least, most));
-            if self.role == Role::Tardy && self.burst > 1 {
-                self.next_at = self.burst_after(world.now);
-            }
+            self.next_at = self.goes_on_at(world.now, &mut world.random);
             return;
         }
         self.next_at = u64::MAX;
@@ -313,8 +337,7 @@ impl Person {
             Role::Dripper => {
                 self.stage = Stage::Sending;
                 self.sent = 0;
-                self.request.clear();
-                let _ = self.request.push(0);
+                self.request.truncate(1);
                 self.next_at = world.now.saturating_add(world.random.below(400_000));
             }
             Role::Slow => {
@@ -325,9 +348,7 @@ impl Person {
                 };
                 self.next_at = world.now.saturating_add(world.random.below(most));
             }
-            Role::Unreading | Role::Plodder => {}
-            Role::Node | Role::Rival | Role::Seeker | Role::Lister | Role::Dumper => {}
-            Role::Killer | Role::Stopper | Role::Talker | Role::Tardy => {}
+            _ => {}
         }
     }
 
@@ -386,11 +407,7 @@ impl Person {
         world.receive(number, most);
         let now = world.now;
         let (got, is_over, is_reset) = match world.wires.get(number) {
-            Some(wire) => (
-                wire.received.len(),
-                wire.is_down_ended && wire.down.is_empty(),
-                wire.is_reset,
-            ),
+            Some(wire) => wire.heard(),
             None => (0, true, true),
         };
         let Stage::Waiting(since) = self.stage else {
@@ -400,11 +417,7 @@ impl Person {
             self.next_at = self.next_at.max(now.saturating_add(1));
             return None;
         };
-        let registers = match self.role {
-            Role::Node | Role::Rival | Role::Talker => true,
-            _ => false,
-        };
-        let is_answered = if registers {
+        let is_answered = if self.role.registers() {
             got >= 6
         } else {
             got > 0 && is_over
@@ -418,21 +431,21 @@ impl Person {
         }
         if is_over || is_reset {
             tally.unanswered = tally.unanswered.saturating_add(1);
-            let is_owed = got == 0 && !is_reset && self.is_local && !self.is_lenient;
-            let is_prompt = since.saturating_sub(self.came_at) < PROMPT_US;
-            let is_in_time = is_prompt || self.role == Role::Plodder;
-            let is_owed = is_owed && is_in_time && self.is_answered_by_all();
+            let is_owed = got == 0 && !is_reset && self.is_owed(since);
             self.leave(world, 50_000);
-            return if is_owed {
-                Some("closed without an answer")
-            } else {
-                None
-            };
+            return is_owed.then_some("closed without an answer");
         }
         if self.role == Role::Slow {
             self.next_at = now.saturating_add(world.random.below(20_000));
         }
         None
+    }
+
+    /// Whether it is owed an answer, which it has waited for since this time.
+    fn is_owed(&self, since: u64) -> bool {
+        let is_prompt = since.saturating_sub(self.came_at) < PROMPT_US;
+        let is_in_time = is_prompt || self.role == Role::Plodder;
+        self.is_local && !self.is_lenient && is_in_time && self.is_answered_by_all()
     }
 
     /// Whether any port mapper has an answer to what it asks of its own host.
@@ -453,82 +466,62 @@ impl Person {
         }
     }
 
-    /// Whether it sends byte by byte.
-    fn is_dripping(&self) -> bool {
-        self.role == Role::Dripper || self.role == Role::Plodder
-    }
-
     /// Its connection has ended while it waited for nothing.
     fn lose(&mut self, world: &mut World, is_reset: bool) -> Option<Wrong> {
-        let holds = match self.role {
-            Role::Node | Role::Rival | Role::Talker => self.stage == Stage::Holding,
-            _ => false,
+        let wrong = if self.role == Role::Plodder && self.stage == Stage::Sending {
+            Some("a connection was given up that sends")
+        } else if self.role.registers() && self.stage == Stage::Holding {
+            Some("a registered connection was closed")
+        } else {
+            None
         };
-        let sends = self.role == Role::Plodder && self.stage == Stage::Sending;
         self.leave(world, 50_000);
         if is_reset || self.is_lenient {
             None
-        } else if holds {
-            Some("a registered connection was closed")
-        } else if sends {
-            Some("a connection was given up that sends")
         } else {
-            None
+            wrong
         }
     }
 
     /// Has its answer.
     fn take(&mut self, world: &mut World, number: usize, tally: &mut Tally) -> Option<Wrong> {
+        if !self.role.registers() {
+            self.leave(world, 200_000);
+            return None;
+        }
         let result = match world.wires.get(number) {
             Some(wire) => wire.received.get(1).copied(),
             None => None,
         };
-        let is_node = matches!(self.role, Role::Node | Role::Talker | Role::Rival);
-        if is_node && result == Some(1) {
+        if result == Some(1) {
             world.notices.note_in_use(world.now);
         }
-        match self.role {
-            Role::Node | Role::Talker if result == Some(0) => {
-                tally.registrations = tally.registrations.saturating_add(1);
-                let is_late = self.waited(world.now) > self.patience;
-                self.hold(world);
-                if self.role == Role::Talker {
-                    self.next_at = world.now;
-                }
-                if is_late {
-                    Some("a node waited too long for its name")
-                } else {
-                    None
-                }
-            }
-            Role::Node | Role::Talker => {
-                tally.refused = tally.refused.saturating_add(1);
-                self.leave(world, 50_000);
-                if self.is_lenient {
-                    None
-                } else {
-                    Some("a node that closed first was refused")
-                }
-            }
-            Role::Rival => {
-                let waited = self.waited(world.now);
-                self.leave(world, 500_000);
-                if result == Some(0) {
-                    tally.registrations = tally.registrations.saturating_add(1);
-                    return None;
-                }
-                tally.refused = tally.refused.saturating_add(1);
-                if waited > REFUSAL_US && !self.is_lenient {
-                    Some("a duplicate was refused too late")
-                } else {
-                    None
-                }
-            }
-            _ => {
-                self.leave(world, 200_000);
-                None
-            }
+        if result == Some(0) {
+            tally.registrations = tally.registrations.saturating_add(1);
+            return self.be_let_in(world);
         }
+        tally.refused = tally.refused.saturating_add(1);
+        let is_late = self.waited(world.now) > REFUSAL_US;
+        if self.role == Role::Rival {
+            self.leave(world, 500_000);
+            return (is_late && !self.is_lenient).then_some("a duplicate was refused too late");
+        }
+        self.leave(world, 50_000);
+        (!self.is_lenient).then_some("a node that closed first was refused")
+    }
+
+    /// It is registered: it holds its name, but for a rival.
+    fn be_let_in(&mut self, world: &mut World) -> Option<Wrong> {
+        if self.role == Role::Rival {
+            self.leave(world, 500_000);
+            return None;
+        }
+        let is_late = self.waited(world.now) > self.patience;
+        self.hold(world);
+        if self.role == Role::Talker {
+            self.next_at = world.now;
+        }
+        is_late.then_some("a node waited too long for its name")
     }
 
     /// Does what is next. What was wrong, if anything was.

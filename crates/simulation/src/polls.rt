@@ -1,21 +1,36 @@
 //! What threads wait for: listeners, streams and each other.
+use crate::random::Random;
 use crate::weather::Fault;
-use crate::wire::Watch;
+use crate::wire::{Watch, Wire};
 use crate::world::{LISTENERS, World};
-use portmap_daemon::{Interest, Report};
+use portmap_daemon::{Interest, Report, Turn};
 use std::alloc::Global;
-use std::io;
 use std::io::ErrorKind;
+
+/// For so long a thread hangs.
+const HUNG_US: u64 = 30_000_000;
 
 /// The most events that one poll reports.
 const EVENTS_MOST: usize = 256;
 
+/// What a thread's poll knows of a listener.
+#[derive(Clone, Copy)]
+struct Listening {
+    /// It reports it.
+    is_on: bool,
+    /// From when on it does so; none if there is nothing that was not reported.
+    news_at: Option<u64>,
+}
+
+const UNHEARD: Listening = Listening {
+    is_on: false,
+    news_at: None,
+};
+
 /// What the system knows of a thread.
 #[derive(Drop)]
 pub struct Thread {
-    /// Which listeners its poll reports, and from when on; none if there is nothing that was not reported.
-    pub(crate) listens: [bool; LISTENERS],
-    pub(crate) listener_news: [Option<u64>; LISTENERS],
+    listeners: [Listening; LISTENERS],
     /// The streams that its poll reports.
     pub(crate) watched: Vec<usize>,
     /// Its wait is ended.
@@ -26,6 +41,11 @@ pub struct Thread {
     pub(crate) until: Option<u64>,
     /// Until when it is held.
     pub(crate) held_until: u64,
+    /// It has ended.
+    has_ended: bool,
+    /// What its source told last, if it is a worker's, and the connection of that with whether there was news of it.
+    told: Option<Turn>,
+    met: Option<(usize, bool)>,
     /// How often it has polled.
     pub polls: u64,
 }
@@ -34,28 +54,91 @@ impl Thread {
     /// One that watches nothing.
     pub fn new(alloc: Global) -> Thread {
         Thread {
-            listens: [false; LISTENERS],
-            listener_news: [None; LISTENERS],
+            listeners: [UNHEARD; LISTENERS],
             watched: Vec::new(alloc),
             is_woken: false,
             reports: Vec::new(alloc),
             until: None,
             held_until: 0,
+            has_ended: false,
+            told: None,
+            met: None,
             polls: 0,
+        }
+    }
+
+    /// So many, which watch nothing.
+    pub fn many(alloc: Global, count: usize) -> Option<Vec<Thread>> {
+        let mut threads = Vec::new(alloc);
+        for _ in 0..count {
+            threads.push(Thread::new(alloc)).ok()?;
+        }
+        Some(threads)
+    }
+
+    /// A connection has come to the listener at this place.
+    pub fn note_comer(&mut self, place: usize, now: u64) {
+        if let Some(listener) = self.listeners.get_mut(place) {
+            if listener.is_on && listener.news_at.is_none() {
+                listener.news_at = Some(now);
+            }
+        }
+    }
+
+    /// Reports that it was woken, and what there is at listeners. Whether there is memory for that.
+    fn report_calls(&mut self, now: u64) -> bool {
+        let mut is_well = true;
+        self.reports.clear();
+        if self.is_woken {
+            self.is_woken = false;
+            is_well = self.reports.push(Report::Woken).is_ok();
+        }
+        for (place, listener) in self.listeners.iter_mut().enumerate() {
+            if listener.news_at.is_some_and(|at| at <= now) {
+                listener.news_at = None;
+                is_well = self.reports.push(Report::Listener(place)).is_ok() && is_well;
+            }
+        }
+        is_well
+    }
+
+    /// Reports the streams of which there is news, or all that it watches. Whether there is memory for that.
+    fn report_streams(&mut self, wires: &mut [Wire], now: u64, is_spurious: bool) -> bool {
+        let mut is_well = true;
+        for number in &self.watched {
+            if let Some(wire) = wires.get_mut(*number) {
+                let has_room = self.reports.len() < EVENTS_MOST;
+                if let Some(report) = wire.report(now, has_room, is_spurious) {
+                    is_well = self.reports.push(report).is_ok() && is_well;
+                }
+            }
+        }
+        is_well
+    }
+
+    /// Has what a poll has reported come in any order.
+    fn shuffle(&mut self, random: &mut Random) {
+        let count = self.reports.len();
+        for place in 0..count {
+            let other = random.below(count as u64) as usize;
+            self.reports.swap(place, other);
         }
     }
 }
 
 impl World {
-    /// From when on a thread has something to do.
+    /// From when on a thread has something to do; none once it has ended.
     pub fn due_at(&self, number: usize) -> Option<u64> {
         let thread = self.threads.get(number)?;
+        if thread.has_ended {
+            return None;
+        }
         let mut at = thread.until.unwrap_or(self.now);
         if thread.is_woken {
             at = self.now;
         }
-        for news in thread.listener_news {
-            at = at.min(news.unwrap_or(at));
+        for listener in thread.listeners {
+            at = at.min(listener.news_at.unwrap_or(at));
         }
         for number in &thread.watched {
             if let Some(wire) = self.wires.get(*number) {
@@ -65,21 +148,66 @@ impl World {
         Some(at.max(thread.held_until))
     }
 
+    /// A worker's source tells this, of this connection, where there is news of it or is not.
+    pub fn tell(&mut self, number: usize, told: Option<Turn>, met: Option<(usize, bool)>) {
+        if let Some(thread) = self.threads.get_mut(number) {
+            thread.told = told;
+            thread.met = met;
+        }
+    }
+
+    /// What the source of a worker told last.
+    pub fn told(&self, number: usize) -> Option<Turn> {
+        let thread = self.threads.get(number)?;
+        if thread.has_ended { None } else { thread.told }
+    }
+
+    /// A worker has made a turn, and goes on or ends: the fresh connection that it was told, or the late one, with whether there was news
+    /// of it.
+    pub fn met(&mut self, number: usize, goes_on: bool) -> (Option<usize>, Option<(usize, bool)>) {
+        let Some(thread) = self.threads.get_mut(number) else {
+            return (None, None);
+        };
+        thread.has_ended = !goes_on;
+        match (thread.told, thread.met) {
+            (Some(Turn::Fresh { .. }), Some((fresh, _))) => (Some(fresh), None),
+            (Some(Turn::Late(_)), late) => (None, late),
+            _ => (None, None),
+        }
+    }
+
+    /// Whether a thread has something to do now, or has ended.
+    pub fn is_due(&self, number: usize) -> bool {
+        self.due_at(number).is_none_or(|at| at <= self.now)
+    }
+
+    /// How often workers have polled.
+    pub fn polls(&self) -> u64 {
+        let mut polls = 0u64;
+        for thread in self.workers() {
+            polls = polls.saturating_add(thread.polls);
+        }
+        polls
+    }
+
     /// How many streams are watched.
     pub fn watched(&self) -> usize {
-        let threads = self.threads.iter();
-        threads.fold(
-            0usize,
-            |sum, thread| sum.saturating_add(thread.watched.len()),
-        )
+        let mut count = 0usize;
+        for thread in &self.threads {
+            count = count.saturating_add(thread.watched.len());
+        }
+        count
     }
 
     /// How many threads are told of connections that come.
     pub fn listening(&self) -> usize {
-        let threads = self.threads.iter();
-        threads
-            .filter(|thread| thread.listens.contains(&true))
-            .count()
+        let mut count = 0usize;
+        for thread in &self.threads {
+            if thread.listeners.iter().any(|listener| listener.is_on) {
+                count = count.saturating_add(1);
+            }
+        }
+        count
     }
 
     /// A thread waits until this time, unless it is woken.
@@ -90,6 +218,15 @@ impl World {
         }
     }
 
+    /// Who takes the log out, which is empty or is not, waits for so many milliseconds.
+    pub fn wait_out(&mut self, number: usize, timeout_ms: u64, is_out: bool) {
+        if is_out {
+            self.read_bytes = 0;
+        }
+        let until = self.now.saturating_add(timeout_ms.saturating_mul(1000));
+        self.wait(number, until);
+    }
+
     /// A thread is held until this time.
     pub fn hold(&mut self, number: usize, until: u64) {
         if let Some(thread) = self.threads.get_mut(number) {
@@ -97,12 +234,59 @@ impl World {
         }
     }
 
+    /// Whether a fault holds a worker from now on.
+    pub fn holds(&mut self, number: usize) -> bool {
+        let until = if !self.weather.has_happened(Fault::Hung) && self.happens(Fault::Hung) {
+            Some(self.now.saturating_add(HUNG_US))
+        } else {
+            match self.lasts(Fault::Held, 500_000) {
+                None => self.lasts(Fault::Stuck, 30_000_000),
+                until => until,
+            }
+        };
+        if let Some(until) = until {
+            self.hold(number, until);
+        }
+        until.is_some()
+    }
+
+    /// Whether a thread hangs from now on, as it is behind.
+    pub fn is_behind(&mut self, number: usize) -> bool {
+        let is_behind = self.happens(Fault::Behind);
+        if is_behind {
+            self.hold(number, self.now.saturating_add(HUNG_US));
+        }
+        is_behind
+    }
+
+    /// Whether the disk takes nothing from now on.
+    pub fn stalls(&mut self) -> bool {
+        let until = self.lasts(Fault::Stalled, 3_000_000);
+        self.stalled_until = until.unwrap_or(self.stalled_until);
+        until.is_some()
+    }
+
+    /// The threads of the workers: all but that of who takes the log out.
+    fn workers(&self) -> &[Thread] {
+        match self.threads.split_last() {
+            Some((_, workers)) => workers,
+            None => &[],
+        }
+    }
+
     /// Until when a worker is, or was, held; without one, until when all are.
     pub fn held_until(&self, worker: Option<usize>) -> u64 {
-        let workers = self.threads.len().saturating_sub(1);
-        let held = self.threads.iter().take(workers).enumerate();
-        let held = held.filter(|(number, _)| worker.is_none_or(|worker| worker == *number));
-        held.map(|(_, thread)| thread.held_until).min().unwrap_or(0)
+        if let Some(worker) = worker {
+            return match self.threads.get(worker) {
+                Some(thread) => thread.held_until,
+                None => 0,
+            };
+        }
+        let mut least = u64::MAX;
+        for thread in self.workers() {
+            least = least.min(thread.held_until);
+        }
+        least
     }
 
     /// Ends the wait of a thread.
@@ -124,55 +308,16 @@ impl World {
             return false;
         };
         thread.polls = thread.polls.saturating_add(1);
-        thread.reports.clear();
-        let mut is_well = true;
-        if thread.is_woken {
-            thread.is_woken = false;
-            is_well = thread.reports.push(Report::Woken).is_ok();
-        }
-        for (place, news) in thread.listener_news.iter_mut().enumerate() {
-            if news.is_some_and(|at| at <= now) {
-                *news = None;
-                is_well = is_well && thread.reports.push(Report::Listener(place)).is_ok();
-            }
-        }
-        for number in &thread.watched {
-            if let Some(wire) = self.wires.get_mut(*number) {
-                let is_due = wire.news_at.is_some_and(|at| at <= now);
-                if let Some(watch) = wire.watch {
-                    // What is no longer so when the poll answers is not reported.
-                    if is_due && !wire.is_ready() {
-                        wire.news_at = None;
-                    } else if (is_due || is_spurious) && thread.reports.len() < EVENTS_MOST {
-                        wire.news_at = None;
-                        wire.is_reported = true;
-                        let is_closed = wire.is_up_ended && !wire.is_reset;
-                        let key = watch.key;
-                        let report = Report::Stream { key, is_closed };
-                        is_well = is_well && thread.reports.push(report).is_ok();
-                    }
-                }
-            }
-        }
-        self.is_lost = self.is_lost || !is_well;
+        let are_told = thread.report_calls(now)
+            && thread.report_streams(&mut self.wires, now, is_spurious);
+        self.is_lost = self.is_lost || !are_told;
         thread.until = if thread.reports.is_empty() {
             Some(now.saturating_add(timeout_ms.saturating_mul(1000)))
         } else {
             None
         };
-        self.shuffle(number);
+        thread.shuffle(&mut self.random);
         true
-    }
-
-    /// Has what a poll has reported come in any order.
-    fn shuffle(&mut self, number: usize) {
-        if let Some(thread) = self.threads.get_mut(number) {
-            let count = thread.reports.len();
-            for place in 0..count {
-                let other = self.random.below(count as u64) as usize;
-                thread.reports.swap(place, other);
-            }
-        }
     }
 
     /// What a thread's last poll has reported at this place.
@@ -195,55 +340,58 @@ impl World {
         number: usize,
         key: usize,
         interest: Interest,
-    ) -> io::Result<()> {
+    ) -> Result<(), ErrorKind> {
         if self.happens(Fault::Unwatched) {
-            return Err(io::Error::from(ErrorKind::OutOfMemory));
+            return Err(ErrorKind::OutOfMemory);
         }
-        let now = self.now;
-        let (Some(wire), Some(own)) = (self.wires.get_mut(number), self.threads.get_mut(thread))
-        else {
-            return Err(io::Error::from(ErrorKind::Other));
+        let Some(wire) = self.wires.get_mut(number) else {
+            return Err(ErrorKind::Other);
         };
-        if wire.watch.is_none() && own.watched.push(number).is_err() {
-            self.is_lost = true;
-        }
-        wire.watch = Some(Watch {
+        let is_both = interest == Interest::Both;
+        let watch = Watch {
             thread,
             key,
-            is_both: interest == Interest::Both,
-        });
-        if wire.is_ready() {
-            wire.news_at = Some(now);
+            is_both,
+        };
+        if wire.begin_watch(watch, self.now) && !self.add_watched(thread, number) {
+            self.is_lost = true;
         }
         Ok(())
     }
 
+    /// A thread watches one stream more. Whether there is memory for that.
+    fn add_watched(&mut self, thread: usize, number: usize) -> bool {
+        match self.threads.get_mut(thread) {
+            Some(thread) => thread.watched.push(number).is_ok(),
+            None => false,
+        }
+    }
+
+    /// A listener, as a thread's poll knows it.
+    fn listener(&mut self, number: usize, place: usize) -> Option<&mut Listening> {
+        self.threads.get_mut(number)?.listeners.get_mut(place)
+    }
+
     /// Has a thread's poll report a listener.
-    pub fn listen(&mut self, number: usize, place: usize) -> io::Result<()> {
+    pub fn listen(&mut self, number: usize, place: usize) -> Result<(), ErrorKind> {
         if self.happens(Fault::Unwatched) {
             self.notices.note_unaccepted(self.now);
-            return Err(io::Error::from(ErrorKind::OutOfMemory));
+            return Err(ErrorKind::OutOfMemory);
         }
-        let now = self.now;
-        let waits = self
-            .backlogs
-            .get(place)
-            .is_some_and(|backlog| !backlog.is_empty());
-        let Some(thread) = self.threads.get_mut(number) else {
-            return Err(io::Error::from(ErrorKind::Other));
+        let news_at = match self.backlogs.get(place) {
+            Some(waiting) if !waiting.is_empty() => Some(self.now),
+            _ => None,
         };
-        if let (Some(listens), Some(news)) = (
-            thread.listens.get_mut(place),
-            thread.listener_news.get_mut(place),
-        ) {
-            if *listens {
-                return Err(io::Error::from(ErrorKind::AlreadyExists));
-            }
-            *listens = true;
-            if waits {
-                *news = Some(now);
-            }
+        let Some(listener) = self.listener(number, place) else {
+            return Err(ErrorKind::Other);
+        };
+        if listener.is_on {
+            return Err(ErrorKind::AlreadyExists);
         }
+        *listener = Listening {
+            is_on: true,
+            news_at,
+        };
         Ok(())
     }
 
@@ -252,66 +400,74 @@ impl World {
         if self.happens(Fault::Unleft) {
             return;
         }
-        if let Some(thread) = self.threads.get_mut(number) {
-            if let (Some(listens), Some(news)) = (
-                thread.listens.get_mut(place),
-                thread.listener_news.get_mut(place),
-            ) {
-                *listens = false;
-                *news = None;
-            }
+        if let Some(listener) = self.listener(number, place) {
+            *listener = UNHEARD;
         }
     }
 
-    /// The next connection that waits at a listener.
-    pub fn accept(&mut self, thread: usize, place: usize) -> io::Result<usize> {
-        if self.happens(Fault::Interrupted) {
-            return Err(io::Error::from(ErrorKind::Interrupted));
+    /// Why no connection can be accepted now, if none can.
+    fn exhaustion(&mut self) -> Option<ErrorKind> {
+        if let Some(until) = self.lasts(Fault::Exhausted, 200_000) {
+            self.exhausted_until = until;
+            self.exhausted_kind = ErrorKind::Other;
         }
-        for (fault, kind) in [
-            (Fault::Exhausted, ErrorKind::Other),
-            (Fault::Unable, ErrorKind::OutOfMemory),
-        ] {
-            if self.happens(fault) {
-                self.exhausted_until = self.now.saturating_add(self.random.below(200_000));
-                self.exhausted_kind = kind;
-            }
+        if let Some(until) = self.lasts(Fault::Unable, 200_000) {
+            self.exhausted_until = until;
+            self.exhausted_kind = ErrorKind::OutOfMemory;
         }
         if self.now < self.exhausted_until {
             self.notices.note_unaccepted(self.now);
-            return Err(io::Error::from(self.exhausted_kind));
+            return Some(self.exhausted_kind);
         }
-        let Some(number) = self
-            .backlogs
-            .get_mut(place)
-            .and_then(|waiting| waiting.pop_front())
-        else {
-            return Err(io::Error::from(ErrorKind::WouldBlock));
+        None
+    }
+
+    /// A connection is accepted that wants a place.
+    fn count_comer(&mut self, is_local: bool) {
+        let (local, remote) = (self.local as usize, self.remote as usize);
+        // Some places are kept for this host, and half of those that it leaves are others' at least.
+        let left = self.places.saturating_sub(local);
+        let kept = if is_local {
+            0
+        } else {
+            (self.places / 8).min(left / 2)
+        };
+        if remote >= left.saturating_sub(kept) {
+            self.wanting = self.wanting.saturating_add(1);
+        }
+        let count = if is_local {
+            &mut self.local
+        } else {
+            &mut self.remote
+        };
+        *count = count.saturating_add(1);
+    }
+
+    /// The next connection that waits at a listener, and whether it is of this host.
+    pub fn accept(&mut self, thread: usize, place: usize) -> Result<(usize, bool), ErrorKind> {
+        if self.happens(Fault::Interrupted) {
+            return Err(ErrorKind::Interrupted);
+        }
+        if let Some(kind) = self.exhaustion() {
+            return Err(kind);
+        }
+        let number = match self.backlogs.get_mut(place) {
+            Some(waiting) => waiting.pop_front(),
+            None => None,
+        };
+        let Some(number) = number else {
+            return Err(ErrorKind::WouldBlock);
         };
         if self.happens(Fault::Aborted) {
             self.reset(number);
-            return Err(io::Error::from(ErrorKind::ConnectionAborted));
+            return Err(ErrorKind::ConnectionAborted);
         }
-        let now = self.now;
-        if let Some(wire) = self.wires.get_mut(number) {
-            wire.accepted = Some((thread, now));
-            let (local, remote) = (self.local as usize, self.remote as usize);
-            // Some places are kept for this host, and half of those that it leaves are others' at least.
-            let left = self.places.saturating_sub(local);
-            let kept = if wire.is_local {
-                0
-            } else {
-                (self.places / 8).min(left / 2)
-            };
-            if remote >= left.saturating_sub(kept) {
-                self.wanting = self.wanting.saturating_add(1);
-            }
-            if wire.is_local {
-                self.local = self.local.saturating_add(1);
-            } else {
-                self.remote = self.remote.saturating_add(1);
-            }
-        }
-        Ok(number)
+        let Some(wire) = self.wires.get_mut(number) else {
+            return Err(ErrorKind::Other);
+        };
+        wire.accepted = Some((thread, self.now));
+        let is_local = wire.is_local;
+        self.count_comer(is_local);
+        Ok((number, is_local))
     }
 }

@@ -1,18 +1,20 @@
 //! A daemon that serves people in a world.
 ghost use Rattle.std.specs.Prelude.{◌≡◌};
 
-use crate::daemon::{Daemon, SimWorker, TIMEOUT_US};
+use crate::daemon::{Around, Daemon, SimWorker};
 use crate::judge::judge;
 use crate::people::{NOBODY, Person, Role, Tally, Wrong};
 use crate::scenario::{Crowd, Scenario};
-use crate::steps::{Step, Stepped, Steps};
-use crate::system::{SimHost, SimSystem, SimWaker};
-use crate::weather::{Counts, Fault};
+use crate::scene::{Scene, TIMEOUT_US};
+use crate::steps::{Step, Stepped};
+use crate::system::{SharedWorld, SimFile, SimHost, SimSystem, SimWaker};
+use crate::weather::Counts;
 use crate::world::World;
 use portmap_book::{Book, Desk, PARTS, Seat};
 use portmap_core::Config;
 use portmap_daemon::{
-    Drain, Open, RecordQueue, RecordWriter, Shared, SocketSource, Sockets, Worker, WorkerState,
+    Drain, Open, RecordQueue, RecordWriter, Shared, SocketSource, Sockets, Source, Worker,
+    WorkerState,
 };
 use std::alloc::Global;
 use std::cell::RefCell;
@@ -20,9 +22,6 @@ use std::mem;
 use std::rc::Rc;
 use std::sync::Wait;
 use std::sync::ledger::{Blank, Ledger};
-
-/// So long connections that have ended are still on their way out.
-const SETTLING_US: u64 = 10_000_000;
 
 /// It has ended so long after memory is gone.
 const STARVED_US: u64 = 20_000_000;
@@ -52,142 +51,133 @@ pub struct Outcome {
     pub trace: Vec<Step>,
 }
 
-/// What the parts of a daemon in the world share.
-#[derive(Drop)]
-struct Around<'a, L: Ledger, R: Wait + Drop> {
-    host: &'a SimHost<R>,
-    desk: &'a Desk<L>,
-    shared: &'a Shared<SimWaker>,
-    queue: &'a RecordQueue,
-}
-
-impl<'a, L: Ledger, S: Steps, R: Wait + Drop> Daemon<'a, L, S, R> {
-    /// All of a case: a storm, and the rest after it.
-    fn run(&mut self, case: &Case<'_>) -> Option<()> {
-        let mut due = Vec::new(self.alloc);
-        let killed_at = {
-            let mut world = self.world().try_borrow_mut().ok()?;
-            world.random.below(u64::from(case.steps))
-        };
+impl<'a, L: Ledger, S: Source + Drop, R: Wait + Drop> Daemon<'a, L, S, R> {
+    /// The storm of a case: so many steps, unless something is wrong, or it ends, or is to. Whether it goes on behind them.
+    fn storm(&mut self, case: &Case<'_>) -> Option<bool> {
+        let scenario = case.scenario;
+        let killed_at = self.scene.killed_at(case.steps)?;
         for step in 0..case.steps {
             if u64::from(step) == killed_at {
-                self.world().try_borrow_mut().ok()?.kill()?;
+                self.scene.kill()?;
             }
-            self.step(&mut due, u64::MAX)?;
-            self.look(case.scenario)?;
-            let is_heavy = self.desk.weight(self.host) >= case.scenario.end_bytes;
-            if self.wrong.is_some() || self.has_ended() || is_heavy {
-                return Some(());
+            if !self.step(u64::MAX) {
+                return None;
             }
-        }
-        if case.scenario.end_bytes < u64::MAX {
-            self.note(Some("the log never had as much as it is to end with"));
-        }
-        if self.has_happened(Fault::Famine)? {
-            self.pass(&mut due, STARVED_US)?;
-            if self.has_ended() {
-                return Some(());
-            }
-            if case.scenario.may_end {
-                self.note(Some("it goes on though nothing gets through"));
+            let weight = self.weight();
+            let goes_on = self.scene.look(scenario, weight)?;
+            if !goes_on || self.has_ended() {
+                return Some(false);
             }
         }
-        self.retire()?;
-        self.pass(&mut due, SETTLING_US)?;
-        self.sleep(&mut due, case.scenario.rest_us)?;
-        self.rest()?;
-        self.trickle(&mut due)?;
-        self.let_in(&mut due)?;
-        self.list(&mut due)?;
-        self.fill(&mut due, case.scenario.conn_max)
+        let is_heavy = scenario.end_bytes == u64::MAX;
+        self.scene
+            .check(is_heavy, "the log never had as much as it is to end with");
+        Some(true)
     }
 
-    /// A worker for each source.
-    fn workers_of(
-        alloc: Global,
-        around: &Around<'a, L, R>,
-        sources: Vec<S>,
-    ) -> Option<Vec<Option<SimWorker<'a, L, S, R>>>> {
-        let mut workers = Vec::new(alloc);
-        let mut number = 0u32;
-        for source in sources {
-            number = number.saturating_add(1);
-            let seat = around.desk.seat(around.host, number)?;
-            around.shared.begin_one();
-            let worker = Worker::new(around.host, alloc, around.desk, seat, source, &Open);
-            workers.push(Some(worker)).ok()?;
+    /// It ends once nothing gets through for want of memory, if it may. Whether there was memory for the world.
+    fn starve(&mut self, may_end: bool) -> bool {
+        if !self.pass(STARVED_US) {
+            return false;
         }
-        Some(workers)
+        let goes_on = may_end && !self.has_ended();
+        self.scene
+            .check(!goes_on, "it goes on though nothing gets through");
+        true
     }
 
-    /// Has a daemon serve the people of a case. What that comes to, and the seats of its workers.
-    fn simulate(
-        alloc: Global,
-        around: Around<'a, L, R>,
-        sources: Vec<S>,
-        case: &Case<'_>,
-    ) -> Option<(Outcome, Vec<Seat<L>>)> {
-        let workers = Daemon::workers_of(alloc, &around, sources)?;
-        let Around {
-            host,
-            desk,
-            shared,
-            queue,
-        } = around;
-        let people = {
-            let mut world = host.world.try_borrow_mut().ok()?;
-            people_of(alloc, case.scenario, &mut world)?
-        };
-        let mut daemon = Daemon {
-            host,
+    /// All of a case: a storm, and the rest after it.
+    fn run(&mut self, case: &Case<'_>) -> Option<()> {
+        if !self.storm(case)? {
+            return Some(());
+        }
+        let is_done = !self.scene.is_famished()? || self.starve(case.scenario.may_end);
+        if is_done && (self.has_ended() || self.rest(case.scenario)) {
+            Some(())
+        } else {
+            None
+        }
+    }
+
+    /// It serves the people of a case. What that comes to, and the seats of its workers.
+    fn serve(mut self, case: &Case<'_>) -> Option<(Outcome, Vec<Seat<L>>)> {
+        self.run(case)?;
+        self.end(case.scenario.may_end)?;
+        let outcome = self.scene.outcome(case.scenario)?;
+        let none = Vec::new(self.scene.alloc);
+        Some((outcome, mem::replace(&mut self.seats, none)))
+    }
+}
+
+impl<'a> Scene<'a> {
+    /// What is around the daemon of a case that has not begun.
+    fn new(alloc: Global, world: &'a SharedWorld, case: &Case<'_>) -> Option<Scene<'a>> {
+        let people = people_of(alloc, case.scenario, &mut *world.try_borrow_mut().ok()?)?;
+        Some(Scene {
             alloc,
-            desk,
-            shared,
-            queue,
-            workers,
-            seats: Vec::new(alloc),
-            drain: Drain::begin(host, alloc, desk, Some(queue)).ok()?,
-            writer: RecordWriter::new("recording", case.scenario.file_bytes_most),
-            drains: 0,
-            drained: None,
-            is_writing: true,
-            opened: Vec::new(alloc),
+            world,
+            workers: case.workers as usize,
+            due: Vec::new(alloc),
             people,
             tally: NOBODY,
+            opened: Vec::new(alloc),
+            acts: 0,
+            drains: 0,
+            is_drained: false,
             given_up: 0,
             wrong: None,
             is_ending: false,
             is_strict: case.scenario.is_strict,
             is_traced: case.is_traced,
             trace: Vec::new(alloc),
-        };
-        daemon.run(case)?;
-        daemon.end(case.scenario)?;
-        let outcome = daemon.outcome(case)?;
-        let seats = mem::replace(&mut daemon.seats, Vec::new(alloc));
-        Some((outcome, seats))
+        })
     }
 
     /// What it came to, once it has ended.
-    fn outcome(&mut self, case: &Case<'_>) -> Option<Outcome> {
-        let mut world = self.world().try_borrow_mut().ok()?;
-        let acts = self
-            .seats
-            .iter()
-            .fold(0u64, |sum, seat| sum.saturating_add(seat.count()));
-        let most = case.scenario.file_bytes_most;
-        let found = judge(self.alloc, &mut world, &self.opened, acts, most)?;
-        let weather = &world.weather;
+    fn outcome(&mut self, scenario: &Scenario) -> Option<Outcome> {
+        let mut world = self.world.try_borrow_mut().ok()?;
+        let most = scenario.file_bytes_most;
+        let found = judge(self.alloc, &mut world, &self.opened, self.acts, most)?;
         Some(Outcome {
             wrong: self.wrong.or(found),
             tally: self.tally,
-            happened: weather.happened,
-            has_all_happened: weather.has_all_happened(case.scenario.chances),
-            acts,
+            happened: world.weather.happened,
+            has_all_happened: world.weather.has_all_happened(scenario.chances),
+            acts: self.acts,
             seconds: world.now / 1_000_000,
             trace: mem::replace(&mut self.trace, Vec::new(self.alloc)),
         })
     }
+}
+
+/// Somebody of a crowd, who has rivals or has none. Nodes are numbered; who asks for one asks for any.
+fn person_of(
+    alloc: Global,
+    scenario: &Scenario,
+    crowd: &Crowd,
+    world: &mut World,
+    node: &mut u8,
+    has_rivals: bool,
+) -> Person {
+    let Crowd(role, _, is_local) = *crowd;
+    let next_at = world.now.saturating_add(world.random.below(100_000));
+    let owns = role == Role::Node || role == Role::Talker;
+    let named = if owns {
+        *node = node.saturating_add(1);
+        *node
+    } else {
+        world.random.below(6) as u8
+    };
+    let mut person = Person::new(alloc, role, is_local, named, next_at);
+    person.patience = scenario.patience_us;
+    person.burst = scenario.burst_us;
+    person.hold_most = scenario.hold_us;
+    person.talk_most = scenario.talk_bytes;
+    if person.asks_once() {
+        person.next_at = person.burst_after(next_at);
+    }
+    person.is_lenient = !scenario.is_strict || (has_rivals && owns);
+    person
 }
 
 /// The people of a scenario.
@@ -195,29 +185,31 @@ fn people_of(alloc: Global, scenario: &Scenario, world: &mut World) -> Option<Ve
     let mut people = Vec::new(alloc);
     let mut node = 0u8;
     let has_rivals = scenario.people.iter().any(|crowd| crowd.0 == Role::Rival);
-    for Crowd(role, count, is_local) in scenario.people {
-        for _ in 0..*count {
-            let next_at = world.now.saturating_add(world.random.below(100_000));
-            let owns = *role == Role::Node || *role == Role::Talker;
-            let named = if owns {
-                node = node.saturating_add(1);
-                node
-            } else {
-                world.random.below(6) as u8
-            };
-            let mut person = Person::new(alloc, *role, *is_local, named, next_at);
-            person.patience = scenario.patience_us;
-            person.burst = scenario.burst_us;
-            person.hold_most = scenario.hold_us;
-            person.talk_most = scenario.talk_bytes;
-            if person.asks_once() {
-                person.next_at = person.burst_after(next_at);
-            }
-            person.is_lenient = !scenario.is_strict || (has_rivals && owns);
+    for crowd in scenario.people {
+        for _ in 0..crowd.1 {
+            let person = person_of(alloc, scenario, crowd, world, &mut node, has_rivals);
             people.push(person).ok()?;
         }
     }
     Some(people)
+}
+
+/// The source of a worker.
+fn source_of<'a, L: Ledger, R: Wait + Drop>(
+    alloc: Global,
+    around: &Around<'a, L, R>,
+    thread: usize,
+) -> Option<Stepped<'a, L, R>> {
+    let world = around.host.world.clone().ok()?;
+    let system = SimSystem { world, thread };
+    let sockets = Sockets::new(alloc, thread, system, TIMEOUT_US / 1000).ok()?;
+    let source = SocketSource::new(around.host, alloc, around.desk, around.shared, sockets)?;
+    let world = around.host.world.clone().ok()?;
+    Some(Stepped {
+        source,
+        world,
+        thread,
+    })
 }
 
 /// The sources of so many workers.
@@ -227,15 +219,82 @@ fn sources_of<'a, L: Ledger, R: Wait + Drop>(
     count: u32,
 ) -> Option<Vec<Stepped<'a, L, R>>> {
     let mut sources = Vec::new(alloc);
-    for number in 0..count {
-        let thread = number as usize;
-        let world = around.host.world.clone().ok()?;
-        let system = SimSystem { world, thread };
-        let sockets = Sockets::new(alloc, thread, system, TIMEOUT_US / 1000).ok()?;
-        let source = SocketSource::new(around.host, alloc, around.desk, around.shared, sockets)?;
-        sources.push(Stepped::new(source)).ok()?;
+    for thread in 0..count as usize {
+        sources.push(source_of(alloc, around, thread)?).ok()?;
     }
     Some(sources)
+}
+
+/// A worker for each source.
+fn workers_of<'a, L: Ledger, S: Source + Drop, R: Wait + Drop>(
+    alloc: Global,
+    around: &Around<'a, L, R>,
+    sources: Vec<S>,
+) -> Option<Vec<Option<SimWorker<'a, L, S, R>>>> {
+    let mut workers = Vec::new(alloc);
+    let mut number = 0u32;
+    for source in sources {
+        number = number.saturating_add(1);
+        let seat = around.desk.seat(around.host, number)?;
+        around.shared.begin_one();
+        let worker = Worker::new(around.host, alloc, around.desk, seat, source, &Open);
+        workers.push(Some(worker)).ok()?;
+    }
+    Some(workers)
+}
+
+/// Has a daemon with these sources serve the people of a case. What that comes to, and the seats of its workers.
+fn simulate<'a, L: Ledger, S: Source + Drop, R: Wait + Drop>(
+    alloc: Global,
+    around: &'a Around<'a, L, R>,
+    sources: Vec<S>,
+    case: &Case<'_>,
+) -> Option<(Outcome, Vec<Seat<L>>)> {
+    let workers = workers_of(alloc, around, sources)?;
+    let scene = Scene::new(alloc, &around.host.world, case)?;
+    let drain = Drain::begin(around.host, alloc, around.desk, Some(around.queue)).ok()?;
+    let writer: RecordWriter<'a, SimFile> = RecordWriter::new(
+        "recording",
+        case.scenario.file_bytes_most,
+    );
+    let daemon = Daemon {
+        around,
+        scene,
+        workers,
+        seats: Vec::new(alloc),
+        drain,
+        writer,
+        is_writing: true,
+    };
+    daemon.serve(case)
+}
+
+/// What wakes a thread.
+fn waker_of(world: &SharedWorld, thread: usize) -> Option<SimWaker> {
+    let world = world.clone().ok()?;
+    Some(SimWaker { world, thread })
+}
+
+/// What the threads of a daemon share.
+fn shared_of<R: Wait + Drop>(
+    host: &SimHost<R>,
+    alloc: Global,
+    case: &Case<'_>,
+) -> Option<Shared<SimWaker>> {
+    let mut states = Vec::new(alloc);
+    for thread in 0..case.workers as usize {
+        let waker = waker_of(&host.world, thread)?;
+        states.push(WorkerState::new(waker)).ok()?;
+    }
+    let drain = waker_of(&host.world, case.workers as usize)?;
+    Some(Shared::new(host, states, drain, case.scenario.conn_max))
+}
+
+/// The book of a scenario.
+fn book_of(alloc: Global, scenario: &Scenario) -> Option<Book> {
+    let (conn_max, known_max) = (scenario.conn_max, scenario.known_max);
+    let config = Config::new(4369, scenario.is_relaxed, conn_max, known_max).ok()?;
+    Book::new(alloc, config, 4).ok()
 }
 
 /// What a case comes to at a desk of its own.
@@ -249,27 +308,9 @@ fn at_desk<L: Ledger, R: Wait + Drop>(
     requires parts { blank.parts ≡ L.parts }
     requires enough { blank.parts ≡ PARTS }
 {
-    let scenario = case.scenario;
-    let config = Config::new(
-        4369,
-        scenario.is_relaxed,
-        scenario.conn_max,
-        scenario.known_max,
-    )
-    .ok()?;
-    let desk: Desk<L> = Desk::new(blank, Book::new(alloc, config, 4).ok()?);
+    let desk: Desk<L> = Desk::new(blank, book_of(alloc, case.scenario)?);
     let queue = RecordQueue::new(alloc);
-    let mut states = Vec::new(alloc);
-    for thread in 0..case.workers {
-        let world = host.world.clone().ok()?;
-        let thread = thread as usize;
-        states
-            .push(WorkerState::new(SimWaker { world, thread }))
-            .ok()?;
-    }
-    let world = host.world.clone().ok()?;
-    let thread = case.workers as usize;
-    let shared = Shared::new(host, states, SimWaker { world, thread }, scenario.conn_max);
+    let shared = shared_of(host, alloc, case)?;
     let around = Around {
         host,
         desk: &desk,
@@ -277,16 +318,11 @@ fn at_desk<L: Ledger, R: Wait + Drop>(
         queue: &queue,
     };
     let sources = sources_of(alloc, &around, case.workers)?;
-    let (outcome, seats) = Daemon::simulate(alloc, around, sources, case)?;
-    let are_told = desk.finish(seats).is_ok();
-    Some(Outcome {
-        wrong: if are_told {
-            outcome.wrong
-        } else {
-            outcome.wrong.or(Some("the seats don't add up"))
-        },
-        ..outcome
-    })
+    let (mut outcome, seats) = simulate(alloc, &around, sources, case)?;
+    if desk.finish(seats).is_err() {
+        outcome.wrong = outcome.wrong.or(Some("the seats don't add up"));
+    }
+    Some(outcome)
 }
 
 /// What a case comes to; none if there is no memory for it.
@@ -301,11 +337,7 @@ pub fn run_case<L: Ledger, R: Wait + Drop>(
     requires enough { blank.parts ≡ PARTS }
 {
     let threads = (case.workers as usize).saturating_add(1);
-    let scenario = case.scenario;
-    let backlog_most = scenario.backlog_most;
-    let mut world = World::new(alloc, case.seed, scenario.chances, threads, backlog_most)?;
-    world.places = scenario.conn_max as usize;
-    world.is_plain = scenario.is_plain;
+    let world = World::of(alloc, case.seed, case.scenario, threads)?;
     let world = Rc::new(alloc, RefCell::new(world)).ok()?;
     let host = SimHost { rt, world };
     at_desk::<L, R>(&host, alloc, blank, case)

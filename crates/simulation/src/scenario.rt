@@ -1,15 +1,23 @@
 //! Who comes, in which weather.
-use crate::people::Role;
+use crate::people::{Role, Tally};
 use crate::weather::{Chances, Fault};
 
 /// So many people of a role, on this host or on another one. Strangers come at the first address alone.
 pub struct Crowd(pub Role, pub u8, pub bool);
 
 /// So many registrations, restarts of nodes, answers, and registrations that were refused.
-#[derive(Clone, Copy, Debug, PartialEq, Eq)]
+#[derive(Clone, Copy)]
 pub struct Deeds(pub u32, pub u32, pub u32, pub u32);
 
 impl Deeds {
+    /// The same, and what this tally has.
+    pub fn add(&mut self, tally: &Tally) {
+        self.0 = self.0.saturating_add(tally.registrations);
+        self.1 = self.1.saturating_add(tally.restarts);
+        self.2 = self.2.saturating_add(tally.answers);
+        self.3 = self.3.saturating_add(tally.refused);
+    }
+
     /// Whether they are as many as these.
     pub fn reach(&self, least: &Deeds) -> bool {
         self.0 >= least.0 && self.1 >= least.1 && self.2 >= least.2 && self.3 >= least.3

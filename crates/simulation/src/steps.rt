@@ -1,5 +1,5 @@
 //! A worker's source, step by step.
-use crate::system::{SimHost, SimStream, SimSystem};
+use crate::system::{SharedWorld, SimHost, SimStream, SimSystem};
 use portmap_daemon::{Link, SocketSource, Source, Turn};
 use std::sync::Wait;
 use std::sync::ledger::Ledger;
@@ -8,34 +8,26 @@ use std::sync::ledger::Ledger;
 const NO_KEY: u64 = u64::MAX;
 
 /// A step: the time, who made it, and what a worker was told.
-#[derive(Clone, Copy, Debug, PartialEq, Eq)]
+#[derive(Clone, Copy)]
 pub struct Step {
     pub now: u64,
     pub actor: usize,
     pub turn: Option<Turn>,
 }
 
-/// A source that is asked once for each step.
+/// A source that is asked once for each step. What it tells is noted in the world.
 #[derive(Drop)]
 pub struct Stepped<'a, L: Ledger, R: Wait + Drop> {
-    source: SocketSource<'a, L, SimSystem, SimHost<R>>,
-    /// The connection that it told last as a fresh one.
-    fresh: Option<usize>,
-    /// What it told last.
-    told: Option<Turn>,
-    /// The connection that it told last as late, and whether there was news of it.
-    late: Option<(usize, bool)>,
+    pub source: SocketSource<'a, L, SimSystem, SimHost<R>>,
+    pub world: SharedWorld,
+    pub thread: usize,
 }
 
-impl<'a, L: Ledger, R: Wait + Drop> Stepped<'a, L, R> {
-    /// One that has told nothing yet.
-    pub fn new(source: SocketSource<'a, L, SimSystem, SimHost<R>>) -> Stepped<'a, L, R> {
-        Stepped {
-            source,
-            fresh: None,
-            told: None,
-            late: None,
-        }
+impl<L: Ledger, R: Wait + Drop> Stepped<'_, L, R> {
+    /// The connection of a link, and whether there is news of it.
+    fn connection(&mut self, key: u64) -> Option<(usize, bool)> {
+        let stream = self.source.link(key)?.stream();
+        Some((stream.number(), stream.has_news()))
     }
 }
 
@@ -43,19 +35,14 @@ impl<L: Ledger, R: Wait + Drop> Source for Stepped<'_, L, R> {
     type Link = Link<SimStream>;
 
     fn turn(&mut self) -> Turn {
-        self.told = self.source.step();
-        let turn = self.told.unwrap_or(Turn::Ready(NO_KEY));
-        if let Turn::Fresh { key, local: _ } = turn {
-            self.fresh = match self.source.link(key) {
-                Some(link) => Some(link.stream().number()),
-                None => None,
-            };
-        }
-        if let Turn::Late(key) = turn {
-            self.late = match self.source.link(key) {
-                Some(link) => Some((link.stream().number(), link.stream().has_news())),
-                None => None,
-            };
+        let told = self.source.step();
+        let turn = told.unwrap_or(Turn::Ready(NO_KEY));
+        let met = match turn {
+            Turn::Fresh { key, local: _ } | Turn::Late(key) => self.connection(key),
+            Turn::Ready(_) | Turn::Idle | Turn::Stop => None,
+        };
+        if let Ok(mut world) = self.world.try_borrow_mut() {
+            world.tell(self.thread, told, met);
         }
         turn
     }
@@ -66,31 +53,5 @@ impl<L: Ledger, R: Wait + Drop> Source for Stepped<'_, L, R> {
 
     fn end(&mut self, key: u64) {
         self.source.end(key);
-    }
-}
-
-/// What a source tells of its last step.
-pub trait Steps: Source + Drop {
-    /// The connection that it told last as a fresh one, once.
-    fn take_fresh(&mut self) -> Option<usize>;
-
-    /// What it told last.
-    fn told(&self) -> Option<Turn>;
-
-    /// The connection that it told last as late, and whether there was news of it, once.
-    fn take_late(&mut self) -> Option<(usize, bool)>;
-}
-
-impl<L: Ledger, R: Wait + Drop> Steps for Stepped<'_, L, R> {
-    fn take_fresh(&mut self) -> Option<usize> {
-        self.fresh.take()
-    }
-
-    fn told(&self) -> Option<Turn> {
-        self.told
-    }
-
-    fn take_late(&mut self) -> Option<(usize, bool)> {
-        self.late.take()
     }
 }

@@ -1,5 +1,4 @@
 //! The world as a daemon's system: its streams, its polls, its clock and its disk.
-use crate::weather::Fault;
 use crate::world::{LISTENERS, World};
 use portmap_daemon::{Host, Interest, Notice, RecordFile, Refused, Report, Stream, System, Wake};
 use std::alloc::Global;
@@ -79,13 +78,13 @@ impl Drop for SimStream {
 
 impl Read for SimStream {
     fn read(&mut self, buffer: &mut [u8]) -> io::Result<usize> {
-        borrow(&self.world)?.read(self.number, buffer)
+        Ok(borrow(&self.world)?.read(self.number, buffer)?)
     }
 }
 
 impl Write for SimStream {
     fn write(&mut self, bytes: &[u8]) -> io::Result<usize> {
-        borrow(&self.world)?.write(self.number, bytes)
+        Ok(borrow(&self.world)?.write(self.number, bytes)?)
     }
 
     fn flush(&mut self) -> io::Result<()> {
@@ -157,7 +156,7 @@ impl System for SimSystem {
         interest: Interest,
         _was_watched: bool,
     ) -> io::Result<()> {
-        borrow(&self.world)?.watch(self.thread, stream.number, key, interest)
+        Ok(borrow(&self.world)?.watch(self.thread, stream.number, key, interest)?)
     }
 
     fn listeners(&self) -> usize {
@@ -165,7 +164,7 @@ impl System for SimSystem {
     }
 
     fn listen(&mut self, place: usize) -> io::Result<()> {
-        borrow(&self.world)?.listen(self.thread, place)
+        Ok(borrow(&self.world)?.listen(self.thread, place)?)
     }
 
     fn leave(&mut self, place: usize) {
@@ -175,16 +174,10 @@ impl System for SimSystem {
     }
 
     fn accept(&mut self, place: usize) -> io::Result<(SimStream, IpAddr)> {
-        let shared = self.world.clone()?;
-        let mut world = borrow(&self.world)?;
-        let number = world.accept(self.thread, place)?;
-        let is_local = world.wires.get(number).is_some_and(|wire| wire.is_local);
+        let world = self.world.clone()?;
+        let (number, is_local) = borrow(&self.world)?.accept(self.thread, place)?;
         let peer = address(if is_local { OWN } else { OTHER }, number);
-        let stream = SimStream {
-            world: shared,
-            number,
-        };
-        Ok((stream, peer))
+        Ok((SimStream { world, number }, peer))
     }
 }
 
@@ -197,30 +190,7 @@ pub struct SimFile {
 
 impl Write for SimFile {
     fn write(&mut self, bytes: &[u8]) -> io::Result<usize> {
-        let mut world = borrow(&self.world)?;
-        if world.happens(Fault::Interrupted) {
-            return Err(io::Error::from(ErrorKind::Interrupted));
-        }
-        if world.is_disk_full {
-            return Err(io::Error::from(ErrorKind::StorageFull));
-        }
-        let count = if world.happens(Fault::Full) {
-            world.is_disk_full = true;
-            // There is room for some more.
-            let room = world.random.below(bytes.len() as u64) as usize;
-            room.min(bytes.len())
-        } else if world.happens(Fault::Short) {
-            bytes.len().min(1)
-        } else {
-            bytes.len()
-        };
-        let Some(file) = world.files.get_mut(self.number) else {
-            return Err(io::Error::from(ErrorKind::Other));
-        };
-        for byte in bytes.iter().take(count) {
-            file.push(*byte)?;
-        }
-        Ok(count)
+        Ok(borrow(&self.world)?.store(self.number, bytes)?)
     }
 
     fn flush(&mut self) -> io::Result<()> {
@@ -270,14 +240,13 @@ impl<R: Wait + Drop> Host for SimHost<R> {
 
     fn make(&self, _path: &str) -> io::Result<SimFile> {
         let shared = self.world.clone()?;
-        let mut world = borrow(&self.world)?;
-        let number = world.files.len();
-        let file = world.new_file();
-        world.files.push(file)?;
-        Ok(SimFile {
-            world: shared,
-            number,
-        })
+        match borrow(&self.world)?.make() {
+            Some(number) => Ok(SimFile {
+                world: shared,
+                number,
+            }),
+            None => Err(io::Error::from(ErrorKind::OutOfMemory)),
+        }
     }
 
     fn tell(&self, notice: Notice) {

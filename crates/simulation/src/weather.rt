@@ -2,7 +2,7 @@
 use crate::random::Random;
 
 /// What a system may do to a daemon, and peers to each other.
-#[derive(Clone, Copy, Debug, PartialEq, Eq)]
+#[derive(Clone, Copy, PartialEq, Eq)]
 pub enum Fault {
     /// A call of a stream, or an accept, is cut short by a signal.
     Interrupted,
@@ -60,35 +60,35 @@ pub enum Fault {
     Deaf,
 }
 
-/// Each, with how it is told.
-pub const FAULTS: [(Fault, &str); 27] = [
-    (Fault::Interrupted, "interrupted"),
-    (Fault::Short, "short"),
-    (Fault::Aborted, "aborted"),
-    (Fault::Exhausted, "exhausted"),
-    (Fault::Unable, "unable"),
-    (Fault::Unwatched, "unwatched"),
-    (Fault::Unleft, "unleft"),
-    (Fault::Late, "late"),
-    (Fault::Lost, "lost"),
-    (Fault::Stopped, "stopped"),
-    (Fault::Spurious, "spurious"),
-    (Fault::Held, "held"),
-    (Fault::Stuck, "stuck"),
-    (Fault::Hung, "hung"),
-    (Fault::Behind, "behind"),
-    (Fault::Slow, "slow"),
-    (Fault::Jump, "jumps"),
-    (Fault::Unread, "unread"),
-    (Fault::Starved, "starved"),
-    (Fault::Famine, "famine"),
-    (Fault::Stalled, "stalled"),
-    (Fault::Full, "full"),
-    (Fault::Reset, "reset"),
-    (Fault::Broken, "broken"),
-    (Fault::Shut, "shut"),
-    (Fault::Dripped, "dripped"),
-    (Fault::Deaf, "deaf"),
+/// How each is told, in the order in which they are declared.
+pub const FAULTS: [&str; 27] = [
+    "interrupted",
+    "short",
+    "aborted",
+    "exhausted",
+    "unable",
+    "unwatched",
+    "unleft",
+    "late",
+    "lost",
+    "stopped",
+    "spurious",
+    "held",
+    "stuck",
+    "hung",
+    "behind",
+    "slow",
+    "jumps",
+    "unread",
+    "starved",
+    "famine",
+    "stalled",
+    "full",
+    "reset",
+    "broken",
+    "shut",
+    "dripped",
+    "deaf",
 ];
 
 /// How often faults happen, in a thousand times.
@@ -119,29 +119,29 @@ impl Weather {
 
     /// Whether a fault happens now.
     pub fn happens(&mut self, random: &mut Random, fault: Fault) -> bool {
-        let chance = self.chances.iter().find(|chance| chance.0 == fault);
-        let happens = chance.is_some_and(|chance| random.happens(chance.1));
-        if happens {
-            self.count(fault);
+        for (each, per_mille) in self.chances {
+            if *each == fault && random.happens(*per_mille) {
+                if let Some(count) = self.happened.get_mut(fault as usize) {
+                    *count = count.saturating_add(1);
+                }
+                return true;
+            }
         }
-        happens
-    }
-
-    fn count(&mut self, fault: Fault) {
-        let place = FAULTS.iter().position(|each| each.0 == fault);
-        if let Some(count) = place.and_then(|place| self.happened.get_mut(place)) {
-            *count = count.saturating_add(1);
-        }
+        false
     }
 
     /// Whether a fault has happened.
     pub fn has_happened(&self, fault: Fault) -> bool {
-        let mut each = FAULTS.iter().zip(self.happened);
-        each.any(|(each, count)| each.0 == fault && count > 0)
+        self.happened.get(fault as usize).copied().unwrap_or(0) > 0
     }
 
     /// Whether each fault that may happen has.
     pub fn has_all_happened(&self, chances: Chances) -> bool {
-        chances.iter().all(|chance| self.has_happened(chance.0))
+        for (fault, _) in chances {
+            if !self.has_happened(*fault) {
+                return false;
+            }
+        }
+        true
     }
 }

@@ -1,8 +1,13 @@
 //! A connection, with both of its ends.
+ghost use Rattle.std.specs.Prelude.{◌≤◌, length};
+
+use crate::world::Ending;
+use portmap_daemon::Report;
+use std::alloc::Global;
 use std::collections::VecDeque;
 
 /// Who watches the daemon's end, and under which key.
-#[derive(Clone, Copy, Debug, PartialEq, Eq)]
+#[derive(Clone, Copy)]
 pub struct Watch {
     pub thread: usize,
     pub key: usize,
@@ -44,6 +49,27 @@ pub struct Wire {
 }
 
 impl Wire {
+    /// One that has come, with room for so many bytes to the peer.
+    pub fn new(alloc: Global, is_local: bool, room: usize) -> Wire {
+        Wire {
+            is_local,
+            up: VecDeque::new(alloc),
+            is_up_ended: false,
+            is_gone: false,
+            down: VecDeque::new(alloc),
+            room,
+            is_down_ended: false,
+            is_ended_well: false,
+            is_reset: false,
+            received: Vec::new(alloc),
+            accepted: None,
+            watch: None,
+            news_at: None,
+            is_reported: false,
+            has_peer_news: false,
+        }
+    }
+
     /// Whether the daemon may read it without waiting.
     pub fn is_readable(&self) -> bool {
         !self.up.is_empty() || self.is_up_ended || self.is_reset
@@ -58,5 +84,108 @@ impl Wire {
     pub fn is_ready(&self) -> bool {
         let is_both = self.watch.is_some_and(|watch| watch.is_both);
         self.is_readable() || (is_both && self.is_writable())
+    }
+
+    /// What a poll that has room reports of it now, if there is news of it, or though there is none.
+    pub fn report(&mut self, now: u64, has_room: bool, is_spurious: bool) -> Option<Report> {
+        let key = self.watch?.key;
+        let is_due = self.news_at.is_some_and(|at| at <= now);
+        if is_due && !self.is_ready() {
+            // What is no longer so when the poll answers is not reported.
+            self.news_at = None;
+            return None;
+        }
+        if !has_room || !(is_due || is_spurious) {
+            return None;
+        }
+        self.news_at = None;
+        self.is_reported = true;
+        let is_closed = self.is_up_ended && !self.is_reset;
+        Some(Report::Stream { key, is_closed })
+    }
+
+    /// The thread that has accepted it.
+    pub fn worker(&self) -> Option<usize> {
+        Some(self.accepted?.0)
+    }
+
+    /// How many bytes the peer has read, whether no more will come, and whether the connection was reset.
+    pub fn heard(&self) -> (usize, bool, bool) {
+        let is_over = self.is_down_ended && self.down.is_empty();
+        (self.received.len(), is_over, self.is_reset)
+    }
+
+    /// There is news for who watches it.
+    fn note_news(&mut self, now: u64) {
+        if self.watch.is_some() && self.news_at.is_none() {
+            self.news_at = Some(now);
+        }
+    }
+
+    /// What the peer has sent is there, and its end. Whether there is memory for it.
+    pub fn arrive(&mut self, now: u64, bytes: &[u8], end: Option<Ending>) -> bool {
+        let mut is_kept = true;
+        for byte in bytes {
+            is_kept = self.up.push_back(*byte).is_ok() && is_kept;
+        }
+        self.is_up_ended = self.is_up_ended || end.is_some();
+        self.is_gone = self.is_gone || end == Some(Ending::Gone);
+        if end == Some(Ending::Reset) {
+            self.is_reset = true;
+            self.down.clear();
+        }
+        self.note_news(now);
+        is_kept
+    }
+
+    /// The daemon reads as many bytes as it has room for. How many.
+    pub fn take(&mut self, buffer: &mut [u8]) -> usize
+        ensures { result ≤ length buffer.new }
+    {
+        let count = buffer.len().min(self.up.len());
+        for place in buffer.iter_mut().take(count) {
+            if let Some(byte) = self.up.pop_front() {
+                *place = byte;
+            }
+        }
+        count
+    }
+
+    /// The daemon sends the first of these bytes, so many. Whether there is memory for them.
+    pub fn put(&mut self, bytes: &[u8], count: usize) -> bool {
+        let mut is_kept = true;
+        for byte in bytes.iter().take(count) {
+            is_kept = self.down.push_back(*byte).is_ok() && is_kept;
+        }
+        self.has_peer_news = true;
+        // Who has gone answers what comes by a reset.
+        self.is_reset = self.is_gone;
+        is_kept
+    }
+
+    /// It is watched, for writing too or not. Whether it was not before.
+    pub fn begin_watch(&mut self, watch: Watch, now: u64) -> bool {
+        let is_new = self.watch.is_none();
+        self.watch = Some(watch);
+        if self.is_ready() {
+            self.news_at = Some(now);
+        }
+        is_new
+    }
+
+    /// The peer reads so many bytes at most. Whether there is memory for them.
+    pub fn receive(&mut self, now: u64, most: usize) -> bool {
+        let was_full = most > 0 && !self.is_writable();
+        let mut is_kept = true;
+        self.has_peer_news = false;
+        for _ in 0..most.min(self.down.len()) {
+            if let Some(byte) = self.down.pop_front() {
+                is_kept = self.received.push(byte).is_ok() && is_kept;
+            }
+        }
+        if was_full {
+            self.note_news(now);
+        }
+        is_kept
     }
 }

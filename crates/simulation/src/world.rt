@@ -4,11 +4,11 @@ ghost use Rattle.std.specs.Prelude.{◌≤◌, IfOk, length};
 use crate::notices::Notices;
 use crate::polls::Thread;
 use crate::random::Random;
-use crate::weather::{Chances, Fault, Weather};
+use crate::scenario::Scenario;
+use crate::weather::{Fault, Weather};
 use crate::wire::Wire;
 use std::alloc::Global;
 use std::collections::VecDeque;
-use std::io;
 use std::io::ErrorKind;
 
 /// How many listeners a daemon has.
@@ -27,7 +27,7 @@ struct Flight {
 }
 
 /// How a peer ends its connection.
-#[derive(Clone, Copy, Debug, PartialEq, Eq)]
+#[derive(Clone, Copy, PartialEq, Eq)]
 pub enum Ending {
     /// It sends no more, and reads on.
     Shut,
@@ -79,29 +79,34 @@ pub struct World {
     pub is_lost: bool,
 }
 
+/// What waits at each listener of a world in which nothing has happened.
+fn backlogs(alloc: Global) -> Option<Vec<VecDeque<usize>>> {
+    let mut backlogs = Vec::new(alloc);
+    for _ in 0..LISTENERS {
+        backlogs.push(VecDeque::new(alloc)).ok()?;
+    }
+    Some(backlogs)
+}
+
 impl World {
-    /// A world with so many threads, in which nothing has happened.
-    pub fn new(
+    /// The world of a scenario with these threads, in which nothing has happened.
+    fn new(
         alloc: Global,
         seed: u64,
-        chances: Chances,
-        threads: usize,
-        backlog_most: usize,
-    ) -> Option<World> {
-        let mut backlogs = Vec::new(alloc);
-        for _ in 0..LISTENERS {
-            backlogs.push(VecDeque::new(alloc)).ok()?;
-        }
-        let mut world = World {
+        scenario: &Scenario,
+        threads: Vec<Thread>,
+        backlogs: Vec<VecDeque<usize>>,
+    ) -> World {
+        World {
             alloc,
             random: Random::new(seed),
-            weather: Weather::new(chances),
+            weather: Weather::new(scenario.chances),
             now: 1_000_000,
             wires: Vec::new(alloc),
             flights: VecDeque::new(alloc),
-            backlog_most,
+            backlog_most: scenario.backlog_most,
             backlogs,
-            threads: Vec::new(alloc),
+            threads,
             exhausted_until: 0,
             exhausted_kind: ErrorKind::Other,
             unread_until: 0,
@@ -111,25 +116,37 @@ impl World {
             is_disk_full: false,
             remote: 0,
             local: 0,
-            places: 0,
+            places: scenario.conn_max as usize,
             wanting: 0,
             files: Vec::new(alloc),
             killed: Vec::new(alloc),
-            is_plain: true,
+            is_plain: scenario.is_plain,
             uncut: None,
             notices: Notices::new(),
             read_bytes: 0,
             is_lost: false,
-        };
-        for _ in 0..threads {
-            world.threads.push(Thread::new(alloc)).ok()?;
         }
-        Some(world)
+    }
+
+    /// The world of a scenario, with so many threads.
+    pub fn of(alloc: Global, seed: u64, scenario: &Scenario, threads: usize) -> Option<World> {
+        let threads = Thread::many(alloc, threads)?;
+        let backlogs = backlogs(alloc)?;
+        Some(World::new(alloc, seed, scenario, threads, backlogs))
     }
 
     /// Whether a fault happens now.
     pub fn happens(&mut self, fault: Fault) -> bool {
         self.weather.happens(&mut self.random, fault)
+    }
+
+    /// Until when a fault lasts, if it happens now, for less than so many microseconds.
+    pub fn lasts(&mut self, fault: Fault, most: u64) -> Option<u64> {
+        if self.happens(fault) {
+            Some(self.now.saturating_add(self.random.below(most)))
+        } else {
+            None
+        }
     }
 
     /// The weather is over.
@@ -144,34 +161,23 @@ impl World {
         }
     }
 
-    /// There is news of a stream for who watches it.
-    fn note_news(&mut self, number: usize) {
-        if let Some(wire) = self.wires.get_mut(number) {
-            if wire.watch.is_some() && wire.news_at.is_none() {
-                wire.news_at = Some(self.now);
-            }
-        }
-    }
-
     /// Keeps what is in the files, as a kill would leave it.
     pub fn kill(&mut self) -> Option<()> {
-        self.killed.clear();
-        for file in &self.files {
-            let file = Vec::from_slice(self.alloc, file).ok()?;
-            self.killed.push(file).ok()?;
-        }
+        self.killed = self.files.clone().ok()?;
         Some(())
     }
 
-    /// A file with nothing in it.
-    pub fn new_file(&self) -> Vec<u8> {
-        Vec::new(self.alloc)
+    /// A file with nothing in it: its number, if there is memory for it.
+    pub fn make(&mut self) -> Option<usize> {
+        let number = self.files.len();
+        self.files.push(Vec::new(self.alloc)).ok()?;
+        Some(number)
     }
 
     /// Leaves the first bytes of a file, so many.
     pub fn cut(&mut self, number: usize, size: usize) {
         if let Some(file) = self.files.get_mut(number) {
-            match Vec::from_slice(self.alloc, file) {
+            match file.clone() {
                 Ok(uncut) => self.uncut = Some((number, uncut)),
                 Err(_) => self.is_lost = true,
             }
@@ -183,42 +189,28 @@ impl World {
 
     /// A peer connects at a listener. The number of the connection; none if too many wait there.
     pub fn connect(&mut self, place: usize, is_local: bool) -> Option<usize> {
-        let backlog = self.backlogs.get_mut(place)?;
-        if backlog.len() >= self.backlog_most {
+        if self.backlogs.get(place)?.len() >= self.backlog_most {
             return None;
         }
         let room = if self.random.happens(200) { 64 } else { 65_536 };
-        let wire = Wire {
-            is_local,
-            up: VecDeque::new(self.alloc),
-            is_up_ended: false,
-            is_gone: false,
-            down: VecDeque::new(self.alloc),
-            room,
-            is_down_ended: false,
-            is_ended_well: false,
-            is_reset: false,
-            received: Vec::new(self.alloc),
-            accepted: None,
-            watch: None,
-            news_at: None,
-            is_reported: false,
-            has_peer_news: false,
-        };
+        let wire = Wire::new(self.alloc, is_local, room);
         let number = self.wires.len();
-        if self.wires.push(wire).is_err() || backlog.push_back(number).is_err() {
+        if self.wires.push(wire).is_err() || !self.waits(place, number) {
             self.is_lost = true;
             return None;
         }
         for thread in &mut self.threads {
-            let listens = thread.listens.get(place).is_some_and(|listens| *listens);
-            if let Some(news) = thread.listener_news.get_mut(place) {
-                if listens && news.is_none() {
-                    *news = Some(self.now);
-                }
-            }
+            thread.note_comer(place, self.now);
         }
         Some(number)
+    }
+
+    /// A connection waits at a listener. Whether there is memory for that.
+    fn waits(&mut self, place: usize, number: usize) -> bool {
+        match self.backlogs.get_mut(place) {
+            Some(waiting) => waiting.push_back(number).is_ok(),
+            None => false,
+        }
     }
 
     /// A peer sends bytes, ends its connection, or resets it: then it sends and reads no more.
@@ -228,6 +220,14 @@ impl World {
 
     pub fn end(&mut self, number: usize, ending: Ending) {
         self.fly(number, &[], Some(ending));
+    }
+
+    /// A peer has gone. Whether its connection was accepted.
+    pub fn leave_wire(&mut self, number: usize) -> bool {
+        self.end(number, Ending::Gone);
+        self.wires
+            .get(number)
+            .is_some_and(|wire| wire.accepted.is_some())
     }
 
     fn fly(&mut self, number: usize, bytes: &[u8], end: Option<Ending>) {
@@ -242,11 +242,15 @@ impl World {
             self.is_lost = true;
             return;
         };
+        let mut at = self.now.saturating_add(delay);
         // What one peer does is seen in the order in which it was done.
-        let before = self.flights.iter().filter(|flight| flight.number == number);
-        let least = before.fold(self.now, |least, flight| least.max(flight.at));
+        for flight in &self.flights {
+            if flight.number == number {
+                at = at.max(flight.at);
+            }
+        }
         let flight = Flight {
-            at: self.now.saturating_add(delay).max(least),
+            at,
             number,
             bytes,
             end,
@@ -262,55 +266,37 @@ impl World {
                 if flight.at > self.now {
                     self.is_lost = self.is_lost || self.flights.push_back(flight).is_err();
                 } else {
-                    self.arrive(flight);
+                    self.arrive(&flight);
                 }
             }
         }
     }
 
-    fn arrive(&mut self, flight: Flight) {
-        let number = flight.number;
-        if let Some(wire) = self.wires.get_mut(number) {
-            for byte in &flight.bytes {
-                if wire.up.push_back(*byte).is_err() {
-                    self.is_lost = true;
-                }
-            }
-            wire.is_up_ended = wire.is_up_ended || flight.end.is_some();
-            wire.is_gone = wire.is_gone || flight.end == Some(Ending::Gone);
-            if flight.end == Some(Ending::Reset) {
-                wire.is_reset = true;
-                wire.down.clear();
-                // What was there before is lost, or may still be read.
-                if self.random.happens(500) {
-                    wire.up.clear();
-                }
+    fn arrive(&mut self, flight: &Flight) {
+        if let Some(wire) = self.wires.get_mut(flight.number) {
+            let is_kept = wire.arrive(self.now, &flight.bytes, flight.end);
+            self.is_lost = self.is_lost || !is_kept;
+            // What was there before a reset is lost, or may still be read.
+            if flight.end == Some(Ending::Reset) && self.random.happens(500) {
+                wire.up.clear();
             }
         }
-        self.note_news(number);
     }
 
-    /// The time when something lands next.
-    pub fn lands_at(&self) -> Option<u64> {
-        self.flights.iter().map(|flight| flight.at).min()
+    /// The time when something lands next; never, if nothing is underway.
+    pub fn lands_at(&self) -> u64 {
+        let mut least = u64::MAX;
+        for flight in &self.flights {
+            least = least.min(flight.at);
+        }
+        least
     }
 
     /// A peer reads so many bytes at most.
     pub fn receive(&mut self, number: usize, most: usize) {
-        let mut was_full = false;
         if let Some(wire) = self.wires.get_mut(number) {
-            was_full = most > 0 && !wire.is_writable();
-            wire.has_peer_news = false;
-            for _ in 0..most.min(wire.down.len()) {
-                if let Some(byte) = wire.down.pop_front() {
-                    if wire.received.push(byte).is_err() {
-                        self.is_lost = true;
-                    }
-                }
-            }
-        }
-        if was_full {
-            self.note_news(number);
+            let is_kept = wire.receive(self.now, most);
+            self.is_lost = self.is_lost || !is_kept;
         }
     }
 
@@ -323,71 +309,96 @@ impl World {
     }
 
     /// What a call on a connection tells that was reset.
-    fn reset_error(&mut self) -> io::Error {
-        io::Error::from(if self.happens(Fault::Broken) {
+    fn reset_error(&mut self) -> ErrorKind {
+        if self.happens(Fault::Broken) {
             ErrorKind::BrokenPipe
         } else {
             ErrorKind::ConnectionReset
-        })
+        }
     }
 
     /// Reads the bytes that have come.
-    pub fn read(&mut self, number: usize, buffer: &mut [u8]) -> io::Result<usize>
+    pub fn read(&mut self, number: usize, buffer: &mut [u8]) -> Result<usize, ErrorKind>
         ensures { IfOk result (λ n. n ≤ length buffer.new) }
     {
         self.pass_moment();
         if self.happens(Fault::Interrupted) {
-            return Err(io::Error::from(ErrorKind::Interrupted));
+            return Err(ErrorKind::Interrupted);
         }
         let Some(wire) = self.wires.get_mut(number) else {
-            return Err(io::Error::from(ErrorKind::Other));
+            return Err(ErrorKind::Other);
         };
         wire.is_reported = false;
         if wire.is_reset && wire.up.is_empty() {
             return Err(self.reset_error());
         }
         if wire.up.is_empty() && !wire.is_up_ended {
-            return Err(io::Error::from(ErrorKind::WouldBlock));
+            return Err(ErrorKind::WouldBlock);
         }
-        let count = buffer.len().min(wire.up.len());
-        for place in buffer.iter_mut().take(count) {
-            if let Some(byte) = wire.up.pop_front() {
-                *place = byte;
-            }
-        }
+        let count = wire.take(buffer);
         self.read_bytes = self.read_bytes.saturating_add(count as u64);
         Ok(count)
     }
 
     /// Writes as many bytes as there is room for.
-    pub fn write(&mut self, number: usize, bytes: &[u8]) -> io::Result<usize>
+    pub fn write(&mut self, number: usize, bytes: &[u8]) -> Result<usize, ErrorKind>
         ensures { IfOk result (λ n. n ≤ length bytes.now) }
     {
         self.pass_moment();
         if self.happens(Fault::Interrupted) {
-            return Err(io::Error::from(ErrorKind::Interrupted));
+            return Err(ErrorKind::Interrupted);
         }
         let is_short = self.happens(Fault::Short);
         let Some(wire) = self.wires.get_mut(number) else {
-            return Err(io::Error::from(ErrorKind::Other));
+            return Err(ErrorKind::Other);
         };
         if wire.is_reset {
             return Err(self.reset_error());
         }
         let room = wire.room.saturating_sub(wire.down.len());
         if room == 0 {
-            return Err(io::Error::from(ErrorKind::WouldBlock));
+            return Err(ErrorKind::WouldBlock);
         }
-        let most = if is_short { 1 } else { room };
-        let count = bytes.len().min(most);
+        let count = bytes.len().min(if is_short { 1 } else { room });
+        let is_kept = wire.put(bytes, count);
+        self.is_lost = self.is_lost || !is_kept;
+        Ok(count)
+    }
+
+    /// How many bytes of so many the disk takes.
+    fn taken(&mut self, size: usize) -> usize
+        ensures { result ≤ size }
+    {
+        if self.happens(Fault::Full) {
+            self.is_disk_full = true;
+            // There is room for some more.
+            (self.random.below(size as u64) as usize).min(size)
+        } else if self.happens(Fault::Short) {
+            size.min(1)
+        } else {
+            size
+        }
+    }
+
+    /// Writes to a file what the disk takes of these bytes.
+    pub fn store(&mut self, number: usize, bytes: &[u8]) -> Result<usize, ErrorKind>
+        ensures { IfOk result (λ n. n ≤ length bytes.now) }
+    {
+        if self.happens(Fault::Interrupted) {
+            return Err(ErrorKind::Interrupted);
+        }
+        if self.is_disk_full {
+            return Err(ErrorKind::StorageFull);
+        }
+        let count = self.taken(bytes.len());
+        let Some(file) = self.files.get_mut(number) else {
+            return Err(ErrorKind::Other);
+        };
         for byte in bytes.iter().take(count) {
-            if wire.down.push_back(*byte).is_err() {
-                self.is_lost = true;
+            if file.push(*byte).is_err() {
+                return Err(ErrorKind::OutOfMemory);
             }
         }
-        wire.has_peer_news = true;
-        // Who has gone answers what comes by a reset.
-        wire.is_reset = wire.is_gone;
         Ok(count)
     }
 
@@ -420,6 +431,13 @@ impl World {
 
     // ---- clock and memory
 
+    /// Whether a connection is not yet as old as this, as a daemon with a clock can tell.
+    pub fn is_early(&self, number: usize, age: u64) -> Option<bool> {
+        let (_, accepted) = self.wires.get(number)?.accepted?;
+        let now = self.now.saturating_add(self.jumped);
+        Some(now.saturating_sub(accepted) < age && !self.weather.has_happened(Fault::Unread))
+    }
+
     /// The time; none if the clock can't be read.
     pub fn time(&mut self) -> Option<u64> {
         if self.happens(Fault::Jump) {
@@ -429,8 +447,8 @@ impl World {
             self.now = self.now.saturating_add(self.random.below(10_000_000));
             self.land();
         }
-        if self.happens(Fault::Unread) {
-            self.unread_until = self.now.saturating_add(self.random.below(2_000_000));
+        if let Some(until) = self.lasts(Fault::Unread, 2_000_000) {
+            self.unread_until = until;
         }
         if self.now < self.unread_until {
             None
@@ -441,8 +459,8 @@ impl World {
 
     /// Whether memory can be had.
     pub fn has_memory(&mut self) -> bool {
-        if self.happens(Fault::Starved) {
-            self.starved_until = self.now.saturating_add(self.random.below(2_000_000));
+        if let Some(until) = self.lasts(Fault::Starved, 2_000_000) {
+            self.starved_until = until;
         }
         // Not before there has been some memory.
         if self.now > FAMINE_US && self.happens(Fault::Famine) {
