@@ -1,10 +1,10 @@
 //! Calls of a client, one connection served, and bytes that wait for a device.
-use crate::devices::plan;
+use crate::devices::{device, plan};
 use crate::lists::{dumped, listed};
 use crate::played::played;
 use crate::requests::{Fields, registration};
-use crate::words::{Digits, bytes, digits_of, name, number, shown};
-use anyhow::{Result, bail};
+use crate::words::{Digits, by_name, bytes, digits_of, name, number, shown, text, wrong};
+use anyhow::Result;
 use portmap_client::{ClientFault, Registration, dump, kill, lookup, names, stop};
 use portmap_link::{Input, Outbox, Output, send, tell};
 use portmap_testing::marks::{begin, end};
@@ -33,55 +33,55 @@ impl Calls {
     /// What comes of an act.
     pub fn came(&mut self, alloc: Global, words: &[&str]) -> Result<String> {
         match *words {
-            [ref call @ .., "gives", answer, device] => self.called(
-                alloc,
-                call,
-                &bytes(alloc, answer)?,
-                plan(device)?,
-            ),
+            [ref call @ .., "gives", answer, device] => {
+                self.called(alloc, call, plan(device)?, &bytes(alloc, answer)?)
+            }
             ["endless", call] => endless(alloc, call),
-            [act @ ("once" | "pulls"), sent, ref devices @ ..] => played(
-                alloc,
-                act,
-                &bytes(alloc, sent)?,
-                devices,
-            ),
+            [act @ ("once" | "pulls"), sent, ref devices @ ..] => {
+                played(alloc, act, &bytes(alloc, sent)?, devices)
+            }
             _ => self.sent(alloc, words),
         }
     }
 
-    /// What a call says, writes, and leaves of the answer that this device gives. Where memory is refused to it, a front of that is
-    /// written.
-    fn called(
-        &mut self,
-        alloc: Global,
-        call: &[&str],
-        answer: &[u8],
-        plan: Plan,
-    ) -> Result<String> {
-        let mut tape = Tape::new(alloc, answer, plan);
-        tape.sink.reserve(10_000)?;
-        let says = if let ["register", port, name, extra] = *call {
-            let reg = registration(alloc, number(port)?, 6, name, &bytes(alloc, extra)?)?;
-            let (says, after) = registered(alloc, tape, &reg)?;
-            tape = after;
-            says
-        } else {
-            asked(alloc, &mut tape, call)?
-        };
-        if !tape.sink.starts_with(&self.begun) {
-            bail!("a refusal has written something else");
+    /// What a call says, writes, and leaves of the answer that this device gives.
+    fn called(&mut self, alloc: Global, call: &[&str], plan: Plan, gives: &[u8]) -> Result<String> {
+        let mut tape = device(alloc, gives, plan, 10_000)?;
+        if let ["register", port, name, extra] = *call {
+            return self.registered(alloc, &node(alloc, port, name, extra)?, tape);
         }
-        self.begun = if says.as_str() == "NoMemory" {
-            tape.sink.clone()?
-        } else {
-            Vec::new(alloc)
-        };
-        Ok(format!(in alloc;
+        let says = asked(alloc, &mut tape, call)?;
+        self.wrote(alloc, says.as_str(), &tape)
+    }
+
+    /// The same of a registration: the creation that it gives, or why it gives none.
+    fn registered(&mut self, alloc: Global, node: &Reg, tape: Tape<'_>) -> Result<String> {
+        begin(alloc);
+        let made = Registration::make(alloc, tape, node);
+        end(alloc);
+        match made {
+            Ok(registration) => {
+                let says = format!(in alloc; "{}", registration.creation())?;
+                self.wrote(alloc, says.as_str(), &registration.leave())
+            }
+            Err((fault, tape)) => self.wrote(alloc, by_name(alloc, &fault)?.as_str(), &tape),
+        }
+    }
+
+    /// The same of what it says. Where memory is refused to it, a front of what it writes is written.
+    fn wrote(&mut self, alloc: Global, says: &str, tape: &Tape<'_>) -> Result<String> {
+        if !tape.sink.starts_with(&self.begun) {
+            return wrong("a refusal has written something else");
+        }
+        self.begun.clear();
+        if says == "NoMemory" {
+            self.begun.extend_from_slice(&tape.sink)?;
+        }
+        text(format!(in alloc;
             "{says} wrote {} left {}",
             Digits(&tape.sink),
             Digits(tape.source)
-        )?)
+        ))
     }
 
     /// Turns to another device, for which no bytes wait.
@@ -97,39 +97,30 @@ impl Calls {
             ["push", word] => self.outbox.push(&bytes(alloc, word)?)?,
             ["flush"] => {
                 let flush = self.outbox.flush(&mut self.output);
-                return Ok(format!(in alloc; "{flush:?} left {}", Digits(self.outbox.pending()))?);
+                return text(format!(in alloc; "{flush:?} left {}", Digits(self.outbox.pending())));
             }
             ["send", word] => {
                 let (count, flush) = send(&mut self.output, &bytes(alloc, word)?);
-                return Ok(format!(in alloc; "{count} {flush:?}")?);
+                return text(format!(in alloc; "{count} {flush:?}"));
             }
-            ["tell", word, turns] => return shown(
-                alloc,
-                tell(&mut self.output, &bytes(alloc, word)?, number(turns)?),
-            ),
-            ["written"] if Output::failed(&self.output) => return Ok(format!(in alloc;
+            ["tell", word, turns] => {
+                let turns = number(turns)?;
+                return shown(alloc, tell(&mut self.output, &bytes(alloc, word)?, turns));
+            }
+            ["written"] if Output::failed(&self.output) => return text(format!(in alloc;
                 "{} failed",
                 Digits(&self.output.sink)
-            )?),
+            )),
             ["written"] => return digits_of(alloc, &self.output.sink),
-            _ => bail!("no such act"),
+            _ => return wrong("no such act"),
         }
         Ok(String::new(alloc))
     }
 }
 
-/// The creation that a registration gives, or why it gives none, and its stream.
-fn registered<'a>(alloc: Global, tape: Tape<'a>, node: &Reg) -> Result<(String, Tape<'a>)> {
-    begin(alloc);
-    let made = Registration::make(alloc, tape, node);
-    end(alloc);
-    match made {
-        Ok(registration) => {
-            let says = format!(in alloc; "{}", registration.creation())?;
-            Ok((says, registration.leave()))
-        }
-        Err((fault, tape)) => Ok((format!(in alloc; "{fault:?}")?, tape)),
-    }
+/// The node that a call registers.
+fn node(alloc: Global, port: &str, name: &str, extra: &str) -> Result<Reg> {
+    registration(alloc, number(port)?, 6, name, &bytes(alloc, extra)?)
 }
 
 /// What a call over a stream says.
@@ -157,7 +148,7 @@ fn asked<S: Input + Output>(alloc: Global, stream: &mut S, call: &[&str]) -> Res
             begin(alloc);
             dumped(alloc, marked(alloc, dump(alloc, stream)))
         }
-        _ => bail!("no such call"),
+        _ => wrong("no such call"),
     }
 }
 
@@ -170,7 +161,7 @@ pub fn marked<T>(alloc: Global, came: T) -> T {
 /// The fields of the node that is found.
 fn found(alloc: Global, says: Result<Option<Reg>, ClientFault>) -> Result<String> {
     match says {
-        Ok(Some(reg)) => Ok(format!(in alloc; "{}", Fields(&reg))?),
+        Ok(Some(reg)) => text(format!(in alloc; "{}", Fields(&reg))),
         says => shown(alloc, says),
     }
 }
@@ -179,5 +170,5 @@ fn found(alloc: Global, says: Result<Option<Reg>, ClientFault>) -> Result<String
 fn endless(alloc: Global, call: &str) -> Result<String> {
     let mut stream = Fountain::new();
     let says = asked(alloc, &mut stream, &[call])?;
-    Ok(format!(in alloc; "{says} took {}", stream.given)?)
+    text(format!(in alloc; "{says} took {}", stream.given))
 }

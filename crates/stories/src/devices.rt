@@ -1,7 +1,8 @@
 //! Devices by their names.
-use crate::words::number;
-use anyhow::{Result, bail};
-use portmap_testing::tape::Plan;
+use crate::words::{number, unknown};
+use anyhow::Result;
+use portmap_testing::tape::{Plan, Tape};
+use std::alloc::Global;
 
 /// As many bytes as are wanted.
 const ALL: usize = usize::MAX;
@@ -54,5 +55,12 @@ pub fn plan(word: &str) -> Result<Plan> {
             });
         }
     }
-    bail!("no device: {word}")
+    unknown("no device", word)
+}
+
+/// A device that gives these bytes, and takes so many without memory.
+pub fn device(alloc: Global, bytes: &[u8], plan: Plan, room: usize) -> Result<Tape<'_>> {
+    let mut tape = Tape::new(alloc, bytes, plan);
+    tape.sink.reserve(room)?;
+    Ok(tape)
 }

@@ -1,6 +1,6 @@
 //! Events, answers and entries in the words of a transcript.
-use crate::words::{Digits, bytes, number};
-use anyhow::{Result, bail};
+use crate::words::{Digits, bytes, number, text, unknown, wrong};
+use anyhow::Result;
 use portmap_core::{Answer, Entry, Event, Fate, Refusal};
 use std::alloc::Global;
 
@@ -23,7 +23,7 @@ pub fn event(alloc: Global, words: &[&str]) -> Result<Event> {
         ["late", slot] => Event::Late {
             slot: number(slot)?,
         },
-        _ => bail!("no such act"),
+        _ => return wrong("no such act"),
     })
 }
 
@@ -36,9 +36,9 @@ pub fn entry(alloc: Global, words: &[&str]) -> Result<Entry> {
         },
         ["piece", slot, "get", piece, "say", reply, then] => Entry::Piece {
             slot: number(slot)?,
+            fate: fate(then)?,
             bytes: bytes(alloc, piece)?,
             reply: bytes(alloc, reply)?,
-            fate: fate(then)?,
         },
         ["close", slot] => Entry::Closed {
             slot: number(slot)?,
@@ -50,7 +50,7 @@ pub fn entry(alloc: Global, words: &[&str]) -> Result<Entry> {
             slot: number(slot)?,
             fate: fate(then)?,
         },
-        _ => bail!("no such entry"),
+        _ => return wrong("no such entry"),
     })
 }
 
@@ -59,7 +59,7 @@ pub fn is_local(word: &str) -> Result<bool> {
     match word {
         "local" => Ok(true),
         "remote" => Ok(false),
-        _ => bail!("neither local nor remote: {word}"),
+        _ => unknown("neither local nor remote", word),
     }
 }
 
@@ -68,7 +68,7 @@ fn fate(word: &str) -> Result<Fate> {
         "stay" => Ok(Fate::Stay),
         "close" => Ok(Fate::Close),
         "halt" => Ok(Fate::Halt),
-        _ => bail!("no fate: {word}"),
+        _ => unknown("no fate", word),
     }
 }
 
@@ -84,32 +84,32 @@ fn word_of(fate: Fate) -> &'static str {
 pub fn came_of(alloc: Global, act: &str, outcome: &Result<Answer, Refusal>) -> Result<String> {
     let is_late = act.starts_with("late");
     let goes = act.starts_with("close") || act.starts_with("fault");
-    Ok(match outcome {
-        Ok(Answer::Connected(slot)) => format!(in alloc; "{slot}")?,
+    text(match outcome {
+        Ok(Answer::Connected(slot)) => format!(in alloc; "{slot}"),
         Ok(Answer::Said { bytes, fate }) if is_late && bytes.is_empty() => String::from_str(
             alloc,
             word_of(*fate),
-        )?,
+        ),
         Ok(Answer::Said { bytes, fate }) => format!(in alloc;
             "say {} {}",
             Digits(bytes),
             word_of(*fate)
-        )?,
-        Ok(Answer::Gone) => String::from_str(alloc, "gone")?,
-        Err(Refusal::NoMemory) if goes => bail!("memory is refused to one who goes"),
-        Err(refusal) => format!(in alloc; "{refusal:?}")?,
+        ),
+        Ok(Answer::Gone) => String::from_str(alloc, "gone"),
+        Err(Refusal::NoMemory) if goes => return wrong("memory is refused to one who goes"),
+        Err(refusal) => format!(in alloc; "{refusal:?}"),
     })
 }
 
 /// The line of a transcript for an act that was answered.
 pub fn line(alloc: Global, number: u64, words: &[&str], came: &str) -> Result<String> {
-    Ok(match *words {
-        ["connect", whence] => format!(in alloc; "{number} connect {came} {whence}\n")?,
+    text(match *words {
+        ["connect", whence] => format!(in alloc; "{number} connect {came} {whence}\n"),
         ["piece", slot, "get", piece] => format!(in alloc;
             "{number} piece {slot} get {piece} {came}\n"
-        )?,
-        ["late", slot] => format!(in alloc; "{number} late {slot} {came}\n")?,
-        [act, slot] => format!(in alloc; "{number} {act} {slot}\n")?,
-        _ => bail!("no such act"),
+        ),
+        ["late", slot] => format!(in alloc; "{number} late {slot} {came}\n"),
+        [act, slot] => format!(in alloc; "{number} {act} {slot}\n"),
+        _ => return wrong("no such act"),
     })
 }

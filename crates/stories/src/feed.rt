@@ -1,6 +1,6 @@
 //! Requests as they come on a stream, in pieces.
-use crate::words::{Digits, bytes, number};
-use anyhow::{Result, bail};
+use crate::words::{Digits, bytes, number, text, wrong};
+use anyhow::{Result, ensure};
 use portmap_feed::{Feed, Seen};
 use portmap_testing::marks::{begin, end};
 use std::alloc::Global;
@@ -30,18 +30,16 @@ impl Pieces {
         let seen = match *words {
             ["push", piece] => self.push(alloc, &bytes(alloc, piece)?)?,
             ["cut", len] => self.cut(number(len)?)?,
-            _ => bail!("no such act"),
+            _ => return wrong("no such act"),
         };
         let Some(seen) = seen else {
-            return Ok(String::from_str(alloc, "NoMemory")?)
+            return text(String::from_str(alloc, "NoMemory"))
         };
-        if !self.stands() {
-            bail!("it is kept otherwise byte by byte");
-        }
+        ensure!(self.stands(), "it is kept otherwise byte by byte");
         let kept = Digits(self.whole.kept());
         match self.whole.body() {
-            Some(body) => Ok(format!(in alloc; "{seen:?} kept {kept} body {}", Digits(body))?),
-            None => Ok(format!(in alloc; "{seen:?} kept {kept}")?),
+            Some(body) => text(format!(in alloc; "{seen:?} kept {kept} body {}", Digits(body))),
+            None => text(format!(in alloc; "{seen:?} kept {kept}")),
         }
     }
 
@@ -52,23 +50,21 @@ impl Pieces {
         let seen = self.whole.push(piece);
         end(alloc);
         if seen.is_err() && is_known {
-            bail!("memory was asked for once the length was known");
+            return wrong("memory was asked for once the length was known");
         }
         let Ok(seen) = seen else { return Ok(None) };
         let mut last = self.single.push(&[]);
         for byte in piece {
             last = self.single.push(&[*byte]);
         }
-        if last != Ok(seen) {
-            bail!("it is seen otherwise byte by byte");
-        }
+        ensure!(last == Ok(seen), "it is seen otherwise byte by byte");
         Ok(Some(seen))
     }
 
     /// What is seen once all but the first bytes are taken back.
     fn cut(&mut self, len: usize) -> Result<Option<Seen>> {
         if self.whole.kept().len() < len || self.single.kept().len() < len {
-            bail!("fewer bytes are kept");
+            return wrong("fewer bytes are kept");
         }
         self.whole.cut(len);
         self.single.cut(len);

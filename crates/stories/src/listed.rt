@@ -1,8 +1,8 @@
 //! Entries, and what is recorded and told of them.
 use crate::events::entry;
 use crate::session::written;
-use crate::words::{digits_of, number};
-use anyhow::{Result, bail};
+use crate::words::{by_name, bytes_told, digits_of, number, text, wanted, wrong};
+use anyhow::Result;
 use portmap_core::{Config, Entry};
 use portmap_record::{
     Record, Verdict, Version, read_record, transcript, verdict_line, without_remote, write_entries,
@@ -27,10 +27,10 @@ pub fn came(alloc: Global, entries: &mut Vec<Entry>, words: &[&str]) -> Result<S
             &verdict_line(alloc, number(count)?, verdict_of(verdict)?)?,
         ),
         ["left"] => left(alloc, entries),
-        ["entries", ref numbers @ ..] => text(alloc, entries, &workers(alloc, numbers)?),
+        ["entries", ref numbers @ ..] => entries_told(alloc, entries, &workers(alloc, numbers)?),
         ["record"] => written(alloc, &recorded(alloc, entries)?),
         ["size"] => size(alloc, &recorded(alloc, entries)?),
-        _ => bail!("no such act"),
+        _ => wrong("no such act"),
     }
 }
 
@@ -42,10 +42,7 @@ fn left(alloc: Global, entries: &[Entry]) -> Result<String> {
 
 /// The settings of a session: port 4369, not relaxed, two connections and two names at most.
 pub fn settings() -> Result<Config> {
-    match Config::new(4369, false, 2, 2) {
-        Ok(config) => Ok(config),
-        Err(_) => bail!("no settings"),
-    }
+    wanted(Config::new(4369, false, 2, 2), "no settings")
 }
 
 /// The record of the entries, of which none are left.
@@ -67,25 +64,27 @@ pub fn workers(alloc: Global, words: &[&str]) -> Result<Vec<u32>> {
 }
 
 /// The bytes of entries, by these workers if there are any, or why there are none.
-fn text(alloc: Global, entries: &[Entry], workers: &[u32]) -> Result<String> {
-    match write_entries(alloc, entries, (!workers.is_empty()).then_some(workers)) {
-        Ok(text) => digits_of(alloc, &text),
-        Err(fault) => Ok(format!(in alloc; "{fault:?}")?),
-    }
+fn entries_told(alloc: Global, entries: &[Entry], workers: &[u32]) -> Result<String> {
+    bytes_told(
+        alloc,
+        write_entries(alloc, entries, (!workers.is_empty()).then_some(workers)),
+    )
 }
 
 /// How many bytes a record has, which are read as its entries; or why there are none.
 fn size(alloc: Global, session: &Record) -> Result<String> {
-    let written = match write_record(alloc, session) {
-        Ok(written) => written,
-        Err(fault) => return Ok(format!(in alloc; "{fault:?}")?),
-    };
-    match read_record(alloc, &written) {
-        Ok(again) if again.entries.as_slice() == session.entries.as_slice() => Ok(format!(in alloc;
-            "{}",
-            written.len()
-        )?),
-        _ => bail!("it is read otherwise"),
+    match write_record(alloc, session) {
+        Ok(written) => size_of(alloc, session, &written),
+        Err(fault) => by_name(alloc, &fault),
+    }
+}
+
+fn size_of(alloc: Global, session: &Record, written: &[u8]) -> Result<String> {
+    match read_record(alloc, written) {
+        Ok(again) if again.entries.as_slice() == session.entries.as_slice() => text(
+            format!(in alloc; "{}", written.len()),
+        ),
+        _ => wrong("it is read otherwise"),
     }
 }
 
@@ -93,6 +92,6 @@ fn verdict_of(words: &[&str]) -> Result<Verdict> {
     match *words {
         ["run"] => Ok(Verdict::Run),
         ["broken", place] => Ok(Verdict::Broken(number(place)?)),
-        _ => bail!("no verdict"),
+        _ => wrong("no verdict"),
     }
 }

@@ -1,10 +1,13 @@
 //! The machine with its log, and what follows it: a replay, and at the end a run and a recording.
 use crate::events::{came_of, entry, event, line};
 use crate::recording::{is_recorded, recorded_part};
-use crate::run::{Told, runs_so};
+use crate::run::{Told, is_at, runs_so};
 use crate::states::is_built_again;
-use crate::words::{answer, bytes, digits_of, is_relaxed, joined, name, number};
-use anyhow::{Result, bail};
+use crate::words::{
+    answer, by_name, bytes, digits_of, is_relaxed, joined, name, number, text, unknown, wanted,
+    wrong,
+};
+use anyhow::{Context, Result, ensure};
 use portmap_book::{ActFault, Book, Segment, Ticket, gather};
 use portmap_core::{
     Answer, Config, Core, Entry, Event, Ip, Refusal, Replay, State, is_local, name_to_register,
@@ -37,23 +40,25 @@ impl Machine {
     /// A machine on port 4369 that is set to what is usual: checks are not relaxed, 1,024 connections and 4,096 names at most, and creations
     /// from 4 on.
     pub fn new(alloc: Global) -> Result<Box<Machine>> {
-        let Ok(config) = Config::new(4369, false, 1024, 4096) else {
-            bail!("no settings")
-        };
-        let machine = Machine {
-            book: Book::new(alloc, config, 4)?,
-            first: 4,
+        let config = wanted(Config::new(4369, false, 1024, 4096), "no settings")?;
+        Ok(Box::new(alloc, Machine::of(alloc, config, 4, State::empty(alloc))?)?)
+    }
+
+    /// A machine with these settings, beside what is kept.
+    fn of(alloc: Global, config: Config, first: u32, kept: State) -> Result<Machine> {
+        Ok(Machine {
+            book: Book::new(alloc, config, first)?,
+            first,
             replay: Replay::new(alloc, config)?,
             told: Vec::new(alloc),
             lines: String::new(alloc),
             lines_told: 0,
-            kept: State::empty(alloc),
+            kept,
             worker: 1,
             is_followed: false,
             segments: Vec::new(alloc),
             tickets: Vec::new(alloc),
-        };
-        Ok(Box::new(alloc, machine)?)
+        })
     }
 
     /// What comes of an act.
@@ -84,37 +89,22 @@ impl Machine {
             first,
         ] = *words
         else {
-            bail!("no such settings")
+            return wrong("no such settings");
         };
         let (conn_max, known_max) = (number(conn_max)?, number(known_max)?);
         match Config::new(4369, is_relaxed(checks)?, conn_max, known_max) {
             Ok(config) => self.begin_anew(alloc, config, number(first)?),
-            Err(fault) => Ok(format!(in alloc; "{fault:?}")?),
+            Err(fault) => by_name(alloc, &fault),
         }
     }
 
     /// Begins anew, once what was before has ended well. What is kept is kept.
     fn begin_anew(&mut self, alloc: Global, config: Config, first: u32) -> Result<String> {
         self.ended(alloc)?;
-        self.book = Book::new(alloc, config, first)?;
-        self.first = first;
-        self.replay = Replay::new(alloc, config)?;
-        self.forget(alloc);
-        if *self.book.core().config() != config {
-            bail!("it is set otherwise");
-        }
+        let kept = mem::replace(&mut self.kept, State::empty(alloc));
+        *self = Machine::of(alloc, config, first, kept)?;
+        ensure!(*self.book.core().config() == config, "it is set otherwise");
         Ok(String::new(alloc))
-    }
-
-    /// Forgets what else has followed the machine.
-    fn forget(&mut self, alloc: Global) {
-        self.told.clear();
-        self.lines.clear();
-        self.lines_told = 0;
-        self.worker = 1;
-        self.is_followed = false;
-        self.segments.clear();
-        self.tickets.clear();
     }
 
     /// Keeps the state as it is.
@@ -128,7 +118,7 @@ impl Machine {
         match *words {
             ["as", worker] => self.worker = number(worker)?,
             ["follow"] => self.is_followed = true,
-            _ => bail!("no such act"),
+            _ => return wrong("no such act"),
         }
         Ok(String::new(alloc))
     }
@@ -137,78 +127,55 @@ impl Machine {
     fn look(&self, alloc: Global, words: &[&str]) -> Result<String> {
         let core = self.book.core();
         let is_so = match *words {
-            ["open"] => return Ok(format!(in alloc; "{}", core.connections())?),
+            ["open"] => return text(format!(in alloc; "{}", core.connections())),
             ["is", slot] => return phase(alloc, core, number(slot)?),
             ["asks", piece] => return asked(alloc, &bytes(alloc, piece)?),
             ["halted"] => core.halted(),
             ["active", word] => core.is_active(&name(alloc, word)?),
-            ["kept"] => self.is_at(alloc, &self.kept)?,
+            ["kept"] => is_at(alloc, core, &self.kept)?,
             ["local", peer, own] => is_local(address(alloc, peer)?, address(alloc, own)?),
-            _ => bail!("no such act"),
+            _ => return wrong("no such act"),
         };
         answer(alloc, is_so)
     }
 
     /// Whether an entry may be recorded next. The state stays as it is.
     fn may(&self, alloc: Global, words: &[&str]) -> Result<String> {
+        let core = self.book.core();
         let entry = entry(alloc, words.get(1..).unwrap_or(&[]))?;
-        answer(alloc, self.moves(alloc, &entry)?)
-    }
-
-    /// Whether a plain state and a replay, which stand as the machine does, move by an entry.
-    fn moves(&self, alloc: Global, entry: &Entry) -> Result<bool> {
-        let (config, before) = (self.book.core().config(), self.book.core().state(alloc)?);
-        let mut state = before.try_copy(alloc)?;
-        let moved = state.step(alloc, config, entry)?;
-        if !moved && !state.same(&before) {
-            bail!("a state moves by what may not be");
-        }
-        let Some(mut replay) = Replay::of(alloc, *config, &before)? else {
-            bail!("no replay goes on from here")
-        };
-        if replay.step(alloc, entry)? != moved || !replay.into_state(alloc)?.same(&state) {
-            bail!("a replay moves otherwise");
-        }
-        Ok(moved)
+        let moved = moves(alloc, core.config(), &core.state(alloc)?, &entry)?;
+        answer(alloc, moved)
     }
 
     /// What is answered to an event, which the replay follows.
     fn event(&mut self, alloc: Global, words: &[&str]) -> Result<String> {
-        let act = joined(alloc, words)?;
-        let came = self.answered(alloc, act.as_str(), words)?;
+        let outcome = self.acted(alloc, event(alloc, words)?)?;
+        let came = came_of(alloc, words.first().copied().unwrap_or(""), &outcome)?;
         if came.as_str() != "NoMemory" {
-            self.shown(alloc, words, came.as_str())?;
-            let told = Told {
-                act,
+            self.show(alloc, words, came.as_str())?;
+            self.told.push(Told {
+                act: joined(alloc, words)?,
                 came: came.clone()?,
-            };
-            self.told.push(told)?;
+            })?;
         }
         Ok(came)
     }
 
-    /// The words for what is answered to an event.
-    fn answered(&mut self, alloc: Global, act: &str, words: &[&str]) -> Result<String> {
-        let outcome = self.acted(alloc, event(alloc, words)?)?;
-        came_of(alloc, act, &outcome)
-    }
-
     /// Adds the line of an event that was logged to the transcript, and its ticket; where entries are taken out as they come, this one
     /// is.
-    fn shown(&mut self, alloc: Global, words: &[&str], came: &str) -> Result<()> {
+    fn show(&mut self, alloc: Global, words: &[&str], came: &str) -> Result<()> {
         if self.book.log().len() as u64 == self.lines_told {
             return Ok(());
         }
         let line = line(alloc, self.lines_told, words, came)?;
-        let words: Vec<&str> = line.as_str().split_whitespace().skip(1).collect(alloc)?;
         self.tickets.push(Ticket {
             place: self.book.count().saturating_sub(1),
-            entry: entry(alloc, &words)?,
+            entry: entry_of(alloc, line.as_str())?,
         })?;
         self.lines.push_str(line.as_str())?;
         self.lines_told = self.lines_told.saturating_add(1);
         if self.is_followed && !self.advanced(alloc)?.as_str().starts_with("1 0 ") {
-            bail!("its entry is not taken out");
+            return wrong("its entry is not taken out");
         }
         Ok(())
     }
@@ -219,29 +186,35 @@ impl Machine {
         begin(alloc);
         let sealed = self.book.seal(alloc);
         end(alloc);
-        let Ok(segment) = sealed else {
-            if (self.book.first(), self.book.log().len()) != (first, len) {
-                bail!("a refusal has taken entries");
-            }
-            return Ok(String::from_str(alloc, "NoMemory")?);
-        };
-        if !self.book.log().is_empty()
-            || !self.is_at(alloc, &segment.after)?
-            || !self.stands(alloc)?
-        {
-            bail!("it is sealed otherwise");
+        match sealed {
+            Ok(segment) => self.take(alloc, segment, words == ["segment"].as_slice()),
+            Err(_) if (self.book.first(), self.book.log().len()) == (first, len) => text(
+                String::from_str(alloc, "NoMemory"),
+            ),
+            Err(_) => wrong("a refusal has taken entries"),
         }
-        let told = format!(in alloc; "first {} entries {}", segment.first, segment.entries.len())?;
-        let lines = mem::replace(&mut self.lines, String::new(alloc));
+    }
+
+    /// Takes a segment that was sealed: the bytes of its record, or its first place and how many entries it has.
+    fn take(&mut self, alloc: Global, mut segment: Segment, is_whole: bool) -> Result<String> {
+        self.is_sealed(alloc, &segment)?;
+        let bytes = recorded_part(alloc, &mut segment, self.lines.as_str())?;
+        self.lines.clear();
         self.lines_told = 0;
-        let mut segment = segment;
-        let bytes = recorded_part(alloc, &mut segment, lines.as_str())?;
+        let (first, count) = (segment.first, segment.entries.len());
         self.segments.push(segment)?;
-        Ok(if words == ["segment"].as_slice() {
-            bytes
-        } else {
-            told
-        })
+        if is_whole {
+            return Ok(bytes);
+        }
+        text(format!(in alloc; "first {first} entries {count}"))
+    }
+
+    /// Fails unless a segment has taken all entries, and ends where the machine stands.
+    fn is_sealed(&self, alloc: Global, segment: &Segment) -> Result<()> {
+        let is_taken = self.book.log().is_empty() && self.stands(alloc)?;
+        let is_after = is_at(alloc, self.book.core(), &segment.after)?;
+        ensure!(is_taken && is_after, "it is sealed otherwise");
+        Ok(())
     }
 
     /// How many entries are taken out of the log's front, how many are left, and how many were before the log in all.
@@ -249,74 +222,54 @@ impl Machine {
         let (mut gone, mut makers) = (Vec::new(alloc), Vec::new(alloc));
         self.book.advance(alloc, &mut gone, &mut makers);
         if gone.len() != makers.len() || !self.stands(alloc)? {
-            bail!("it is taken out otherwise");
+            return wrong("it is taken out otherwise");
         }
-        self.lines = String::new(alloc);
+        self.lines.clear();
         self.lines_told = self.book.log().len() as u64;
-        Ok(format!(in alloc;
-            "{} {} {}",
-            gone.len(),
-            self.book.log().len(),
-            self.book.first()
-        )?)
+        let (left, first) = (self.lines_told, self.book.first());
+        text(format!(in alloc; "{} {left} {first}", gone.len()))
     }
 
     /// What the book answers to an event: at the next place of its log. The replay moves by its entry.
     fn acted(&mut self, alloc: Global, event: Event) -> Result<Result<Answer, Refusal>> {
-        let Machine {
-            book,
-            replay,
-            worker,
-            ..
-        } = self;
-        let count = book.count();
+        let count = self.book.count();
         begin(alloc);
-        let acted = book.act(alloc, *worker, event);
+        let acted = self.book.act(alloc, self.worker, event);
         end(alloc);
-        let answer = match acted {
-            Ok((place, answer)) if place == count => answer,
-            Err(ActFault::Refused(refusal)) => return Ok(Err(refusal)),
-            _ => bail!("it is logged at another place"),
-        };
-        let Some(entry) = book.log().last() else {
-            bail!("it is not logged")
-        };
-        if !replay.step(alloc, entry)? {
-            bail!("a replay does not follow");
+        match acted {
+            Ok((place, answer)) => {
+                self.follow(alloc, place == count)?;
+                Ok(Ok(answer))
+            }
+            Err(ActFault::Refused(refusal)) => Ok(Err(refusal)),
+            Err(_) => wrong("it is logged at another place"),
         }
-        Ok(Ok(answer))
     }
 
-    /// Whether the machine stands so.
-    fn is_at(&self, alloc: Global, state: &State) -> Result<bool> {
-        Ok(self.book.core().state(alloc)?.same(state))
+    /// Moves the replay by the last entry of the log, if that stands in its place.
+    fn follow(&mut self, alloc: Global, is_in_place: bool) -> Result<()> {
+        ensure!(is_in_place, "it is logged at another place");
+        let entry = self.book.log().last().context("it is not logged")?;
+        ensure!(self.replay.step(alloc, entry)?, "a replay does not follow");
+        Ok(())
     }
 
     /// Whether its log leads from its base to where it stands.
     pub fn stands(&self, alloc: Global) -> Result<bool> {
-        let book = &self.book;
-        let Some(mut replayed) = Replay::of(alloc, *book.core().config(), book.base())? else {
-            return Ok(false);
-        };
-        for entry in book.log() {
-            if !replayed.step(alloc, entry)? {
-                return Ok(false);
-            }
-        }
+        let (book, core) = (&self.book, self.book.core());
         let is_counted = book.count() == book.first().saturating_add(book.log().len() as u64);
-        Ok(is_counted && self.is_at(alloc, &replayed.into_state(alloc)?)?)
+        match Replay::of(alloc, *core.config(), book.base())? {
+            Some(replay) => Ok(is_counted && ends(alloc, replay, book.log(), core)?),
+            None => Ok(false),
+        }
     }
 
     /// What is wrong at the end, if anything is.
     pub fn ended(&mut self, alloc: Global) -> Result<()> {
-        let (config, state) = (*self.book.core().config(), self.book.core().state(alloc)?);
-        if !self.stands(alloc)? || !self.is_replayed(alloc, config)? {
-            bail!("the machine stands otherwise than what followed it");
-        }
-        if !is_built_again(alloc, &config, &state)? {
-            bail!("its state is not that of its parts");
-        }
-        runs_so(alloc, config, self.first, &self.told, &state)?;
+        let replayed = self.replayed(alloc)?;
+        let is_so = self.stands(alloc)? && is_at(alloc, self.book.core(), &replayed)?;
+        ensure!(is_so, "the machine stands otherwise than what followed it");
+        self.is_run(alloc)?;
         self.is_gathered(alloc)?;
         if self.book.first() > 0 {
             return Ok(());
@@ -324,10 +277,19 @@ impl Machine {
         is_recorded(alloc, &self.book, self.lines.as_str())
     }
 
-    /// Whether the replay has come to the same state. None is left of it.
-    fn is_replayed(&mut self, alloc: Global, config: Config) -> Result<bool> {
-        let replay = mem::replace(&mut self.replay, Replay::new(alloc, config)?);
-        self.is_at(alloc, &replay.into_state(alloc)?)
+    /// The state that the replay has come to. None is left of it.
+    fn replayed(&mut self, alloc: Global) -> Result<State> {
+        let none = Replay::new(alloc, *self.book.core().config())?;
+        Ok(mem::replace(&mut self.replay, none).into_state(alloc)?)
+    }
+
+    /// Fails unless its state is that of its parts, and a run comes to it.
+    fn is_run(&self, alloc: Global) -> Result<()> {
+        let (config, state) = (self.book.core().config(), self.book.core().state(alloc)?);
+        if !is_built_again(alloc, config, &state)? {
+            return wrong("its state is not that of its parts");
+        }
+        runs_so(alloc, *config, self.first, &self.told, &state)
     }
 
     /// Fails unless the tickets of all acts are the log, where nothing was taken out of it but as segments. None are left.
@@ -336,18 +298,62 @@ impl Machine {
         if self.book.first() > 0 && self.segments.is_empty() {
             return Ok(());
         }
-        match gather(alloc, &self.segments, &self.book, tickets) {
-            Ok(()) => Ok(()),
-            Err(fault) => bail!("its tickets are not the log: {fault:?}"),
+        let gathered = gather(alloc, &self.segments, &self.book, tickets);
+        wanted(gathered, "its tickets are not the log")
+    }
+}
+
+/// Whether a copy of a state, and a replay that goes on from it, move by an entry.
+fn moves(alloc: Global, config: &Config, before: &State, entry: &Entry) -> Result<bool> {
+    let mut state = before.try_copy(alloc)?;
+    let moved = state.step(alloc, config, entry)?;
+    if !moved && !state.same(before) {
+        return wrong("a state moves by what may not be");
+    }
+    let replayed = replays(alloc, *config, before, entry, &state)?;
+    ensure!(replayed == moved, "a replay moves otherwise");
+    Ok(moved)
+}
+
+/// Whether a replay that goes on from a state moves by an entry. It comes to the other state.
+fn replays(alloc: Global, config: Config, from: &State, entry: &Entry, to: &State) -> Result<bool> {
+    let Some(mut replay) = Replay::of(alloc, config, from)? else {
+        return wrong("no replay goes on from here");
+    };
+    let moved = replay.step(alloc, entry)?;
+    let state = replay.into_state(alloc)?;
+    ensure!(state.same(to), "a replay moves otherwise");
+    Ok(moved)
+}
+
+/// Whether a replay moves by all these entries, and comes to where a machine stands.
+fn ends(alloc: Global, mut replay: Replay, entries: &[Entry], core: &Core) -> Result<bool> {
+    let follows = steps(alloc, &mut replay, entries)?;
+    let state = replay.into_state(alloc)?;
+    Ok(follows && is_at(alloc, core, &state)?)
+}
+
+/// Whether a replay moves by all these entries.
+fn steps(alloc: Global, replay: &mut Replay, entries: &[Entry]) -> Result<bool> {
+    for entry in entries {
+        if !replay.step(alloc, entry)? {
+            return Ok(false);
         }
     }
+    Ok(true)
+}
+
+/// The entry of a line of a transcript.
+fn entry_of(alloc: Global, line: &str) -> Result<Entry> {
+    let words: Vec<&str> = line.split_whitespace().skip(1).collect(alloc)?;
+    entry(alloc, &words)
 }
 
 /// Where a connection stands; `-` where it is not open.
 fn phase(alloc: Global, core: &Core, slot: u64) -> Result<String> {
     match core.phase(slot) {
-        Some(phase) => Ok(format!(in alloc; "{phase:?}")?),
-        None => Ok(String::from_str(alloc, "-")?),
+        Some(phase) => by_name(alloc, &phase),
+        None => text(String::from_str(alloc, "-")),
     }
 }
 
@@ -355,16 +361,22 @@ fn phase(alloc: Global, core: &Core, slot: u64) -> Result<String> {
 fn asked(alloc: Global, piece: &[u8]) -> Result<String> {
     match name_to_register(alloc, piece) {
         Some(name) => digits_of(alloc, name.bytes()),
-        None => Ok(String::from_str(alloc, "-")?),
+        None => text(String::from_str(alloc, "-")),
     }
 }
 
 /// The address of these bytes.
 fn address(alloc: Global, word: &str) -> Result<Ip> {
-    let bytes = bytes(alloc, word)?;
-    match (bytes.as_slice().try_into(), bytes.as_slice().try_into()) {
-        (Ok(four), _) => Ok(Ip::V4(four)),
-        (_, Ok(sixteen)) => Ok(Ip::V6(sixteen)),
-        _ => bail!("no address: {word}"),
+    match ip(&bytes(alloc, word)?) {
+        Some(ip) => Ok(ip),
+        None => unknown("no address", word),
+    }
+}
+
+fn ip(bytes: &[u8]) -> Option<Ip> {
+    match (bytes.try_into(), bytes.try_into()) {
+        (Ok(four), _) => Some(Ip::V4(four)),
+        (_, Ok(sixteen)) => Some(Ip::V6(sixteen)),
+        _ => None,
     }
 }

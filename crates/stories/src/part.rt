@@ -4,9 +4,10 @@ use crate::feed::Pieces;
 use crate::machine::Machine;
 use crate::session::Session;
 use crate::states::Parts;
+use crate::words::wrong;
 use crate::worker::Scene;
 use crate::{table, wire};
-use anyhow::{Result, bail};
+use anyhow::Result;
 use portmap_table::Table;
 use std::alloc::Global;
 use std::sync::Wait;
@@ -45,7 +46,7 @@ impl Part {
     /// What comes of an act.
     pub fn came<R: Wait>(&mut self, host: &R, alloc: Global, words: &[&str]) -> Result<String> {
         match self {
-            Part::None => bail!("no story has begun"),
+            Part::None => wrong("no story has begun"),
             Part::Wire => wire::came(alloc, words),
             Part::Feed(pieces) => pieces.came(alloc, words),
             Part::Table(table) => table::came(alloc, &mut **table, words),

@@ -1,8 +1,8 @@
 //! One connection served, and recorded sessions shown, from one device to another.
 use crate::call::marked;
-use crate::devices::plan;
-use crate::words::{Digits, number, shown};
-use anyhow::{Result, bail};
+use crate::devices::{device, plan};
+use crate::words::{Digits, number, shown, text, wanted, wrong};
+use anyhow::Result;
 use portmap_core::Config;
 use portmap_link::once;
 use portmap_record::{play, tell_verdict, write_local};
@@ -11,24 +11,29 @@ use portmap_testing::tape::Tape;
 use std::alloc::Global;
 
 /// How it ends, and what is written, where bytes are served as one connection, or a session is shown whole, by its verdict alone, or left
-/// without its remote peers; of a connection also how many pulls it takes. Where memory is refused nothing is written.
+/// without its remote peers; of a connection also how many pulls it takes.
 pub fn played(alloc: Global, act: &str, bytes: &[u8], devices: &[&str]) -> Result<String> {
     let [input, output, turns] = *devices else {
-        bail!("no two devices and a number of turns");
+        return wrong("no two devices and a number of turns");
     };
-    let turns = number(turns)?;
-    let mut input = Tape::new(alloc, bytes, plan(input)?);
-    let mut output = Tape::new(alloc, &[], plan(output)?);
-    output.sink.reserve(1_000)?;
+    let (input, output, turns) = (plan(input)?, plan(output)?, number(turns)?);
+    let mut output = device(alloc, &[], output, 1_000)?;
+    let mut input = Tape::new(alloc, bytes, input);
     begin(alloc);
     let ended = ended(alloc, act, &mut input, &mut output, turns)?;
-    if ended.as_str() == "NoMemory" && !output.sink.is_empty() {
-        bail!("a refusal has written something");
+    seen(alloc, act, ended.as_str(), input.calls, &output.sink)
+}
+
+/// What is seen of it. Where memory is refused nothing is written.
+fn seen(alloc: Global, act: &str, ended: &str, calls: usize, written: &[u8]) -> Result<String> {
+    let is_refused = ended == "NoMemory";
+    if is_refused && !written.is_empty() {
+        return wrong("a refusal has written something");
     }
-    if act == "pulls" && ended.as_str() != "NoMemory" {
-        return Ok(format!(in alloc; "{}", input.calls)?);
+    if act == "pulls" && !is_refused {
+        return text(format!(in alloc; "{calls}"));
     }
-    Ok(format!(in alloc; "{ended} {}", Digits(&output.sink))?)
+    text(format!(in alloc; "{ended} {}", Digits(written)))
 }
 
 /// How it ends. The creations of a port mapper that serves one connection start at 7.
@@ -49,12 +54,10 @@ fn ended(
             marked(alloc, write_local(alloc, input, output, turns)),
         ),
         "play" => shown(alloc, marked(alloc, play(alloc, input, output, turns))),
-        _ => match Config::new(4369, false, 1024, 4096) {
-            Ok(config) => shown(
-                alloc,
-                marked(alloc, once(alloc, config, 7, input, output, turns)),
-            ),
-            Err(_) => bail!("no settings"),
-        },
+        _ => {
+            let config = wanted(Config::new(4369, false, 1024, 4096), "no settings")?;
+            let served = marked(alloc, once(alloc, config, 7, input, output, turns));
+            shown(alloc, served)
+        }
     }
 }

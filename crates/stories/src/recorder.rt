@@ -3,8 +3,8 @@ ghost use Rattle.std.specs.Prelude.{◌≡◌, false};
 
 use crate::devices::plan;
 use crate::listed::{settings, workers};
-use crate::words::yes;
-use anyhow::{Result, bail};
+use crate::words::{text, wrong, yes};
+use anyhow::{Result, ensure};
 use portmap_core::{Entry, State};
 use portmap_daemon::Recorder;
 use portmap_link::Output;
@@ -15,16 +15,19 @@ use std::alloc::Global;
 /// it makes and bytes it writes, which are a front of these.
 pub fn recorded(alloc: Global, words: &[&str], entries: &[Entry], bytes: &[u8]) -> Result<String> {
     let ["recorder", device, ref numbers @ ..] = *words else {
-        bail!("no device")
+        return wrong("no device");
     };
-    let mut recorder = Recorder::new(Tape::new(alloc, &[], plan(device)?));
-    let answers = answers(alloc, &mut recorder, entries, &workers(alloc, numbers)?)?;
-    let Tape { calls, sink, .. } = recorder.output();
-    if !bytes.starts_with(sink) {
-        bail!("other bytes are written");
-    }
+    let (plan, workers) = (plan(device)?, workers(alloc, numbers)?);
+    let mut recorder = Recorder::new(Tape::new(alloc, &[], plan));
+    let answers = answers(alloc, &mut recorder, entries, &workers)?;
+    seen(alloc, answers, recorder.output(), bytes)
+}
+
+fn seen(alloc: Global, answers: [bool; 3], output: &Tape<'_>, bytes: &[u8]) -> Result<String> {
+    let Tape { calls, sink, .. } = output;
+    ensure!(bytes.starts_with(sink), "other bytes are written");
     let [begun, one, two] = answers.map(yes);
-    Ok(format!(in alloc; "{begun} {one} {two} puts {calls} bytes {}", sink.len())?)
+    text(format!(in alloc; "{begun} {one} {two} puts {calls} bytes {}", sink.len()))
 }
 
 fn answers<W: Output>(
@@ -37,9 +40,7 @@ fn answers<W: Output>(
 {
     let config = settings()?;
     let start = State::empty(alloc);
-    if !start.owned(alloc, &config)? {
-        bail!("a session may not begin so");
-    }
+    ensure!(start.owned(alloc, &config)?, "a session may not begin so");
     let begun = recorder.begin(alloc, &config, 0, &start);
     let (entries, others) = entries.split_at(entries.len().min(2));
     let (workers, other_workers) = workers.split_at(workers.len().min(2));

@@ -1,9 +1,10 @@
 //! The answers to a registration and to a look-up as bytes.
 use crate::requests::Fields;
-use crate::words::{Digits, bytes, digits_of, number, shown};
-use anyhow::{Result, bail};
+use crate::words::{Digits, by_name, bytes, digits_of, number, shown, text, wrong};
+use anyhow::Result;
 use portmap_wire::{
-    WIDE_VERSION, alive_missing, port2_missing, read_alive, read_port2, write_alive, write_port2,
+    Reg, WIDE_VERSION, alive_missing, port2_missing, read_alive, read_port2, write_alive,
+    write_port2,
 };
 use std::alloc::Global;
 
@@ -11,7 +12,7 @@ use std::alloc::Global;
 pub fn registered(alloc: Global, high: &str, code: &str, creation: &str) -> Result<String> {
     let (high, creation) = (number::<u16>(high)?, number::<u32>(creation)?);
     if high < WIDE_VERSION && creation > 0xFFFF {
-        bail!("a creation of more than 2 bytes");
+        return wrong("a creation of more than 2 bytes");
     }
     digits_of(alloc, &write_alive(alloc, high, number(code)?, creation)?)
 }
@@ -23,14 +24,18 @@ pub fn read_registered(alloc: Global, reply: &str) -> Result<String> {
 
 /// What an answer to a look-up says, and how that is written; or its fault.
 pub fn read_found(alloc: Global, reply: &str) -> Result<String> {
-    let found = match read_port2(alloc, &bytes(alloc, reply)?) {
-        Ok(found) => found,
-        Err(fault) => return Ok(format!(in alloc; "{fault:?}")?),
-    };
-    let written = write_port2(alloc, found.as_ref())?;
-    match &found {
-        Some(reg) => Ok(format!(in alloc; "{} sent {}", Fields(reg), Digits(&written))?),
-        None => Ok(format!(in alloc; "None sent {}", Digits(&written))?),
+    let found = read_port2(alloc, &bytes(alloc, reply)?);
+    match found {
+        Ok(found) => sent(alloc, found.as_ref()),
+        Err(fault) => by_name(alloc, &fault),
+    }
+}
+
+fn sent(alloc: Global, found: Option<&Reg>) -> Result<String> {
+    let written = write_port2(alloc, found)?;
+    match found {
+        Some(reg) => text(format!(in alloc; "{} sent {}", Fields(reg), Digits(&written))),
+        None => text(format!(in alloc; "None sent {}", Digits(&written))),
     }
 }
 
@@ -47,5 +52,5 @@ pub fn missing(alloc: Global, reply: &str, to_registration: bool) -> Result<Stri
         };
         write!(counts, "{count} ")?;
     }
-    Ok(String::from_str(alloc, counts.as_str().trim_end())?)
+    text(String::from_str(alloc, counts.as_str().trim_end()))
 }

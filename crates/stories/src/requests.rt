@@ -1,6 +1,6 @@
 //! Names, registrations and requests as bytes.
-use crate::words::{Digits, answer, bytes, digits_of, name, number};
-use anyhow::{Result, bail};
+use crate::words::{Digits, answer, by_name, bytes, digits_of, name, number, text, wanted, wrong};
+use anyhow::Result;
 use portmap_wire::{
     ExtraFault, Name, Reg, Request, read_request, write_lookup, write_registration, write_request,
     write_stop,
@@ -26,9 +26,10 @@ impl<'a> fmt::Display for Fields<'a> {
 
 /// The bytes of a name's copy, or why these are no name.
 pub fn named(alloc: Global, word: &str) -> Result<String> {
-    match Name::read(alloc, &bytes(alloc, word)?) {
+    let name = Name::read(alloc, &bytes(alloc, word)?);
+    match name {
         Ok(name) => digits_of(alloc, name.try_copy(alloc)?.bytes()),
-        Err(fault) => Ok(format!(in alloc; "{fault:?}")?),
+        Err(fault) => by_name(alloc, &fault),
     }
 }
 
@@ -56,33 +57,41 @@ fn sent(alloc: Global, request: &Request) -> Result<Vec<u8>, AllocError> {
 
 /// What a body asks and how that is sent, or why it is no request.
 pub fn asked(alloc: Global, word: &str) -> Result<String> {
-    let request = match read_request(alloc, &bytes(alloc, word)?) {
-        Ok(request) => request,
-        Err(fault) => return Ok(format!(in alloc; "{fault:?}")?),
-    };
-    let written = write_request(alloc, &request)?;
-    if sent(alloc, &request)?.as_slice() != written.as_slice() {
-        bail!("it is sent in two ways");
+    let request = read_request(alloc, &bytes(alloc, word)?);
+    match request {
+        Ok(request) => asked_and_sent(alloc, &request),
+        Err(fault) => by_name(alloc, &fault),
     }
-    Ok(format!(in alloc; "{} sent {}", asks(alloc, &request)?, Digits(&written))?)
+}
+
+/// What a request asks and how it is sent.
+fn asked_and_sent(alloc: Global, request: &Request) -> Result<String> {
+    let written = write_request(alloc, request)?;
+    if sent(alloc, request)?.as_slice() != written.as_slice() {
+        return wrong("it is sent in two ways");
+    }
+    text(format!(in alloc; "{} sent {}", asks(alloc, request)?, Digits(&written)))
 }
 
 /// Whether two bodies ask of equal names, or register equal nodes.
 pub fn are_equal(alloc: Global, one: &str, other: &str) -> Result<String> {
-    let one = read(alloc, one)?;
-    let other = read(alloc, other)?;
-    match (&one, &other) {
-        (Request::Port(name), Request::Port(wanted)) => answer(alloc, name == wanted),
-        (Request::Alive(reg), Request::Alive(wanted)) => answer(alloc, reg == wanted),
-        _ => bail!("no two look-ups or registrations"),
+    let are_same = are_same(&read(alloc, one)?, &read(alloc, other)?);
+    match are_same {
+        Some(is_so) => answer(alloc, is_so),
+        None => wrong("no two look-ups or registrations"),
+    }
+}
+
+fn are_same(one: &Request, other: &Request) -> Option<bool> {
+    match (one, other) {
+        (Request::Port(name), Request::Port(wanted)) => Some(name == wanted),
+        (Request::Alive(reg), Request::Alive(wanted)) => Some(reg == wanted),
+        _ => None,
     }
 }
 
 fn read(alloc: Global, word: &str) -> Result<Request> {
-    match read_request(alloc, &bytes(alloc, word)?) {
-        Ok(request) => Ok(request),
-        Err(fault) => bail!("no request: {fault:?}"),
-    }
+    wanted(read_request(alloc, &bytes(alloc, word)?), "no request")
 }
 
 /// What a normal node of this port, highest version, name and extra bytes registers, or why these are too many. Its lowest version is 5.
@@ -99,16 +108,14 @@ fn made(
 
 /// The same of one whose extra bytes are not too many.
 pub fn registration(alloc: Global, port: u16, high: u16, word: &str, extra: &[u8]) -> Result<Reg> {
-    match made(alloc, port, high, word, extra)? {
-        Ok(reg) => Ok(reg),
-        Err(fault) => bail!("no node: {fault:?}"),
-    }
+    wanted(made(alloc, port, high, word, extra)?, "no node")
 }
 
 /// How a normal node that speaks versions 5 to 6 registers, or why its extra bytes are too many.
 pub fn node(alloc: Global, port: &str, word: &str, extra: &str) -> Result<String> {
-    match made(alloc, number(port)?, 6, word, &bytes(alloc, extra)?)? {
+    let made = made(alloc, number(port)?, 6, word, &bytes(alloc, extra)?)?;
+    match made {
         Ok(reg) => digits_of(alloc, &write_registration(alloc, &reg)?),
-        Err(fault) => Ok(format!(in alloc; "{fault:?}")?),
+        Err(fault) => by_name(alloc, &fault),
     }
 }

@@ -1,5 +1,6 @@
 //! All events of a story at once, as one run.
 use crate::events::{came_of, event};
+use crate::words::wrong;
 use anyhow::{Result, bail};
 use portmap_core::{Answer, Config, Core, Event, Refusal, State};
 use portmap_testing::marks::{begin, end, was_refused};
@@ -24,19 +25,20 @@ pub fn runs_so(
     told: &[Told],
     state: &State,
 ) -> Result<()> {
-    let (results, ran) = ran(alloc, config, first, told)?;
-    let (is_whole, other) = followed(alloc, config, first, told, results)?;
-    if !ran.same(&other) || (is_whole && !ran.same(state)) {
-        bail!("a run ends in another state");
+    let mut core = Core::new(alloc, config, first)?;
+    let results = results_of(alloc, &mut core, told)?;
+    let mut other = Core::new(alloc, config, first)?;
+    let is_whole = follows(alloc, &mut other, told, results)?;
+    let end = other.state(alloc)?;
+    if !is_at(alloc, &core, &end)? || (is_whole && !end.same(state)) {
+        return wrong("a run ends in another state");
     }
     Ok(())
 }
 
-/// What a run tells of all events, and the state that it ends in.
-fn ran(alloc: Global, config: Config, first: u32, told: &[Told]) -> Result<(Results, State)> {
-    let mut core = Core::new(alloc, config, first)?;
-    let results = results_of(alloc, &mut core, told)?;
-    Ok((results, core.state(alloc)?))
+/// Whether a machine stands so.
+pub fn is_at(alloc: Global, core: &Core, state: &State) -> Result<bool> {
+    Ok(core.state(alloc)?.same(state))
 }
 
 /// What a run tells of all events. One that is refused as a whole has changed nothing, and is made once more.
@@ -45,33 +47,25 @@ fn results_of(alloc: Global, core: &mut Core, told: &[Told]) -> Result<Results> 
     begin(alloc);
     let results = core.run(alloc, events);
     end(alloc);
-    match (results, was_refused(alloc)) {
-        (Ok(results), is_refused) => Ok((results, is_refused)),
-        (Err(_), true) => Ok((core.run(alloc, events_of(alloc, told)?)?, false)),
-        (Err(_), false) => bail!("memory was not refused to a run"),
+    let is_refused = was_refused(alloc);
+    match results {
+        Ok(results) => Ok((results, is_refused)),
+        Err(_) if is_refused => Ok((core.run(alloc, events_of(alloc, told)?)?, false)),
+        Err(_) => wrong("memory was not refused to a run"),
     }
 }
 
 fn events_of(alloc: Global, told: &[Told]) -> Result<Vec<Event>> {
     let mut events = Vec::new(alloc);
     for one in told {
-        let words: Vec<&str> = one.act.as_str().split_whitespace().collect(alloc)?;
-        events.push(event(alloc, &words)?)?;
+        events.push(event_of(alloc, one.act.as_str())?)?;
     }
     Ok(events)
 }
 
-/// Whether memory was refused to none of the events. Another machine, which is told all others, answers the same, and ends in this state.
-fn followed(
-    alloc: Global,
-    config: Config,
-    first: u32,
-    told: &[Told],
-    results: Results,
-) -> Result<(bool, State)> {
-    let mut other = Core::new(alloc, config, first)?;
-    let is_whole = follows(alloc, &mut other, told, results)?;
-    Ok((is_whole, other.state(alloc)?))
+fn event_of(alloc: Global, act: &str) -> Result<Event> {
+    let words: Vec<&str> = act.split_whitespace().collect(alloc)?;
+    event(alloc, &words)
 }
 
 /// Whether memory was refused to none of the events, which another machine answers the same.

@@ -3,7 +3,10 @@ use crate::listed;
 use crate::listed::workers;
 use crate::played::played;
 use crate::recorder::recorded;
-use crate::words::{Digits, bytes, digits_of, number, yes};
+use crate::states::copied_rows;
+use crate::words::{
+    Digits, by_name, bytes, bytes_told, digits_of, number, text, unknown, wanted, wrong, yes,
+};
 use anyhow::{Result, bail};
 use portmap_core::{Entry, State};
 use portmap_record::{
@@ -35,12 +38,9 @@ impl Session {
             "bytes" => self.take(alloc, words),
             "recorded" => self.record(alloc),
             "read" | "cut" | "at" | "whole" | "front" | "judged" => self.read(alloc, words),
-            "play" | "tell" | "leave" => played(
-                alloc,
-                act,
-                &self.bytes,
-                words.get(1..).unwrap_or(&[]),
-            ),
+            "play" | "tell" | "leave" => {
+                played(alloc, act, &self.bytes, words.get(1..).unwrap_or(&[]))
+            }
             "recorder" => recorded(alloc, words, &self.entries, &self.bytes),
             "local" => left(alloc, &self.bytes),
             "check" | "begins" | "upgrade" | "workers" | "alone" => of_record(
@@ -55,7 +55,7 @@ impl Session {
     /// Takes these bytes as the session.
     fn take(&mut self, alloc: Global, words: &[&str]) -> Result<String> {
         let ["bytes", word] = *words else {
-            bail!("no bytes")
+            return wrong("no bytes");
         };
         self.bytes = bytes(alloc, word)?;
         Ok(String::new(alloc))
@@ -63,8 +63,8 @@ impl Session {
 
     /// Takes the record of the entries as the session.
     fn record(&mut self, alloc: Global) -> Result<String> {
-        let record = listed::recorded(alloc, &mut self.entries)?;
-        self.bytes = bytes(alloc, written(alloc, &record)?.as_str())?;
+        let written = written(alloc, &listed::recorded(alloc, &mut self.entries)?)?;
+        self.bytes = bytes(alloc, written.as_str())?;
         Ok(String::new(alloc))
     }
 
@@ -76,14 +76,11 @@ impl Session {
             ["at", place, word] => self.at(alloc, number(place)?, word, usize::MAX),
             ["at", place, word, "cut", len] => self.at(alloc, number(place)?, word, number(len)?),
             ["whole", form, len] => whole(alloc, form, self.front(number(len)?)),
-            ["front", len, ref devices @ ..] => played(
-                alloc,
-                "play",
-                self.front(number(len)?),
-                devices,
-            ),
+            ["front", len, ref devices @ ..] => {
+                played(alloc, "play", self.front(number(len)?), devices)
+            }
             ["judged"] => self.judged(alloc),
-            _ => bail!("no such act"),
+            _ => wrong("no such act"),
         }
     }
 
@@ -114,7 +111,7 @@ impl Session {
             }
             put(&mut all, place, *byte);
         }
-        Ok(format!(in alloc; "{count}")?)
+        text(format!(in alloc; "{count}"))
     }
 }
 
@@ -126,45 +123,46 @@ fn put(bytes: &mut Vec<u8>, place: usize, new: u8) {
 
 /// Whether these bytes are a record. Fails unless its verdict, or why they are none, is what is told of them from one device to another.
 fn is_judged(alloc: Global, bytes: &[u8]) -> Result<bool> {
-    let (is_record, wanted) = match read_record(alloc, bytes) {
-        Ok(session) => (true, verdict_of(alloc, &session, bytes)?),
-        Err(fault) => (false, format!(in alloc; "Bad({fault:?}) -")?),
+    let session = read_record(alloc, bytes);
+    let wanted = match &session {
+        Ok(session) => verdict_of(alloc, session, bytes)?,
+        Err(fault) => format!(in alloc; "Bad({fault:?}) -")?,
     };
+    is_told(alloc, bytes, wanted.as_str())?;
+    Ok(session.is_ok())
+}
+
+fn is_told(alloc: Global, bytes: &[u8], wanted: &str) -> Result<()> {
     let told = played(alloc, "tell", bytes, &["steady", "steady", "3"])?;
-    if told.as_str() != wanted.as_str() {
+    if told.as_str() != wanted {
         bail!("{wanted} is told as {told}");
     }
-    Ok(is_record)
+    Ok(())
 }
 
 /// What is to be told of a record, which is written back as these bytes.
 fn verdict_of(alloc: Global, session: &Record, bytes: &[u8]) -> Result<String> {
     is_written_back(alloc, session, bytes)?;
+    let count = session.entries.len();
     let (is_run, line) = match check(alloc, session) {
-        Ok(()) => (
-            true,
-            format!(in alloc; "run of {} entries\n", session.entries.len())?,
-        ),
+        Ok(()) => (true, format!(in alloc; "run of {count} entries\n")?),
         Err(CheckFault::Illegal(at)) => (false, format!(in alloc; "broken at entry {at}\n")?),
-        Err(CheckFault::NoMemory) => bail!("memory is ample"),
+        Err(CheckFault::NoMemory) => return wrong("memory is ample"),
     };
-    Ok(format!(in alloc; "{is_run} {}", Digits(line.as_str().as_bytes()))?)
+    text(format!(in alloc; "{is_run} {}", Digits(line.as_str().as_bytes())))
 }
 
 fn is_written_back(alloc: Global, session: &Record, bytes: &[u8]) -> Result<()> {
     let written = written(alloc, session)?;
     if written.as_str() != digits_of(alloc, bytes)?.as_str() {
-        bail!("it is written otherwise: {written}");
+        return unknown("it is written otherwise", written.as_str());
     }
     Ok(())
 }
 
 /// The record that these bytes are.
 pub fn record_in(alloc: Global, bytes: &[u8]) -> Result<Record> {
-    match read_record(alloc, bytes) {
-        Ok(session) => Ok(session),
-        Err(fault) => bail!("it is no record: {fault:?}"),
-    }
+    wanted(read_record(alloc, bytes), "it is no record")
 }
 
 /// How many entries these bytes are the record of, by which they are written again; or their fault.
@@ -172,12 +170,15 @@ fn counted(alloc: Global, bytes: &[u8]) -> Result<String> {
     begin(alloc);
     let session = read_record(alloc, bytes);
     end(alloc);
-    let session = match session {
-        Ok(session) => session,
-        Err(fault) => return Ok(format!(in alloc; "{fault:?}")?),
-    };
-    is_written_back(alloc, &session, bytes)?;
-    Ok(format!(in alloc; "{}", session.entries.len())?)
+    match session {
+        Ok(session) => count(alloc, &session, bytes),
+        Err(fault) => by_name(alloc, &fault),
+    }
+}
+
+fn count(alloc: Global, session: &Record, bytes: &[u8]) -> Result<String> {
+    is_written_back(alloc, session, bytes)?;
+    text(format!(in alloc; "{}", session.entries.len()))
 }
 
 /// How many of these bytes are whole entries.
@@ -185,9 +186,9 @@ fn whole(alloc: Global, form: &str, bytes: &[u8]) -> Result<String> {
     let form = match form {
         "numbered" => Form::Numbered,
         "plain" => Form::Plain,
-        _ => bail!("no form: {form}"),
+        _ => return unknown("no form", form),
     };
-    Ok(format!(in alloc; "{}", whole_entries(form, bytes))?)
+    text(format!(in alloc; "{}", whole_entries(form, bytes)))
 }
 
 /// The bytes of a record, or why there are none. Where memory was refused, they are asked for once more.
@@ -198,10 +199,7 @@ pub fn written(alloc: Global, session: &Record) -> Result<String> {
     if matches!(&written, Err(WriteRecordFault::NoMemory)) && was_refused(alloc) {
         written = write_record(alloc, session);
     }
-    match written {
-        Ok(bytes) => digits_of(alloc, &bytes),
-        Err(fault) => Ok(format!(in alloc; "{fault:?}")?),
-    }
+    bytes_told(alloc, written)
 }
 
 /// What is found of a record, or made of it.
@@ -212,7 +210,7 @@ fn of_record(alloc: Global, session: Record, words: &[&str]) -> Result<String> {
         ["upgrade"] => upgraded(alloc, session),
         ["workers", ref numbers @ ..] => written_by(alloc, session, numbers, false),
         ["alone", ref numbers @ ..] => written_by(alloc, session, numbers, true),
-        _ => bail!("no such act"),
+        _ => wrong("no such act"),
     }
 }
 
@@ -222,8 +220,8 @@ fn found(alloc: Global, session: &Record) -> Result<String> {
     let found = check(alloc, session);
     end(alloc);
     match found {
-        Ok(()) => Ok(String::from_str(alloc, "Run")?),
-        Err(fault) => Ok(format!(in alloc; "{fault:?}")?),
+        Ok(()) => text(String::from_str(alloc, "Run")),
+        Err(fault) => by_name(alloc, &fault),
     }
 }
 
@@ -235,11 +233,15 @@ fn upgraded(alloc: Global, session: Record) -> Result<String> {
     end(alloc);
     match upgraded {
         Ok(session) => written(alloc, &session),
-        Err((_, session)) if written(alloc, &session)?.as_str() == before.as_str() => Ok(
-            String::from_str(alloc, "NoMemory")?,
-        ),
-        Err(_) => bail!("it comes back as another one"),
+        Err((_, session)) => refused(alloc, &session, before.as_str()),
     }
+}
+
+fn refused(alloc: Global, session: &Record, before: &str) -> Result<String> {
+    if written(alloc, session)?.as_str() != before {
+        return wrong("it comes back as another one");
+    }
+    text(String::from_str(alloc, "NoMemory"))
 }
 
 /// What is left of the record that these bytes are without its remote peers.
@@ -253,7 +255,7 @@ fn left(alloc: Global, bytes: &[u8]) -> Result<String> {
     end(alloc);
     match left {
         Ok(left) => written(alloc, &left),
-        Err(fault) => Ok(format!(in alloc; "{fault:?}")?),
+        Err(fault) => by_name(alloc, &fault),
     }
 }
 
@@ -274,14 +276,19 @@ fn beginning(alloc: Global, session: &Record) -> Result<String> {
         workers,
     } = &session.version
     {
-        write!(told, " first {first}")?;
-        tell_start(&mut told, start)?;
-        told.push_str(" workers")?;
-        for worker in workers {
-            write!(told, " {worker}")?;
-        }
+        tell_beginning(&mut told, *first, start, workers)?;
     }
     Ok(told)
+}
+
+fn tell_beginning(told: &mut String, first: u64, start: &State, workers: &[u32]) -> Result<()> {
+    write!(told, " first {first}")?;
+    tell_start(told, start)?;
+    told.push_str(" workers")?;
+    for worker in workers {
+        write!(told, " {worker}")?;
+    }
+    Ok(())
 }
 
 /// Tells a state by its parts.
@@ -322,31 +329,32 @@ fn tell_start(told: &mut String, start: &State) -> Result<()> {
 }
 
 /// How a record of version 2 is written with these workers, and with its active names alone where that is asked for.
-fn written_by(alloc: Global, session: Record, numbers: &[&str], alone: bool) -> Result<String> {
-    let mut session = session;
+fn written_by(alloc: Global, mut session: Record, numbers: &[&str], alone: bool) -> Result<String> {
+    change(alloc, &mut session, numbers, alone)?;
+    written(alloc, &session)
+}
+
+fn change(alloc: Global, session: &mut Record, numbers: &[&str], alone: bool) -> Result<()> {
     let Version::Two {
         start,
         workers: made,
         ..
     } = &mut session.version
     else {
-        bail!("it is of version 1")
+        return wrong("it is of version 1");
     };
     *made = workers(alloc, numbers)?;
     if alone {
         *start = active_alone(alloc, start)?;
     }
-    written(alloc, &session)
+    Ok(())
 }
 
 /// The active names of a state, without any connection.
 fn active_alone(alloc: Global, start: &State) -> Result<State> {
-    let mut rows = Vec::new(alloc);
-    for row in start.active() {
-        rows.push(row.try_copy(alloc)?)?;
-    }
+    let rows = copied_rows(alloc, start.active())?;
     match State::build(rows, Vec::new(alloc), Vec::new(alloc), false) {
         Some(state) => Ok(state),
-        None => bail!("no state"),
+        None => wrong("no state"),
     }
 }

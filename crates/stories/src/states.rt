@@ -1,8 +1,9 @@
 //! States of parts.
 use crate::events::is_local;
+use crate::listed::settings;
 use crate::requests::registration;
-use crate::words::{bytes, name, number};
-use anyhow::{Result, bail};
+use crate::words::{bytes, name, number, text, unknown, wrong};
+use anyhow::Result;
 use portmap_core::{Config, Entry, Held, Old, Phase, Row, State};
 use std::alloc::Global;
 use std::mem;
@@ -33,39 +34,36 @@ impl Parts {
                 .connections
                 .push(conn(alloc, slot, whence, held)?)?,
             ["build"] => return built(alloc, mem::replace(self, Parts::new(alloc))),
-            _ => bail!("no such act"),
+            _ => return wrong("no such act"),
         }
         Ok(String::new(alloc))
     }
 }
 
 fn row(alloc: Global, word: &str, creation: &str, slot: &str) -> Result<Row> {
-    let (creation, slot) = (number(creation)?, number(slot)?);
     Ok(Row {
+        creation: number(creation)?,
+        slot: number(slot)?,
         reg: registration(alloc, 5000, 6, word, &[])?,
-        creation,
-        slot,
     })
 }
 
 fn old(alloc: Global, word: &str, creation: &str) -> Result<Old> {
-    let creation = number(creation)?;
     Ok(Old {
-        name: name(alloc, word)?,
         port: 5000,
-        creation,
+        creation: number(creation)?,
+        name: name(alloc, word)?,
     })
 }
 
 fn conn(alloc: Global, slot: &str, whence: &str, held: &[&str]) -> Result<Held> {
     let [phase, kept] = *held else {
-        bail!("no phase and bytes")
+        return wrong("no phase and bytes");
     };
-    let (slot, local, phase) = (number(slot)?, is_local(whence)?, phase_of(phase)?);
     Ok(Held {
-        slot,
-        local,
-        phase,
+        slot: number(slot)?,
+        local: is_local(whence)?,
+        phase: phase_of(phase)?,
         bytes: bytes(alloc, kept)?,
     })
 }
@@ -75,60 +73,78 @@ fn phase_of(word: &str) -> Result<Phase> {
         "waiting" => Ok(Phase::Waiting),
         "holding" => Ok(Phase::Holding),
         "done" => Ok(Phase::Done),
-        _ => bail!("no phase: {word}"),
+        _ => unknown("no phase", word),
     }
 }
 
 /// Whether parts are a state, and a port mapper of two connections and two names comes to it.
 fn built(alloc: Global, parts: Parts) -> Result<String> {
-    let Parts {
-        active,
-        retired,
-        connections,
-    } = parts;
-    let Some(state) = State::build(active, retired, connections, false) else {
-        return Ok(String::from_str(alloc, "none")?);
-    };
-    let Ok(config) = Config::new(4369, false, 2, 2) else {
-        bail!("no settings");
-    };
-    if is_built_again(alloc, &config, &state)? {
-        return Ok(String::from_str(alloc, "owned")?);
+    match State::build(parts.active, parts.retired, parts.connections, false) {
+        Some(state) => kind_of(alloc, &settings()?, &state),
+        None => text(String::from_str(alloc, "none")),
     }
-    if !stays(alloc, &config, state)? {
-        bail!("it moves where no port mapper is");
-    }
-    Ok(String::from_str(alloc, "strange")?)
 }
 
-/// Whether a state stays as it is where a connection comes.
-fn stays(alloc: Global, config: &Config, mut state: State) -> Result<bool> {
-    let before = state.try_copy(alloc)?;
+fn kind_of(alloc: Global, config: &Config, state: &State) -> Result<String> {
+    if is_built_again(alloc, config, state)? {
+        return text(String::from_str(alloc, "owned"));
+    }
+    if !stays(alloc, config, state)? {
+        return wrong("it moves where no port mapper is");
+    }
+    text(String::from_str(alloc, "strange"))
+}
+
+/// Whether a copy of a state stays as it is where a connection comes.
+fn stays(alloc: Global, config: &Config, state: &State) -> Result<bool> {
+    let mut copy = state.try_copy(alloc)?;
     let entry = Entry::Connected {
         local: true,
         slot: 9,
     };
-    Ok(!state.step(alloc, config, &entry)? && state.same(&before))
+    Ok(!copy.step(alloc, config, &entry)? && copy.same(state))
 }
 
 /// Whether a port mapper comes to a state. It is that of copies of its parts, in either case.
 pub fn is_built_again(alloc: Global, config: &Config, state: &State) -> Result<bool> {
-    let Parts {
-        mut active,
-        mut retired,
-        mut connections,
-    } = Parts::new(alloc);
-    for row in state.active() {
-        active.push(row.try_copy(alloc)?)?;
+    let is_same = match copied(alloc, state)? {
+        Some(built) => built.same(state),
+        None => false,
+    };
+    if !is_same {
+        return wrong("it is another state than that of its parts");
     }
-    for old in state.retired() {
-        retired.push(old.try_copy(alloc)?)?;
+    Ok(state.owned(alloc, config)?)
+}
+
+/// The state of copies of a state's parts.
+fn copied(alloc: Global, state: &State) -> Result<Option<State>> {
+    let active = copied_rows(alloc, state.active())?;
+    let retired = copied_olds(alloc, state.retired())?;
+    let connections = copied_conns(alloc, state.conns())?;
+    Ok(State::build(active, retired, connections, state.halted()))
+}
+
+pub fn copied_rows(alloc: Global, rows: &[Row]) -> Result<Vec<Row>> {
+    let mut copies = Vec::new(alloc);
+    for row in rows {
+        copies.push(row.try_copy(alloc)?)?;
     }
-    for held in state.conns() {
-        connections.push(held.try_copy(alloc)?)?;
+    Ok(copies)
+}
+
+fn copied_olds(alloc: Global, olds: &[Old]) -> Result<Vec<Old>> {
+    let mut copies = Vec::new(alloc);
+    for old in olds {
+        copies.push(old.try_copy(alloc)?)?;
     }
-    match State::build(active, retired, connections, state.halted()) {
-        Some(built) if built.same(state) => Ok(state.owned(alloc, config)?),
-        _ => bail!("it is another state than that of its parts"),
+    Ok(copies)
+}
+
+fn copied_conns(alloc: Global, conns: &[Held]) -> Result<Vec<Held>> {
+    let mut copies = Vec::new(alloc);
+    for held in conns {
+        copies.push(held.try_copy(alloc)?)?;
     }
+    Ok(copies)
 }

@@ -1,7 +1,7 @@
 //! A story: what it shows, what comes in turn, and what is wanted.
 use crate::part::Part;
-use crate::words::Names;
-use anyhow::{Result, bail};
+use crate::words::{Names, wrong};
+use anyhow::{Result, ensure};
 use portmap_testing::marks::was_refused;
 use std::alloc::Global;
 use std::sync::Wait;
@@ -136,9 +136,7 @@ impl<'a, R: Wait> Story<'a, R> {
         if !was_refused(alloc) || !came.as_str().contains("NoMemory") {
             return Ok(Some(came));
         }
-        if !self.part.stands(alloc)? {
-            bail!("a refusal has changed something");
-        }
+        ensure!(self.part.stands(alloc)?, "a refusal has changed something");
         Ok(None)
     }
 

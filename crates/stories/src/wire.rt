@@ -2,8 +2,8 @@
 use crate::lists::{dumped, listed, written_dump, written_names};
 use crate::replies::{missing, read_found, read_registered, registered};
 use crate::requests::{are_equal, asked, named, node};
-use crate::words::bytes;
-use anyhow::{Result, bail};
+use crate::words::{bytes, wrong};
+use anyhow::Result;
 use portmap_wire::{read_dump, read_names};
 use std::alloc::Global;
 
@@ -23,6 +23,6 @@ pub fn came(alloc: Global, words: &[&str]) -> Result<String> {
         ["read", "names", reply] => listed(alloc, read_names(alloc, &bytes(alloc, reply)?)),
         ["dump", port, ref lines @ ..] => written_dump(alloc, port, lines),
         ["read", "dump", reply] => dumped(alloc, read_dump(&bytes(alloc, reply)?)),
-        _ => bail!("no such act"),
+        _ => wrong("no such act"),
     }
 }

@@ -1,5 +1,5 @@
 //! The words of a line: bytes as digits, quoted text, repeats, names that stand for bytes, and what joins them.
-use anyhow::{Context, Result, bail};
+use anyhow::{Error, Result, bail};
 use portmap_wire::Name;
 use std::alloc::{AllocError, Global};
 use std::collections::BTreeMap;
@@ -45,7 +45,7 @@ impl Names {
     /// Has a name stand for the digits of all these words too, behind its own.
     pub fn add(&mut self, name: &str, words: &[&str]) -> Result<()> {
         let Some(digits) = self.digits.get_mut(name) else {
-            bail!("no name: {name}")
+            return unknown("no name", name);
         };
         for word in words {
             digits.push_str(word)?;
@@ -57,18 +57,23 @@ impl Names {
     /// stands for itself.
     pub fn spelled(&self, alloc: Global, line: &str) -> Result<String> {
         let mut spelled = String::new(alloc);
-        for word in unquoted(alloc, line)?.as_str().split_whitespace() {
-            let is_given = spelled.as_str() == "let" || spelled.as_str() == "more";
+        self.spell(&mut spelled, unquoted(alloc, line)?.as_str())?;
+        Ok(spelled)
+    }
+
+    fn spell(&self, spelled: &mut String, line: &str) -> Result<()> {
+        for word in line.split_whitespace() {
+            let is_given = matches!(spelled.as_str(), "let" | "more");
             if !spelled.is_empty() {
                 spelled.push_str(" ")?;
             }
             if is_given {
                 spelled.push_str(word)?;
             } else {
-                self.push_word(&mut spelled, word)?;
+                self.push_word(spelled, word)?;
             }
         }
-        Ok(spelled)
+        Ok(())
     }
 
     fn push_word(&self, spelled: &mut String, word: &str) -> Result<()> {
@@ -91,13 +96,13 @@ impl Names {
         let (len, is_front) = match range.trim_end_matches(']').split_once("..") {
             Some(("", until)) => (until, true),
             Some((from, "")) => (from, false),
-            _ => bail!("no range: {part}"),
+            _ => return unknown("no range", part),
         };
         let len = number::<usize>(len)?.saturating_mul(2);
         match self.meant(name).split_at_checked(len) {
             Some((front, _)) if is_front => Ok(front),
             Some((_, rest)) => Ok(rest),
-            None => bail!("fewer bytes: {part}"),
+            None => unknown("fewer bytes", part),
         }
     }
 
@@ -141,7 +146,7 @@ pub fn bytes(alloc: Global, word: &str) -> Result<Vec<u8>> {
     }
     match hex::decode(alloc, word) {
         Ok(bytes) => Ok(bytes),
-        Err(_) => bail!("no bytes: {word}"),
+        Err(_) => unknown("no bytes", word),
     }
 }
 
@@ -152,21 +157,18 @@ where
 {
     match word.parse::<T>() {
         Ok(number) => Ok(number),
-        Err(_) => bail!("no number: {word}"),
+        Err(_) => unknown("no number", word),
     }
 }
 
 /// The name that a word has the bytes of.
 pub fn name(alloc: Global, word: &str) -> Result<Name> {
-    match Name::read(alloc, &bytes(alloc, word)?) {
-        Ok(name) => Ok(name),
-        Err(fault) => bail!("no name: {fault:?}"),
-    }
+    wanted(Name::read(alloc, &bytes(alloc, word)?), "no name")
 }
 
 /// The digits of bytes.
 pub fn digits_of(alloc: Global, bytes: &[u8]) -> Result<String> {
-    Ok(format!(in alloc; "{}", Digits(bytes))?)
+    text(format!(in alloc; "{}", Digits(bytes)))
 }
 
 /// Whether a word is for relaxed checks, and not for strict ones.
@@ -174,7 +176,7 @@ pub fn is_relaxed(word: &str) -> Result<bool> {
     match word {
         "relaxed" => Ok(true),
         "strict" => Ok(false),
-        _ => bail!("neither relaxed nor strict: {word}"),
+        _ => unknown("neither relaxed nor strict", word),
     }
 }
 
@@ -185,7 +187,7 @@ pub fn yes(is_so: bool) -> &'static str {
 
 /// That word, as what comes of an act.
 pub fn answer(alloc: Global, is_so: bool) -> Result<String> {
-    Ok(String::from_str(alloc, yes(is_so))?)
+    text(String::from_str(alloc, yes(is_so)))
 }
 
 /// The words for a value, or for why there is none.
@@ -194,8 +196,8 @@ pub fn told<T: fmt::Display + Drop, E: fmt::Debug + Drop>(
     outcome: Result<T, E>,
 ) -> Result<String> {
     match outcome {
-        Ok(value) => Ok(format!(in alloc; "{value}")?),
-        Err(fault) => Ok(format!(in alloc; "{fault:?}")?),
+        Ok(value) => text(format!(in alloc; "{value}")),
+        Err(fault) => by_name(alloc, &fault),
     }
 }
 
@@ -205,7 +207,43 @@ pub fn shown<T: fmt::Debug + Drop, E: fmt::Debug + Drop>(
     outcome: Result<T, E>,
 ) -> Result<String> {
     match outcome {
-        Ok(value) => Ok(format!(in alloc; "{value:?}")?),
-        Err(fault) => Ok(format!(in alloc; "{fault:?}")?),
+        Ok(value) => by_name(alloc, &value),
+        Err(fault) => by_name(alloc, &fault),
+    }
+}
+
+/// The digits of bytes, or the words for why there are none.
+pub fn bytes_told<E: fmt::Debug + Drop>(alloc: Global, made: Result<Vec<u8>, E>) -> Result<String> {
+    match made {
+        Ok(bytes) => digits_of(alloc, &bytes),
+        Err(fault) => by_name(alloc, &fault),
+    }
+}
+
+/// The words for what has a name.
+pub fn by_name<T: fmt::Debug>(alloc: Global, value: &T) -> Result<String> {
+    text(format!(in alloc; "{value:?}"))
+}
+
+/// A text, where there was memory for it.
+pub fn text(made: Result<String, AllocError>) -> Result<String> {
+    Ok(made?)
+}
+
+/// Fails, and says why.
+pub fn wrong<T>(why: &str) -> Result<T> {
+    Err(Error::msg(why))
+}
+
+/// Fails, and says what a word is not.
+pub fn unknown<T>(what: &str, word: &str) -> Result<T> {
+    bail!("{what}: {word}")
+}
+
+/// A value; or fails, and says what there is not, and why.
+pub fn wanted<T, E: fmt::Debug + Drop>(outcome: Result<T, E>, what: &str) -> Result<T> {
+    match outcome {
+        Ok(value) => Ok(value),
+        Err(fault) => bail!("{what}: {fault:?}"),
     }
 }

@@ -1,10 +1,10 @@
 //! A worker of the daemon, and the turns that a source of two links tells it.
 ghost use Rattle.std.specs.Prelude.{◌≡◌};
 
-use crate::devices::plan;
+use crate::devices::{device, plan};
 use crate::events::is_local;
-use crate::words::{Digits, bytes, is_relaxed, number};
-use anyhow::{Result, bail};
+use crate::words::{Digits, bytes, is_relaxed, number, text, told, unknown, wrong};
+use anyhow::Result;
 use portmap_book::{Desk, PARTS, Seat};
 use portmap_core::Entry;
 use portmap_daemon::{Open, Outcome, Source, Turn, serve};
@@ -91,23 +91,30 @@ impl<'a> Wires<'a> {
         desk.advance(rt, alloc, &mut self.log, &mut Vec::new(alloc));
     }
 
-    /// What has come behind what was told, and how much that is with it.
-    fn line(&self, alloc: Global, told: Told, is_over: bool) -> Result<(String, Told)> {
-        let (seven, eight) = (&self.seven.sink, &self.eight.sink);
+    /// How much has come.
+    fn told(&self) -> Told {
+        let (seven, eight) = (self.seven.sink.len(), self.eight.sink.len());
+        [self.log.len(), seven, eight, self.ended.len()]
+    }
+
+    /// What has come behind what was told.
+    fn line(&self, alloc: Global, told: Told, is_over: bool) -> Result<String> {
         let mut line = entry_words(alloc, self.log.get(told[0]..).unwrap_or(&[]))?;
-        put_bytes(&mut line, 7, seven.get(told[1]..).unwrap_or(&[]))?;
-        put_bytes(&mut line, 8, eight.get(told[2]..).unwrap_or(&[]))?;
+        self.put_rest(&mut line, told, is_over)?;
+        text(String::from_str(alloc, line.as_str().trim_start_matches(" ; ")))
+    }
+
+    /// Adds what both links got and gave up to the entries of a line.
+    fn put_rest(&self, line: &mut String, told: Told, is_over: bool) -> Result<()> {
+        put_bytes(line, 7, self.seven.sink.get(told[1]..).unwrap_or(&[]))?;
+        put_bytes(line, 8, self.eight.sink.get(told[2]..).unwrap_or(&[]))?;
         for key in self.ended.iter().skip(told[3]) {
             write!(line, " ; ends {key}")?;
         }
         if is_over {
             line.push_str(" ; over")?;
         }
-        let line = String::from_str(alloc, line.as_str().trim_start_matches(" ; "))?;
-        Ok((
-            line,
-            [self.log.len(), seven.len(), eight.len(), self.ended.len()],
-        ))
+        Ok(())
     }
 
     /// How many connections have come, what link 7 got, and what has come of link 8.
@@ -171,7 +178,7 @@ impl Scene {
                 self.plan = plan(device.first().copied().unwrap_or("steady"))?;
             }
             ["gives", "8", word] => self.eight = bytes(alloc, word)?,
-            _ => bail!("no such act"),
+            _ => return wrong("no such act"),
         }
         Ok(())
     }
@@ -187,14 +194,20 @@ impl Scene {
     /// Tells what has come of all turns and was not told. Where memory is refused to the last one, its link is given up, and all are made
     /// once more.
     fn tell<R: Wait>(&mut self, rt: &R, alloc: Global) -> Result<String> {
-        let given_up = end_of(alloc, self.turns.last())?;
-        let (mut line, mut told) = self.line(rt, alloc, !given_up.is_empty())?;
+        let is_marked = !end_of(alloc, self.turns.last())?.is_empty();
+        let (line, told) = self.line(rt, alloc, is_marked)?;
         if was_refused(alloc) {
-            let refused = line;
-            (line, told) = self.line(rt, alloc, false)?;
-            if refused.as_str() != line.as_str() && !refused.as_str().contains(given_up.as_str()) {
-                bail!("where memory is refused comes {refused}");
-            }
+            return self.tell_again(rt, alloc, line.as_str());
+        }
+        self.told = told;
+        Ok(line)
+    }
+
+    fn tell_again<R: Wait>(&mut self, rt: &R, alloc: Global, refused: &str) -> Result<String> {
+        let (line, told) = self.line(rt, alloc, false)?;
+        let given_up = end_of(alloc, self.turns.last())?;
+        if refused != line.as_str() && !refused.contains(given_up.as_str()) {
+            return unknown("where memory is refused comes", refused);
         }
         self.told = told;
         Ok(line)
@@ -204,7 +217,7 @@ impl Scene {
     fn line<R: Wait>(&self, rt: &R, alloc: Global, is_marked: bool) -> Result<(String, Told)> {
         let mut wires = self.wires(alloc, self.plan, is_marked)?;
         let is_over = serve_all(rt, alloc, self, &mut wires)?;
-        wires.line(alloc, self.told, is_over)
+        Ok((wires.line(alloc, self.told, is_over)?, wires.told()))
     }
 
     /// What comes of both links where link 7 fails at this call of it.
@@ -220,20 +233,14 @@ impl Scene {
 
     /// The links, where link 7 answers so. What they get and give up is noted without memory.
     fn wires(&self, alloc: Global, plan: Plan, is_marked: bool) -> Result<Wires<'_>> {
-        let mut wires = Wires {
-            unmarked: if is_marked {
-                self.turns.len().saturating_sub(1)
-            } else {
-                usize::MAX
-            },
-            seven: Tape::new(alloc, &self.seven, plan),
-            eight: Tape::new(alloc, &self.eight, STEADY),
+        let last = self.turns.len().saturating_sub(1);
+        Ok(Wires {
+            unmarked: if is_marked { last } else { usize::MAX },
+            seven: device(alloc, &self.seven, plan, 1_000)?,
+            eight: device(alloc, &self.eight, STEADY, 1_000)?,
             ended: Vec::with_capacity(alloc, 100)?,
             log: Vec::new(alloc),
-        };
-        wires.seven.sink.reserve(1_000)?;
-        wires.eight.sink.reserve(1_000)?;
-        Ok(wires)
+        })
     }
 }
 
@@ -241,7 +248,7 @@ impl Scene {
 fn serve_all<R: Wait>(rt: &R, alloc: Global, scene: &Scene, wires: &mut Wires<'_>) -> Result<bool> {
     match served::<Brand, R>(rt, alloc, Blank::new(PARTS), scene, wires) {
         Some(is_over) => Ok(is_over),
-        None => bail!("it closes not all as it stops, or has served otherwise than it says"),
+        None => wrong("it closes not all as it stops, or has served otherwise than it says"),
     }
 }
 
@@ -299,7 +306,7 @@ fn turn(words: &[&str]) -> Result<Turn> {
         ["late", key] => Turn::Late(number(key)?),
         ["idle"] => Turn::Idle,
         ["stop"] => Turn::Stop,
-        _ => bail!("no such act"),
+        _ => return wrong("no such act"),
     })
 }
 
@@ -307,7 +314,7 @@ fn turn(words: &[&str]) -> Result<Turn> {
 fn end_of(alloc: Global, turn: Option<&Turn>) -> Result<String> {
     match turn {
         Some(Turn::Fresh { key, .. } | Turn::Ready(key) | Turn::Late(key)) => {
-            Ok(format!(in alloc; "ends {key}")?)
+            text(format!(in alloc; "ends {key}"))
         }
         _ => Ok(String::new(alloc)),
     }
