@@ -355,7 +355,7 @@ class Parts(Checkout):
 
     # What crates.txt has the program use of its own crates: what stands in it for tests alone is no part.
     OWN = {"epmd", "portmap_wire", "portmap_feed", "portmap_table", "portmap_core", "portmap_book", "portmap_link", "portmap_client", "portmap_record",
-           "portmap_ready", "portmap_daemon"}
+           "portmap_ready", "portmap_worker", "portmap_daemon"}
 
     # How pages of the kit tell after what a crate is written.
     PAGES = {"slab": "Keys. A port of the Rust crate `slab` 0.4.12 (MIT, `LICENSE`).",

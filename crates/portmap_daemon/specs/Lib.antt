@@ -1,10 +1,1 @@
-pub mod Carrying
-pub mod Link
-pub mod Listening
-pub mod Parts
-pub mod Peers
-pub mod Queue
-pub mod Quota
-pub mod Recording
-pub mod Refused
 pub mod Running

@@ -2,6 +2,8 @@
 use Rattle.std.specs.Prelude.{ℕ, ◌<◌}
 use Rattle.portmap_daemon.specs.declared.daemon.RunFault.{RunFault}
 use Rattle.portmap_daemon.specs.declared.daemon.RunFault.TheVariants.{Listen, ListenBeside, Poll, NoMemory}
+use Rattle.portmap_worker.specs.declared.shared.Failure.{Failure}
+use Rattle.portmap_worker.specs.declared.shared.Failure.TheVariants as failure
 
 -- where an address can't be listened on, it is one of so many
 abbrev pub IsOfAddresses : ℕ → RunFault → Type 0
@@ -9,3 +11,8 @@ IsOfAddresses count (Listen place) = place < count
 IsOfAddresses count (ListenBeside place) = place < count
 IsOfAddresses count Poll = Unit {0}
 IsOfAddresses count NoMemory = Unit {0}
+
+-- what a daemon tells whose workers end so
+abbrev pub fault_by : Failure → RunFault
+fault_by failure.Poll = Poll
+fault_by failure.NoMemory = NoMemory

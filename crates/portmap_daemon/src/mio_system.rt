@@ -1,19 +1,18 @@
 //! The system as `mio` and the kernel give it.
-ghost use Rattle.std.specs.Prelude.{◌≡◌, ◌≢◌, ◌↔◌, ◌-◌, ◌*◌, ◌^◌, ◌<◌, ◌≤◌, ◌∷◌, [], ◌&&◌, not, true, take, drop, IfSome, IfNone, IfErr};
-ghost use Rattle.std.specs.Duration.{as_nanos};
+ghost use Rattle.std.specs.Prelude.{◌≡◌, ◌≢◌, ◌↔◌, ◌-◌, ◌<◌, ◌≤◌, ◌∷◌, [], ◌&&◌, not, true, take, drop, IfSome, IfNone, IfErr};
 ghost use Rattle.std.specs.Net.Addr.{ipv4_octets, ipv6_segments, segments_of, IsV4And, IsV6And};
 ghost use Rattle.portmap_daemon.specs.Running.{IsOfAddresses};
-ghost use Rattle.portmap_daemon.specs.declared.limits.TheConstants.{EVENTS_MOST};
+ghost use Rattle.portmap_worker.specs.declared.limits.TheConstants.{EVENTS_MOST};
 ghost use Rattle.portmap_daemon.specs.declared.mio_system.TheConstants.{FIRST_LISTENER, WAKE};
 
 use crate::daemon::RunFault;
-use crate::limits::EVENTS_MOST;
-use crate::system::{Interest, Report, Stream, System, Wake};
 use libc::net::{_SS_SIZE, AF_INET, AF_INET6, SOCK_CLOEXEC, SOCK_NONBLOCK, accept4};
 use mio::net::{TcpListener, TcpStream};
 use mio::{Events, Poll, Token, Waker};
 use os::FromRawFd;
+use portmap_worker::{EVENTS_MOST, Interest, Report, Stream, System, Wake};
 use std::alloc::Global;
+use std::io::{Read, Write};
 use std::net::{IpAddr, Net};
 use std::os::fd::AsRawFd;
 use std::time::Duration;
@@ -56,11 +55,57 @@ fn is_full(count: usize) -> bool
     count >= EVENTS_MOST
 }
 
-/// So many milliseconds.
-pub(crate) fn milliseconds(count: u64) -> Duration
-    ensures { as_nanos result ≡ count * 10 ^ 6 }
-{
-    Duration::from_millis(count)
+/// The stream of a connection, as `mio` has it.
+#[derive(Drop)]
+pub struct MioStream {
+    inner: TcpStream,
+}
+
+impl From<TcpStream> for MioStream {
+    fn from(inner: TcpStream) -> MioStream {
+        MioStream { inner }
+    }
+}
+
+impl Read for MioStream {
+    fn read(&mut self, buffer: &mut [u8]) -> io::Result<usize> {
+        self.inner.read(buffer)
+    }
+}
+
+impl Write for MioStream {
+    fn write(&mut self, bytes: &[u8]) -> io::Result<usize> {
+        self.inner.write(bytes)
+    }
+
+    fn flush(&mut self) -> io::Result<()> {
+        self.inner.flush()
+    }
+}
+
+impl Stream for MioStream {
+    fn own_ip(&self) -> Option<IpAddr> {
+        Some(self.inner.local_addr().ok()?.ip())
+    }
+
+    fn reset(&mut self) {
+        // An address of no family: the system undoes the connection. If it refuses, the connection ends as any other.
+        let nowhere = [0; 128];
+        let number = self.inner.as_raw_fd();
+        let _ = unsafe { libc::net::connect(number, &nowhere, ADDRESS_BYTES) };
+    }
+}
+
+/// What ends the wait of a poll.
+#[derive(Drop)]
+pub struct MioWaker {
+    inner: Waker,
+}
+
+impl Wake for MioWaker {
+    fn wake(&self) {
+        let _ = self.inner.wake();
+    }
 }
 
 /// A poll with what it reported last, and a thread's shares of the listening sockets. The program has it by `run`, and tests call it.
@@ -77,11 +122,11 @@ impl MioSystem {
         rt: &R,
         alloc: Global,
         sockets: &[net::TcpListener],
-    ) -> Result<(MioSystem, Waker), RunFault>
+    ) -> Result<(MioSystem, MioWaker), RunFault>
         ensures { IfErr result (λ f. IsOfAddresses 0 f) }
     {
         let poll = Poll::new(rt)?;
-        let waker = Waker::new(poll.registry(), Token(WAKE))?;
+        let inner = Waker::new(poll.registry(), Token(WAKE))?;
         let events = Events::with_capacity(alloc, EVENTS_MOST)?;
         let mut listeners = Vec::new(alloc);
         for socket in sockets {
@@ -92,17 +137,17 @@ impl MioSystem {
             events,
             listeners,
         };
-        Ok((system, waker))
+        Ok((system, MioWaker { inner }))
     }
 }
 
 impl System for MioSystem {
-    type Stream = TcpStream;
+    type Stream = MioStream;
 
-    type Waker = Waker;
+    type Waker = MioWaker;
 
     fn poll(&mut self, timeout_ms: u64) -> bool {
-        let timeout = milliseconds(timeout_ms);
+        let timeout = Duration::from_millis(timeout_ms);
         self.poll.poll(&mut self.events, Some(timeout)).is_ok()
     }
 
@@ -118,7 +163,7 @@ impl System for MioSystem {
 
     fn watch(
         &mut self,
-        stream: &mut TcpStream,
+        stream: &mut MioStream,
         key: usize,
         interest: Interest,
         was_watched: bool,
@@ -129,9 +174,9 @@ impl System for MioSystem {
         };
         let registry = self.poll.registry();
         if was_watched {
-            registry.reregister(stream, Token(key), interest)
+            registry.reregister(&mut stream.inner, Token(key), interest)
         } else {
-            registry.register(stream, Token(key), interest)
+            registry.register(&mut stream.inner, Token(key), interest)
         }
     }
 
@@ -156,7 +201,7 @@ impl System for MioSystem {
 
     /// Calls on the connection don't wait: the system is told so as it gives the connection. The kit's own `accept` takes one call
     /// more.
-    fn accept(&mut self, place: usize) -> io::Result<(TcpStream, IpAddr)> {
+    fn accept(&mut self, place: usize) -> io::Result<(MioStream, IpAddr)> {
         let Some(listener) = self.listeners.get(place) else {
             return Err(io::Error::from(io::ErrorKind::WouldBlock));
         };
@@ -167,30 +212,12 @@ impl System for MioSystem {
         if fd < 0 {
             return Err(io::Error::from_raw_os_error(os::errno()));
         }
-        let stream = unsafe { TcpStream::from_raw_fd(fd) };
+        let inner = unsafe { TcpStream::from_raw_fd(fd) };
         let peer = match ip_in(&address) {
             Some(ip) => ip,
-            None => stream.peer_addr()?.ip(),
+            None => inner.peer_addr()?.ip(),
         };
-        Ok((stream, peer))
-    }
-}
-
-impl Stream for TcpStream {
-    fn own_ip(&self) -> Option<IpAddr> {
-        Some(self.local_addr().ok()?.ip())
-    }
-
-    fn reset(&mut self) {
-        // An address of no family: the system undoes the connection. If it refuses, the connection ends as any other.
-        let nowhere = [0; 128];
-        let _ = unsafe { libc::net::connect(self.as_raw_fd(), &nowhere, ADDRESS_BYTES) };
-    }
-}
-
-impl Wake for Waker {
-    fn wake(&self) {
-        let _ = Waker::wake(self);
+        Ok((MioStream { inner }, peer))
     }
 }
 

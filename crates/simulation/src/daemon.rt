@@ -2,7 +2,7 @@
 use crate::scene::Scene;
 use crate::system::{SimFile, SimHost, SimWaker};
 use portmap_book::{Desk, Seat};
-use portmap_daemon::{Drain, Drained, Open, RecordQueue, RecordWriter, Shared, Source, Worker};
+use portmap_worker::{Drain, Drained, Open, RecordQueue, RecordWriter, Shared, Source, Worker};
 use std::sync::Wait;
 use std::sync::ledger::Ledger;
 

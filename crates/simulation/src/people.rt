@@ -115,6 +115,8 @@ pub struct Person {
     /// When it came last, and how often it has come.
     came_at: u64,
     times: u32,
+    /// Since when it holds its name, if it does.
+    held_since: u64,
     /// A node that comes back has its name within so many microseconds.
     pub patience: u64,
     /// Who asks comes as a multiple of so many microseconds has passed, together with all others who do, and nodes leave then.
@@ -135,6 +137,9 @@ const PROMPT_US: u64 = 1_000_000;
 
 /// A connection that asks nothing, or reads nothing, is given up so soon: its timeout, a look and a second later.
 const GIVEN_UP_US: u64 = 6_500_000;
+
+/// The connection of a node that was stopped is given up so soon: with the next look.
+const STOPPED_US: u64 = 500_000;
 
 /// A plodder sends a byte each so many microseconds.
 const PLODDER_US: u64 = 3_500_000;
@@ -164,6 +169,7 @@ impl Person {
             sent: 0,
             came_at: 0,
             times: 0,
+            held_since: 0,
             patience: u64::MAX,
             burst: 1,
             hold_most: 0,
@@ -201,20 +207,31 @@ impl Person {
         }
     }
 
-    /// Whether the daemon has kept its connection for longer than that of one that asks nothing, or reads nothing, by more than this.
-    pub fn is_kept(&self, world: &World, slack: u64) -> bool {
-        let is_served = match self.role {
-            Role::Silent | Role::Unreading => false,
-            Role::Dripper => self.is_local,
-            _ => true,
+    /// When the daemon is to have given up its connection, which it has accepted at this time: since it asks nothing, or reads nothing, or its
+    /// node was stopped.
+    fn kept_until(&self, world: &World, accepted: u64) -> Option<u64> {
+        let until = match self.role {
+            Role::Silent | Role::Unreading => accepted.saturating_add(GIVEN_UP_US),
+            Role::Dripper if !self.is_local => accepted.saturating_add(GIVEN_UP_US),
+            Role::Node if self.stage == Stage::Holding => world
+                .stopped_after(self.node, self.held_since)?
+                .saturating_add(STOPPED_US),
+            _ => return None,
         };
-        let limit = GIVEN_UP_US.saturating_add(slack);
-        match self.own(world) {
-            Some(wire) if !wire.is_down_ended && !is_served => match wire.accepted {
-                Some((_, at)) => world.now.saturating_sub(at) > limit,
-                None => false,
-            },
-            _ => false,
+        Some(until)
+    }
+
+    /// Whether the daemon has kept its connection for longer than that, by more than this.
+    pub fn is_kept(&self, world: &World, slack: u64) -> bool {
+        let Some(wire) = self.own(world) else {
+            return false;
+        };
+        let Some((_, accepted)) = wire.accepted else {
+            return false;
+        };
+        match self.kept_until(world, accepted) {
+            Some(until) => !wire.is_down_ended && world.now > until.saturating_add(slack),
+            None => false,
         }
     }
 
@@ -486,6 +503,7 @@ impl Person {
     /// Has its answer.
     fn take(&mut self, world: &mut World, number: usize, tally: &mut Tally) -> Option<Wrong> {
         if !self.role.registers() {
+            self.note_stopped(world, number);
             self.leave(world, 200_000);
             return None;
         }
@@ -510,6 +528,17 @@ impl Person {
         (!self.is_lenient).then_some("a node that closed first was refused")
     }
 
+    /// Notes that the node is stopped for which it asked that, where it hears so.
+    fn note_stopped(&self, world: &mut World, number: usize) {
+        let Some(wire) = world.wires.get(number) else {
+            return;
+        };
+        if self.role == Role::Stopper && wire.received.starts_with(b"STOPPED") {
+            let asked = world.now.saturating_sub(self.waited(world.now));
+            world.note_stopped(self.node, asked);
+        }
+    }
+
     /// It is registered: it holds its name, but for a rival.
     fn be_let_in(&mut self, world: &mut World) -> Option<Wrong> {
         if self.role == Role::Rival {
@@ -518,6 +547,7 @@ impl Person {
         }
         let is_late = self.waited(world.now) > self.patience;
         self.hold(world);
+        self.held_since = world.now;
         if self.role == Role::Talker {
             self.next_at = world.now;
         }

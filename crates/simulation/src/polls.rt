@@ -3,7 +3,7 @@ use crate::random::Random;
 use crate::weather::Fault;
 use crate::wire::{Watch, Wire};
 use crate::world::{LISTENERS, World};
-use portmap_daemon::{Interest, Report, Turn};
+use portmap_worker::{Interest, Report, Turn};
 use std::alloc::Global;
 use std::io::ErrorKind;
 
@@ -46,8 +46,9 @@ pub struct Thread {
     /// What its source told last, if it is a worker's, and the connection of that with whether there was news of it.
     told: Option<Turn>,
     met: Option<(usize, bool)>,
-    /// How often it has polled.
+    /// How often it has polled, and how many steps of its source were made since.
     pub polls: u64,
+    steps: u32,
 }
 
 impl Thread {
@@ -64,6 +65,7 @@ impl Thread {
             told: None,
             met: None,
             polls: 0,
+            steps: 0,
         }
     }
 
@@ -153,6 +155,7 @@ impl World {
         if let Some(thread) = self.threads.get_mut(number) {
             thread.told = told;
             thread.met = met;
+            thread.steps = thread.steps.saturating_add(1);
         }
     }
 
@@ -188,6 +191,11 @@ impl World {
             polls = polls.saturating_add(thread.polls);
         }
         polls
+    }
+
+    /// Whether a worker has made more steps than that since it polled.
+    pub fn has_made(&self, steps: u32) -> bool {
+        self.workers().iter().any(|thread| thread.steps > steps)
     }
 
     /// How many streams are watched.
@@ -308,6 +316,7 @@ impl World {
             return false;
         };
         thread.polls = thread.polls.saturating_add(1);
+        thread.steps = 0;
         let are_told = thread.report_calls(now)
             && thread.report_streams(&mut self.wires, now, is_spurious);
         self.is_lost = self.is_lost || !are_told;

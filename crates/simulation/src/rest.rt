@@ -2,7 +2,7 @@
 use crate::daemon::Daemon;
 use crate::scenario::Scenario;
 use crate::world::LISTENERS;
-use portmap_daemon::Source;
+use portmap_worker::Source;
 use std::sync::Wait;
 use std::sync::ledger::Ledger;
 
@@ -149,7 +149,7 @@ impl<'a, L: Ledger, S: Source + Drop, R: Wait + Drop> Daemon<'a, L, S, R> {
     pub(crate) fn end(&mut self, may_end: bool) -> Option<()> {
         let has_ended = self.has_ended();
         self.scene.check(!has_ended || may_end, "it has ended");
-        let told = self.around.shared.fault();
+        let told = self.around.shared.failure();
         let until = self.scene.begin_end(told, may_end)?;
         if !has_ended {
             self.around.shared.stop_all();

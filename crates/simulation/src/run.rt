@@ -12,7 +12,7 @@ use crate::weather::Counts;
 use crate::world::World;
 use portmap_book::{Book, Desk, PARTS, Seat};
 use portmap_core::Config;
-use portmap_daemon::{
+use portmap_worker::{
     Drain, Open, RecordQueue, RecordWriter, Shared, SocketSource, Sockets, Source, Worker,
     WorkerState,
 };

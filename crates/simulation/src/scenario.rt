@@ -175,6 +175,27 @@ const KILLERS: &[Crowd] = &[
     Crowd(Role::Killer, 1, true),
 ];
 
+const STOPPERS: &[Crowd] = &[
+    Crowd(Role::Node, 6, true),
+    Crowd(Role::Stopper, 3, true),
+    Crowd(Role::Seeker, 2, true),
+];
+
+const UNHEEDED: &[Crowd] = &[
+    Crowd(Role::Silent, 6, true),
+    Crowd(Role::Silent, 3, false),
+    Crowd(Role::Dripper, 3, false),
+    Crowd(Role::Node, 3, true),
+    Crowd(Role::Seeker, 3, true),
+];
+
+const FLOOD: &[Crowd] = &[
+    Crowd(Role::Tardy, 250, true),
+    Crowd(Role::Tardy, 250, true),
+    Crowd(Role::Tardy, 250, true),
+    Crowd(Role::Node, 30, true),
+];
+
 /// What is not said of a scenario.
 const USUAL: Scenario = Scenario {
     name: "calm",
@@ -533,6 +554,34 @@ pub const SCENARIOS: &[Scenario] = &[
         is_relaxed: true,
         is_strict: false,
         may_end: true,
+        ..USUAL
+    },
+    Scenario {
+        name: "stops",
+        least: Deeds(0, 0, 0, 0),
+        people: STOPPERS,
+        hold_us: 5_000_000,
+        is_relaxed: true,
+        is_strict: false,
+        ..USUAL
+    },
+    Scenario {
+        name: "unheeded",
+        least: Deeds(0, 0, 0, 0),
+        people: UNHEEDED,
+        chances: &[(Fault::Unwatched, 950)],
+        limit_ms: 3000,
+        ..USUAL
+    },
+    Scenario {
+        name: "floods",
+        least: Deeds(0, 0, 0, 0),
+        people: FLOOD,
+        chances: &[(Fault::Stopped, 20), (Fault::Late, 300)],
+        conn_max: 1024,
+        burst_us: 1_000_000,
+        hold_us: 300_000,
+        limit_ms: 60_000,
         ..USUAL
     },
     Scenario {

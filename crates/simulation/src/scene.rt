@@ -5,7 +5,7 @@ use crate::steps::Step;
 use crate::system::SharedWorld;
 use crate::weather::{Fault, Weather};
 use crate::world::{Ending, World};
-use portmap_daemon::{RunFault, Turn};
+use portmap_worker::{Failure, Turn};
 use portmap_wire::{Line, read_names};
 use std::alloc::Global;
 use std::cell::RefMut;
@@ -33,6 +33,9 @@ const SHORT_OF_MEMORY_MS: u64 = 50;
 const POLLS_MOST: u64 = 25_000;
 
 const HOUR_US: u64 = 3_600_000_000;
+
+/// A worker makes no more steps between two polls: 64 turns, for each of which something may be kept back.
+const STEPS_MOST: u32 = 130;
 
 /// Who takes the log out looks at it once in so much time.
 const SECOND_US: u64 = 1_000_000;
@@ -227,14 +230,18 @@ impl<'a> Scene<'a> {
 
     /// A connection was told late: its time is over, or it is given up for another one, and nobody is while there is news of him.
     fn judge_late(&mut self, late: usize, has_news: bool) -> Option<()> {
-        let world = self.world()?;
+        let mut world = self.world()?;
         let is_early = world.is_early(late, TIMEOUT_US)?;
         let is_wanted = self.given_up.saturating_add(u32::from(is_early)) <= world.wanting;
+        let is_first = !is_early || world.goes_first(late)?;
+        let is_anew = world.note_late(late, TIMEOUT_US)? || world.wanting > 0;
         drop(world);
         self.given_up = self.given_up.saturating_add(u32::from(is_early));
         if self.is_strict {
             self.check(!has_news, "one was told late of whom there was news");
             self.check(is_wanted, "a connection was given up for no one");
+            self.check(is_first, "one was given up before who goes first");
+            self.check(is_anew, "one was told late twice within its time");
         }
         Some(())
     }
@@ -271,6 +278,9 @@ impl<'a> Scene<'a> {
         let is_unread = world.read_bytes > heavy && !world.is_due(self.workers);
         if is_unread || weight / LOG_BYTES_MOST > workers {
             return Some("the log is not taken out");
+        }
+        if world.has_made(STEPS_MOST) {
+            return Some("a worker does not poll");
         }
         let wrong = self.complaint(world, scenario.limit_ms.saturating_mul(1000));
         // One that waits for a place may be at each worker beside those that have one.
@@ -467,7 +477,7 @@ impl<'a> Scene<'a> {
     // ---- the end
 
     /// It is to end, and tells this fault, or none: by when.
-    pub(crate) fn begin_end(&mut self, told: Option<RunFault>, may_end: bool) -> Option<u64> {
+    pub(crate) fn begin_end(&mut self, told: Option<Failure>, may_end: bool) -> Option<u64> {
         let mut world = self.world()?;
         world.calm();
         let until = world.now.saturating_add(END_US);
@@ -480,14 +490,13 @@ impl<'a> Scene<'a> {
 }
 
 /// Whether the fault that a daemon tells, if it does, is what has happened.
-fn is_right(weather: &Weather, told: Option<RunFault>, may_end: bool) -> bool {
+fn is_right(weather: &Weather, told: Option<Failure>, may_end: bool) -> bool {
     let is_deaf = weather.has_happened(Fault::Deaf);
     let is_starved = may_end && weather.has_happened(Fault::Famine);
     match told {
         None => !is_deaf && !is_starved,
-        Some(RunFault::Poll) => is_deaf,
-        Some(RunFault::NoMemory) => is_starved || weather.has_happened(Fault::Starved),
-        Some(RunFault::Listen(_) | RunFault::ListenBeside(_)) => false,
+        Some(Failure::Poll) => is_deaf,
+        Some(Failure::NoMemory) => is_starved || weather.has_happened(Fault::Starved),
     }
 }
 

@@ -1,6 +1,6 @@
 //! A worker's source, step by step.
 use crate::system::{SharedWorld, SimHost, SimStream, SimSystem};
-use portmap_daemon::{Link, SocketSource, Source, Turn};
+use portmap_worker::{Link, SocketSource, Source, Turn};
 use std::sync::Wait;
 use std::sync::ledger::Ledger;
 

@@ -1,6 +1,6 @@
 //! The world as a daemon's system: its streams, its polls, its clock and its disk.
 use crate::world::{LISTENERS, World};
-use portmap_daemon::{Host, Interest, Notice, RecordFile, Refused, Report, Stream, System, Wake};
+use portmap_worker::{Host, Interest, Notice, RecordFile, Refused, Report, Stream, System, Wake};
 use std::alloc::Global;
 use std::cell::{RefCell, RefMut};
 use std::io;

@@ -2,7 +2,7 @@
 ghost use Rattle.std.specs.Prelude.{◌≤◌, length};
 
 use crate::world::Ending;
-use portmap_daemon::Report;
+use portmap_worker::Report;
 use std::alloc::Global;
 use std::collections::VecDeque;
 
@@ -39,6 +39,8 @@ pub struct Wire {
     pub received: Vec<u8>,
     /// The thread that has accepted it, and when.
     pub accepted: Option<(usize, u64)>,
+    /// When the worker was told last that its time is over.
+    pub late_at: Option<u64>,
     pub watch: Option<Watch>,
     /// From when on the poll of who watches reports it; none if there is nothing that was not reported.
     pub news_at: Option<u64>,
@@ -63,6 +65,7 @@ impl Wire {
             is_reset: false,
             received: Vec::new(alloc),
             accepted: None,
+            late_at: None,
             watch: None,
             news_at: None,
             is_reported: false,
@@ -102,6 +105,14 @@ impl Wire {
         self.is_reported = true;
         let is_closed = self.is_up_ended && !self.is_reset;
         Some(Report::Stream { key, is_closed })
+    }
+
+    /// When it was accepted, if it stays at a worker and was never answered.
+    pub fn waits_since(&self, worker: usize) -> Option<u64> {
+        let (thread, at) = self.accepted?;
+        let is_answered = !self.received.is_empty() || !self.down.is_empty();
+        let waits = thread == worker && !self.is_down_ended && !self.is_up_ended && !is_answered;
+        waits.then_some(at)
     }
 
     /// The thread that has accepted it.

@@ -11,8 +11,17 @@ use std::alloc::Global;
 use std::collections::VecDeque;
 use std::io::ErrorKind;
 
+/// Of so many nodes it is known when they were stopped.
+const NODES_MOST: usize = 8;
+
 /// How many listeners a daemon has.
 pub const LISTENERS: usize = 2;
+
+/// A connection that is younger is not given up for another one.
+const YOUNG_US: u64 = 1_000_000;
+
+/// Those that come within so much time have come together.
+const TOGETHER_US: u64 = 100_000;
 
 /// No famine begins before this time.
 const FAMINE_US: u64 = 1_300_000;
@@ -62,6 +71,8 @@ pub struct World {
     /// How many connections of other hosts the daemon has, and of this one.
     pub remote: u32,
     pub local: u32,
+    /// By nodes: since when the last stop of each was asked for, and when it was told that it is stopped.
+    stopped: [(u64, u64); NODES_MOST],
     /// How many places the daemon has, and how many connections came as there was none for them.
     pub places: usize,
     pub wanting: u32,
@@ -116,6 +127,7 @@ impl World {
             is_disk_full: false,
             remote: 0,
             local: 0,
+            stopped: [(0, 0); NODES_MOST],
             places: scenario.conn_max as usize,
             wanting: 0,
             files: Vec::new(alloc),
@@ -436,6 +448,48 @@ impl World {
         let (_, accepted) = self.wires.get(number)?.accepted?;
         let now = self.now.saturating_add(self.jumped);
         Some(now.saturating_sub(accepted) < age && !self.weather.has_happened(Fault::Unread))
+    }
+
+    /// A node is told to be stopped, which was asked for at this time.
+    pub fn note_stopped(&mut self, node: u8, asked: u64) {
+        if let Some(stopped) = self.stopped.get_mut(node as usize) {
+            *stopped = (asked, self.now);
+        }
+    }
+
+    /// When it was told that a node is stopped, if that was asked for after this time.
+    pub fn stopped_after(&self, node: u8, time: u64) -> Option<u64> {
+        let (asked, told) = self.stopped.get(node as usize).copied()?;
+        (asked > time).then_some(told)
+    }
+
+    /// Whether of the connections of its worker that were never answered none goes before one that is given up: one of another host, where
+    /// it is of this one, and else one that came earlier.
+    pub fn goes_first(&self, number: usize) -> Option<bool> {
+        let given_up = self.wires.get(number)?;
+        let (worker, came) = given_up.accepted?;
+        for wire in &self.wires {
+            let until = if wire.is_local == given_up.is_local {
+                came
+            } else if given_up.is_local {
+                self.now.saturating_sub(YOUNG_US)
+            } else {
+                0
+            };
+            let goes_before = |at: u64| at.saturating_add(TOGETHER_US) < until;
+            if wire.waits_since(worker).is_some_and(goes_before) {
+                return Some(false);
+            }
+        }
+        Some(true)
+    }
+
+    /// A connection is told that its time is over. Whether it was not told so within this time before, as a daemon with a clock can tell.
+    pub fn note_late(&mut self, number: usize, age: u64) -> Option<bool> {
+        let now = self.now.saturating_add(self.jumped);
+        let before = self.wires.get_mut(number)?.late_at.replace(now);
+        let is_anew = before.is_none_or(|at| now.saturating_sub(at) >= age);
+        Some(is_anew || self.weather.has_happened(Fault::Unread))
     }
 
     /// The time; none if the clock can't be read.

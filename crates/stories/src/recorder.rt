@@ -6,7 +6,7 @@ use crate::listed::{settings, workers};
 use crate::words::{text, wrong, yes};
 use anyhow::{Result, ensure};
 use portmap_core::{Entry, State};
-use portmap_daemon::Recorder;
+use portmap_worker::Recorder;
 use portmap_link::Output;
 use portmap_testing::tape::Tape;
 use std::alloc::Global;

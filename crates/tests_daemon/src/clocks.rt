@@ -1,5 +1,5 @@
 //! A clock that a test pushes forward.
-use portmap_daemon::{Host, Notice, Refused};
+use portmap_worker::{Host, Notice, Refused};
 use std::alloc::{AllocError, Global};
 use std::fs::{File, Files};
 use std::io;

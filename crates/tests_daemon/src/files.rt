@@ -2,7 +2,7 @@
 ghost use Rattle.std.specs.Prelude.{◌≡◌};
 
 use portmap_book::{Desk, PARTS};
-use portmap_daemon::{
+use portmap_worker::{
     Part, RecordQueue, begin_file, recordings_are_fronts, recordings_are_records, write_recording,
 };
 use portmap_record::{records_grow, records_have_parts};

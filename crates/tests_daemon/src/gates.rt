@@ -1,5 +1,5 @@
 //! Gates that hold a worker until another one has come as far, for a bounded time.
-use portmap_daemon::{Gate, Point};
+use portmap_worker::{Gate, Point};
 use portmap_testing::books::is_raised;
 use std::rt::Clock;
 use std::sync::atomic::{AtomicU64, Ordering};

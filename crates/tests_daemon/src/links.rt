@@ -1,9 +1,10 @@
 //! A stream as a link: what its calls say to a source that is told of news once.
 use mio::net;
-use portmap_daemon::{Link, Stream};
+use portmap_daemon::MioStream;
 use portmap_link::{Input, Output, Pull, Put};
 use portmap_testing::bytes::{ALIVE_A, NAMES, PORT_A};
 use portmap_testing::streams::{Giving, Script, Told, scripted};
+use portmap_worker::{Link, Stream};
 use std::alloc::Global;
 use std::io::ErrorKind;
 use std::net::{IpAddr, Ipv4Addr, TcpListener, TcpStream};
@@ -122,7 +123,7 @@ fn own_of_accepted(rt: &HostRuntime) -> Result<Option<IpAddr>, Fail> {
     let listener = TcpListener::bind(rt, (address, 14_442))?;
     let _peer = TcpStream::connect(rt, (address, 14_442))?;
     let (stream, _) = listener.accept()?;
-    Ok(net::TcpStream::from_std(stream).own_ip())
+    Ok(MioStream::from(net::TcpStream::from_std(stream)).own_ip())
 }
 
 #[test]

@@ -1,6 +1,6 @@
 //! Where a daemon listens: at the IPv6 addresses beside its own, and over sockets that are handed over to it.
 use crate::daemon::{is_answered, settings_at, told_at};
-use portmap_daemon::{HandedFault, beside, handed_over, run, run_over};
+use portmap_daemon::{FILE_BYTES_MOST, HandedFault, Open, beside, handed_over, run, run_over};
 use portmap_testing::bytes::{ALIVE_A, KILL, NAMES, NOT_FOUND, PORT_A};
 use std::alloc::Global;
 use std::fs::File;
@@ -89,7 +89,7 @@ fn who_connects_between_two_daemons_is_served_by_the_second(rt: HostRuntime) -> 
         let (told, ended) = thread::join(
             &rt,
             || is_served(&rt),
-            || run_over(&rt, alloc, settings, listening),
+            || run_over(&rt, alloc, settings, &Open, listening, FILE_BYTES_MOST),
         );
         assert!(rt; told && ended.is_ok());
     }

@@ -2,9 +2,10 @@
 use crate::clocks::{Pushed, Pushing};
 use crate::daemon::{is_answered, registered, settings_at};
 use portmap_core::Config;
-use portmap_daemon::{Host, run};
+use portmap_daemon::run;
 use portmap_testing::bytes::{FOUND_A, KILL, PORT_A};
 use portmap_testing::peers::connect;
+use portmap_worker::Host;
 use std::alloc::Global;
 use std::fs::File;
 use std::io::Read;

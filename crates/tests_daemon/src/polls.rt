@@ -1,7 +1,8 @@
 //! The system as `mio` and the kernel give it, over sockets of this host: what a poll reports, and for how long it waits.
 use mio::net;
-use portmap_daemon::{Interest, MioSystem, Report, Stream, System};
+use portmap_daemon::{MioStream, MioSystem};
 use portmap_testing::peers::connect;
+use portmap_worker::{Interest, Report, Stream, System};
 use std::alloc::Global;
 use std::io::{ErrorKind, Read, Write};
 use std::net::{Ipv4Addr, TcpListener, TcpStream};
@@ -58,7 +59,7 @@ fn accepted(
     rt: &HostRuntime,
     system: &mut MioSystem,
     port: u16,
-) -> Option<(TcpStream, net::TcpStream)> {
+) -> Option<(TcpStream, MioStream)> {
     let peer = connect(rt, port)?;
     reported(system, PATIENCE)?;
     let (stream, _) = system.accept(0).ok()?;
@@ -116,7 +117,7 @@ fn is_full_of(rt: &HostRuntime, port: u16, count: usize) -> Option<bool> {
     let (peer, stream) = accepted(rt, &mut system, port)?;
     let mut streams = Vec::new(rt.alloc());
     for key in 0..count {
-        let mut one = net::TcpStream::from_std(peer.try_clone().ok()?);
+        let mut one = MioStream::from(net::TcpStream::from_std(peer.try_clone().ok()?));
         system.watch(&mut one, key, Interest::Reading, false).ok()?;
         streams.push(one).ok()?;
     }

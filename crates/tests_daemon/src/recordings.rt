@@ -2,14 +2,14 @@
 //! further one.
 use crate::clocks::Pushed;
 use crate::daemon::{acts_of, is_answered, registered, settings_at};
-use portmap_daemon::{Open, RunEnd, RunFault, run, run_in_files};
+use portmap_daemon::{Open, RunEnd, RunFault, run, run_over};
 use portmap_record::{Version, check, read_record};
 use portmap_testing::books::is_raised;
 use portmap_testing::bytes::{FOUND_A, KILL, NOT_FOUND, PORT_A};
 use std::alloc::{AllocError, Global};
 use std::fs::{File, Files};
 use std::io::{PipeWriter, pipe};
-use std::net::{Net, TcpStream};
+use std::net::{Ipv4Addr, Net, TcpListener, TcpStream};
 use std::os::fd::AsRawFd;
 use std::rt::Clock;
 use std::sync::atomic::Ordering;
@@ -161,10 +161,13 @@ fn recorded(rt: &HostRuntime) -> Result<Option<u64>, Fail> {
 fn a_recording_goes_on_in_files_that_follow_one_another(rt: HostRuntime) -> Result<(), Fail> {
     let alloc = rt.alloc();
     let settings = settings_at(alloc, NEXT_PORT, 60, 1, Some(FIRST))?;
+    let socket = TcpListener::bind(&rt, (Ipv4Addr::LOCALHOST, NEXT_PORT))?;
+    socket.set_nonblocking(true)?;
+    let listening = vec![in alloc; socket]?;
     // So many bytes a header has with which nothing is known: each file is full at once.
     let (ended, told) = thread::join(
         &rt,
-        || run_in_files(&rt, alloc, settings, &Open, 37),
+        || run_over(&rt, alloc, settings, &Open, listening, 37),
         || goes_on(&rt),
     );
     let acts = acts_of(&ended);

@@ -1,2 +1,0 @@
-mod Jobs
-pub mod Carrying

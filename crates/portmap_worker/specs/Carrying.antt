@@ -1,0 +1,139 @@
+-- What a worker does with a connection that it holds: profile.
+use Rattle.std.specs.Prelude.{◌≡◌, ◌≢◌, ℕ, ◌≤◌, List, [], ◌∷◌, ◌++◌, length, Bool, true, false, Ok, Err, ◌⊎◌}
+use Rattle.std.specs.Io.KnownBytes.{Consumes}
+use Rattle.portmap_core.specs.declared.event.Answer.{Answer}
+use Rattle.portmap_core.specs.declared.event.Answer.TheVariants as answer
+use Rattle.portmap_core.specs.declared.event.Event.TheVariants as event
+use Rattle.portmap_core.specs.declared.event.Fate.{Fate}
+use Rattle.portmap_core.specs.declared.event.Fate.TheVariants as fate
+use Rattle.portmap_core.specs.declared.event.Refusal.TheVariants as refusal
+use Rattle.portmap_book.specs.declared.book.ActFault.{ActFault}
+use Rattle.portmap_book.specs.declared.book.ActFault.TheVariants.{Worn, Refused}
+use Rattle.portmap_book.specs.Seat.{SeatView, Counts}
+use Rattle.portmap_link.specs.Asking.{Devices}
+use Rattle.portmap_link.specs.Flush.{LastPut}
+use Rattle.portmap_link.specs.declared.device.Pull.{Pull}
+use Rattle.portmap_link.specs.declared.device.Pull.TheVariants as pull
+use Rattle.portmap_link.specs.declared.device.Put.{Put}
+use Rattle.portmap_link.specs.declared.device.Put.TheVariants as put
+use Rattle.portmap_link.specs.declared.outbox.Flush.{Flush}
+use Rattle.portmap_link.specs.declared.outbox.Flush.TheVariants as flush
+use Rattle.portmap_worker.specs.declared.carrier.Next.{Next}
+use Rattle.portmap_worker.specs.declared.carrier.Next.TheVariants.{Keep, Close, Halt, Fault, NoMemory}
+use Rattle.portmap_worker.specs.declared.limits.TheConstants.{PULL_BYTES_MOST}
+
+-- ---- one pull
+
+-- the one pull of a call gave these bytes
+pub record IsRead (old new : Devices) (piece : List ℕ) : Type 0 where
+  pub consumed : Consumes old.left new.left piece
+  pub pulled : new.pulls ≡ old.pulls ++ pull.Piece (length piece) ∷ []
+  pub few : length piece ≤ PULL_BYTES_MOST
+
+-- the one pull of a call answered so
+abbrev pub Pulls : Pull → Devices → Devices → Type 0
+Pulls told old new = new.pulls ≡ old.pulls ++ told ∷ []
+
+-- nothing was pulled
+abbrev pub PullsNothing : Devices → Devices → Type 0
+PullsNothing old new = new.pulls ≡ old.pulls
+
+-- ---- how a writing ended
+
+-- by the last put of the call, or since nothing waits
+abbrev pub WritingEnds : Flush → List Put → List Put → List ℕ → Type 0
+WritingEnds flush.Empty old new waiting = waiting ≡ []
+WritingEnds flush.Later old new waiting = (waiting ≢ []) × LastPut old new put.Later
+WritingEnds flush.Fault old new waiting = LastPut old new put.Fault
+
+-- ---- a piece that was answered
+
+-- the bytes that an answer says
+abbrev pub bytes_of : Answer → List ℕ
+bytes_of (answer.Connected slot) = []
+bytes_of (answer.Said bytes becomes) = bytes.items
+bytes_of answer.Gone = []
+
+-- what becomes of the connection
+abbrev pub fate_of : Answer → Fate
+fate_of (answer.Connected slot) = fate.Stay
+fate_of (answer.Said bytes becomes) = becomes
+fate_of answer.Gone = fate.Close
+
+-- whether it is to be closed once all is written
+abbrev pub is_close : Fate → Bool
+is_close fate.Stay = false
+is_close fate.Close = true
+is_close fate.Halt = false
+
+-- the bytes of the answer that are to be written: none where there was no room for them
+abbrev pub added : Answer → Next → List ℕ
+added told Keep = bytes_of told
+added told Close = bytes_of told
+added told Fault = bytes_of told
+added told Halt = bytes_of told
+added told NoMemory = []
+
+-- what is next where there was room, by what becomes of the connection and how the writing ended
+abbrev pub next_after : Fate → Flush → Next
+next_after fate.Halt ended = Halt
+next_after fate.Stay flush.Empty = Keep
+next_after fate.Stay flush.Later = Keep
+next_after fate.Stay flush.Fault = Fault
+next_after fate.Close flush.Empty = Close
+next_after fate.Close flush.Later = Keep
+next_after fate.Close flush.Fault = Fault
+
+-- what is next, where an answer was told
+abbrev pub FollowsAnswer : Answer → List Put → List Put → List ℕ → Next → Type 0
+FollowsAnswer told old new waiting next =
+    (next ≡ NoMemory) ⊎ ((ended : Flush) × WritingEnds ended old new waiting × (next ≡ next_after (fate_of told) ended))
+
+-- ---- no piece, or none that was answered
+
+-- what is next after a refusal
+abbrev pub next_of : ActFault → Next
+next_of Worn = Close
+next_of (Refused refusal.Halted) = Halt
+next_of (Refused refusal.Full) = Close
+next_of (Refused refusal.NoSlot) = Close
+next_of (Refused refusal.NoMemory) = NoMemory
+
+-- the one pull gave a piece, which was refused so that this is next
+abbrev pub Refuses : Next → Devices → Devices → Type 0
+Refuses next old new = (n : ℕ) × (fault : ActFault) × Pulls (pull.Piece n) old new × (next ≡ next_of fault)
+
+-- what waits was offered first: nothing of it is left, or the last put said Later
+abbrev pub OffersFirst : Devices → Devices → List ℕ → Type 0
+OffersFirst old new waiting = WritingEnds flush.Empty old.puts new.puts waiting ⊎ WritingEnds flush.Later old.puts new.puts waiting
+
+-- what is next, where nothing was told, by whether a close was due
+abbrev pub FollowsNothing : Bool → Devices → Devices → List ℕ → Next → Type 0
+FollowsNothing true old new waiting Keep = PullsNothing old new × WritingEnds flush.Later old.puts new.puts waiting
+FollowsNothing true old new waiting Close = PullsNothing old new × WritingEnds flush.Empty old.puts new.puts waiting
+FollowsNothing true old new waiting Fault = PullsNothing old new × WritingEnds flush.Fault old.puts new.puts waiting
+FollowsNothing true old new waiting Halt = ⊥
+FollowsNothing true old new waiting NoMemory = ⊥
+FollowsNothing false old new waiting Keep = OffersFirst old new waiting × Pulls pull.Later old new
+FollowsNothing false old new waiting Close = OffersFirst old new waiting × (Pulls pull.End old new ⊎ Refuses Close old new)
+FollowsNothing false old new waiting Fault = (PullsNothing old new × WritingEnds flush.Fault old.puts new.puts waiting) ⊎ (OffersFirst old new waiting × Pulls pull.Fault old new)
+FollowsNothing false old new waiting Halt = OffersFirst old new waiting × Refuses Halt old new
+FollowsNothing false old new waiting NoMemory = OffersFirst old new waiting × Refuses NoMemory old new
+
+-- ---- a time that is over
+
+-- the desk is told that the time of the connection in a slot is over, and what it says or refuses is what is next
+abbrev pub IsLate : ℕ → SeatView → SeatView → Next → Type 0
+IsLate slot old new next =
+    ((told : ℕ × Answer) × Counts (event.Late slot) old new (Ok told) × (next ≡ next_after (fate_of told.1) flush.Empty))
+    ⊎ ((fault : ActFault) × Counts (event.Late slot) old new (Err fault) × (next ≡ next_of fault))
+
+-- ---- what a worker holds
+
+-- the connection is held no more
+abbrev pub LetsGo : Next → Type 0
+LetsGo Keep = ⊥
+LetsGo Close = Unit {0}
+LetsGo Fault = Unit {0}
+LetsGo Halt = ⊥
+LetsGo NoMemory = Unit {0}

@@ -1,0 +1,9 @@
+pub mod Carrying
+pub mod Link
+pub mod Listening
+pub mod Parts
+pub mod Peers
+pub mod Queue
+pub mod Quota
+pub mod Recording
+pub mod Refused

@@ -1,0 +1,62 @@
+-- What a worker's source knows of a connection: profile.
+use Rattle.std.specs.Prelude.{ℕ, ◌-◌, ◌≤◌, Bool, true, false, not, ◌||◌, Option, Some, None, Result, Ok, Err, ◌≡◌}
+use Rattle.std.specs.IoError.{error_kind}
+use Rattle.std.specs.declared.io.Error.{Error}
+use Rattle.std.specs.declared.io.ErrorKind.TheVariants as kind
+use Rattle.portmap_worker.specs.declared.link.Progress.{Progress}
+use Rattle.portmap_worker.specs.declared.link.Progress.TheVariants.{Asked, Answered, Left}
+use Rattle.portmap_worker.specs.declared.readiness.Reading.{Reading}
+use Rattle.portmap_worker.specs.declared.readiness.Reading.TheVariants.{Open, Dry}
+use Rattle.portmap_worker.specs.declared.source.Turn.{Turn}
+use Rattle.portmap_worker.specs.declared.source.Turn.TheVariants.{Fresh, Ready, Late, Idle, Stop}
+use Rattle.portmap_worker.specs.declared.readiness.Writing.{Writing}
+use Rattle.portmap_worker.specs.declared.readiness.Writing.TheVariants.{Free, CutShort, Waits}
+use Rattle.portmap_worker.specs.declared.system.Interest.{Interest}
+use Rattle.portmap_worker.specs.declared.system.Interest.TheVariants as interest
+
+-- whether a call may do more than answer Later: bytes that wait to be written go first
+abbrev pub may_move : Reading → Writing → Bool
+may_move reading CutShort = true
+may_move reading Waits = false
+may_move Open Free = true
+may_move Dry Free = false
+
+-- whether bytes wait to be written
+abbrev pub is_unsent : Writing → Bool
+is_unsent Free = false
+is_unsent CutShort = true
+is_unsent Waits = true
+
+-- whether bytes of an answer were ever written
+abbrev pub is_answered : Progress → Bool
+is_answered Asked = false
+is_answered Answered = true
+is_answered Left = true
+
+-- whether a peer has only so much time: one that was answered and has read the answer, as each that holds a name, has as much as it likes
+abbrev pub is_timed : Progress → Writing → Bool
+is_timed progress writing = not (is_answered progress) || is_unsent writing
+
+-- what the poll is to report
+abbrev pub wanted : Writing → Interest
+wanted Free = interest.Reading
+wanted CutShort = interest.Both
+wanted Waits = interest.Both
+
+-- the time of a connection that goes on since then was over at this time
+abbrev pub IsOver : Option ℕ → ℕ → ℕ → Type 0
+IsOver (Some since) then_ timeout = timeout ≤ then_ - since
+IsOver None then_ timeout = ⊥
+
+-- what is told is news of the link with this key, or that its time is over
+abbrev pub IsOf : Option ℕ → Turn → Type 0
+IsOf key (Ready k) = key ≡ Some k
+IsOf key (Late k) = key ≡ Some k
+IsOf key (Fresh k local) = ⊥
+IsOf key Idle = ⊥
+IsOf key Stop = ⊥
+
+-- a call that has failed for good
+abbrev pub IsBroken : Result ℕ Error → Type 0
+IsBroken (Ok n) = ⊥
+IsBroken (Err e) = error_kind e ≡ kind.BrokenPipe

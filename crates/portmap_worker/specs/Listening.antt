@@ -1,0 +1,23 @@
+-- Connections that come, and a listening socket at which none could be taken.
+use Rattle.std.specs.Prelude.{◌≡◌, Bool}
+use Rattle.std.specs.declared.io.ErrorKind.{ErrorKind}
+use Rattle.std.specs.declared.io.ErrorKind.TheVariants as kind
+use Rattle.portmap_worker.specs.declared.listener.AcceptError.{AcceptError}
+use Rattle.portmap_worker.specs.declared.listener.AcceptError.TheVariants.{Aborted, WouldBlock, Exhausted}
+use Rattle.portmap_worker.specs.declared.source.Turn.{Turn}
+use Rattle.portmap_worker.specs.declared.source.Turn.TheVariants.{Fresh, Ready, Late, Idle, Stop}
+
+-- a connection has come, from this host or from another one
+abbrev pub IsFreshFrom : Bool → Turn → Type 0
+IsFreshFrom is_local (Fresh key local) = local ≡ is_local
+IsFreshFrom is_local (Ready key) = ⊥
+IsFreshFrom is_local (Late key) = ⊥
+IsFreshFrom is_local Idle = ⊥
+IsFreshFrom is_local Stop = ⊥
+
+-- why none could be accepted, by the kind of the error
+abbrev pub accept_error : ErrorKind → AcceptError
+accept_error kind.ConnectionAborted = Aborted
+accept_error kind.Interrupted = Aborted
+accept_error kind.WouldBlock = WouldBlock
+accept_error _ = Exhausted

@@ -1,0 +1,248 @@
+//! Which connections are admitted, and which are given up for them.
+ghost use Rattle.std.specs.Prelude.{◌≡◌, ◌↔◌, ◌⊎◌, ◌-◌, ◌<◌, true, false, IfSome};
+ghost use Rattle.portmap_worker.specs.Listening.{IsFreshFrom};
+ghost use Rattle.portmap_worker.specs.Peers.{is_local_by};
+
+use crate::Turn;
+use crate::host::Host;
+use crate::limits::{PLACE_TIMEOUT_MS, ROOM_BACKOFF_MS};
+use crate::link::{Link, OpenLink};
+use crate::peer::{is_local_by, own_ip};
+use crate::pending::Waiting;
+use crate::quota::{Candidate, Permit, first_of, spares_local};
+use crate::socket_source::SocketSource;
+use crate::system::{Stream, System};
+use portmap_ready::{Place, Ready};
+use std::net::IpAddr;
+use std::rt::Clock;
+use std::sync::Wait;
+use std::sync::ledger::Ledger;
+
+/// A connection that has no place yet.
+#[derive(Drop)]
+pub(crate) struct Newcomer<S: Stream> {
+    stream: S,
+    is_local: bool,
+    /// When it came.
+    came: u64,
+}
+
+impl<S: Stream> Newcomer<S> {
+    /// One that comes now, with the addresses of its peer and, if it is known, of its own.
+    fn new(stream: S, peer: IpAddr, own: Option<IpAddr>, now: u64) -> Newcomer<S>
+        ensures { result.is_local ≡ is_local_by peer own }
+    {
+        Newcomer {
+            stream,
+            is_local: is_local_by(peer, own),
+            came: now,
+        }
+    }
+}
+
+/// Where connections come to a worker.
+#[derive(Drop)]
+pub(crate) struct Door<S: Stream> {
+    /// The last turn accepted a connection, so the next one goes on with another.
+    has_accepted: bool,
+    /// How many more connections are accepted in a row, to learn whether so many wait.
+    pub(crate) backlog: u32,
+    /// The connection that waits for a place. While it does none is accepted.
+    pub(crate) newcomer: Option<Newcomer<S>>,
+    /// No link is looked for before this time that may be given up for another one.
+    room_backoff: u64,
+}
+
+impl<S: Stream> Door<S> {
+    /// None has come.
+    pub(crate) fn new() -> Door<S> {
+        Door {
+            has_accepted: false,
+            backlog: 0,
+            newcomer: None,
+            room_backoff: 0,
+        }
+    }
+
+    /// Whether a connection that comes is told before a link that is held.
+    pub(crate) fn is_next(&self) -> bool
+        ensures { (result ≡ true) ↔ ((self.now.has_accepted ≡ false) ⊎ (0 < self.now.backlog)) }
+    {
+        !self.has_accepted || self.backlog > 0
+    }
+
+    /// One was accepted. Whether so many waited that a further worker is to accept too.
+    pub(crate) fn note_accepted(&mut self) -> bool
+        ensures last { (result ≡ true) ↔ (self.old.backlog ≡ 1) }
+        ensures counted { self.new ≡ record self.old { has_accepted = true; backlog = self.old.backlog - 1 } }
+    {
+        let is_last = self.backlog == 1;
+        self.has_accepted = true;
+        self.backlog = self.backlog.saturating_sub(1);
+        is_last
+    }
+
+    /// A link that is held is told.
+    pub(crate) fn pass(&mut self)
+        ensures { self.new ≡ record self.old { has_accepted = false; backlog = 0 } }
+    {
+        self.has_accepted = false;
+        self.backlog = 0;
+    }
+}
+
+impl<'a, L: Ledger, S: System, R: Host + Wait + Clock> SocketSource<'a, L, S, R> {
+    /// The next connection: the one that waits for a place, or one that waits at a listener.
+    pub(crate) fn admit(&mut self) -> Option<Turn>
+        ensures { self.new.ready.told ≡ self.old.ready.told }
+    {
+        let waiting = self.door.newcomer.take();
+        let has_waited = waiting.is_some();
+        let newcomer = match waiting {
+            Some(newcomer) => newcomer,
+            None => self.accept()?,
+        };
+        let turn = match self.shared.quota.take(newcomer.is_local) {
+            Some(permit) => self.take(newcomer, permit),
+            None => self.make_room(newcomer),
+        };
+        // Whoever else waits for a place wants it again within a millisecond.
+        if has_waited && self.door.newcomer.is_none() {
+            self.shared.quota.want_none();
+        }
+        turn
+    }
+
+    /// The next connection that waits at a listener.
+    fn accept(&mut self) -> Option<Newcomer<S::Stream>>
+        ensures { self.new.ready ≡ self.old.ready }
+    {
+        let listeners = &mut self.sockets.listeners;
+        let accepted = listeners.accept(&mut self.sockets.system, self.rounds.time);
+        if listeners.take_idle() {
+            self.shared.stop_accepting(self.sockets.worker);
+        }
+        let (stream, peer) = accepted?;
+        let own = own_ip(&stream, peer);
+        Some(Newcomer::new(stream, peer, own, self.rounds.time))
+    }
+
+    /// Takes a connection that has a place, if there is memory for it. It is closed otherwise.
+    fn take(&mut self, newcomer: Newcomer<S::Stream>, permit: Permit<'a>) -> Option<Turn>
+        ensures fresh { IfSome result (λ turn. IsFreshFrom newcomer.is_local turn) }
+        ensures told { self.new.ready.told ≡ self.old.ready.told }
+    {
+        if self.ready.is_empty() {
+            self.state.take_first(self.shared);
+        }
+        let fresh = self.hold(newcomer, permit);
+        if fresh.is_none() {
+            self.tally.news.exhausted = true;
+            self.tally.note_unanswered(self.shared);
+        }
+        fresh
+    }
+
+    /// Holds a new connection. It is looked at without waiting for the poll, since its request is most likely there. More are held at
+    /// once than ever were only if memory is left that others may need.
+    fn hold(&mut self, newcomer: Newcomer<S::Stream>, permit: Permit<'a>) -> Option<Turn>
+        ensures fresh { IfSome result (λ turn. IsFreshFrom newcomer.is_local turn) }
+        ensures told { self.new.ready.told ≡ self.old.ready.told }
+    {
+        let local = newcomer.is_local;
+        if !self.ready.has_room() && !self.rt.has_memory(self.alloc) {
+            return None;
+        }
+        let held = OpenLink {
+            link: Link::new(self.alloc, newcomer.stream, local, self.rounds.time),
+            waiting: Waiting::Come,
+            permit,
+        };
+        let key = self.ready.insert(held).ok()? as u64;
+        Some(Turn::Fresh { key, local })
+    }
+
+    /// There is no place for a new connection: one is given up for it, here or, for a local peer, by another worker soon. A
+    /// connection is closed for which none can be.
+    fn make_room(&mut self, newcomer: Newcomer<S::Stream>) -> Option<Turn>
+        ensures { self.new.ready.told ≡ self.old.ready.told }
+    {
+        let waited = self.rounds.time.saturating_sub(newcomer.came);
+        let remote_first = spares_local(waited, self.shared.quota.remote());
+        if let Some(key) = self.candidate(newcomer.is_local && !remote_first) {
+            self.door.newcomer = Some(newcomer);
+            return Some(self.give_way(key));
+        }
+        if newcomer.is_local && waited < PLACE_TIMEOUT_MS {
+            if self.shared.quota.want(remote_first) {
+                self.shared.wake_others(self.sockets.worker);
+            }
+            self.door.newcomer = Some(newcomer);
+        } else {
+            self.tally.note_unanswered(self.shared);
+        }
+        None
+    }
+
+    /// Gives up a connection, if a local peer waits for a place at another worker and one may be.
+    pub(crate) fn make_way(&mut self) -> Option<Turn> {
+        let (is_wanted, is_any) = self.shared.quota.wanted();
+        if !is_wanted || self.door.newcomer.is_some() {
+            return None;
+        }
+        let key = self.candidate(is_any)?;
+        self.shared.quota.want_none();
+        Some(self.give_way(key))
+    }
+
+    /// The connection with this key is given up.
+    fn give_way(&mut self, key: usize) -> Turn
+        ensures { self.new.ready.told ≡ self.old.ready.told }
+    {
+        if let Some(held) = self.ready.get_mut(key) {
+            held.link.give_way(self.rounds.time);
+        }
+        Turn::Late(key as u64)
+    }
+
+    /// The connection that goes first of those that may be given up for another one: those of remote peers, and, with local ones, of
+    /// any.
+    fn candidate(&mut self, with_local: bool) -> Option<usize>
+        ensures { self.new.ready ≡ self.old.ready }
+    {
+        if self.rounds.time < self.door.room_backoff {
+            return None;
+        }
+        let first = first_to_go(&self.ready, with_local, self.rounds.time);
+        if first.is_none() {
+            self.door.room_backoff = self.rounds.time.saturating_add(ROOM_BACKOFF_MS);
+        }
+        first.map(|first| first.key)
+    }
+}
+
+/// The one that goes first of the links that may be given up for another one: of those of remote peers, and, with local ones, of all. None
+/// that is pending is.
+fn first_to_go<S: Stream>(
+    ready: &Ready<OpenLink<'_, S>>,
+    with_local: bool,
+    now: u64,
+) -> Option<Candidate> {
+    let mut first: Option<Candidate> = None;
+    for key in 0..ready.keys() {
+        if ready.place(key) == Some(Place::Pending) {
+            continue;
+        }
+        if let Some(OpenLink { link, .. }) = ready.get(key) {
+            let candidate = Candidate {
+                is_local: link.is_local,
+                came: link.came,
+                key,
+            };
+            if (with_local || !candidate.is_local) && link.may_go(now) {
+                first = first_of(first, candidate);
+            }
+        }
+    }
+    first
+}

@@ -1,0 +1,355 @@
+//! A connection that a worker holds: its stream as a device, and what the worker's source has to know of it.
+ghost use Rattle.std.specs.Prelude.{◌≡◌, ◌↔◌, ◌-◌, ◌<◌, [], Some, None, true, false};
+ghost use Rattle.portmap_worker.specs.Link.{IsBroken, IsOf, is_answered, is_timed, may_move};
+ghost use Rattle.portmap_worker.specs.declared.limits.TheConstants.{YOUNG_MS};
+
+use crate::Turn;
+use crate::first_piece::FirstPiece;
+use crate::limits::YOUNG_MS;
+use crate::pending::Waiting;
+use crate::quota::Permit;
+use crate::readiness::Readiness;
+use crate::rounds::Rounds;
+use crate::system::{Stream, System};
+use crate::timer::Timer;
+use portmap_core::Name;
+use portmap_link::{Device, Input, Output, Past, Pull, Put, pull_from, put_from};
+use std::alloc::Global;
+use std::io;
+use std::io::{ErrorKind, Read, Write};
+
+/// How far a connection is.
+#[derive(Clone, Copy, Debug, PartialEq, Eq)]
+enum Progress {
+    /// Nothing was ever written to it.
+    Asked,
+    /// Bytes of its answer were.
+    Answered,
+    /// Its peer has all of its answer, and sends no more.
+    Left,
+}
+
+/// What the calls of a device have answered. Only proofs read the lists.
+#[derive(Drop)]
+struct History {
+    failed: bool,
+    pulls: Past<Pull>,
+    puts: Past<Put>,
+}
+
+/// A connection that a worker holds. Times are in milliseconds since the daemon began.
+#[derive(Drop)]
+pub struct Link<S: Read + Write> {
+    stream: S,
+    history: History,
+    first: FirstPiece,
+    readiness: Readiness,
+    progress: Progress,
+    timer: Timer,
+    pub(crate) is_local: bool,
+    /// When it came.
+    pub(crate) came: u64,
+    /// It was answered and goes on sending: what it sends is of no use, and is read piece by piece with rests in between. Or the poll
+    /// has refused to report it.
+    is_resting: bool,
+    /// How many bytes have moved since that was last asked.
+    moved_bytes: usize,
+}
+
+/// Whether a call would have blocked: then there will be a report.
+fn would_block(told: &io::Result<usize>) -> bool {
+    match told {
+        Ok(_) => false,
+        Err(error) => error.kind() == ErrorKind::WouldBlock,
+    }
+}
+
+impl<S: Read + Write> Link<S> {
+    /// One that comes now, of which there is something to tell: it may have bytes. If a local peer asks to register a name at once, that
+    /// is kept back for one pull.
+    pub fn new(alloc: Global, stream: S, is_local: bool, now: u64) -> Link<S>
+        ensures pulls { result.history.pulls ≡ [] }
+        ensures puts { result.history.puts ≡ [] }
+        ensures whole { result.history.failed ≡ false }
+        ensures is_local { result.is_local ≡ is_local }
+        ensures came { result.came ≡ now }
+    {
+        Link {
+            stream,
+            history: History {
+                failed: false,
+                pulls: Past::new(),
+                puts: Past::new(),
+            },
+            first: if is_local {
+                FirstPiece::Expected(alloc)
+            } else {
+                FirstPiece::Past
+            },
+            readiness: Readiness::new(),
+            progress: Progress::Asked,
+            timer: Timer::new(),
+            is_local,
+            came: now,
+            is_resting: false,
+            moved_bytes: 0,
+        }
+    }
+
+    /// Its stream.
+    pub fn stream(&self) -> &S
+        ensures { result.now ≡ self.now.stream }
+    {
+        &self.stream
+    }
+
+    /// The name that it asks to register, while that is kept back.
+    pub fn asked_name(&self) -> Option<&Name> {
+        self.first.name()
+    }
+
+    /// Whether a call may do more than answer Later.
+    pub fn may_move(&self) -> bool
+        ensures { result ≡ may_move self.now.readiness.reading self.now.readiness.writing }
+    {
+        self.readiness.may_move()
+    }
+
+    /// Whether a put has ever answered Wrote.
+    pub(crate) fn is_answered(&self) -> bool
+        ensures { result ≡ is_answered self.now.progress }
+    {
+        self.progress != Progress::Asked
+    }
+
+    /// How many bytes have moved since this was last asked.
+    pub(crate) fn take_moved_bytes(&mut self) -> usize {
+        let bytes = self.moved_bytes;
+        self.moved_bytes = 0;
+        bytes
+    }
+
+    /// Whether its peer has only so much time: for its request, or for the bytes that wait to be written. One that was answered
+    /// and has read the answer may be silent for as long as it likes.
+    fn is_timed(&self) -> bool
+        ensures { result ≡ is_timed self.now.progress self.now.readiness.writing }
+    {
+        !self.is_answered() || self.readiness.is_unsent()
+    }
+
+    /// Whether it may be given up for another one: it has been there for a while, and waits for its peer. One that is answered and has read
+    /// its answer may not, so none that holds a name, but for the moment in which its answer waits to be written.
+    pub(crate) fn may_go(&self, now: u64) -> bool
+        ensures { (result ≡ true) ↔ ((is_timed self.now.progress self.now.readiness.writing ≡ true) × (YOUNG_MS < now - self.now.came)) }
+    {
+        self.is_timed() && now.saturating_sub(self.came) > YOUNG_MS
+    }
+
+    /// It is given up for another one, if it can be. If it is kept it has come anew.
+    pub(crate) fn give_way(&mut self, now: u64) {
+        self.came = now;
+        self.timer.is_late = false;
+    }
+
+    /// What it asks for is to be told, or that its time is over.
+    pub(crate) fn set_late(&mut self, is_late: bool) {
+        self.timer.is_late = is_late;
+    }
+
+    /// The poll has reported it, and perhaps that its peer sends no more: what is reported goes before what is late.
+    pub(crate) fn note_event(&mut self, is_closed: bool) {
+        self.timer.is_late = false;
+        self.readiness.note_report();
+        self.progress = match self.progress {
+            Progress::Asked => Progress::Asked,
+            Progress::Answered | Progress::Left if is_closed && !self.readiness.is_unsent() =>
+                Progress::Left,
+            Progress::Answered | Progress::Left => Progress::Answered,
+        };
+    }
+
+    /// Memory is short: a local peer that has sent a part of a request, perhaps of a long registration, is late with the rest.
+    pub(crate) fn refuse_part(&mut self) {
+        let is_part = self.is_local && !self.is_answered() && !self.readiness.is_unsent();
+        if is_part && matches!(self.first, FirstPiece::Past) {
+            self.timer.is_late = true;
+        }
+    }
+
+    /// It has rested. Whether there is something to tell of it.
+    pub(crate) fn end_rest(&mut self) -> bool {
+        self.is_resting = false;
+        if !self.readiness.is_watched() {
+            self.readiness.note_report();
+        }
+        self.may_move()
+    }
+
+    /// What is to be told of it. If one that is late is kept its time begins anew.
+    pub(crate) fn tell(&mut self, key: usize) -> Turn
+        ensures link { IsOf (Some key) result }
+        ensures anew { result ≡ Turn.Late key → self.new.timer.since ≡ None }
+        ensures told { self.new.timer.is_late ≡ false }
+    {
+        if self.timer.take_late() {
+            Turn::Late(key as u64)
+        } else {
+            Turn::Ready(key as u64)
+        }
+    }
+
+    /// Looks at it, now that the poll has reported all up to this time. Whether there is something to tell of it.
+    pub(crate) fn look(&mut self, rounds: &Rounds, timeout: u64) -> bool {
+        let is_timed = self.is_timed();
+        self.timer.begin(is_timed, self.is_local, rounds.time);
+        if self.may_move() {
+            return true;
+        }
+        if self.readiness.is_watched() {
+            return self.timer.expire(rounds.time, timeout);
+        }
+        // The poll has refused to report it, so it was asked after the look before, and no more is known of it than up to then.
+        if !self.timer.expire(rounds.looked, timeout) {
+            self.readiness.note_report();
+        }
+        true
+    }
+
+    /// So many bytes have moved.
+    fn note_moved(&mut self, count: usize)
+        ensures moved { self.new.timer.has_moved ≡ true }
+        ensures history { self.new.history ≡ self.old.history }
+    {
+        self.timer.has_moved = true;
+        self.moved_bytes = self.moved_bytes.saturating_add(count);
+    }
+}
+
+impl<S: Stream> Link<S> {
+    /// Where it goes, now that it was told. If no call on it is to be made the poll is asked to report it, and if that refuses, it is
+    /// asked again once the link has rested.
+    pub(crate) fn fate<P: System<Stream = S>>(&mut self, system: &mut P, key: usize) -> Fate {
+        let is_asked = !self.is_resting && self.may_move();
+        if !is_asked && !self.readiness.is_watched() {
+            let interest = self.readiness.wanted();
+            let was_watched = self.readiness.is_known();
+            match system.watch(&mut self.stream, key, interest, was_watched) {
+                Ok(()) => self.readiness.note_watched(),
+                Err(_) => self.is_resting = true,
+            }
+        }
+        if self.is_resting {
+            Fate::Rests
+        } else if self.may_move() {
+            Fate::Again
+        } else {
+            Fate::Waits
+        }
+    }
+}
+
+/// What becomes of a link that was told.
+#[derive(Clone, Copy, Debug, PartialEq, Eq)]
+pub(crate) enum Fate {
+    /// There is more to tell of it.
+    Again,
+    /// It rests.
+    Rests,
+    /// The poll is to report it.
+    Waits,
+}
+
+/// A link that a worker holds. However it is given up, a peer that doesn't have all of its answer sees that: its connection ends by a
+/// reset in place of an end.
+pub(crate) struct OpenLink<'a, S: Stream> {
+    pub(crate) link: Link<S>,
+    /// How long its registration goes on waiting, while it is pending.
+    pub(crate) waiting: Waiting,
+    pub(crate) permit: Permit<'a>,
+}
+
+impl<S: Stream> Drop for OpenLink<'_, S> {
+    fn drop(mut self) {
+        if self.link.readiness.is_unsent() {
+            self.link.stream.reset();
+        }
+        let OpenLink {
+            link: _link,
+            waiting: _,
+            permit: _permit,
+        } = self;
+    }
+}
+
+impl<S: Read + Write> Device for Link<S> {
+    ghost use Rattle.std.specs.Prelude.{None};
+
+    ghost left = { λ _. None };
+
+    ghost held = { λ _. None };
+
+    ghost pulls = { λ l. l.history.pulls };
+
+    ghost puts = { λ l. l.history.puts };
+
+    ghost broken = { λ l. l.history.failed };
+}
+
+/// What a device that has failed tells.
+fn broken() -> io::Result<usize>
+    ensures { IsBroken result }
+{
+    Err(io::Error::from(ErrorKind::BrokenPipe))
+}
+
+impl<S: Read + Write> Input for Link<S> {
+    fn pull(&mut self, buffer: &mut [u8]) -> Pull {
+        let told = if self.history.failed {
+            broken()
+        } else if self.progress == Progress::Left {
+            Ok(0)
+        } else {
+            self.first.read(&mut self.stream, buffer)
+        };
+        let is_blocked = would_block(&told);
+        let answer = pull_from(told);
+        self.history.failed = answer == Pull::Fault;
+        self.history.pulls.note(&answer);
+        self.readiness.note_pull(&answer, buffer.len(), is_blocked);
+        if let Pull::Piece(count) = answer {
+            self.note_moved(count);
+            self.is_resting = self.is_answered();
+        }
+        answer
+    }
+
+    fn failed(&self) -> bool {
+        self.history.failed
+    }
+}
+
+impl<S: Read + Write> Output for Link<S> {
+    fn put(&mut self, bytes: &[u8]) -> Put {
+        let told = if self.history.failed {
+            broken()
+        } else {
+            self.stream.write(bytes)
+        };
+        let is_blocked = would_block(&told);
+        let answer = put_from(told);
+        self.history.failed = answer == Put::Fault;
+        self.history.puts.note(&answer);
+        self.readiness.note_put(&answer, is_blocked);
+        if let Put::Wrote(count) = answer {
+            if self.progress == Progress::Asked {
+                self.progress = Progress::Answered;
+            }
+            self.note_moved(count);
+        }
+        answer
+    }
+
+    fn failed(&self) -> bool {
+        self.history.failed
+    }
+}

@@ -1,0 +1,275 @@
+//! A worker's shares of the listening sockets.
+ghost use Rattle.std.specs.Prelude.{◌≡◌, ◌+◌, ◌-◌, ◌<◌, ◌≤◌, ◌^◌, min, false, IfOk};
+ghost use Rattle.portmap_worker.specs.Listening.{accept_error};
+ghost use Rattle.portmap_worker.specs.declared.limits.TheConstants.{ACCEPT_BACKOFF_MS};
+
+use crate::limits::{ACCEPT_BACKOFF_MS, IDLE_REPORTS_MOST};
+use crate::system::System;
+use portmap_link::NoMemory;
+use std::alloc::Global;
+use std::io::ErrorKind;
+use std::net::IpAddr;
+
+/// How a worker stands to a listening socket.
+#[derive(Clone, Copy, Debug, PartialEq, Eq)]
+enum Watch {
+    /// Others accept its connections.
+    Off,
+    /// The poll reports it.
+    On,
+    /// It is to be reported from this time on, in milliseconds.
+    From(u64),
+}
+
+/// Why no connection could be accepted.
+#[derive(Clone, Copy, Debug, PartialEq, Eq)]
+enum AcceptError {
+    /// The one that waited has gone: another one may wait.
+    Aborted,
+    /// None waits.
+    WouldBlock,
+    /// None can be accepted for a while, for want of descriptors or of memory.
+    Exhausted,
+}
+
+/// Why none could be, by the kind of the error.
+fn accept_error(kind: ErrorKind) -> AcceptError
+    ensures { result ≡ accept_error kind }
+{
+    match kind {
+        ErrorKind::ConnectionAborted | ErrorKind::Interrupted => AcceptError::Aborted,
+        ErrorKind::WouldBlock => AcceptError::WouldBlock,
+        _ => AcceptError::Exhausted,
+    }
+}
+
+/// One worker's share of a listening socket. The system reports it to every worker that watches it, and one of them gets the
+/// connection.
+#[derive(Clone, Copy, Debug, PartialEq, Eq)]
+struct Listener {
+    /// Which of them it is.
+    place: usize,
+    watch: Watch,
+    /// Connections may wait at it.
+    waiting: bool,
+    /// One was accepted since it was last reported.
+    took: bool,
+}
+
+impl Listener {
+    /// The poll has reported it. A report that comes before the last one has come to nothing is one with it.
+    fn note_report(&mut self) {
+        self.took = self.took && self.waiting;
+        self.waiting = true;
+    }
+
+    /// None could be accepted.
+    fn fail<S: System>(&mut self, system: &mut S, now: u64, kind: ErrorKind) -> AcceptError
+        ensures error { result ≡ accept_error kind }
+        ensures aborted { result ≡ AcceptError.Aborted → self.new ≡ self.old }
+        ensures would_block { result ≡ AcceptError.WouldBlock → (self.new.waiting ≡ false) × (self.new.watch ≡ self.old.watch) × (self.new.took ≡ self.old.took) }
+        ensures exhausted { result ≡ AcceptError.Exhausted → (self.new.waiting ≡ false) × (self.new.watch ≡ Watch.From (min (now + ACCEPT_BACKOFF_MS) (2 ^ 64 - 1))) }
+    {
+        let error = accept_error(kind);
+        match error {
+            AcceptError::Aborted => {}
+            AcceptError::WouldBlock => self.waiting = false,
+            // What waits is not reported again, so the poll is to look anew after a while.
+            AcceptError::Exhausted => {
+                self.leave(system);
+                self.watch = Watch::From(now.saturating_add(ACCEPT_BACKOFF_MS));
+            }
+        }
+        error
+    }
+
+    /// Leaves it to others.
+    fn leave<S: System>(&mut self, system: &mut S)
+        ensures { self.new.waiting ≡ false }
+    {
+        if self.watch == Watch::On {
+            system.leave(self.place);
+        }
+        self.watch = Watch::Off;
+        self.waiting = false;
+    }
+
+    /// Watches it, if it is time. Whether it can't be watched.
+    fn come_back<S: System>(&mut self, system: &mut S, now: u64) -> bool {
+        let Watch::From(time) = self.watch else {
+            return false;
+        };
+        if now < time {
+            return false;
+        }
+        self.watch = match system.listen(self.place) {
+            Ok(()) => Watch::On,
+            // It was never left, so what waits at it is not reported again.
+            Err(error) if error.kind() == ErrorKind::AlreadyExists => {
+                self.note_report();
+                Watch::On
+            }
+            Err(_) => Watch::From(now.saturating_add(ACCEPT_BACKOFF_MS)),
+        };
+        self.watch != Watch::On
+    }
+}
+
+/// The listeners of a worker, which are asked in turn.
+#[derive(Drop)]
+pub(crate) struct Listeners {
+    listeners: Vec<Listener>,
+    /// The place of the listener that is asked first: behind the one that gave last, so that none is served before the others.
+    first: usize,
+    /// The worker accepts.
+    is_on: bool,
+    /// How many reports in a row came to nothing.
+    idle_reports: u32,
+    /// A connection could not be accepted since that was last asked.
+    exhausted: bool,
+}
+
+impl Listeners {
+    /// A worker's shares of so many sockets, which its poll is to report if it accepts.
+    pub(crate) fn new(alloc: Global, count: usize, is_on: bool) -> Result<Listeners, NoMemory>
+        ensures { IfOk result (λ listeners. listeners.is_on ≡ is_on) }
+    {
+        let watch = if is_on { Watch::From(0) } else { Watch::Off };
+        let mut listeners = Vec::new(alloc);
+        for place in 0..count {
+            listeners.push(Listener {
+                place,
+                watch,
+                waiting: false,
+                took: false,
+            })?;
+        }
+        Ok(Listeners {
+            listeners,
+            first: 0,
+            is_on,
+            idle_reports: 0,
+            exhausted: false,
+        })
+    }
+
+    /// Whether connections may wait.
+    pub(crate) fn is_waiting(&self) -> bool {
+        self.listeners.iter().any(|listener| listener.waiting)
+    }
+
+    /// How many are watched at most.
+    pub(crate) fn len(&self) -> usize {
+        self.listeners.len()
+    }
+
+    /// The earliest time from which on one is to be watched, or this one if it comes before.
+    pub(crate) fn until(&self, time: u64) -> u64 {
+        let mut until = time;
+        for listener in &self.listeners {
+            if let Watch::From(from) = listener.watch {
+                until = until.min(from);
+            }
+        }
+        until
+    }
+
+    /// The poll has reported the one at this place.
+    pub(crate) fn report(&mut self, place: usize) {
+        if let Some(listener) = self.listeners.get_mut(place) {
+            listener.note_report();
+        }
+    }
+
+    /// The next connection that waits, with the address of its peer. The listeners are asked in turn.
+    pub(crate) fn accept<S: System>(
+        &mut self,
+        system: &mut S,
+        now: u64,
+    ) -> Option<(S::Stream, IpAddr)> {
+        for _ in 0..self.listeners.len() {
+            let place = self.first;
+            self.first = next_place(place, self.listeners.len());
+            let accepted = self.accept_at(place, system, now);
+            if accepted.is_some() {
+                return accepted;
+            }
+        }
+        None
+    }
+
+    /// The next one that waits at the listener at this place.
+    fn accept_at<S: System>(
+        &mut self,
+        place: usize,
+        system: &mut S,
+        now: u64,
+    ) -> Option<(S::Stream, IpAddr)> {
+        let listener = self.listeners.get_mut(place)?;
+        if !listener.waiting {
+            return None;
+        }
+        match system.accept(place) {
+            Ok(accepted) => {
+                listener.took = true;
+                self.idle_reports = 0;
+                return Some(accepted);
+            }
+            Err(error) => match listener.fail(system, now, error.kind()) {
+                AcceptError::Aborted => {}
+                AcceptError::WouldBlock if listener.took => {}
+                AcceptError::WouldBlock => self.idle_reports = self.idle_reports.saturating_add(1),
+                AcceptError::Exhausted => self.exhausted = true,
+            },
+        }
+        None
+    }
+
+    /// Whether so many reports came to nothing that the worker may leave the listeners to others. It is asked once.
+    pub(crate) fn take_idle(&mut self) -> bool {
+        let is_idle = self.idle_reports >= IDLE_REPORTS_MOST;
+        if is_idle {
+            self.idle_reports = 0;
+        }
+        is_idle
+    }
+
+    /// Whether connections could not be accepted since this was last asked.
+    pub(crate) fn take_exhausted(&mut self) -> bool
+        ensures taken { result ≡ self.old.exhausted }
+        ensures asked { self.new.exhausted ≡ false }
+    {
+        let is_exhausted = self.exhausted;
+        self.exhausted = false;
+        is_exhausted
+    }
+
+    /// Watches the listeners from now on, or leaves them, as the worker accepts or not. Those that are to be watched again are, if it
+    /// is time.
+    pub(crate) fn pass<S: System>(&mut self, system: &mut S, now: u64, is_on: bool) {
+        let turns = is_on != self.is_on;
+        if turns {
+            self.is_on = is_on;
+            self.idle_reports = 0;
+        }
+        for listener in &mut self.listeners {
+            if turns && !is_on {
+                listener.leave(system);
+            } else if turns && listener.watch == Watch::Off {
+                listener.watch = Watch::From(now);
+            }
+            if listener.come_back(system, now) {
+                self.exhausted = true;
+            }
+        }
+    }
+}
+
+/// The place behind this one of so many: the first one behind the last one.
+fn next_place(place: usize, count: usize) -> usize
+    ensures next { place + 1 < count → result ≡ place + 1 }
+    ensures first { count ≤ place + 1 → result ≡ 0 }
+{
+    let next = place.saturating_add(1);
+    if next < count { next } else { 0 }
+}

@@ -1,0 +1,44 @@
+//! Whether the peer of a stream is on this host.
+ghost use Rattle.std.specs.Prelude.{◌≡◌};
+ghost use Rattle.portmap_core.specs.Locality.{is_local_to};
+ghost use Rattle.portmap_worker.specs.Peers.{ip_of, is_local_by};
+
+use crate::system::Stream;
+use portmap_core::{Ip, is_local};
+use std::net::{IpAddr, Ipv4Addr};
+
+/// No peer has this address. It stands for an own one that is not known.
+const NO_PEER: IpAddr = IpAddr::V4(Ipv4Addr::UNSPECIFIED);
+
+/// The address as the port mapper compares it.
+fn ip_of(address: IpAddr) -> Ip
+    ensures { result ≡ ip_of address }
+{
+    match address {
+        IpAddr::V4(ip) => Ip::V4(ip.octets()),
+        IpAddr::V6(ip) => Ip::V6(ip.octets()),
+    }
+}
+
+/// Whether a connection's peer is on this host, by the peer's address and the connection's own.
+pub fn is_local_peer(peer: IpAddr, own: IpAddr) -> bool
+    ensures { result ≡ is_local_to (ip_of peer) (ip_of own) }
+{
+    is_local(ip_of(peer), ip_of(own))
+}
+
+/// The same, if the own address is perhaps not known.
+pub(crate) fn is_local_by(peer: IpAddr, own: Option<IpAddr>) -> bool
+    ensures { result ≡ is_local_by peer own }
+{
+    is_local_peer(peer, own.unwrap_or(NO_PEER))
+}
+
+/// A connection's own address. It is asked for only if the peer's doesn't decide, since that takes a call of the system.
+pub(crate) fn own_ip<S: Stream>(stream: &S, peer: IpAddr) -> Option<IpAddr> {
+    if is_local_by(peer, None) {
+        None
+    } else {
+        stream.own_ip()
+    }
+}

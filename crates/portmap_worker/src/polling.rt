@@ -1,0 +1,196 @@
+//! What a worker asks of its poll, and what it makes of the answers.
+ghost use Rattle.std.specs.Prelude.{◌≡◌, ◌<◌, [], None};
+
+use crate::Turn;
+use crate::host::Host;
+use crate::limits::{BACKLOG_MOST, EVENTS_MOST, IDLE_TIMEOUT_MS, RESTS_MOST};
+use crate::link::OpenLink;
+use crate::rounds::poll_timeout;
+use crate::shared::IDLE;
+use crate::socket_source::SocketSource;
+use crate::system::{Report, Stream, System};
+use portmap_ready::{Place, Ready};
+use std::rt::Clock;
+use std::sync::Wait;
+use std::sync::atomic::Ordering;
+use std::sync::ledger::Ledger;
+
+impl<L: Ledger, S: System, R: Host + Wait + Clock> SocketSource<'_, L, S, R> {
+    /// Polls. What is to be told by the time alone, or if the poll has failed.
+    pub(crate) fn poll(&mut self) -> Option<Turn>
+        requires { self.old.ready.told ≡ None }
+    {
+        self.retry_pending();
+        let before = self.time_us();
+        self.state.busy_since.store(IDLE, Ordering::SeqCst);
+        let is_well = self.wait();
+        let after = self.time_us();
+        if after / 1000 > self.rounds.time {
+            self.end_rests();
+        }
+        self.rounds.time = after / 1000;
+        self.state
+            .busy_since
+            .store(self.rounds.time, Ordering::SeqCst);
+        if !is_well {
+            return Some(self.fail());
+        }
+        if self.shared.stopping.load(Ordering::SeqCst) {
+            return Some(Turn::Stop);
+        }
+        let worker = self.sockets.worker;
+        if self.rounds.load.note_poll(before, after) && self.shared.may_add_acceptor(worker) {
+            self.door.backlog = BACKLOG_MOST;
+        }
+        self.pass_listeners();
+        let is_due = self.rounds.is_look_due();
+        if is_due && !self.look_round() {
+            return Some(self.fail());
+        }
+        match self.make_way() {
+            None if is_due => Some(Turn::Idle),
+            turn => turn,
+        }
+    }
+
+    /// A millisecond is over: of the links that have rested longest a few may move again.
+    fn end_rests(&mut self) {
+        for _ in 0..RESTS_MOST {
+            let Some(key) = self.ready.end_rest() else {
+                return;
+            };
+            if let Some(held) = self.ready.get_mut(key) {
+                if held.link.end_rest() {
+                    self.ready.report(key);
+                }
+            }
+        }
+    }
+
+    /// Watches the listeners or leaves them, as the worker accepts or not.
+    fn pass_listeners(&mut self) {
+        let is_on = self.shared.accepts(self.sockets.worker);
+        let listeners = &mut self.sockets.listeners;
+        listeners.pass(&mut self.sockets.system, self.rounds.time, is_on);
+        if listeners.take_exhausted() {
+            self.tally.news.exhausted = true;
+        }
+    }
+
+    /// The poll has failed: the worker ends, and with it the others.
+    fn fail(&self) -> Turn {
+        self.shared.poll_failed.store(true, Ordering::SeqCst);
+        Turn::Stop
+    }
+
+    /// Until when a poll may wait if there is nothing to do.
+    fn until(&self) -> u64 {
+        let now = self.rounds.time;
+        if self.door.newcomer.is_some() || self.ready.resting() > 0 {
+            return now;
+        }
+        let look = if self.ready.is_empty() && self.tally.is_told() {
+            now.saturating_add(IDLE_TIMEOUT_MS)
+        } else {
+            self.rounds.look_due
+        };
+        let pending = self.rounds.pending_until.unwrap_or(look);
+        self.sockets.listeners.until(pending.min(look))
+    }
+
+    /// Polls, and waits if there is nothing else to do. False if the poll has failed.
+    fn wait(&mut self) -> bool {
+        self.rounds.end_turns();
+        let begins = self.rounds.pass.is_over();
+        if begins {
+            let has_links = !self.ready.is_empty();
+            self.rounds.pass.end(self.shared, self.state, has_links);
+        }
+        let is_passed = self.rounds.pass.is_passed(self.state);
+        let is_waiting = self.sockets.listeners.is_waiting();
+        let is_busy = !is_passed || self.ready.backlog() > 0 || is_waiting;
+        if !self.ask(poll_timeout(is_busy, self.rounds.time, self.until())) {
+            return false;
+        }
+        if !begins {
+            return true;
+        }
+        let is_all = !self.sockets.system.is_full() || self.ask_for_all();
+        self.rounds.pass.begin(self.ready.backlog());
+        is_all
+    }
+
+    /// Asks the poll, which may wait for so many milliseconds where nothing is to be told, and notes what it reports. False if it has
+    /// failed.
+    fn ask(&mut self, timeout: u64) -> bool
+        requires { 0 < timeout → self.old.ready.queue ≡ [] }
+    {
+        let is_well = self.sockets.system.poll(timeout);
+        if is_well {
+            self.take_events();
+        }
+        is_well
+    }
+
+    /// Notes what the poll has reported.
+    fn take_events(&mut self) {
+        for place in 0..EVENTS_MOST {
+            match self.sockets.system.report(place) {
+                None => return,
+                Some(Report::Woken) => {}
+                Some(Report::Listener(place)) => self.sockets.listeners.report(place),
+                Some(Report::Stream { key, is_closed }) => {
+                    report(&mut self.ready, key, is_closed);
+                }
+            }
+        }
+    }
+
+    /// Looks at every link: whether its time is over, and whether the poll has refused to report it. The time was read before, and
+    /// however long this thread was stopped since, all that came meanwhile is noted first. False if the poll has failed.
+    fn look_round(&mut self) -> bool {
+        if !self.ask_for_all() {
+            return false;
+        }
+        for key in 0..self.ready.keys() {
+            if let Some(held) = self.ready.get_mut(key) {
+                if held.link.look(&self.rounds, self.sockets.timeout) {
+                    self.ready.report(key);
+                }
+            }
+        }
+        self.rounds.note_look();
+        self.tally.tell(self.shared);
+        true
+    }
+
+    /// Has the poll report all that there is, without waiting. It tells what came first before what came later, so as many answers
+    /// as hold one report of each that is watched are enough. False if it has failed.
+    fn ask_for_all(&mut self) -> bool {
+        let watched = self
+            .ready
+            .len()
+            .saturating_add(self.sockets.listeners.len());
+        for _ in 0..watched / EVENTS_MOST + 1 {
+            if !self.ask(0) {
+                return false;
+            }
+            if !self.sockets.system.is_full() {
+                break;
+            }
+        }
+        true
+    }
+}
+
+/// The poll has reported a link, and perhaps that its peer sends no more. There is something to tell of it, unless it rests and goes on
+/// sending.
+fn report<S: Stream>(ready: &mut Ready<OpenLink<'_, S>>, key: usize, is_closed: bool) {
+    let rests = ready.place(key) == Some(Place::Resting);
+    if let Some(held) = ready.get_mut(key) {
+        held.link.note_event(is_closed);
+    }
+    if is_closed || !rests {
+        ready.report(key);
+    }
+}

@@ -1,0 +1,85 @@
+//! When a worker asks its poll, and when it looks at all of its links. Times are in milliseconds since the daemon began.
+ghost use Rattle.std.specs.Prelude.{◌≡◌, ◌↔◌, ◌+◌, ◌-◌, ◌≤◌, ◌<◌, ◌^◌, true, false, min, max};
+ghost use Rattle.portmap_worker.specs.declared.limits.TheConstants.{LOOK_INTERVAL_MS, SHORT_TIMEOUT_MS, TURNS_MOST};
+
+use crate::accept_scheduler::LoadMeter;
+use crate::epochs::Pass;
+use crate::limits::{LOOK_INTERVAL_MS, SHORT_TIMEOUT_MS, TURNS_MOST};
+
+/// How many milliseconds a poll may wait: not at all while there is something to do; else until this time, but at least a moment.
+pub(crate) fn poll_timeout(is_busy: bool, now: u64, until: u64) -> u64
+    ensures busy { is_busy ≡ true → result ≡ 0 }
+    ensures waits { is_busy ≡ false → result ≡ max (until - now) SHORT_TIMEOUT_MS }
+{
+    if is_busy {
+        0
+    } else {
+        until.saturating_sub(now).max(SHORT_TIMEOUT_MS)
+    }
+}
+
+/// What a worker knows of its polls.
+#[derive(Drop)]
+pub(crate) struct Rounds {
+    /// The time when the poll answered last.
+    pub(crate) time: u64,
+    /// How many turns since the poll was asked.
+    turns: u32,
+    pub(crate) pass: Pass,
+    /// The earliest time until which a registration waits for its name alone, if one is pending.
+    pub(crate) pending_until: Option<u64>,
+    /// When the next look is due, and the time of the last one.
+    pub(crate) look_due: u64,
+    pub(crate) looked: u64,
+    pub(crate) load: LoadMeter,
+}
+
+impl Rounds {
+    /// The poll was never asked.
+    pub(crate) fn new() -> Rounds {
+        Rounds {
+            time: 0,
+            turns: 0,
+            pass: Pass::new(),
+            pending_until: None,
+            look_due: LOOK_INTERVAL_MS,
+            looked: 0,
+            load: LoadMeter::new(),
+        }
+    }
+
+    /// A turn, if one more is to be had before the poll is asked. Whether it is.
+    pub(crate) fn take_turn(&mut self) -> bool
+        ensures most { (result ≡ true) ↔ (self.old.turns < TURNS_MOST) }
+        ensures counted { result ≡ true → self.new ≡ record self.old { turns = self.old.turns + 1 } }
+        ensures none { result ≡ false → self.new ≡ self.old }
+    {
+        let is_left = self.turns < TURNS_MOST;
+        if is_left {
+            self.turns = self.turns.saturating_add(1);
+        }
+        is_left
+    }
+
+    /// The poll is asked.
+    pub(crate) fn end_turns(&mut self)
+        ensures { self.new ≡ record self.old { turns = 0 } }
+    {
+        self.turns = 0;
+    }
+
+    /// Whether all links are to be looked at.
+    pub(crate) fn is_look_due(&self) -> bool
+        ensures { (result ≡ true) ↔ (self.now.look_due ≤ self.now.time) }
+    {
+        self.time >= self.look_due
+    }
+
+    /// All links were looked at.
+    pub(crate) fn note_look(&mut self)
+        ensures { self.new ≡ record self.old { looked = self.old.time; look_due = min (self.old.time + LOOK_INTERVAL_MS) (2 ^ 64 - 1) } }
+    {
+        self.looked = self.time;
+        self.look_due = self.time.saturating_add(LOOK_INTERVAL_MS);
+    }
+}

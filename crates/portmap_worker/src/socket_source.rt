@@ -1,0 +1,246 @@
+//! The source of a worker over sockets.
+ghost use Rattle.std.specs.Prelude.{◌≡◌, ◌<◌, ◌+◌, ◌-◌, ◌^◌, ◌==◌, [], Some, None, min, slice_get, IfOk, IfNone, IfSome};
+ghost use Rattle.portmap_worker.specs.Link.{IsOf};
+ghost use Rattle.portmap_worker.specs.declared.limits.TheConstants.{TURNS_MOST};
+
+use crate::admission::Door;
+use crate::host::Host;
+use crate::limits::{LOG_BYTES_HEAVY, POLLS_MOST};
+use crate::link::{Fate, Link, OpenLink};
+use crate::listener::Listeners;
+use crate::rounds::Rounds;
+use crate::shared::{Shared, Tally, WorkerState};
+use crate::system::System;
+use crate::{Source, Turn};
+use portmap_book::Desk;
+use portmap_link::NoMemory;
+use portmap_ready::Ready;
+use std::alloc::Global;
+use std::rt::Clock;
+use std::sync::Wait;
+use std::sync::atomic::Ordering;
+use std::sync::ledger::Ledger;
+
+/// The sockets of one worker.
+#[derive(Drop)]
+pub struct Sockets<S: System> {
+    /// Which worker it is, from 0.
+    pub worker: usize,
+    /// How many milliseconds a link may move no byte.
+    pub timeout: u64,
+    pub(crate) system: S,
+    pub(crate) listeners: Listeners,
+}
+
+/// A worker's sockets and links, with the desk and what it shares with the other workers. Times are in milliseconds since the daemon
+/// began.
+#[derive(Drop)]
+pub struct SocketSource<'a, L: Ledger, S: System, R: Host + Wait + Clock> {
+    pub(crate) rt: &'a R,
+    pub(crate) alloc: Global,
+    pub(crate) desk: &'a Desk<L>,
+    pub(crate) shared: &'a Shared<S::Waker>,
+    /// What the others know of this worker.
+    pub(crate) state: &'a WorkerState<S::Waker>,
+    pub(crate) sockets: Sockets<S>,
+    /// The links, each at its place.
+    pub(crate) ready: Ready<OpenLink<'a, S::Stream>>,
+    pub(crate) door: Door<S::Stream>,
+    pub(crate) rounds: Rounds,
+    /// What is to be told to others soon.
+    pub(crate) tally: Tally,
+}
+
+impl<S: System> Sockets<S> {
+    /// The sockets of this worker. The first one accepts.
+    pub fn new(
+        alloc: Global,
+        worker: usize,
+        system: S,
+        timeout: u64,
+    ) -> Result<Sockets<S>, NoMemory>
+        ensures worker { IfOk result (λ sockets. sockets.worker ≡ worker) }
+        ensures is_on { IfOk result (λ sockets. sockets.listeners.is_on ≡ (worker == 0)) }
+        ensures timeout { IfOk result (λ sockets. sockets.timeout ≡ timeout) }
+    {
+        let listeners = Listeners::new(alloc, system.listeners(), worker == 0)?;
+        Ok(Sockets {
+            worker,
+            timeout,
+            system,
+            listeners,
+        })
+    }
+
+    /// The number of its seat: workers have them from 1.
+    pub fn number(&self) -> u32
+        ensures { result ≡ min (self.now.worker + 1) (2 ^ 32 - 1) }
+    {
+        u32::try_from(self.worker.saturating_add(1)).unwrap_or(u32::MAX)
+    }
+}
+
+impl<'a, L: Ledger, S: System, R: Host + Wait + Clock> SocketSource<'a, L, S, R> {
+    /// The source of a worker that has no link yet; none if it is none of those that share this.
+    pub fn new(
+        rt: &'a R,
+        alloc: Global,
+        desk: &'a Desk<L>,
+        shared: &'a Shared<S::Waker>,
+        sockets: Sockets<S>,
+    ) -> Option<SocketSource<'a, L, S, R>> {
+        let state = shared.workers.get(sockets.worker)?;
+        Some(SocketSource {
+            rt,
+            alloc,
+            desk,
+            shared,
+            state,
+            sockets,
+            ready: Ready::new(alloc),
+            door: Door::new(),
+            rounds: Rounds::new(),
+            tally: Tally::new(),
+        })
+    }
+
+    /// The microseconds since the daemon began. If the clock can't be read, a millisecond passes with each answer of the poll.
+    pub(crate) fn time_us(&self) -> u64 {
+        match self.shared.time_us(self.rt) {
+            Some(time) => time,
+            None => self.rounds.time.saturating_add(1).saturating_mul(1000),
+        }
+    }
+
+    /// Has the log taken out if it has become heavy.
+    fn weigh(&self) {
+        if self.desk.weight(self.rt) >= LOG_BYTES_HEAVY {
+            self.shared.wake_drain();
+        }
+    }
+
+    /// What was told last goes where there is more to tell of it, where it rests, or where the poll is to report it.
+    fn put_back(&mut self)
+        ensures { self.new.ready.told ≡ None }
+    {
+        let Some(key) = self.ready.told() else {
+            return;
+        };
+        let bytes = put_back(&mut self.ready, &mut self.sockets.system, key);
+        if self.tally.note_moved(bytes) {
+            self.weigh();
+        }
+    }
+
+    /// What is to be told without a poll. A connection that comes and a link that is held are told by turns.
+    fn next(&mut self) -> Option<Turn>
+        requires { self.old.ready.told ≡ None }
+        ensures none { IfNone result (self.new.ready.told ≡ None) }
+        ensures most { IfSome result (λ _. self.old.rounds.turns < TURNS_MOST) }
+    {
+        if !self.rounds.take_turn() {
+            return None;
+        }
+        if self.door.is_next() {
+            if let Some(turn) = self.admit() {
+                if self.door.note_accepted() {
+                    self.shared.add_acceptor(self.sockets.worker);
+                }
+                return Some(turn);
+            }
+        }
+        self.door.pass();
+        self.pop()
+    }
+
+    /// The next thing to do, if there is one without a poll or by the next one.
+    pub fn step(&mut self) -> Option<Turn> {
+        let held_back = self.hold_back();
+        if held_back.is_some() {
+            return held_back;
+        }
+        self.put_back();
+        match self.next() {
+            None => self.poll(),
+            turn => turn,
+        }
+    }
+
+    /// The link that has waited longest of those of which there is something to tell.
+    fn pop(&mut self) -> Option<Turn>
+        requires { self.old.ready.told ≡ None }
+        ensures first { IfSome result (λ turn. IsOf (slice_get self.old.ready.queue 0) turn) }
+        ensures none { IfNone result ((self.old.ready.queue ≡ []) × (self.new.ready.told ≡ None)) }
+    {
+        let is_short = self.shared.short.load(Ordering::SeqCst);
+        let key = self.ready.next();
+        self.rounds.pass.note_turn(key.is_some());
+        let key = key?;
+        let Some(held) = self.ready.get_mut(key) else {
+            return Some(Turn::Ready(key as u64));
+        };
+        if is_short {
+            held.link.refuse_part();
+        }
+        Some(held.link.tell(key))
+    }
+}
+
+/// The link that was told last is put at the place that it is to stand at. How many bytes it has moved.
+fn put_back<S: System>(
+    ready: &mut Ready<OpenLink<'_, S::Stream>>,
+    system: &mut S,
+    key: usize,
+) -> usize
+    requires { ready.old.told ≡ Some key }
+    ensures { ready.new.told ≡ None }
+{
+    let Some(held) = ready.get_mut(key) else {
+        ready.leave(key);
+        return 0;
+    };
+    let bytes = held.link.take_moved_bytes();
+    match held.link.fate(system, key) {
+        Fate::Again => ready.put_back(key),
+        Fate::Rests => ready.rest(key),
+        Fate::Waits => ready.leave(key),
+    }
+    bytes
+}
+
+impl<L: Ledger, S: System, R: Host + Wait + Clock> Source for SocketSource<'_, L, S, R> {
+    type Link = Link<S::Stream>;
+
+    fn turn(&mut self) -> Turn {
+        for _ in 0..POLLS_MOST {
+            if let Some(turn) = self.step() {
+                return turn;
+            }
+        }
+        Turn::Idle
+    }
+
+    fn link(&mut self, key: u64) -> Option<&mut Link<S::Stream>> {
+        match self.ready.get_mut(key as usize) {
+            Some(held) => Some(&mut held.link),
+            None => None,
+        }
+    }
+
+    fn end(&mut self, key: u64) {
+        let Some(mut held) = self.ready.remove(key as usize) else {
+            return;
+        };
+        if self.tally.note_moved(held.link.take_moved_bytes()) {
+            self.weigh();
+        }
+        if !held.link.is_answered() {
+            self.tally.note_unanswered(self.shared);
+        }
+        drop(held);
+        self.shared.wake_pending(self.sockets.worker);
+        if self.ready.is_empty() {
+            self.state.end_last();
+        }
+    }
+}
