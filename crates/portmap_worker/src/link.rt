@@ -1,5 +1,5 @@
 //! A connection that a worker holds: its stream as a device, and what the worker's source has to know of it.
-ghost use Rattle.std.specs.Prelude.{◌≡◌, ◌↔◌, ◌-◌, ◌<◌, [], Some, None, true, false};
+ghost use Rattle.std.specs.Prelude.{◌≡◌, ◌↔◌, ◌-◌, ◌<◌, ℕ, [], Some, None, true, false};
 ghost use Rattle.portmap_worker.specs.Link.{IsBroken, IsOf, is_answered, is_timed, may_move};
 ghost use Rattle.portmap_worker.specs.declared.limits.TheConstants.{YOUNG_MS};
 
@@ -146,7 +146,10 @@ impl<S: Read + Write> Link<S> {
     }
 
     /// It is given up for another one, if it can be. If it is kept it has come anew.
-    pub(crate) fn give_way(&mut self, now: u64) {
+    pub(crate) fn give_way(&mut self, now: u64)
+        ensures came { self.new.came ≡ now }
+        ensures told { self.new.timer.is_late ≡ false }
+    {
         self.came = now;
         self.timer.is_late = false;
     }
@@ -219,6 +222,7 @@ impl<S: Read + Write> Link<S> {
     fn note_moved(&mut self, count: usize)
         ensures moved { self.new.timer.has_moved ≡ true }
         ensures history { self.new.history ≡ self.old.history }
+        ensures progress { self.new.progress ≡ self.old.progress }
     {
         self.timer.has_moved = true;
         self.moved_bytes = self.moved_bytes.saturating_add(count);
@@ -303,7 +307,10 @@ fn broken() -> io::Result<usize>
 }
 
 impl<S: Read + Write> Input for Link<S> {
-    fn pull(&mut self, buffer: &mut [u8]) -> Pull {
+    fn pull(&mut self, buffer: &mut [u8]) -> Pull
+        ensures moved { (n : ℕ) → result ≡ Pull.Piece n → self.new.timer.has_moved ≡ true }
+        ensures rests { (n : ℕ) → result ≡ Pull.Piece n → self.new.is_resting ≡ is_answered self.old.progress }
+    {
         let told = if self.history.failed {
             broken()
         } else if self.progress == Progress::Left {
@@ -329,7 +336,10 @@ impl<S: Read + Write> Input for Link<S> {
 }
 
 impl<S: Read + Write> Output for Link<S> {
-    fn put(&mut self, bytes: &[u8]) -> Put {
+    fn put(&mut self, bytes: &[u8]) -> Put
+        ensures moved { (n : ℕ) → result ≡ Put.Wrote n → self.new.timer.has_moved ≡ true }
+        ensures answered { (n : ℕ) → result ≡ Put.Wrote n → is_answered self.new.progress ≡ true }
+    {
         let told = if self.history.failed {
             broken()
         } else {

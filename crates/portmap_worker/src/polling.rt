@@ -25,10 +25,9 @@ impl<L: Ledger, S: System, R: Host + Wait + Clock> SocketSource<'_, L, S, R> {
         self.state.busy_since.store(IDLE, Ordering::SeqCst);
         let is_well = self.wait();
         let after = self.time_us();
-        if after / 1000 > self.rounds.time {
+        if self.rounds.note_answer(after) {
             self.end_rests();
         }
-        self.rounds.time = after / 1000;
         self.state
             .busy_since
             .store(self.rounds.time, Ordering::SeqCst);

@@ -1,5 +1,5 @@
 //! When a worker asks its poll, and when it looks at all of its links. Times are in milliseconds since the daemon began.
-ghost use Rattle.std.specs.Prelude.{◌≡◌, ◌↔◌, ◌+◌, ◌-◌, ◌≤◌, ◌<◌, ◌^◌, true, false, min, max};
+ghost use Rattle.std.specs.Prelude.{◌≡◌, ◌↔◌, ◌+◌, ◌-◌, ◌/◌, ◌≤◌, ◌<◌, ◌^◌, true, false, min, max};
 ghost use Rattle.portmap_worker.specs.declared.limits.TheConstants.{LOOK_INTERVAL_MS, SHORT_TIMEOUT_MS, TURNS_MOST};
 
 use crate::accept_scheduler::LoadMeter;
@@ -46,6 +46,16 @@ impl Rounds {
             looked: 0,
             load: LoadMeter::new(),
         }
+    }
+
+    /// The poll has answered at this time, in microseconds. Whether a millisecond is over since it answered last.
+    pub(crate) fn note_answer(&mut self, after: u64) -> bool
+        ensures over { (result ≡ true) ↔ (self.old.time < after / 1000) }
+        ensures time { self.new ≡ record self.old { time = after / 1000 } }
+    {
+        let before = self.time;
+        self.time = after / 1000;
+        before < self.time
     }
 
     /// A turn, if one more is to be had before the poll is asked. Whether it is.
