@@ -76,8 +76,13 @@ pub(crate) struct Permit<'a> {
 
 impl Drop for Permit<'_> {
     fn drop(self) {
-        let Permit { quota, is_local } = self;
-        quota.taken_by(is_local).fetch_sub(1, Ordering::SeqCst);
+        self.quota
+            .taken_by(self.is_local)
+            .fetch_sub(1, Ordering::SeqCst);
+        let Permit {
+            quota: _,
+            is_local: _,
+        } = self;
     }
 }
 

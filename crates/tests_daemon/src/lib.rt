@@ -8,6 +8,8 @@ mod clocks;
 #[cfg(test)]
 mod daemon;
 #[cfg(test)]
+mod drains;
+#[cfg(test)]
 mod files;
 #[cfg(test)]
 mod gates;

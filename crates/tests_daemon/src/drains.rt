@@ -1,0 +1,99 @@
+//! Who takes the log out, where its poll fails.
+ghost use Rattle.std.specs.Prelude.{◌≡◌};
+
+use portmap_book::{Desk, PARTS};
+use portmap_daemon::{MioStream, MioSystem, MioWaker};
+use portmap_testing::books::small_book;
+use portmap_worker::{Drain, Interest, Report, Shared, System, drain_log};
+use std::io::ErrorKind;
+use std::marker::Brand;
+use std::net::IpAddr;
+use std::sync::atomic::{AtomicU64, Ordering};
+use std::sync::ledger::{Blank, Ledger};
+use std::test::Fail;
+use std::time::Duration;
+use std::{io, thread};
+
+/// A system whose polls fail. It counts them.
+#[derive(Drop)]
+struct Deaf<'a> {
+    polls: &'a AtomicU64,
+}
+
+impl System for Deaf<'_> {
+    type Stream = MioStream;
+
+    type Waker = MioWaker;
+
+    fn poll(&mut self, _timeout_ms: u64) -> bool {
+        self.polls.fetch_add(1, Ordering::SeqCst);
+        false
+    }
+
+    fn report(&self, _place: usize) -> Option<Report> {
+        None
+    }
+
+    fn is_full(&self) -> bool {
+        false
+    }
+
+    fn watch(
+        &mut self,
+        _stream: &mut MioStream,
+        _key: usize,
+        _interest: Interest,
+        _was_watched: bool,
+    ) -> io::Result<()> {
+        Ok(())
+    }
+
+    fn listeners(&self) -> usize {
+        0
+    }
+
+    fn listen(&mut self, _place: usize) -> io::Result<()> {
+        Ok(())
+    }
+
+    fn leave(&mut self, _place: usize) {}
+
+    fn accept(&mut self, _place: usize) -> io::Result<(MioStream, IpAddr)> {
+        Err(io::Error::from(ErrorKind::WouldBlock))
+    }
+}
+
+/// The only worker ends after a second and a half.
+fn end_late(rt: &HostRuntime, shared: &Shared<MioWaker>) {
+    thread::sleep(rt, Duration::from_millis(1500));
+    shared.end_worker(0, 0);
+}
+
+/// How often it polls until then, if it ends with that.
+fn polls<L: Ledger + Send + Sync>(rt: &HostRuntime, blank: Blank) -> Option<u64>
+    requires name { blank.name ≡ L.name }
+    requires parts { blank.parts ≡ L.parts }
+    requires enough { blank.parts ≡ PARTS }
+{
+    let alloc = rt.alloc();
+    let desk: Desk<L> = Desk::new(blank, small_book(alloc)?);
+    let (_, waker) = MioSystem::open(rt, alloc, &[]).ok()?;
+    let shared = Shared::new(rt, Vec::new(alloc), waker, 2);
+    shared.begin_one();
+    let drain = Drain::begin(rt, alloc, &desk, None).ok()?;
+    let polls = AtomicU64::new(0);
+    let deaf = Deaf { polls: &polls };
+    let (is_out, _) = thread::join(
+        rt,
+        || drain_log(rt, alloc, &desk, &shared, drain, deaf),
+        || end_late(rt, &shared),
+    );
+    is_out.then_some(polls.load(Ordering::SeqCst))
+}
+
+#[test]
+fn who_takes_the_log_out_sleeps_where_its_poll_fails(rt: HostRuntime) -> Result<(), Fail> {
+    let polls = polls::<Brand>(&rt, Blank::new(PARTS)).unwrap_or(0);
+    assert!(rt; polls > 0 && polls < 10);
+    Ok(())
+}
