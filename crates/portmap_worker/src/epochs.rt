@@ -3,11 +3,16 @@
 //! They have numbers from 1. As one begins there may be connections that have ended and of whose end no worker knows yet. A worker
 //! has passed it once it has gone through all that its poll reported after the epoch began: then it knows of each end that was
 //! there when it began.
-ghost use Rattle.std.specs.Prelude.{◌≡◌, ◌↔◌, ◌-◌, true, cond};
+ghost use Rattle.std.specs.Prelude.{◌≡◌, ◌↔◌, ◌-◌, ◌<◌, [], true, cond, IfSome};
 
+use crate::host::Host;
 use crate::shared::{Shared, WorkerState};
-use crate::system::Wake;
+use crate::socket_source::SocketSource;
+use crate::system::{System, Wake};
+use std::rt::Clock;
+use std::sync::Wait;
 use std::sync::atomic::Ordering;
+use std::sync::ledger::Ledger;
 
 /// The last epoch that a worker without a connection has passed: there is no connection of whose end it could not know.
 pub(crate) const NO_CONNECTIONS: u64 = u64::MAX;
@@ -47,6 +52,25 @@ impl<W: Wake> WorkerState<W> {
     }
 }
 
+/// An epoch that had begun.
+#[derive(Clone, Copy)]
+pub(crate) struct Begun {
+    epoch: u64,
+}
+
+impl Begun {
+    /// Whether a worker has passed it.
+    pub(crate) fn is_passed<W: Wake>(self, state: &WorkerState<W>) -> bool {
+        state.has_passed(self.epoch)
+    }
+}
+
+/// An epoch that had begun before a poll was asked which has answered since. Nobody else makes one than `ask_behind`.
+#[derive(Drop)]
+pub(crate) struct Polled {
+    epoch: u64,
+}
+
 /// How far a worker is with what its poll has reported.
 #[derive(Drop)]
 pub(crate) struct Pass {
@@ -59,6 +83,13 @@ impl Pass {
     /// The poll was never asked.
     pub(crate) fn new() -> Pass {
         Pass { epoch: 0, left: 0 }
+    }
+
+    /// Its epoch.
+    pub(crate) fn begun(&self) -> Begun
+        ensures { result.epoch ≡ self.now.epoch }
+    {
+        Begun { epoch: self.epoch }
     }
 
     /// The queue was asked for the next link, and told one or had none.
@@ -79,28 +110,41 @@ impl Pass {
         self.left == 0
     }
 
-    /// All is told that the poll knew of when it answered: so of the epoch that had begun before. The one that has begun last is the next.
+    /// All is told that the poll knew of when it answered: so of the epoch that had begun before. The one that has begun last is next.
     pub(crate) fn end<W: Wake>(
-        &mut self,
+        &self,
         shared: &Shared<W>,
         state: &WorkerState<W>,
         has_links: bool,
-    ) {
+    ) -> Begun {
         if has_links {
             state.epoch.fetch_max(self.epoch, Ordering::SeqCst);
         }
-        self.epoch = shared.last_epoch();
+        Begun {
+            epoch: shared.last_epoch(),
+        }
     }
 
     /// The poll has answered, and so much is to be told.
-    pub(crate) fn begin(&mut self, backlog: usize)
-        ensures { self.new ≡ record self.old { left = backlog } }
+    pub(crate) fn begin(&mut self, polled: Polled, backlog: usize)
+        ensures epoch { self.new.epoch ≡ polled.epoch }
+        ensures left { self.new.left ≡ backlog }
     {
+        self.epoch = polled.epoch;
         self.left = backlog;
     }
+}
 
-    /// Whether its epoch has passed already.
-    pub(crate) fn is_passed<W: Wake>(&self, state: &WorkerState<W>) -> bool {
-        state.has_passed(self.epoch)
+impl<L: Ledger, S: System, R: Host + Wait + Clock> SocketSource<'_, L, S, R> {
+    /// Asks the poll, now that this epoch has begun. None if it has failed.
+    pub(crate) fn ask_behind(&mut self, begun: Begun, timeout: u64) -> Option<Polled>
+        requires { 0 < timeout → self.old.ready.queue ≡ [] }
+        ensures { IfSome result (λ polled. polled.epoch ≡ begun.epoch) }
+    {
+        if self.ask(timeout) {
+            Some(Polled { epoch: begun.epoch })
+        } else {
+            None
+        }
     }
 }

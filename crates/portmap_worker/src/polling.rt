@@ -2,6 +2,7 @@
 ghost use Rattle.std.specs.Prelude.{◌≡◌, ◌<◌, [], None};
 
 use crate::Turn;
+use crate::epochs::Begun;
 use crate::host::Host;
 use crate::limits::{BACKLOG_MOST, EVENTS_MOST, IDLE_TIMEOUT_MS, RESTS_MOST};
 use crate::link::OpenLink;
@@ -97,31 +98,37 @@ impl<L: Ledger, S: System, R: Host + Wait + Clock> SocketSource<'_, L, S, R> {
         self.sockets.listeners.until(pending.min(look))
     }
 
+    /// For how many milliseconds the poll may wait: not at all while something is to be told, connections may wait at a listener, or this
+    /// epoch is not passed.
+    fn timeout(&self, begun: Begun) -> u64
+        ensures { 0 < result → self.now.ready.queue ≡ [] }
+    {
+        let is_behind = !begun.is_passed(self.state);
+        let is_waiting = self.sockets.listeners.is_waiting();
+        let is_busy = is_behind || self.ready.backlog() > 0 || is_waiting;
+        poll_timeout(is_busy, self.rounds.time, self.until())
+    }
+
     /// Polls, and waits if there is nothing else to do. False if the poll has failed.
     fn wait(&mut self) -> bool {
         self.rounds.end_turns();
-        let begins = self.rounds.pass.is_over();
-        if begins {
-            let has_links = !self.ready.is_empty();
-            self.rounds.pass.end(self.shared, self.state, has_links);
+        if !self.rounds.pass.is_over() {
+            return self.ask(self.timeout(self.rounds.pass.begun()));
         }
-        let is_passed = self.rounds.pass.is_passed(self.state);
-        let is_waiting = self.sockets.listeners.is_waiting();
-        let is_busy = !is_passed || self.ready.backlog() > 0 || is_waiting;
-        if !self.ask(poll_timeout(is_busy, self.rounds.time, self.until())) {
+        let has_links = !self.ready.is_empty();
+        let begun = self.rounds.pass.end(self.shared, self.state, has_links);
+        let timeout = self.timeout(begun);
+        let Some(polled) = self.ask_behind(begun, timeout) else {
             return false;
-        }
-        if !begins {
-            return true;
-        }
+        };
         let is_all = !self.sockets.system.is_full() || self.ask_for_all();
-        self.rounds.pass.begin(self.ready.backlog());
+        self.rounds.pass.begin(polled, self.ready.backlog());
         is_all
     }
 
     /// Asks the poll, which may wait for so many milliseconds where nothing is to be told, and notes what it reports. False if it has
     /// failed.
-    fn ask(&mut self, timeout: u64) -> bool
+    pub(crate) fn ask(&mut self, timeout: u64) -> bool
         requires { 0 < timeout → self.old.ready.queue ≡ [] }
     {
         let is_well = self.sockets.system.poll(timeout);
