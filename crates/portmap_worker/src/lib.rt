@@ -12,7 +12,7 @@
 //!   and the simulation.
 //! - Where each link of a worker stands, and that each is told in its turn: `portmap_ready`. By clauses of the source, a turn tells of the queue's
 //!   first (`pop`), what was told last is put to a place before the next one is told, and the poll may wait only while nothing is queued (`ask`). So
-//!   many turns at most pass between two polls (`take_turn`).
+//!   many turns at most pass between two polls (`take_turn`), and the epoch that is passed had begun before the poll was asked (`ask_behind`).
 //! - Each place that is taken is a `Permit`, made by `Quota::take` alone and given back as it is dropped: so what the quota counts is what links have.
 //! - Which connections are open is decided by functions over values, each exact (`is_free`, `goes_before`, `spares_local`, `poll_timeout`, `note_poll`,
 //!   `is_held`, `acceptors_without`, `accept_error`, `starved_for`, `failure_of`), and so are a link's times (`may_move`, `since_at`, `expire`,
