@@ -1,5 +1,5 @@
 //! A connection that a worker holds: its stream as a device, and what the worker's source has to know of it.
-ghost use Rattle.std.specs.Prelude.{◌≡◌, ◌↔◌, ◌-◌, ◌<◌, ℕ, [], Some, None, true, false};
+ghost use Rattle.std.specs.Prelude.{◌≡◌, ◌↔◌, ◌-◌, ◌<◌, [], Some, None, true, false};
 ghost use Rattle.portmap_worker.specs.Link.{IsBroken, IsOf, is_answered, is_timed, may_move};
 ghost use Rattle.portmap_worker.specs.declared.limits.TheConstants.{YOUNG_MS};
 
@@ -218,14 +218,28 @@ impl<S: Read + Write> Link<S> {
         true
     }
 
-    /// So many bytes have moved.
-    fn note_moved(&mut self, count: usize)
+    /// So many bytes were read: one that was answered rests then.
+    fn note_read(&mut self, count: usize)
         ensures moved { self.new.timer.has_moved ≡ true }
+        ensures rests { self.new.is_resting ≡ is_answered self.old.progress }
         ensures history { self.new.history ≡ self.old.history }
-        ensures progress { self.new.progress ≡ self.old.progress }
     {
         self.timer.has_moved = true;
         self.moved_bytes = self.moved_bytes.saturating_add(count);
+        self.is_resting = self.is_answered();
+    }
+
+    /// So many bytes were written.
+    fn note_written(&mut self, count: usize)
+        ensures moved { self.new.timer.has_moved ≡ true }
+        ensures answered { is_answered self.new.progress ≡ true }
+        ensures history { self.new.history ≡ self.old.history }
+    {
+        self.timer.has_moved = true;
+        self.moved_bytes = self.moved_bytes.saturating_add(count);
+        if self.progress == Progress::Asked {
+            self.progress = Progress::Answered;
+        }
     }
 }
 
@@ -307,10 +321,7 @@ fn broken() -> io::Result<usize>
 }
 
 impl<S: Read + Write> Input for Link<S> {
-    fn pull(&mut self, buffer: &mut [u8]) -> Pull
-        ensures moved { (n : ℕ) → result ≡ Pull.Piece n → self.new.timer.has_moved ≡ true }
-        ensures rests { (n : ℕ) → result ≡ Pull.Piece n → self.new.is_resting ≡ is_answered self.old.progress }
-    {
+    fn pull(&mut self, buffer: &mut [u8]) -> Pull {
         let told = if self.history.failed {
             broken()
         } else if self.progress == Progress::Left {
@@ -324,8 +335,7 @@ impl<S: Read + Write> Input for Link<S> {
         self.history.pulls.note(&answer);
         self.readiness.note_pull(&answer, buffer.len(), is_blocked);
         if let Pull::Piece(count) = answer {
-            self.note_moved(count);
-            self.is_resting = self.is_answered();
+            self.note_read(count);
         }
         answer
     }
@@ -336,10 +346,7 @@ impl<S: Read + Write> Input for Link<S> {
 }
 
 impl<S: Read + Write> Output for Link<S> {
-    fn put(&mut self, bytes: &[u8]) -> Put
-        ensures moved { (n : ℕ) → result ≡ Put.Wrote n → self.new.timer.has_moved ≡ true }
-        ensures answered { (n : ℕ) → result ≡ Put.Wrote n → is_answered self.new.progress ≡ true }
-    {
+    fn put(&mut self, bytes: &[u8]) -> Put {
         let told = if self.history.failed {
             broken()
         } else {
@@ -351,10 +358,7 @@ impl<S: Read + Write> Output for Link<S> {
         self.history.puts.note(&answer);
         self.readiness.note_put(&answer, is_blocked);
         if let Put::Wrote(count) = answer {
-            if self.progress == Progress::Asked {
-                self.progress = Progress::Answered;
-            }
-            self.note_moved(count);
+            self.note_written(count);
         }
         answer
     }

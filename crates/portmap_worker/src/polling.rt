@@ -113,7 +113,8 @@ impl<L: Ledger, S: System, R: Host + Wait + Clock> SocketSource<'_, L, S, R> {
     fn wait(&mut self) -> bool {
         self.rounds.end_turns();
         if !self.rounds.pass.is_over() {
-            return self.ask(self.timeout(self.rounds.pass.begun()));
+            let timeout = self.timeout(self.rounds.pass.begun());
+            return self.ask(timeout);
         }
         let has_links = !self.ready.is_empty();
         let begun = self.rounds.pass.end(self.shared, self.state, has_links);
