@@ -5,8 +5,8 @@ use crate::steps::Step;
 use crate::system::SharedWorld;
 use crate::weather::{Fault, Weather};
 use crate::world::{Ending, World};
-use portmap_worker::{Failure, Turn};
 use portmap_wire::{Line, read_names};
+use portmap_worker::{Failure, Turn};
 use std::alloc::Global;
 use std::cell::RefMut;
 

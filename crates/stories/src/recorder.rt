@@ -6,9 +6,9 @@ use crate::listed::{settings, workers};
 use crate::words::{text, wrong, yes};
 use anyhow::{Result, ensure};
 use portmap_core::{Entry, State};
-use portmap_worker::Recorder;
 use portmap_link::Output;
 use portmap_testing::tape::Tape;
+use portmap_worker::Recorder;
 use std::alloc::Global;
 
 /// What a recorder over a device answers at the header, at two entries and at the others, with the numbers of workers, and how many puts

@@ -7,11 +7,11 @@ use crate::words::{Digits, bytes, is_relaxed, number, text, told, unknown, wrong
 use anyhow::Result;
 use portmap_book::{Desk, PARTS, Seat};
 use portmap_core::Entry;
-use portmap_worker::{Open, Outcome, Source, Turn, serve};
 use portmap_record::{Verdict, transcript};
 use portmap_testing::books::{book, is_killed};
 use portmap_testing::marks::{begin, end, was_refused};
 use portmap_testing::tape::{Plan, STEADY, Tape};
+use portmap_worker::{Open, Outcome, Source, Turn, serve};
 use std::alloc::Global;
 use std::marker::Brand;
 use std::slice::Iter;

@@ -4,13 +4,17 @@ ghost use Rattle.std.specs.Prelude.{◌≡◌};
 use portmap_book::{Desk, PARTS};
 use portmap_daemon::{MioStream, MioSystem, MioWaker};
 use portmap_testing::books::small_book;
-use portmap_worker::{Drain, Interest, Report, Shared, System, drain_log};
+use portmap_worker::{Drain, Host, Interest, Report, Shared, System, drain_log};
+use std::alloc::Global;
 use std::io::ErrorKind;
 use std::marker::Brand;
-use std::net::IpAddr;
+use std::net::{IpAddr, Net};
+use std::rt::Clock;
+use std::sync::Wait;
 use std::sync::atomic::{AtomicU64, Ordering};
 use std::sync::ledger::{Blank, Ledger};
 use std::test::Fail;
+use std::thread::Threads;
 use std::time::Duration;
 use std::{io, thread};
 
@@ -64,18 +68,21 @@ impl System for Deaf<'_> {
 }
 
 /// The only worker ends after a second and a half.
-fn end_late(rt: &HostRuntime, shared: &Shared<MioWaker>) {
+fn end_late<R: Wait + Clock>(rt: &R, shared: &Shared<MioWaker>) {
     thread::sleep(rt, Duration::from_millis(1500));
     shared.end_worker(0, 0);
 }
 
 /// How often it polls until then, if it ends with that.
-fn polls<L: Ledger + Send + Sync>(rt: &HostRuntime, blank: Blank) -> Option<u64>
+fn polls<L: Ledger + Send + Sync, R: Net + Host + Threads + Wait + Clock + Sync>(
+    rt: &R,
+    alloc: Global,
+    blank: Blank,
+) -> Option<u64>
     requires name { blank.name ≡ L.name }
     requires parts { blank.parts ≡ L.parts }
     requires enough { blank.parts ≡ PARTS }
 {
-    let alloc = rt.alloc();
     let desk: Desk<L> = Desk::new(blank, small_book(alloc)?);
     let (_, waker) = MioSystem::open(rt, alloc, &[]).ok()?;
     let shared = Shared::new(rt, Vec::new(alloc), waker, 2);
@@ -93,7 +100,7 @@ fn polls<L: Ledger + Send + Sync>(rt: &HostRuntime, blank: Blank) -> Option<u64>
 
 #[test]
 fn who_takes_the_log_out_sleeps_where_its_poll_fails(rt: HostRuntime) -> Result<(), Fail> {
-    let polls = polls::<Brand>(&rt, Blank::new(PARTS)).unwrap_or(0);
+    let polls = polls::<Brand, HostRuntime>(&rt, rt.alloc(), Blank::new(PARTS)).unwrap_or(0);
     assert!(rt; polls > 0 && polls < 10);
     Ok(())
 }

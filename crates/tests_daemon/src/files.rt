@@ -2,13 +2,13 @@
 ghost use Rattle.std.specs.Prelude.{◌≡◌};
 
 use portmap_book::{Desk, PARTS};
-use portmap_worker::{
-    Part, RecordQueue, begin_file, recordings_are_fronts, recordings_are_records, write_recording,
-};
 use portmap_record::{records_grow, records_have_parts};
 use portmap_testing::books::small_book;
 use portmap_testing::bytes::ALIVE_A;
 use portmap_testing::sessions::CLOSES;
+use portmap_worker::{
+    Part, RecordQueue, begin_file, recordings_are_fronts, recordings_are_records, write_recording,
+};
 use std::alloc::Global;
 use std::fs::{File, Files};
 use std::marker::Brand;

@@ -1,6 +1,6 @@
 //! Gates that hold a worker until another one has come as far, for a bounded time.
-use portmap_worker::{Gate, Point};
 use portmap_testing::books::is_raised;
+use portmap_worker::{Gate, Point};
 use std::rt::Clock;
 use std::sync::atomic::{AtomicU64, Ordering};
 use std::thread;

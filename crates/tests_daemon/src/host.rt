@@ -1,8 +1,8 @@
 //! The file of a recording as the host makes it, and what an operator reads.
 use portmap_core::Fate;
-use portmap_worker::{Host, Notice, RecordFile, Refused};
 use portmap_testing::bytes::{ALIVE_A, ALIVE_B, FOURTH, NOT_FOUND, PORT_A};
 use portmap_testing::entries::{Kept, entry};
+use portmap_worker::{Host, Notice, RecordFile, Refused};
 use std::alloc::Global;
 use std::fs;
 use std::fs::{File, Permissions};

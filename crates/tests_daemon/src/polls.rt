@@ -55,11 +55,7 @@ fn the_listener_is_told_at_which_a_connection_waits(rt: HostRuntime) -> Result<(
 }
 
 /// A connection, as it was accepted there.
-fn accepted(
-    rt: &HostRuntime,
-    system: &mut MioSystem,
-    port: u16,
-) -> Option<(TcpStream, MioStream)> {
+fn accepted(rt: &HostRuntime, system: &mut MioSystem, port: u16) -> Option<(TcpStream, MioStream)> {
     let peer = connect(rt, port)?;
     reported(system, PATIENCE)?;
     let (stream, _) = system.accept(0).ok()?;

@@ -3,10 +3,10 @@ ghost use Rattle.std.specs.Prelude.{◌≡◌};
 
 use crate::gates::{Meet, Order, Relay};
 use portmap_book::{Desk, PARTS, Seat};
-use portmap_worker::{Carrier, Gate, Outcome, Point, Source, Turn, serve};
 use portmap_testing::books::book;
 use portmap_testing::bytes::{ALIVE_A, Bytes, FOUND_A, FOURTH, NAMES, NONE_LISTED, PORT_A};
 use portmap_testing::tape::{STEADY, Tape, Watched};
+use portmap_worker::{Carrier, Gate, Outcome, Point, Source, Turn, serve};
 use std::alloc::Global;
 use std::marker::Brand;
 use std::sync::Wait;
