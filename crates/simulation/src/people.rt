@@ -127,6 +127,8 @@ pub struct Person {
     pub talk_most: usize,
     /// It is owed nothing: it may be closed, or refused.
     pub is_lenient: bool,
+    /// Once it leaves it does not come back.
+    is_retired: bool,
 }
 
 /// A name that another node holds is refused within this time.
@@ -175,6 +177,7 @@ impl Person {
             hold_most: 0,
             talk_most: 0,
             is_lenient: false,
+            is_retired: false,
         }
     }
 
@@ -394,7 +397,11 @@ impl Person {
                 },
             );
         }
-        self.stage = Stage::Away;
+        self.stage = if self.is_retired {
+            Stage::Gone
+        } else {
+            Stage::Away
+        };
         let next_at = world.now.saturating_add(world.random.below(most));
         self.next_at = match self.role {
             Role::Node | Role::Rival | Role::Talker | Role::Tardy => next_at,
@@ -588,9 +595,9 @@ impl Person {
     /// The weather is over: who holds a name keeps it, and all others leave for good.
     pub fn retire(&mut self, world: &mut World) {
         let keeps = self.stage == Stage::Holding && self.role == Role::Node;
+        self.is_retired = true;
         if !keeps {
             self.leave(world, 1);
-            self.stage = Stage::Gone;
         }
         self.next_at = u64::MAX;
     }
