@@ -1,5 +1,5 @@
 //! What is checked of a daemon that has ended.
-use crate::people::Wrong;
+use crate::checks::Wrong;
 use crate::world::World;
 use portmap_core::Entry;
 use portmap_record::{Record, RecordFault, Version, check, read_record};
@@ -151,11 +151,11 @@ fn judge_sizes(world: &World, most: u64) -> Option<Wrong> {
     let (_, ended) = world.files.split_last()?;
     let room = most.saturating_add(BEHIND_BYTES);
     let mut files = world.files.iter();
-    if !world.is_plain && !ended.is_empty() {
+    if !world.scenario.is_plain && !ended.is_empty() {
         Some("a file follows what is no file")
     } else if ended.iter().any(|file| (file.len() as u64) < most) {
         Some("a file ends that is not full")
-    } else if world.is_plain && files.any(|file| file.len() as u64 > room) {
+    } else if world.scenario.is_plain && files.any(|file| file.len() as u64 > room) {
         Some("a file goes on that is full")
     } else {
         None

@@ -1,5 +1,5 @@
 //! What the operator is told.
-use crate::people::Wrong;
+use crate::checks::Wrong;
 
 /// Between two notices of a kind so much time passes at least: ten seconds, but for a part of a millisecond.
 const NOTICE_US: u64 = 9_999_000;
@@ -8,7 +8,7 @@ const NOTICE_US: u64 = 9_999_000;
 const NEWS_US: u64 = 5_000_000;
 
 /// Notices of a kind. Times are in microseconds.
-#[derive(Clone, Copy)]
+#[derive(Clone, Copy, Default)]
 struct Telling {
     /// Since when there is something to tell.
     untold_since: Option<u64>,
@@ -17,14 +17,6 @@ struct Telling {
 }
 
 impl Telling {
-    /// Whether nothing was told yet, nor is to be.
-    fn new() -> Telling {
-        Telling {
-            untold_since: None,
-            told_at: None,
-        }
-    }
-
     /// From when on the next one may come.
     fn free_at(&self) -> u64 {
         self.told_at.map_or(0, |at| at.saturating_add(NOTICE_US))
@@ -53,7 +45,7 @@ impl Telling {
 }
 
 /// What was refused to the daemon or by it, and what the operator was told of that. Times are in microseconds.
-#[derive(Clone, Copy)]
+#[derive(Clone, Copy, Default)]
 pub struct Notices {
     /// How often it was told that the recording has failed.
     pub failed: u32,
@@ -69,19 +61,6 @@ pub struct Notices {
 }
 
 impl Notices {
-    /// Nothing was refused, and nothing told.
-    pub fn new() -> Notices {
-        Notices {
-            failed: 0,
-            refused_at: 0,
-            accept: Telling::new(),
-            in_use: Telling::new(),
-            in_use_heard: 0,
-            in_use_told: 0,
-            wrong: None,
-        }
-    }
-
     /// Memory is refused: if a connection isn't accepted for that, it may be told.
     pub fn note_refused(&mut self, now: u64) {
         self.refused_at = now;

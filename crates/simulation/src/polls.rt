@@ -53,7 +53,7 @@ pub struct Thread {
 
 impl Thread {
     /// One that watches nothing.
-    pub fn new(alloc: Global) -> Thread {
+    fn new(alloc: Global) -> Thread {
         Thread {
             listeners: [UNHEARD; LISTENERS],
             watched: Vec::new(alloc),
@@ -76,6 +76,11 @@ impl Thread {
             threads.push(Thread::new(alloc)).ok()?;
         }
         Some(threads)
+    }
+
+    /// Whether its poll reports a listener.
+    fn listens(&self) -> bool {
+        self.listeners.iter().any(|listener| listener.is_on)
     }
 
     /// A connection has come to the listener at this place.
@@ -186,11 +191,8 @@ impl World {
 
     /// How often workers have polled.
     pub fn polls(&self) -> u64 {
-        let mut polls = 0u64;
-        for thread in self.workers() {
-            polls = polls.saturating_add(thread.polls);
-        }
-        polls
+        let workers = self.workers().iter();
+        workers.fold(0, |polls: u64, thread| polls.saturating_add(thread.polls))
     }
 
     /// Whether a worker has made more steps than that since it polled.
@@ -200,30 +202,19 @@ impl World {
 
     /// How many streams are watched.
     pub fn watched(&self) -> usize {
-        let mut count = 0usize;
-        for thread in &self.threads {
-            count = count.saturating_add(thread.watched.len());
-        }
-        count
+        let watched = self.threads.iter().map(|thread| thread.watched.len());
+        watched.fold(0, usize::saturating_add)
     }
 
     /// How many threads are told of connections that come.
     pub fn listening(&self) -> usize {
-        let mut count = 0usize;
-        for thread in &self.threads {
-            if thread.listeners.iter().any(|listener| listener.is_on) {
-                count = count.saturating_add(1);
-            }
-        }
-        count
+        let threads = self.threads.iter();
+        threads.filter(|thread| thread.listens()).count()
     }
 
-    /// A thread waits until this time, unless it is woken.
-    pub fn wait(&mut self, number: usize, until: u64) {
-        if let Some(thread) = self.threads.get_mut(number) {
-            thread.until = Some(until);
-            thread.is_woken = false;
-        }
+    /// When so many milliseconds are over.
+    fn until(&self, timeout_ms: u64) -> u64 {
+        self.now.saturating_add(timeout_ms.saturating_mul(1000))
     }
 
     /// Who takes the log out, which is empty or is not, waits for so many milliseconds.
@@ -231,15 +222,21 @@ impl World {
         if is_out {
             self.read_bytes = 0;
         }
-        let until = self.now.saturating_add(timeout_ms.saturating_mul(1000));
-        self.wait(number, until);
+        let until = self.until(timeout_ms);
+        if let Some(thread) = self.threads.get_mut(number) {
+            thread.until = Some(until);
+            thread.is_woken = false;
+        }
     }
 
-    /// A thread is held until this time.
-    pub fn hold(&mut self, number: usize, until: u64) {
-        if let Some(thread) = self.threads.get_mut(number) {
-            thread.held_until = until;
+    /// A thread is held until this time, if there is one. Whether there is.
+    fn hold(&mut self, number: usize, until: Option<u64>) -> bool {
+        if let Some(until) = until {
+            if let Some(thread) = self.threads.get_mut(number) {
+                thread.held_until = until;
+            }
         }
+        until.is_some()
     }
 
     /// Whether a fault holds a worker from now on.
@@ -252,19 +249,14 @@ impl World {
                 until => until,
             }
         };
-        if let Some(until) = until {
-            self.hold(number, until);
-        }
-        until.is_some()
+        self.hold(number, until)
     }
 
     /// Whether a thread hangs from now on, as it is behind.
     pub fn is_behind(&mut self, number: usize) -> bool {
         let is_behind = self.happens(Fault::Behind);
-        if is_behind {
-            self.hold(number, self.now.saturating_add(HUNG_US));
-        }
-        is_behind
+        let until = is_behind.then_some(self.now.saturating_add(HUNG_US));
+        self.hold(number, until)
     }
 
     /// Whether the disk takes nothing from now on.
@@ -285,16 +277,11 @@ impl World {
     /// Until when a worker is, or was, held; without one, until when all are.
     pub fn held_until(&self, worker: Option<usize>) -> u64 {
         if let Some(worker) = worker {
-            return match self.threads.get(worker) {
-                Some(thread) => thread.held_until,
-                None => 0,
-            };
+            let thread = self.threads.get(worker);
+            return thread.map_or(0, |thread| thread.held_until);
         }
-        let mut least = u64::MAX;
-        for thread in self.workers() {
-            least = least.min(thread.held_until);
-        }
-        least
+        let workers = self.workers().iter();
+        workers.fold(u64::MAX, |least: u64, thread| least.min(thread.held_until))
     }
 
     /// Ends the wait of a thread.
@@ -311,7 +298,7 @@ impl World {
         }
         self.land();
         let is_spurious = self.happens(Fault::Spurious);
-        let now = self.now;
+        let (now, until) = (self.now, self.until(timeout_ms));
         let Some(thread) = self.threads.get_mut(number) else {
             return false;
         };
@@ -320,11 +307,7 @@ impl World {
         let are_told = thread.report_calls(now)
             && thread.report_streams(&mut self.wires, now, is_spurious);
         self.is_lost = self.is_lost || !are_told;
-        thread.until = if thread.reports.is_empty() {
-            Some(now.saturating_add(timeout_ms.saturating_mul(1000)))
-        } else {
-            None
-        };
+        thread.until = thread.reports.is_empty().then_some(until);
         thread.shuffle(&mut self.random);
         true
     }
@@ -336,10 +319,8 @@ impl World {
 
     /// Whether a thread's last poll has reported as much as it can.
     pub fn is_full(&self, number: usize) -> bool {
-        match self.threads.get(number) {
-            Some(thread) => thread.reports.len() >= EVENTS_MOST,
-            None => false,
-        }
+        let thread = self.threads.get(number);
+        thread.is_some_and(|thread| thread.reports.len() >= EVENTS_MOST)
     }
 
     /// Has a thread's poll report a stream.
@@ -353,27 +334,19 @@ impl World {
         if self.happens(Fault::Unwatched) {
             return Err(ErrorKind::OutOfMemory);
         }
-        let Some(wire) = self.wires.get_mut(number) else {
-            return Err(ErrorKind::Other);
-        };
+        let wire = self.wires.get_mut(number).ok_or(ErrorKind::Other)?;
         let is_both = interest == Interest::Both;
         let watch = Watch {
             thread,
             key,
             is_both,
         };
-        if wire.begin_watch(watch, self.now) && !self.add_watched(thread, number) {
+        let is_new = wire.begin_watch(watch, self.now);
+        let thread = self.threads.get_mut(thread).ok_or(ErrorKind::Other)?;
+        if is_new && thread.watched.push(number).is_err() {
             self.is_lost = true;
         }
         Ok(())
-    }
-
-    /// A thread watches one stream more. Whether there is memory for that.
-    fn add_watched(&mut self, thread: usize, number: usize) -> bool {
-        match self.threads.get_mut(thread) {
-            Some(thread) => thread.watched.push(number).is_ok(),
-            None => false,
-        }
     }
 
     /// A listener, as a thread's poll knows it.
@@ -387,13 +360,10 @@ impl World {
             self.notices.note_unaccepted(self.now);
             return Err(ErrorKind::OutOfMemory);
         }
-        let news_at = match self.backlogs.get(place) {
-            Some(waiting) if !waiting.is_empty() => Some(self.now),
-            _ => None,
-        };
-        let Some(listener) = self.listener(number, place) else {
-            return Err(ErrorKind::Other);
-        };
+        let waiting = self.backlogs.get(place);
+        let are_there = waiting.is_some_and(|waiting| !waiting.is_empty());
+        let news_at = are_there.then_some(self.now);
+        let listener = self.listener(number, place).ok_or(ErrorKind::Other)?;
         if listener.is_on {
             return Err(ErrorKind::AlreadyExists);
         }
@@ -435,12 +405,10 @@ impl World {
     fn count_comer(&mut self, is_local: bool) {
         let (local, remote) = (self.local as usize, self.remote as usize);
         // Some places are kept for this host, and half of those that it leaves are others' at least.
-        let left = self.places.saturating_sub(local);
-        let kept = if is_local {
-            0
-        } else {
-            (self.places / 8).min(left / 2)
-        };
+        let places = self.scenario.conn_max as usize;
+        let left = places.saturating_sub(local);
+        let share = (places / 8).min(left / 2);
+        let kept = if is_local { 0 } else { share };
         if remote >= left.saturating_sub(kept) {
             self.wanting = self.wanting.saturating_add(1);
         }
@@ -460,20 +428,13 @@ impl World {
         if let Some(kind) = self.exhaustion() {
             return Err(kind);
         }
-        let number = match self.backlogs.get_mut(place) {
-            Some(waiting) => waiting.pop_front(),
-            None => None,
-        };
-        let Some(number) = number else {
-            return Err(ErrorKind::WouldBlock);
-        };
+        let waiting = self.backlogs.get_mut(place).ok_or(ErrorKind::WouldBlock)?;
+        let number = waiting.pop_front().ok_or(ErrorKind::WouldBlock)?;
         if self.happens(Fault::Aborted) {
             self.reset(number);
             return Err(ErrorKind::ConnectionAborted);
         }
-        let Some(wire) = self.wires.get_mut(number) else {
-            return Err(ErrorKind::Other);
-        };
+        let wire = self.wires.get_mut(number).ok_or(ErrorKind::Other)?;
         wire.accepted = Some((thread, self.now));
         let is_local = wire.is_local;
         self.count_comer(is_local);

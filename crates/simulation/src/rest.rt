@@ -1,6 +1,6 @@
 //! What a daemon is at rest, and how it ends.
+use crate::checks::{DOES_NOT_END, HAS_ENDED, NEVER_RESTS};
 use crate::daemon::Daemon;
-use crate::scenario::Scenario;
 use crate::world::LISTENERS;
 use portmap_worker::Source;
 use std::sync::Wait;
@@ -41,12 +41,13 @@ impl<'a, L: Ledger, S: Source + Drop, R: Wait + Drop> Daemon<'a, L, S, R> {
                 return true;
             }
         }
-        self.scene.check(false, "it never rests");
+        self.scene.check(false, NEVER_RESTS);
         true
     }
 
     /// All that is looked at once the storm is over.
-    pub(crate) fn rest(&mut self, scenario: &Scenario) -> bool {
+    pub(crate) fn rest(&mut self) -> bool {
+        let scenario = self.scene.scenario;
         self.scene.retire().is_some()
             && self.pass(SETTLING_US)
             && self.sleep(scenario.rest_us)
@@ -68,10 +69,7 @@ impl<'a, L: Ledger, S: Source + Drop, R: Wait + Drop> Daemon<'a, L, S, R> {
         let is_written = !self.is_writing || self.around.queue.is_idle(self.around.host);
         let is_out = self.weight() == 0 && is_written;
         let is_looked_into = !self.around.shared.is_unanswered();
-        self.scene.check(is_out, "the log at rest is not taken out");
-        self.scene
-            .check(is_looked_into, "who went unanswered is never looked into");
-        self.scene.judge_watched().is_some()
+        self.scene.judge_rest(is_out, is_looked_into).is_some()
     }
 
     /// Connections that come one by one are accepted at each listener, and soon few workers are told of them.
@@ -146,11 +144,12 @@ impl<'a, L: Ledger, S: Source + Drop, R: Wait + Drop> Daemon<'a, L, S, R> {
     }
 
     /// It ends: since it has begun to, or is made to.
-    pub(crate) fn end(&mut self, may_end: bool) -> Option<()> {
+    pub(crate) fn end(&mut self) -> Option<()> {
         let has_ended = self.has_ended();
-        self.scene.check(!has_ended || may_end, "it has ended");
+        let may_end = self.scene.scenario.may_end;
+        self.scene.check(!has_ended || may_end, HAS_ENDED);
         let told = self.around.shared.failure();
-        let until = self.scene.begin_end(told, may_end)?;
+        let until = self.scene.begin_end(told)?;
         if !has_ended {
             self.around.shared.stop_all();
         }
@@ -158,7 +157,7 @@ impl<'a, L: Ledger, S: Source + Drop, R: Wait + Drop> Daemon<'a, L, S, R> {
             return None;
         }
         if !self.scene.is_drained || self.is_writing {
-            self.scene.wrong = self.scene.wrong.or(Some("it does not end"));
+            self.scene.wrong = self.scene.wrong.or(Some(DOES_NOT_END));
         }
         Some(())
     }

@@ -1,10 +1,11 @@
 //! A daemon that serves people in a world.
 ghost use Rattle.std.specs.Prelude.{◌≡◌};
 
+use crate::checks::{GOES_ON, NEVER_HEAVY, SEATS, UNSEEN, Wrong};
 use crate::daemon::{Around, Daemon, SimWorker};
 use crate::judge::judge;
-use crate::people::{NOBODY, Person, Role, Tally, Wrong};
-use crate::scenario::{Crowd, Scenario};
+use crate::people::{Tally, people_of};
+use crate::scenario::Scenario;
 use crate::scene::{Scene, TIMEOUT_US};
 use crate::steps::{Step, Stepped};
 use crate::system::{SharedWorld, SimFile, SimHost, SimSystem, SimWaker};
@@ -28,10 +29,10 @@ const STARVED_US: u64 = 20_000_000;
 
 /// A case: a seed, so many workers, and so many steps of a scenario.
 #[derive(Drop)]
-pub struct Case<'a> {
+pub struct Case {
     pub seed: u64,
     pub workers: u32,
-    pub scenario: &'a Scenario,
+    pub scenario: &'static Scenario,
     pub steps: u32,
     /// Each step is told.
     pub is_traced: bool,
@@ -53,8 +54,7 @@ pub struct Outcome {
 
 impl<'a, L: Ledger, S: Source + Drop, R: Wait + Drop> Daemon<'a, L, S, R> {
     /// The storm of a case: so many steps, unless something is wrong, or it ends, or is to. Whether it goes on behind them.
-    fn storm(&mut self, case: &Case<'_>) -> Option<bool> {
-        let scenario = case.scenario;
+    fn storm(&mut self, case: &Case) -> Option<bool> {
         let killed_at = self.scene.killed_at(case.steps)?;
         for step in 0..case.steps {
             if u64::from(step) == killed_at {
@@ -64,46 +64,38 @@ impl<'a, L: Ledger, S: Source + Drop, R: Wait + Drop> Daemon<'a, L, S, R> {
                 return None;
             }
             let weight = self.weight();
-            let goes_on = self.scene.look(scenario, weight)?;
+            let goes_on = self.scene.look(weight)?;
             if !goes_on || self.has_ended() {
                 return Some(false);
             }
         }
-        let is_heavy = scenario.end_bytes == u64::MAX;
-        self.scene
-            .check(is_heavy, "the log never had as much as it is to end with");
+        let is_heavy = self.scene.scenario.end_bytes == u64::MAX;
+        self.scene.check(is_heavy, NEVER_HEAVY);
         Some(true)
     }
 
     /// It ends once nothing gets through for want of memory, if it may. Whether there was memory for the world.
-    fn starve(&mut self, may_end: bool) -> bool {
-        if !self.pass(STARVED_US) {
-            return false;
-        }
-        let goes_on = may_end && !self.has_ended();
-        self.scene
-            .check(!goes_on, "it goes on though nothing gets through");
-        true
+    fn starve(&mut self) -> bool {
+        let is_passed = self.pass(STARVED_US);
+        let has_ended = !self.scene.scenario.may_end || self.has_ended();
+        self.scene.check(!is_passed || has_ended, GOES_ON);
+        is_passed
     }
 
     /// All of a case: a storm, and the rest after it.
-    fn run(&mut self, case: &Case<'_>) -> Option<()> {
+    fn run(&mut self, case: &Case) -> Option<()> {
         if !self.storm(case)? {
             return Some(());
         }
-        let is_done = !self.scene.is_famished()? || self.starve(case.scenario.may_end);
-        if is_done && (self.has_ended() || self.rest(case.scenario)) {
-            Some(())
-        } else {
-            None
-        }
+        let is_done = !self.scene.is_famished()? || self.starve();
+        (is_done && (self.has_ended() || self.rest())).then_some(())
     }
 
     /// It serves the people of a case. What that comes to, and the seats of its workers.
-    fn serve(mut self, case: &Case<'_>) -> Option<(Outcome, Vec<Seat<L>>)> {
+    fn serve(mut self, case: &Case) -> Option<(Outcome, Vec<Seat<L>>)> {
         self.run(case)?;
-        self.end(case.scenario.may_end)?;
-        let outcome = self.scene.outcome(case.scenario)?;
+        self.end()?;
+        let outcome = self.scene.outcome()?;
         let none = Vec::new(self.scene.alloc);
         Some((outcome, mem::replace(&mut self.seats, none)))
     }
@@ -111,15 +103,16 @@ impl<'a, L: Ledger, S: Source + Drop, R: Wait + Drop> Daemon<'a, L, S, R> {
 
 impl<'a> Scene<'a> {
     /// What is around the daemon of a case that has not begun.
-    fn new(alloc: Global, world: &'a SharedWorld, case: &Case<'_>) -> Option<Scene<'a>> {
-        let people = people_of(alloc, case.scenario, &mut *world.try_borrow_mut().ok()?)?;
+    fn new(alloc: Global, world: &'a SharedWorld, case: &Case) -> Option<Scene<'a>> {
+        let people = people_of(alloc, &mut *world.try_borrow_mut().ok()?)?;
         Some(Scene {
             alloc,
             world,
+            scenario: case.scenario,
             workers: case.workers as usize,
             due: Vec::new(alloc),
             people,
-            tally: NOBODY,
+            tally: Tally::default(),
             opened: Vec::new(alloc),
             acts: 0,
             drains: 0,
@@ -127,71 +120,26 @@ impl<'a> Scene<'a> {
             given_up: 0,
             wrong: None,
             is_ending: false,
-            is_strict: case.scenario.is_strict,
             is_traced: case.is_traced,
             trace: Vec::new(alloc),
         })
     }
 
     /// What it came to, once it has ended.
-    fn outcome(&mut self, scenario: &Scenario) -> Option<Outcome> {
-        let mut world = self.world.try_borrow_mut().ok()?;
-        let most = scenario.file_bytes_most;
+    fn outcome(&mut self) -> Option<Outcome> {
+        let mut world = self.world()?;
+        let most = self.scenario.file_bytes_most;
         let found = judge(self.alloc, &mut world, &self.opened, self.acts, most)?;
         Some(Outcome {
             wrong: self.wrong.or(found),
             tally: self.tally,
             happened: world.weather.happened,
-            has_all_happened: world.weather.has_all_happened(scenario.chances),
+            has_all_happened: world.weather.has_all_happened(self.scenario.chances),
             acts: self.acts,
             seconds: world.now / 1_000_000,
             trace: mem::replace(&mut self.trace, Vec::new(self.alloc)),
         })
     }
-}
-
-/// Somebody of a crowd, who has rivals or has none. Nodes are numbered; who asks for one asks for any.
-fn person_of(
-    alloc: Global,
-    scenario: &Scenario,
-    crowd: &Crowd,
-    world: &mut World,
-    node: &mut u8,
-    has_rivals: bool,
-) -> Person {
-    let Crowd(role, _, is_local) = *crowd;
-    let next_at = world.now.saturating_add(world.random.below(100_000));
-    let owns = role == Role::Node || role == Role::Talker;
-    let named = if owns {
-        *node = node.saturating_add(1);
-        *node
-    } else {
-        world.random.below(6) as u8
-    };
-    let mut person = Person::new(alloc, role, is_local, named, next_at);
-    person.patience = scenario.patience_us;
-    person.burst = scenario.burst_us;
-    person.hold_most = scenario.hold_us;
-    person.talk_most = scenario.talk_bytes;
-    if person.asks_once() {
-        person.next_at = person.burst_after(next_at);
-    }
-    person.is_lenient = !scenario.is_strict || (has_rivals && owns);
-    person
-}
-
-/// The people of a scenario.
-fn people_of(alloc: Global, scenario: &Scenario, world: &mut World) -> Option<Vec<Person>> {
-    let mut people = Vec::new(alloc);
-    let mut node = 0u8;
-    let has_rivals = scenario.people.iter().any(|crowd| crowd.0 == Role::Rival);
-    for crowd in scenario.people {
-        for _ in 0..crowd.1 {
-            let person = person_of(alloc, scenario, crowd, world, &mut node, has_rivals);
-            people.push(person).ok()?;
-        }
-    }
-    Some(people)
 }
 
 /// The source of a worker.
@@ -248,15 +196,13 @@ fn simulate<'a, L: Ledger, S: Source + Drop, R: Wait + Drop>(
     alloc: Global,
     around: &'a Around<'a, L, R>,
     sources: Vec<S>,
-    case: &Case<'_>,
+    case: &Case,
 ) -> Option<(Outcome, Vec<Seat<L>>)> {
     let workers = workers_of(alloc, around, sources)?;
     let scene = Scene::new(alloc, &around.host.world, case)?;
     let drain = Drain::begin(around.host, alloc, around.desk, Some(around.queue)).ok()?;
-    let writer: RecordWriter<'a, SimFile> = RecordWriter::new(
-        "recording",
-        case.scenario.file_bytes_most,
-    );
+    let most = case.scenario.file_bytes_most;
+    let writer: RecordWriter<'a, SimFile> = RecordWriter::new("recording", most);
     let daemon = Daemon {
         around,
         scene,
@@ -279,7 +225,7 @@ fn waker_of(world: &SharedWorld, thread: usize) -> Option<SimWaker> {
 fn shared_of<R: Wait + Drop>(
     host: &SimHost<R>,
     alloc: Global,
-    case: &Case<'_>,
+    case: &Case,
 ) -> Option<Shared<SimWaker>> {
     let mut states = Vec::new(alloc);
     for thread in 0..case.workers as usize {
@@ -302,7 +248,7 @@ fn at_desk<L: Ledger, R: Wait + Drop>(
     host: &SimHost<R>,
     alloc: Global,
     blank: Blank,
-    case: &Case<'_>,
+    case: &Case,
 ) -> Option<Outcome>
     requires name { blank.name ≡ L.name }
     requires parts { blank.parts ≡ L.parts }
@@ -319,9 +265,9 @@ fn at_desk<L: Ledger, R: Wait + Drop>(
     };
     let sources = sources_of(alloc, &around, case.workers)?;
     let (mut outcome, seats) = simulate(alloc, &around, sources, case)?;
-    if desk.finish(seats).is_err() {
-        outcome.wrong = outcome.wrong.or(Some("the seats don't add up"));
-    }
+    let odd = desk.finish(seats).is_err().then_some(SEATS);
+    let unseen = (!outcome.has_all_happened).then_some(UNSEEN);
+    outcome.wrong = outcome.wrong.or(odd).or(unseen);
     Some(outcome)
 }
 
@@ -330,7 +276,7 @@ pub fn run_case<L: Ledger, R: Wait + Drop>(
     rt: R,
     alloc: Global,
     blank: Blank,
-    case: &Case<'_>,
+    case: &Case,
 ) -> Option<Outcome>
     requires name { blank.name ≡ L.name }
     requires parts { blank.parts ≡ L.parts }

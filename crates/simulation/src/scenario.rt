@@ -1,9 +1,28 @@
 //! Who comes, in which weather.
-use crate::people::{Role, Tally};
+use crate::people::Tally;
+use crate::roles::{
+    BABBLER, DRIPPER, DUMPER, KILLER, LISTER, NODE, Naming, PLODDER, RIVAL, Role, SEEKER, SILENT,
+    SLOW, STOPPER, TALKER, TARDY, UNREADING,
+};
+use crate::scenario::Crowd::{Local, Remote};
 use crate::weather::{Chances, Fault};
 
 /// So many people of a role, on this host or on another one. Strangers come at the first address alone.
-pub struct Crowd(pub Role, pub u8, pub bool);
+#[derive(Clone, Copy)]
+pub enum Crowd {
+    Local(&'static Role, u16),
+    Remote(&'static Role, u16),
+}
+
+impl Crowd {
+    /// Its role, how many there are, and whether they are of this host.
+    pub fn parts(&self) -> (&'static Role, u16, bool) {
+        match *self {
+            Local(role, count) => (role, count, true),
+            Remote(role, count) => (role, count, false),
+        }
+    }
+}
 
 /// So many registrations, restarts of nodes, answers, and registrations that were refused.
 #[derive(Clone, Copy)]
@@ -27,7 +46,8 @@ impl Deeds {
 /// A scenario.
 pub struct Scenario {
     pub name: &'static str,
-    pub people: &'static [Crowd],
+    /// Who comes; the usual people if it is empty.
+    people: &'static [Crowd],
     /// What they do at least in all cases of a run together: about two thirds of what they did in ten when that was written.
     pub least: Deeds,
     pub chances: Chances,
@@ -62,145 +82,62 @@ pub struct Scenario {
     pub may_end: bool,
 }
 
+impl Scenario {
+    /// Who comes.
+    pub fn crowds(&self) -> &'static [Crowd] {
+        if self.people.is_empty() {
+            BUSTLE
+        } else {
+            self.people
+        }
+    }
+
+    /// Whether somebody registers a name that is another one's.
+    pub fn has_rivals(&self) -> bool {
+        let mut roles = self.crowds().iter().map(|crowd| crowd.parts().0);
+        roles.any(|role| role.naming == Naming::Tries)
+    }
+
+    /// When the next burst comes after this time; without bursts this time.
+    pub fn burst_after(&self, time: u64) -> u64 {
+        let burst = self.burst_us;
+        if burst > 1 {
+            (time / burst).saturating_add(1).saturating_mul(burst)
+        } else {
+            time
+        }
+    }
+}
+
 const PLENTY: u64 = 100_000_000;
 
+/// Who comes where a scenario doesn't say it.
 const BUSTLE: &[Crowd] = &[
-    Crowd(Role::Node, 6, true),
-    Crowd(Role::Seeker, 4, true),
-    Crowd(Role::Seeker, 2, false),
-    Crowd(Role::Lister, 3, true),
-    Crowd(Role::Dumper, 1, true),
-    Crowd(Role::Slow, 2, true),
-    Crowd(Role::Silent, 2, true),
-    Crowd(Role::Babbler, 2, true),
+    Local(&NODE, 6),
+    Local(&SEEKER, 4),
+    Remote(&SEEKER, 2),
+    Local(&LISTER, 3),
+    Local(&DUMPER, 1),
+    Local(&SLOW, 2),
+    Local(&SILENT, 2),
+    Local(&BABBLER, 2),
 ];
 
-const RESTARTS: &[Crowd] = &[Crowd(Role::Node, 20, true), Crowd(Role::Seeker, 2, true)];
+const RESTARTS: &[Crowd] = &[Local(&NODE, 20), Local(&SEEKER, 2)];
 
-const LATE_COMERS: &[Crowd] = &[
-    Crowd(Role::Node, 6, true),
-    Crowd(Role::Seeker, 10, true),
-    Crowd(Role::Lister, 10, true),
-];
+const RIVALS: &[Crowd] = &[Local(&NODE, 3), Local(&RIVAL, 4)];
 
-const TARDY: &[Crowd] = &[Crowd(Role::Tardy, 180, true), Crowd(Role::Seeker, 1, true)];
+const TALKERS: &[Crowd] = &[Local(&TALKER, 3), Local(&NODE, 3), Local(&SEEKER, 3)];
 
-const RIVALS: &[Crowd] = &[Crowd(Role::Node, 3, true), Crowd(Role::Rival, 4, true)];
+const LOAD: &[Crowd] = &[Local(&NODE, 12), Local(&LISTER, 20), Local(&SEEKER, 40)];
 
-const HEAVY_LOAD: &[Crowd] = &[
-    Crowd(Role::Node, 20, true),
-    Crowd(Role::Lister, 100, true),
-    Crowd(Role::Seeker, 120, true),
-];
-
-const BESIEGED: &[Crowd] = &[
-    Crowd(Role::Silent, 40, false),
-    Crowd(Role::Plodder, 2, true),
-    Crowd(Role::Seeker, 8, true),
-];
-
-const ENCAMPED: &[Crowd] = &[
-    Crowd(Role::Silent, 4, false),
-    Crowd(Role::Node, 3, true),
-    Crowd(Role::Seeker, 2, true),
-];
-
-const RIVALRY: &[Crowd] = &[
-    Crowd(Role::Node, 6, true),
-    Crowd(Role::Rival, 6, true),
-    Crowd(Role::Seeker, 40, true),
-];
-
-const STRANGERS: &[Crowd] = &[
-    Crowd(Role::Silent, 12, false),
-    Crowd(Role::Dripper, 12, false),
-    Crowd(Role::Babbler, 12, false),
-    Crowd(Role::Lister, 6, false),
-    Crowd(Role::Node, 4, true),
-    Crowd(Role::Seeker, 3, true),
-];
-
-const CROWDED: &[Crowd] = &[
-    Crowd(Role::Silent, 20, true),
-    Crowd(Role::Dripper, 10, true),
-    Crowd(Role::Node, 4, true),
-    Crowd(Role::Seeker, 4, true),
-    Crowd(Role::Silent, 6, false),
-];
-
-const TALKERS: &[Crowd] = &[
-    Crowd(Role::Talker, 3, true),
-    Crowd(Role::Node, 3, true),
-    Crowd(Role::Seeker, 3, true),
-];
-
-const CRESTS: &[Crowd] = &[Crowd(Role::Node, 12, true), Crowd(Role::Tardy, 250, true)];
-
-const READERS: &[Crowd] = &[
-    Crowd(Role::Node, 12, true),
-    Crowd(Role::Slow, 10, true),
-    Crowd(Role::Dumper, 4, true),
-    Crowd(Role::Seeker, 2, true),
-];
-
-const PLODDERS: &[Crowd] = &[
-    Crowd(Role::Plodder, 6, true),
-    Crowd(Role::Node, 2, true),
-    Crowd(Role::Dripper, 1, true),
-];
-
-const UNREADING: &[Crowd] = &[
-    Crowd(Role::Unreading, 6, true),
-    Crowd(Role::Unreading, 3, false),
-    Crowd(Role::Silent, 3, true),
-    Crowd(Role::Dripper, 3, false),
-    Crowd(Role::Node, 4, true),
-    Crowd(Role::Lister, 2, true),
-];
-
-const LOAD: &[Crowd] = &[
-    Crowd(Role::Node, 12, true),
-    Crowd(Role::Lister, 20, true),
-    Crowd(Role::Seeker, 40, true),
-];
-
-const SURGE: &[Crowd] = &[Crowd(Role::Node, 12, true), Crowd(Role::Seeker, 45, true)];
-
-const NODES: &[Crowd] = &[Crowd(Role::Node, 12, true)];
-
-const KILLERS: &[Crowd] = &[
-    Crowd(Role::Node, 4, true),
-    Crowd(Role::Seeker, 4, true),
-    Crowd(Role::Stopper, 2, true),
-    Crowd(Role::Killer, 1, true),
-];
-
-const STOPPERS: &[Crowd] = &[
-    Crowd(Role::Node, 6, true),
-    Crowd(Role::Stopper, 3, true),
-    Crowd(Role::Seeker, 2, true),
-];
-
-const UNHEEDED: &[Crowd] = &[
-    Crowd(Role::Silent, 6, true),
-    Crowd(Role::Silent, 3, false),
-    Crowd(Role::Dripper, 3, false),
-    Crowd(Role::Node, 3, true),
-    Crowd(Role::Seeker, 3, true),
-];
-
-const FLOOD: &[Crowd] = &[
-    Crowd(Role::Tardy, 250, true),
-    Crowd(Role::Tardy, 250, true),
-    Crowd(Role::Tardy, 250, true),
-    Crowd(Role::Node, 30, true),
-];
+const NODES: &[Crowd] = &[Local(&NODE, 12)];
 
 /// What is not said of a scenario.
 const USUAL: Scenario = Scenario {
     name: "calm",
     least: Deeds(128, 89, 2416, 0),
-    people: BUSTLE,
+    people: &[],
     chances: &[],
     is_relaxed: false,
     backlog_most: 512,
@@ -266,7 +203,7 @@ pub const SCENARIOS: &[Scenario] = &[
     Scenario {
         name: "surges",
         least: Deeds(410, 331, 18696, 0),
-        people: SURGE,
+        people: &[Local(&NODE, 12), Local(&SEEKER, 45)],
         chances: &[(Fault::Behind, 1000)],
         end_bytes: 1_150_000,
         ..USUAL
@@ -298,7 +235,7 @@ pub const SCENARIOS: &[Scenario] = &[
     Scenario {
         name: "plodders",
         least: Deeds(149, 136, 757, 0),
-        people: PLODDERS,
+        people: &[Local(&PLODDER, 6), Local(&NODE, 2), Local(&DRIPPER, 1)],
         ..USUAL
     },
     Scenario {
@@ -348,14 +285,27 @@ pub const SCENARIOS: &[Scenario] = &[
     Scenario {
         name: "strangers",
         least: Deeds(34, 7, 211, 0),
-        people: STRANGERS,
+        people: &[
+            Remote(&SILENT, 12),
+            Remote(&DRIPPER, 12),
+            Remote(&BABBLER, 12),
+            Remote(&LISTER, 6),
+            Local(&NODE, 4),
+            Local(&SEEKER, 3),
+        ],
         conn_max: 24,
         ..USUAL
     },
     Scenario {
         name: "crowded",
         least: Deeds(48, 36, 101, 0),
-        people: CROWDED,
+        people: &[
+            Local(&SILENT, 20),
+            Local(&DRIPPER, 10),
+            Local(&NODE, 4),
+            Local(&SEEKER, 4),
+            Remote(&SILENT, 6),
+        ],
         conn_max: 16,
         hold_us: 300_000,
         is_strict: false,
@@ -379,7 +329,7 @@ pub const SCENARIOS: &[Scenario] = &[
     Scenario {
         name: "crests",
         least: Deeds(528, 471, 15156, 0),
-        people: CRESTS,
+        people: &[Local(&NODE, 12), Local(&TARDY, 250)],
         chances: &[(Fault::Slow, 1000)],
         conn_max: 512,
         burst_us: 1_000_000,
@@ -400,14 +350,26 @@ pub const SCENARIOS: &[Scenario] = &[
     Scenario {
         name: "readers",
         least: Deeds(162, 83, 856, 0),
-        people: READERS,
+        people: &[
+            Local(&NODE, 12),
+            Local(&SLOW, 10),
+            Local(&DUMPER, 4),
+            Local(&SEEKER, 2),
+        ],
         chances: &[(Fault::Short, 100), (Fault::Interrupted, 50)],
         ..USUAL
     },
     Scenario {
         name: "unreading",
         least: Deeds(198, 171, 1982, 0),
-        people: UNREADING,
+        people: &[
+            Local(&UNREADING, 6),
+            Remote(&UNREADING, 3),
+            Local(&SILENT, 3),
+            Remote(&DRIPPER, 3),
+            Local(&NODE, 4),
+            Local(&LISTER, 2),
+        ],
         conn_max: 32,
         ..USUAL
     },
@@ -432,7 +394,7 @@ pub const SCENARIOS: &[Scenario] = &[
     Scenario {
         name: "besieged",
         least: Deeds(0, 0, 1829, 0),
-        people: BESIEGED,
+        people: &[Remote(&SILENT, 40), Local(&PLODDER, 2), Local(&SEEKER, 8)],
         conn_max: 16,
         burst_us: 2_000_000,
         hold_us: 60_000_000,
@@ -442,7 +404,7 @@ pub const SCENARIOS: &[Scenario] = &[
     Scenario {
         name: "encamped",
         least: Deeds(59, 39, 709, 0),
-        people: ENCAMPED,
+        people: &[Remote(&SILENT, 4), Local(&NODE, 3), Local(&SEEKER, 2)],
         conn_max: 7,
         burst_us: 2_000_000,
         hold_us: 60_000_000,
@@ -452,7 +414,7 @@ pub const SCENARIOS: &[Scenario] = &[
     Scenario {
         name: "loaded",
         least: Deeds(1053, 945, 22382, 0),
-        people: HEAVY_LOAD,
+        people: &[Local(&NODE, 20), Local(&LISTER, 100), Local(&SEEKER, 120)],
         conn_max: 512,
         chances: &[(Fault::Slow, 1000)],
         burst_us: 100_000,
@@ -464,7 +426,7 @@ pub const SCENARIOS: &[Scenario] = &[
         name: "stuck",
         least: Deeds(260, 105, 7398, 212),
         chances: &[(Fault::Stuck, 1)],
-        people: RIVALRY,
+        people: &[Local(&NODE, 6), Local(&RIVAL, 6), Local(&SEEKER, 40)],
         conn_max: 512,
         burst_us: 100_000,
         hold_us: 5_000_000,
@@ -481,7 +443,7 @@ pub const SCENARIOS: &[Scenario] = &[
     Scenario {
         name: "stopped",
         least: Deeds(267, 232, 3474, 0),
-        people: LATE_COMERS,
+        people: &[Local(&NODE, 6), Local(&SEEKER, 10), Local(&LISTER, 10)],
         chances: &[(Fault::Stopped, 5), (Fault::Late, 200), (Fault::Lost, 200)],
         limit_ms: 30_000,
         ..USUAL
@@ -497,7 +459,7 @@ pub const SCENARIOS: &[Scenario] = &[
     Scenario {
         name: "tardy",
         least: Deeds(0, 0, 5870, 0),
-        people: TARDY,
+        people: &[Local(&TARDY, 180), Local(&SEEKER, 1)],
         conn_max: 256,
         ..USUAL
     },
@@ -549,7 +511,12 @@ pub const SCENARIOS: &[Scenario] = &[
     Scenario {
         name: "kills",
         least: Deeds(50, 40, 80, 0),
-        people: KILLERS,
+        people: &[
+            Local(&NODE, 4),
+            Local(&SEEKER, 4),
+            Local(&STOPPER, 2),
+            Local(&KILLER, 1),
+        ],
         hold_us: 5_000,
         is_relaxed: true,
         is_strict: false,
@@ -559,7 +526,7 @@ pub const SCENARIOS: &[Scenario] = &[
     Scenario {
         name: "stops",
         least: Deeds(0, 0, 0, 0),
-        people: STOPPERS,
+        people: &[Local(&NODE, 6), Local(&STOPPER, 3), Local(&SEEKER, 2)],
         hold_us: 5_000_000,
         is_relaxed: true,
         is_strict: false,
@@ -568,7 +535,13 @@ pub const SCENARIOS: &[Scenario] = &[
     Scenario {
         name: "unheeded",
         least: Deeds(0, 0, 0, 0),
-        people: UNHEEDED,
+        people: &[
+            Local(&SILENT, 6),
+            Remote(&SILENT, 3),
+            Remote(&DRIPPER, 3),
+            Local(&NODE, 3),
+            Local(&SEEKER, 3),
+        ],
         chances: &[(Fault::Unwatched, 950)],
         limit_ms: 3000,
         ..USUAL
@@ -576,7 +549,7 @@ pub const SCENARIOS: &[Scenario] = &[
     Scenario {
         name: "floods",
         least: Deeds(0, 0, 0, 0),
-        people: FLOOD,
+        people: &[Local(&TARDY, 750), Local(&NODE, 30)],
         chances: &[(Fault::Stopped, 20), (Fault::Late, 300)],
         conn_max: 1024,
         burst_us: 1_000_000,

@@ -1,47 +1,17 @@
 //! What is around a daemon: the world, its people, and what was wrong.
-use crate::people::{Person, Tally, Wrong};
+use crate::checks::{UNHEEDED, Wrong};
+use crate::people::{Person, Tally};
 use crate::scenario::Scenario;
 use crate::steps::Step;
 use crate::system::SharedWorld;
-use crate::weather::{Fault, Weather};
-use crate::world::{Ending, World};
-use portmap_wire::{Line, read_names};
-use portmap_worker::{Failure, Turn};
+use crate::weather::Fault;
+use crate::world::World;
+use portmap_worker::Failure;
 use std::alloc::Global;
 use std::cell::RefMut;
 
-/// One place of so many is kept for this host.
-const KEPT_SHARE: u32 = 8;
-
 /// For so long a connection may move no byte.
 pub(crate) const TIMEOUT_US: u64 = 5_000_000;
-
-/// The most bytes that the log takes for each thread, by its own reckoning: a second's pieces of links that are read slowly.
-const LOG_BYTES_MOST: u64 = 600_000;
-
-/// The log is taken out before workers have read so many bytes since it was, and each of them so many more: no entry takes less than
-/// was read for it.
-const LOG_BYTES_HEAVY: u64 = 262_144;
-
-const WEIGH_BYTES: u64 = 73_728;
-
-/// While memory is short the log is looked at again after so many milliseconds at most.
-const SHORT_OF_MEMORY_MS: u64 = 50;
-
-/// A worker polls no more than so often in an hour at rest: three times for each look, since the world's poll answers at once, and once
-/// more when the wait is over.
-const POLLS_MOST: u64 = 25_000;
-
-const HOUR_US: u64 = 3_600_000_000;
-
-/// A worker makes no more steps between two polls: 64 turns, for each of which something may be kept back.
-const STEPS_MOST: u32 = 130;
-
-/// Who takes the log out looks at it once in so much time.
-const SECOND_US: u64 = 1_000_000;
-
-/// When connections have come one by one so many workers are told of the next one: one, and one that was called for its help since.
-const LISTENING_MOST: usize = 2;
 
 /// A daemon that is to end has ended by then.
 const END_US: u64 = 200_000;
@@ -51,6 +21,7 @@ const END_US: u64 = 200_000;
 pub struct Scene<'a> {
     pub(crate) alloc: Global,
     pub(crate) world: &'a SharedWorld,
+    pub(crate) scenario: &'static Scenario,
     /// How many workers the daemon has.
     pub(crate) workers: usize,
     /// Who may do something now.
@@ -70,8 +41,6 @@ pub struct Scene<'a> {
     pub(crate) wrong: Option<Wrong>,
     /// The daemon is to end, or has ended: nobody is owed anything.
     pub(crate) is_ending: bool,
-    /// No connection is given up for another one.
-    pub(crate) is_strict: bool,
     /// Each step is told.
     pub(crate) is_traced: bool,
     pub(crate) trace: Vec<Step>,
@@ -107,21 +76,8 @@ fn is_kept_from(world: &mut World, actor: usize, workers: usize) -> bool {
 /// The outer none of what a function gives is want of memory.
 impl<'a> Scene<'a> {
     /// The world, for one look at it or one change.
-    fn world(&self) -> Option<RefMut<'a, World>> {
+    pub(crate) fn world(&self) -> Option<RefMut<'a, World>> {
         self.world.try_borrow_mut().ok()
-    }
-
-    /// Something is wrong, unless this holds: what was wrong first is told.
-    pub(crate) fn check(&mut self, holds: bool, wrong: Wrong) {
-        if !holds && self.wrong.is_none() && !self.is_ending {
-            self.wrong = Some(wrong);
-        }
-    }
-
-    fn note(&mut self, wrong: Option<Wrong>) {
-        if let Some(wrong) = wrong {
-            self.check(false, wrong);
-        }
     }
 
     // ---- who does something next
@@ -172,10 +128,8 @@ impl<'a> Scene<'a> {
     /// Somebody acts.
     pub(crate) fn act(&mut self, number: usize) -> Option<()> {
         let mut world = self.world()?;
-        let wrong = self
-            .people
-            .get_mut(number)?
-            .act(&mut world, &mut self.tally);
+        let person = self.people.get_mut(number)?;
+        let wrong = person.act(&mut world, &mut self.tally);
         self.note(wrong);
         Some(())
     }
@@ -214,10 +168,7 @@ impl<'a> Scene<'a> {
         let is_due = world.is_due(self.workers);
         let (fresh, late) = world.met(number, goes_on);
         drop(world);
-        self.check(
-            !is_unanswered || is_due,
-            "an end without an answer is not looked into",
-        );
+        self.check(!is_unanswered || is_due, UNHEEDED);
         match fresh {
             Some(fresh) if has_acted => self.opened.push(fresh).ok()?,
             _ => {}
@@ -228,83 +179,18 @@ impl<'a> Scene<'a> {
         }
     }
 
-    /// A connection was told late: its time is over, or it is given up for another one, and nobody is while there is news of him.
-    fn judge_late(&mut self, late: usize, has_news: bool) -> Option<()> {
-        let mut world = self.world()?;
-        let is_early = world.is_early(late, TIMEOUT_US)?;
-        let is_wanted = self.given_up.saturating_add(u32::from(is_early)) <= world.wanting;
-        let is_first = !is_early || world.goes_first(late)?;
-        let is_anew = world.note_late(late, TIMEOUT_US)? || world.wanting > 0;
-        drop(world);
-        self.given_up = self.given_up.saturating_add(u32::from(is_early));
-        if self.is_strict {
-            self.check(!has_news, "one was told late of whom there was news");
-            self.check(is_wanted, "a connection was given up for no one");
-            self.check(is_first, "one was given up before who goes first");
-            self.check(is_anew, "one was told late twice within its time");
-        }
-        Some(())
-    }
-
     /// Who takes the log out waits for so many milliseconds; memory was owed to somebody, or it was not, and the log is empty, or it is not.
     pub(crate) fn wait(&mut self, timeout: u64, is_owed: bool, is_out: bool) -> Option<()> {
-        let is_soon = !is_owed || timeout <= SHORT_OF_MEMORY_MS;
-        self.check(timeout > 0, "who takes the log out does not sleep");
-        self.check(is_soon, "no memory is given back for who goes unanswered");
+        self.judge_wait(timeout, is_owed);
         self.world()?.wait_out(self.workers, timeout, is_out);
         Some(())
     }
 
-    // ---- what is looked at
-
-    /// What is wrong about how long somebody waits, or is kept.
-    fn complaint(&self, world: &World, slack: u64) -> Option<Wrong> {
-        let mut wrong = None;
-        for person in &self.people {
-            if person.is_late(world, slack) {
-                return Some("an answer took too long");
-            }
-            if person.is_kept(world, slack) {
-                wrong = Some("a connection of no use is kept for too long");
-            }
-        }
-        wrong
-    }
-
-    /// What is wrong about what the world has seen of a daemon whose log weighs so much.
-    fn fault(&self, world: &World, scenario: &Scenario, weight: u64) -> Option<Wrong> {
-        let workers = self.workers as u64;
-        let heavy = LOG_BYTES_HEAVY.saturating_add(WEIGH_BYTES.saturating_mul(workers));
-        let is_unread = world.read_bytes > heavy && !world.is_due(self.workers);
-        if is_unread || weight / LOG_BYTES_MOST > workers {
-            return Some("the log is not taken out");
-        }
-        if world.has_made(STEPS_MOST) {
-            return Some("a worker does not poll");
-        }
-        let wrong = self.complaint(world, scenario.limit_ms.saturating_mul(1000));
-        // One that waits for a place may be at each worker beside those that have one.
-        let kept = scenario.conn_max / KEPT_SHARE;
-        let most = scenario.conn_max.saturating_sub(kept) as usize;
-        if wrong.is_none() && world.remote as usize > most.saturating_add(self.workers) {
-            return Some("other hosts have more places than they may");
-        }
-        wrong
-    }
-
-    /// Looks for what is wrong, where the log weighs so much. Whether the storm goes on.
-    pub(crate) fn look(&mut self, scenario: &Scenario, weight: u64) -> Option<bool> {
-        let wrong = self.fault(&*self.world()?, scenario, weight);
-        self.note(wrong);
-        Some(self.wrong.is_none() && weight < scenario.end_bytes)
-    }
+    // ---- what is known
 
     /// The time.
     pub(crate) fn now(&self) -> u64 {
-        match self.world() {
-            Some(world) => world.now,
-            None => u64::MAX,
-        }
+        self.world().map_or(u64::MAX, |world| world.now)
     }
 
     /// Whether nothing got through for want of memory.
@@ -314,13 +200,15 @@ impl<'a> Scene<'a> {
 
     /// How often workers have polled.
     pub(crate) fn polls(&self) -> u64 {
-        match self.world() {
-            Some(world) => world.polls(),
-            None => 0,
-        }
+        self.world().map_or(0, |world| world.polls())
     }
 
-    // ---- the storm, and the rest behind it
+    /// How many people hold a name.
+    pub(crate) fn holding(&self) -> usize {
+        self.people.iter().filter(|person| person.holds()).count()
+    }
+
+    // ---- the storm, the rest behind it, and the end
 
     /// The step, of so many, before which the process is killed.
     pub(crate) fn killed_at(&self, steps: u32) -> Option<u64> {
@@ -342,43 +230,6 @@ impl<'a> Scene<'a> {
         Some(())
     }
 
-    /// How many people hold a name.
-    pub(crate) fn holding(&self) -> usize {
-        let mut count = 0usize;
-        for person in &self.people {
-            if person.holds() {
-                count = count.saturating_add(1);
-            }
-        }
-        count
-    }
-
-    /// At rest each connection that is open is watched.
-    pub(crate) fn judge_watched(&mut self) -> Option<()> {
-        let watched = self.world()?.watched();
-        self.check(
-            watched == self.holding(),
-            "what is watched at rest is not what is open",
-        );
-        Some(())
-    }
-
-    /// Threads have slept for so long since workers had polled so often, and the log was looked at so often.
-    pub(crate) fn judge_sleep(&mut self, time: u64, polls: u64, drains: u64) -> bool {
-        let polls = self.polls().saturating_sub(polls);
-        let most = POLLS_MOST.saturating_mul(self.workers as u64);
-        self.check(
-            polls.saturating_mul(HOUR_US) <= most.saturating_mul(time),
-            "a worker does not sleep",
-        );
-        let drains = self.drains.saturating_sub(drains);
-        self.check(
-            drains <= (time / SECOND_US).saturating_add(1),
-            "who takes the log out does not sleep",
-        );
-        true
-    }
-
     /// Opens a connection of this host at a listener; none if too many wait there.
     pub(crate) fn connect(&self, place: usize) -> Option<usize> {
         self.world()?.connect(place, true)
@@ -386,21 +237,8 @@ impl<'a> Scene<'a> {
 
     /// A connection ends. Whether it was accepted.
     pub(crate) fn leave(&self, number: usize) -> bool {
-        match self.world() {
-            Some(mut world) => world.leave_wire(number),
-            None => false,
-        }
-    }
-
-    /// Connections that came one by one were accepted, or were not.
-    pub(crate) fn judge_trickle(&mut self, are_accepted: bool) -> Option<()> {
-        let listening = self.world()?.listening();
-        self.check(are_accepted, "a listener at rest gives no connection");
-        self.check(
-            listening <= LISTENING_MOST,
-            "more workers are told of connections than needed",
-        );
-        Some(())
+        self.world()
+            .is_some_and(|mut world| world.leave_wire(number))
     }
 
     /// Opens a connection of this host, and sends these bytes.
@@ -429,94 +267,12 @@ impl<'a> Scene<'a> {
         Some(())
     }
 
-    /// The node with this connection was let in. Then it leaves.
-    pub(crate) fn judge_let_in(&mut self, number: usize) -> Option<()> {
-        let mut world = self.world()?;
-        let is_in = world.wires.get(number)?.received.get(1) == Some(&0);
-        world.end(number, Ending::Gone);
-        drop(world);
-        self.check(is_in, "a node at rest is not let in");
-        Some(())
-    }
-
-    /// This connection was told the names of those who hold one.
-    pub(crate) fn judge_names(&mut self, number: usize) -> Option<()> {
-        let are_right = self.are_told(&self.world()?.wires.get(number)?.received);
-        self.check(
-            are_right,
-            "the names at rest are not those of who holds them",
-        );
-        Some(())
-    }
-
-    /// Whether these bytes are the names of those who hold one.
-    fn are_told(&self, bytes: &[u8]) -> bool {
-        match read_names(self.alloc, bytes) {
-            Ok((_, lines)) => self.are_holders(&lines),
-            Err(_) => false,
-        }
-    }
-
-    /// Whether these are the names of those who hold one.
-    fn are_holders(&self, lines: &[Line]) -> bool {
-        for person in &self.people {
-            if person.holds() && !has_name(lines, &person.name()) {
-                return false;
-            }
-        }
-        self.holding() == lines.len()
-    }
-
-    /// Each of these connections, which have asked at rest, was answered.
-    pub(crate) fn judge_places(&mut self, numbers: &[usize]) -> Option<()> {
-        let are_answered = are_answered(&*self.world()?, numbers);
-        self.check(are_answered, "a place at rest can't be had");
-        Some(())
-    }
-
-    // ---- the end
-
     /// It is to end, and tells this fault, or none: by when.
-    pub(crate) fn begin_end(&mut self, told: Option<Failure>, may_end: bool) -> Option<u64> {
+    pub(crate) fn begin_end(&mut self, told: Option<Failure>) -> Option<u64> {
+        self.judge_told(told)?;
+        self.is_ending = true;
         let mut world = self.world()?;
         world.calm();
-        let until = world.now.saturating_add(END_US);
-        let is_right = is_right(&world.weather, told, may_end);
-        drop(world);
-        self.check(is_right, "it tells another reason than why it ends");
-        self.is_ending = true;
-        Some(until)
+        Some(world.now.saturating_add(END_US))
     }
-}
-
-/// Whether the fault that a daemon tells, if it does, is what has happened.
-fn is_right(weather: &Weather, told: Option<Failure>, may_end: bool) -> bool {
-    let is_deaf = weather.has_happened(Fault::Deaf);
-    let is_starved = may_end && weather.has_happened(Fault::Famine);
-    match told {
-        None => !is_deaf && !is_starved,
-        Some(Failure::Poll) => is_deaf,
-        Some(Failure::NoMemory) => is_starved || weather.has_happened(Fault::Starved),
-    }
-}
-
-/// Whether one of these lines has this name.
-fn has_name(lines: &[Line], name: &[u8]) -> bool {
-    for line in lines {
-        if line.name.bytes() == name {
-            return true;
-        }
-    }
-    false
-}
-
-/// Whether each of these connections has its answer.
-fn are_answered(world: &World, numbers: &[usize]) -> bool {
-    for number in numbers {
-        match world.wires.get(*number) {
-            Some(wire) if wire.is_down_ended && !wire.received.is_empty() => {}
-            _ => return false,
-        }
-    }
-    true
 }

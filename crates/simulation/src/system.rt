@@ -34,10 +34,7 @@ pub type SharedWorld = Rc<RefCell<World>>;
 
 /// The world, for one call. Nobody has it for longer.
 fn borrow(world: &SharedWorld) -> io::Result<RefMut<'_, World>> {
-    match world.try_borrow_mut() {
-        Ok(world) => Ok(world),
-        Err(_) => Err(io::Error::from(ErrorKind::Other)),
-    }
+    Ok(world.try_borrow_mut().map_err(|_| ErrorKind::Other)?)
 }
 
 /// The daemon's end of a connection.
@@ -132,10 +129,7 @@ impl System for SimSystem {
     type Waker = SimWaker;
 
     fn poll(&mut self, timeout_ms: u64) -> bool {
-        match self.world.try_borrow_mut() {
-            Ok(mut world) => world.poll(self.thread, timeout_ms),
-            Err(_) => false,
-        }
+        borrow(&self.world).is_ok_and(|mut world| world.poll(self.thread, timeout_ms))
     }
 
     fn report(&self, place: usize) -> Option<Report> {
@@ -143,10 +137,7 @@ impl System for SimSystem {
     }
 
     fn is_full(&self) -> bool {
-        match self.world.try_borrow() {
-            Ok(world) => world.is_full(self.thread),
-            Err(_) => false,
-        }
+        borrow(&self.world).is_ok_and(|world| world.is_full(self.thread))
     }
 
     fn watch(
@@ -206,7 +197,7 @@ impl RecordFile for SimFile {
     }
 
     fn is_plain(&self) -> bool {
-        self.world.try_borrow().map_or(true, |world| world.is_plain)
+        borrow(&self.world).map_or(true, |world| world.scenario.is_plain)
     }
 }
 
@@ -221,11 +212,8 @@ impl<R: Wait + Drop> Wait for SimHost<R> {}
 
 impl<R: Wait + Drop> Clock for SimHost<R> {
     fn monotonic(&self) -> io::Result<Duration> {
-        let mut world = borrow(&self.world)?;
-        match world.time() {
-            Some(time) => Ok(Duration::from_micros(time)),
-            None => Err(io::Error::from(ErrorKind::Other)),
-        }
+        let time = borrow(&self.world)?.time().ok_or(ErrorKind::Other)?;
+        Ok(Duration::from_micros(time))
     }
 
     fn since_1970(&self) -> io::Result<Duration> {
@@ -239,14 +227,9 @@ impl<R: Wait + Drop> Host for SimHost<R> {
     type File = SimFile;
 
     fn make(&self, _path: &str) -> io::Result<SimFile> {
-        let shared = self.world.clone()?;
-        match borrow(&self.world)?.make() {
-            Some(number) => Ok(SimFile {
-                world: shared,
-                number,
-            }),
-            None => Err(io::Error::from(ErrorKind::OutOfMemory)),
-        }
+        let world = self.world.clone()?;
+        let number = borrow(&self.world)?.make().ok_or(ErrorKind::OutOfMemory)?;
+        Ok(SimFile { world, number })
     }
 
     fn tell(&self, notice: Notice) {
@@ -271,9 +254,6 @@ impl<R: Wait + Drop> Host for SimHost<R> {
     }
 
     fn has_memory(&self, _alloc: Global) -> bool {
-        match self.world.try_borrow_mut() {
-            Ok(mut world) => world.has_memory(),
-            Err(_) => true,
-        }
+        borrow(&self.world).map_or(true, |mut world| world.has_memory())
     }
 }

@@ -61,35 +61,10 @@ pub enum Fault {
 }
 
 /// How each is told, in the order in which they are declared.
-pub const FAULTS: [&str; 27] = [
-    "interrupted",
-    "short",
-    "aborted",
-    "exhausted",
-    "unable",
-    "unwatched",
-    "unleft",
-    "late",
-    "lost",
-    "stopped",
-    "spurious",
-    "held",
-    "stuck",
-    "hung",
-    "behind",
-    "slow",
-    "jumps",
-    "unread",
-    "starved",
-    "famine",
-    "stalled",
-    "full",
-    "reset",
-    "broken",
-    "shut",
-    "dripped",
-    "deaf",
-];
+pub const FAULTS: &str = "\
+    interrupted short aborted exhausted unable unwatched unleft late lost stopped spurious held \
+    stuck hung behind slow jumps unread starved famine stalled full reset broken shut dripped \
+    deaf";
 
 /// How often faults happen, in a thousand times.
 pub type Chances = &'static [(Fault, u32)];
@@ -137,11 +112,6 @@ impl Weather {
 
     /// Whether each fault that may happen has.
     pub fn has_all_happened(&self, chances: Chances) -> bool {
-        for (fault, _) in chances {
-            if !self.has_happened(*fault) {
-                return false;
-            }
-        }
-        true
+        chances.iter().all(|chance| self.has_happened(chance.0))
     }
 }

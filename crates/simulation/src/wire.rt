@@ -15,6 +15,14 @@ pub struct Watch {
     pub is_both: bool,
 }
 
+/// How many bytes a peer has read, whether no more will come, and whether the connection was reset.
+#[derive(Clone, Copy)]
+pub struct Heard {
+    pub bytes: usize,
+    pub is_over: bool,
+    pub is_reset: bool,
+}
+
 /// A connection between a peer and the daemon. Times are in microseconds.
 #[derive(Drop)]
 pub struct Wire {
@@ -120,10 +128,13 @@ impl Wire {
         Some(self.accepted?.0)
     }
 
-    /// How many bytes the peer has read, whether no more will come, and whether the connection was reset.
-    pub fn heard(&self) -> (usize, bool, bool) {
-        let is_over = self.is_down_ended && self.down.is_empty();
-        (self.received.len(), is_over, self.is_reset)
+    /// What the peer has heard.
+    pub fn heard(&self) -> Heard {
+        Heard {
+            bytes: self.received.len(),
+            is_over: self.is_down_ended && self.down.is_empty(),
+            is_reset: self.is_reset,
+        }
     }
 
     /// There is news for who watches it.

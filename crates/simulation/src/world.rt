@@ -49,14 +49,13 @@ pub enum Ending {
 #[derive(Drop)]
 pub struct World {
     alloc: Global,
+    pub scenario: &'static Scenario,
     pub random: Random,
     pub weather: Weather,
     pub now: u64,
     pub wires: Vec<Wire>,
     /// What is underway, in the order in which it was done.
     flights: VecDeque<Flight>,
-    /// The most connections that wait at a listener.
-    backlog_most: usize,
     /// The connections that wait at each listener.
     pub(crate) backlogs: Vec<VecDeque<usize>>,
     pub threads: Vec<Thread>,
@@ -73,14 +72,11 @@ pub struct World {
     pub local: u32,
     /// By nodes: since when the last stop of each was asked for, and when it was told that it is stopped.
     stopped: [(u64, u64); NODES_MOST],
-    /// How many places the daemon has, and how many connections came as there was none for them.
-    pub places: usize,
+    /// How many connections came as there was no place for them.
     pub wanting: u32,
     pub files: Vec<Vec<u8>>,
     /// What was in them when the process was killed, if it had been.
     pub killed: Vec<Vec<u8>>,
-    /// What is recorded to is a plain file.
-    pub is_plain: bool,
     /// The file that was cut last, as it was before.
     pub uncut: Option<(usize, Vec<u8>)>,
     pub notices: Notices,
@@ -100,22 +96,23 @@ fn backlogs(alloc: Global) -> Option<Vec<VecDeque<usize>>> {
 }
 
 impl World {
-    /// The world of a scenario with these threads, in which nothing has happened.
-    fn new(
+    /// The world of a scenario, with so many threads, in which nothing has happened.
+    pub fn of(
         alloc: Global,
         seed: u64,
-        scenario: &Scenario,
-        threads: Vec<Thread>,
-        backlogs: Vec<VecDeque<usize>>,
-    ) -> World {
-        World {
+        scenario: &'static Scenario,
+        threads: usize,
+    ) -> Option<World> {
+        let threads = Thread::many(alloc, threads)?;
+        let backlogs = backlogs(alloc)?;
+        Some(World {
             alloc,
+            scenario,
             random: Random::new(seed),
             weather: Weather::new(scenario.chances),
             now: 1_000_000,
             wires: Vec::new(alloc),
             flights: VecDeque::new(alloc),
-            backlog_most: scenario.backlog_most,
             backlogs,
             threads,
             exhausted_until: 0,
@@ -128,23 +125,19 @@ impl World {
             remote: 0,
             local: 0,
             stopped: [(0, 0); NODES_MOST],
-            places: scenario.conn_max as usize,
             wanting: 0,
             files: Vec::new(alloc),
             killed: Vec::new(alloc),
-            is_plain: scenario.is_plain,
             uncut: None,
-            notices: Notices::new(),
+            notices: Notices::default(),
             read_bytes: 0,
             is_lost: false,
-        }
+        })
     }
 
-    /// The world of a scenario, with so many threads.
-    pub fn of(alloc: Global, seed: u64, scenario: &Scenario, threads: usize) -> Option<World> {
-        let threads = Thread::many(alloc, threads)?;
-        let backlogs = backlogs(alloc)?;
-        Some(World::new(alloc, seed, scenario, threads, backlogs))
+    /// A time within so many microseconds.
+    pub fn after(&mut self, most: u64) -> u64 {
+        self.now.saturating_add(self.random.below(most))
     }
 
     /// Whether a fault happens now.
@@ -155,7 +148,7 @@ impl World {
     /// Until when a fault lasts, if it happens now, for less than so many microseconds.
     pub fn lasts(&mut self, fault: Fault, most: u64) -> Option<u64> {
         if self.happens(fault) {
-            Some(self.now.saturating_add(self.random.below(most)))
+            Some(self.after(most))
         } else {
             None
         }
@@ -201,13 +194,14 @@ impl World {
 
     /// A peer connects at a listener. The number of the connection; none if too many wait there.
     pub fn connect(&mut self, place: usize, is_local: bool) -> Option<usize> {
-        if self.backlogs.get(place)?.len() >= self.backlog_most {
+        let waiting = self.backlogs.get_mut(place)?;
+        if waiting.len() >= self.scenario.backlog_most {
             return None;
         }
         let room = if self.random.happens(200) { 64 } else { 65_536 };
         let wire = Wire::new(self.alloc, is_local, room);
         let number = self.wires.len();
-        if self.wires.push(wire).is_err() || !self.waits(place, number) {
+        if self.wires.push(wire).is_err() || waiting.push_back(number).is_err() {
             self.is_lost = true;
             return None;
         }
@@ -215,14 +209,6 @@ impl World {
             thread.note_comer(place, self.now);
         }
         Some(number)
-    }
-
-    /// A connection waits at a listener. Whether there is memory for that.
-    fn waits(&mut self, place: usize, number: usize) -> bool {
-        match self.backlogs.get_mut(place) {
-            Some(waiting) => waiting.push_back(number).is_ok(),
-            None => false,
-        }
     }
 
     /// A peer sends bytes, ends its connection, or resets it: then it sends and reads no more.
@@ -243,24 +229,20 @@ impl World {
     }
 
     fn fly(&mut self, number: usize, bytes: &[u8], end: Option<Ending>) {
-        let delay = if self.happens(Fault::Late) {
-            self.random.below(20_000)
+        let lands_at = if self.happens(Fault::Late) {
+            self.after(20_000)
         } else if end.is_none() && self.happens(Fault::Lost) {
-            self.random.below(3_000_000)
+            self.after(3_000_000)
         } else {
-            0
+            self.now
         };
         let Ok(bytes) = Vec::from_slice(self.alloc, bytes) else {
             self.is_lost = true;
             return;
         };
-        let mut at = self.now.saturating_add(delay);
         // What one peer does is seen in the order in which it was done.
-        for flight in &self.flights {
-            if flight.number == number {
-                at = at.max(flight.at);
-            }
-        }
+        let own = self.flights.iter().filter(|flight| flight.number == number);
+        let at = own.fold(lands_at, |at: u64, flight| at.max(flight.at));
         let flight = Flight {
             at,
             number,
@@ -297,11 +279,8 @@ impl World {
 
     /// The time when something lands next; never, if nothing is underway.
     pub fn lands_at(&self) -> u64 {
-        let mut least = u64::MAX;
-        for flight in &self.flights {
-            least = least.min(flight.at);
-        }
-        least
+        let flights = self.flights.iter();
+        flights.fold(u64::MAX, |least: u64, flight| least.min(flight.at))
     }
 
     /// A peer reads so many bytes at most.
@@ -316,7 +295,7 @@ impl World {
 
     /// A call takes a moment, in which more may come.
     fn pass_moment(&mut self) {
-        self.now = self.now.saturating_add(self.random.below(3));
+        self.now = self.after(3);
         self.land();
     }
 
@@ -337,9 +316,7 @@ impl World {
         if self.happens(Fault::Interrupted) {
             return Err(ErrorKind::Interrupted);
         }
-        let Some(wire) = self.wires.get_mut(number) else {
-            return Err(ErrorKind::Other);
-        };
+        let wire = self.wires.get_mut(number).ok_or(ErrorKind::Other)?;
         wire.is_reported = false;
         if wire.is_reset && wire.up.is_empty() {
             return Err(self.reset_error());
@@ -361,9 +338,7 @@ impl World {
             return Err(ErrorKind::Interrupted);
         }
         let is_short = self.happens(Fault::Short);
-        let Some(wire) = self.wires.get_mut(number) else {
-            return Err(ErrorKind::Other);
-        };
+        let wire = self.wires.get_mut(number).ok_or(ErrorKind::Other)?;
         if wire.is_reset {
             return Err(self.reset_error());
         }
@@ -403,9 +378,7 @@ impl World {
             return Err(ErrorKind::StorageFull);
         }
         let count = self.taken(bytes.len());
-        let Some(file) = self.files.get_mut(number) else {
-            return Err(ErrorKind::Other);
-        };
+        let file = self.files.get_mut(number).ok_or(ErrorKind::Other)?;
         for byte in bytes.iter().take(count) {
             if file.push(*byte).is_err() {
                 return Err(ErrorKind::OutOfMemory);
@@ -498,12 +471,11 @@ impl World {
             self.jumped = self.jumped.saturating_add(self.random.below(3_600_000_000));
         }
         if self.happens(Fault::Stopped) {
-            self.now = self.now.saturating_add(self.random.below(10_000_000));
+            self.now = self.after(10_000_000);
             self.land();
         }
-        if let Some(until) = self.lasts(Fault::Unread, 2_000_000) {
-            self.unread_until = until;
-        }
+        let until = self.lasts(Fault::Unread, 2_000_000);
+        self.unread_until = until.unwrap_or(self.unread_until);
         if self.now < self.unread_until {
             None
         } else {
@@ -513,9 +485,8 @@ impl World {
 
     /// Whether memory can be had.
     pub fn has_memory(&mut self) -> bool {
-        if let Some(until) = self.lasts(Fault::Starved, 2_000_000) {
-            self.starved_until = until;
-        }
+        let until = self.lasts(Fault::Starved, 2_000_000);
+        self.starved_until = until.unwrap_or(self.starved_until);
         // Not before there has been some memory.
         if self.now > FAMINE_US && self.happens(Fault::Famine) {
             self.starved_until = self.now.saturating_add(60_000_000);
