@@ -525,7 +525,7 @@ pub const SCENARIOS: &[Scenario] = &[
     },
     Scenario {
         name: "stops",
-        least: Deeds(0, 0, 0, 0),
+        least: Deeds(646, 606, 5827, 0),
         people: &[Local(&NODE, 6), Local(&STOPPER, 3), Local(&SEEKER, 2)],
         hold_us: 5_000_000,
         is_relaxed: true,
@@ -534,7 +534,7 @@ pub const SCENARIOS: &[Scenario] = &[
     },
     Scenario {
         name: "unheeded",
-        least: Deeds(0, 0, 0, 0),
+        least: Deeds(99, 79, 1782, 0),
         people: &[
             Local(&SILENT, 6),
             Remote(&SILENT, 3),
@@ -548,13 +548,13 @@ pub const SCENARIOS: &[Scenario] = &[
     },
     Scenario {
         name: "floods",
-        least: Deeds(0, 0, 0, 0),
+        least: Deeds(654, 577, 14512, 0),
         people: &[Local(&TARDY, 750), Local(&NODE, 30)],
         chances: &[(Fault::Stopped, 20), (Fault::Late, 300)],
         conn_max: 1024,
         burst_us: 1_000_000,
         hold_us: 300_000,
-        limit_ms: 60_000,
+        limit_ms: 200_000,
         ..USUAL
     },
     Scenario {
