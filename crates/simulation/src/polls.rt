@@ -331,7 +331,7 @@ impl World {
         key: usize,
         interest: Interest,
     ) -> Result<(), ErrorKind> {
-        if self.happens(Fault::Unwatched) {
+        if self.happens(Fault::Unwatched) || self.happens(Fault::Unreported) {
             return Err(ErrorKind::OutOfMemory);
         }
         let wire = self.wires.get_mut(number).ok_or(ErrorKind::Other)?;

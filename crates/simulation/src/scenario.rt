@@ -534,7 +534,7 @@ pub const SCENARIOS: &[Scenario] = &[
     },
     Scenario {
         name: "unheeded",
-        least: Deeds(99, 79, 1782, 0),
+        least: Deeds(130, 110, 2100, 0),
         people: &[
             Local(&SILENT, 6),
             Remote(&SILENT, 3),
@@ -542,8 +542,7 @@ pub const SCENARIOS: &[Scenario] = &[
             Local(&NODE, 3),
             Local(&SEEKER, 3),
         ],
-        chances: &[(Fault::Unwatched, 950)],
-        limit_ms: 3000,
+        chances: &[(Fault::Unreported, 1000)],
         ..USUAL
     },
     Scenario {

@@ -58,19 +58,21 @@ pub enum Fault {
     Dripped,
     /// A poll fails.
     Deaf,
+    /// The poll refuses to report a stream, and no listener.
+    Unreported,
 }
 
 /// How each is told, in the order in which they are declared.
 pub const FAULTS: &str = "\
     interrupted short aborted exhausted unable unwatched unleft late lost stopped spurious held \
     stuck hung behind slow jumps unread starved famine stalled full reset broken shut dripped \
-    deaf";
+    deaf unreported";
 
 /// How often faults happen, in a thousand times.
 pub type Chances = &'static [(Fault, u32)];
 
 /// How often each has happened.
-pub type Counts = [u32; 27];
+pub type Counts = [u32; 28];
 
 /// The weather: what may happen, and how often each has.
 #[derive(Drop)]
@@ -83,7 +85,7 @@ impl Weather {
     pub fn new(chances: Chances) -> Weather {
         Weather {
             chances,
-            happened: [0; 27],
+            happened: [0; 28],
         }
     }
 
