@@ -6,6 +6,7 @@ use portmap_daemon::{MioStream, MioSystem, MioWaker};
 use portmap_testing::books::small_book;
 use portmap_worker::{Drain, Host, Interest, Report, Shared, System, drain_log};
 use std::alloc::Global;
+use std::fs::File;
 use std::io::ErrorKind;
 use std::marker::Brand;
 use std::net::{IpAddr, Net};
@@ -74,7 +75,7 @@ fn end_late<R: Wait + Clock>(rt: &R, shared: &Shared<MioWaker>) {
 }
 
 /// How often it polls until then, if it ends with that.
-fn polls<L: Ledger + Send + Sync, R: Net + Host + Threads + Wait + Clock + Sync>(
+fn polls<L: Ledger + Send + Sync, R: Net + Host<File = File> + Threads + Wait + Clock + Sync>(
     rt: &R,
     alloc: Global,
     blank: Blank,
