@@ -106,7 +106,7 @@ class Pages(unittest.TestCase):
         self.none(self.CHECKOUT.missing_names, CONTRIBUTING)
 
     def test_no_line_is_too_wide(self):
-        self.none(too_wide, README, CONTRIBUTING, PROVED)
+        self.none(too_wide, README, CONTRIBUTING, PROVED, DECISIONS)
 
 
 if __name__ == "__main__":
