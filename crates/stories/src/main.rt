@@ -3,6 +3,7 @@
 //! Each argument is a file of stories. The output has a line for each story that holds, and one for each line that does not.
 #![tactic(auto)]
 
+mod audited;
 mod call;
 mod devices;
 mod events;

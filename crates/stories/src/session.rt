@@ -1,4 +1,5 @@
 //! Recorded sessions as bytes: read, written, judged, and left without their remote peers.
+use crate::audited::audited;
 use crate::listed;
 use crate::listed::workers;
 use crate::played::played;
@@ -42,6 +43,7 @@ impl Session {
                 played(alloc, act, &self.bytes, words.get(1..).unwrap_or(&[]))
             }
             "recorder" => recorded(alloc, words, &self.entries, &self.bytes),
+            "audit" => judged_as_one(alloc, words),
             "local" => left(alloc, &self.bytes),
             "check" | "begins" | "upgrade" | "workers" | "alone" => of_record(
                 alloc,
@@ -113,6 +115,13 @@ impl Session {
         }
         text(format!(in alloc; "{count}"))
     }
+}
+
+fn judged_as_one(alloc: Global, words: &[&str]) -> Result<String> {
+    let ["audit", device, turns, ref files @ ..] = *words else {
+        return wrong("no device and a number of turns");
+    };
+    audited(alloc, device, turns, files)
 }
 
 fn put(bytes: &mut Vec<u8>, place: usize, new: u8) {
