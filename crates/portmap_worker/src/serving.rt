@@ -264,7 +264,6 @@ pub fn serve<'a, L: Ledger, S: Source + Drop, G: Gate, R: Wait>(
     alloc: Global,
     desk: &'a Desk<L>,
     seat: Seat<L>,
-    number: u32,
     source: S,
     gate: &'a G,
 ) -> Outcome<L>
@@ -272,7 +271,6 @@ pub fn serve<'a, L: Ledger, S: Source + Drop, G: Gate, R: Wait>(
 {
     let before = seat.count();
     let mut worker = Worker::new(rt, alloc, desk, seat, source, gate);
-    worker.number = number;
     for _ in rt.forever() {
         if !worker.turn() {
             break;

@@ -107,12 +107,11 @@ fn worked<L: Ledger, G: Gate, R: Wait>(
     alloc: Global,
     desk: &Desk<L>,
     seat: Seat<L>,
-    number: u32,
     gate: &G,
     (request, reply): (Bytes, Bytes),
 ) -> (Outcome<L>, bool) {
     let mut link = Tape::new(alloc, request, STEADY);
-    let outcome = serve(rt, alloc, desk, seat, number, One(&mut link, 0), gate);
+    let outcome = serve(rt, alloc, desk, seat, One(&mut link, 0), gate);
     (outcome, link.sink.as_slice() == reply)
 }
 
@@ -150,10 +149,10 @@ fn two_workers<L: Ledger + Send + Sync, G: Order + Sync, R: Threads + Wait + Syn
     let shared = &desk;
     let ((one, is_one), (two, is_two)) = thread::join(
         rt,
-        move || worked(rt, alloc, shared, one, 0, gate, first),
+        move || worked(rt, alloc, shared, one, gate, first),
         move || {
             gate.follow();
-            worked(rt, alloc, shared, two, 1, gate, second)
+            worked(rt, alloc, shared, two, gate, second)
         },
     );
     if !is_one || !is_two {
