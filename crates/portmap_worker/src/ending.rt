@@ -27,7 +27,7 @@ fn failure_of(is_starved: bool, has_poll_failed: bool) -> Option<Failure>
     }
 }
 
-/// Which workers run, and whether they are to end. At first none does.
+/// How many workers run, and whether they are to end. At first none runs.
 #[derive(Default, Drop)]
 pub struct Ending {
     /// How many workers have not ended.
@@ -64,8 +64,8 @@ impl Ending {
         self.stopping.load(Ordering::SeqCst)
     }
 
-    /// Why the workers are to end.
-    pub(crate) fn fail(&self, failure: Failure) {
+    /// Notes why workers end before they are told to.
+    pub(crate) fn note_failure(&self, failure: Failure) {
         let failed = match failure {
             Failure::Poll => &self.poll_failed,
             Failure::NoMemory => &self.starved,

@@ -16,8 +16,8 @@
 //! - Each place that is taken is a `Permit`, made by `Quota::take` alone and given back as it is dropped: so what the quota counts is what links have.
 //! - Which connections are open is decided by functions over values, each exact (`is_free`, `goes_before`, `spares_local`, `poll_timeout`, `note_poll`,
 //!   `is_held`, `acceptors_without`, `accept_error`, `starved_for`, `failure_of`), and so are a link's times (`may_move`, `since_at`, `expire`,
-//!   `take_late`), when the log is taken out, what waits and when a file is full (`is_due`, `fits`, `is_full`), and what the operator is told (`notice`,
-//!   `Refused`). That they are asked: tests and the simulation.
+//!   `take_late`), how a registration waits (`told_at_once`, `Waiting::next`), when the log is taken out, what waits and when a file is full (`is_due`,
+//!   `fits`, `is_full`), and what the operator is told (`notice`, `Refused`). That they are asked: tests and the simulation.
 //! - `System`, `Stream`, `Wake`: what workers ask of the system. Nothing is asked of who answers but that a read or a write moves no more bytes than
 //!   there is room for.
 #![tactic(auto)]

@@ -1,4 +1,4 @@
-//! What has become of connections, which workers tell to who looks after memory.
+//! What has become of connections: workers tell it to the thread that takes out the log.
 use crate::limits::WEIGH_BYTES;
 use crate::shared::Shared;
 use crate::system::Wake;

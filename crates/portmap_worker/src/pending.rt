@@ -175,7 +175,7 @@ fn wait_on<S: Stream>(links: &mut Links<'_, S>, rounds: &mut Rounds, key: usize,
         held.waiting = waiting;
     }
     links.hold(key);
-    rounds.note_pending(waiting.until(rounds.time));
+    rounds.note_until(waiting.until(rounds.time));
 }
 
 /// What the link that was told last keeps back is to be told, or that no registration is taken.

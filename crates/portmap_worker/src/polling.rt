@@ -65,7 +65,7 @@ impl<L: Ledger, S: System, R: Host + Wait + Clock> SocketSource<'_, L, S, R> {
 
     /// The poll has failed: the worker ends, and with it the others.
     fn fail(&self) -> Turn {
-        self.shared.ending.fail(Failure::Poll);
+        self.shared.ending.note_failure(Failure::Poll);
         Turn::Stop
     }
 

@@ -90,7 +90,7 @@ impl Rounds {
     }
 
     /// The poll may wait until this time for one more that is pending.
-    pub(crate) fn note_pending(&mut self, until: u64)
+    pub(crate) fn note_until(&mut self, until: u64)
         ensures { self.new ≡ record self.old { pending_until = Some (earliest self.old.pending_until until) } }
     {
         self.pending_until = Some(earliest(self.pending_until, until));

@@ -67,10 +67,8 @@ impl<'a, L: Ledger, S: System, R: Host + Wait + Clock> SocketSource<'a, L, S, R>
 
     /// The microseconds since the daemon began. If the clock can't be read, a millisecond passes with each answer of the poll.
     pub(crate) fn time_us(&self) -> u64 {
-        match self.shared.time_us(self.rt) {
-            Some(time) => time,
-            None => self.rounds.time.saturating_add(1).saturating_mul(1000),
-        }
+        let next = self.rounds.time.saturating_add(1).saturating_mul(1000);
+        self.shared.time_us(self.rt).unwrap_or(next)
     }
 
     /// A link has moved so many bytes. Has the log taken out if it has become heavy.

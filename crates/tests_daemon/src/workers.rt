@@ -85,7 +85,7 @@ fn passed<L: Ledger, R: Wait>(
     };
     let mut link = Watched::new(Tape::new(alloc, ALIVE_A, STEADY), &written);
     let (_, conn) = desk.connect(rt, alloc, seat, true).ok()?;
-    Carrier::new(alloc, conn).ready(rt, alloc, desk, seat, 0, &mut link, &gate);
+    Carrier::new(alloc, conn).ready(rt, alloc, desk, seat, &mut link, &gate);
     Some([
         gate.answered.load(Ordering::SeqCst),
         gate.sent.load(Ordering::SeqCst),
