@@ -3,6 +3,7 @@ pub mod Link
 pub mod Listening
 pub mod Parts
 pub mod Peers
+pub mod Pending
 pub mod Queue
 pub mod Quota
 pub mod Recording

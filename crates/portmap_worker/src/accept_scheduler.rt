@@ -74,18 +74,13 @@ fn is_held(since: u64, now: u64) -> bool
 }
 
 /// How long a worker has had no rest. Times are in microseconds.
-#[derive(Clone, Copy, Debug, PartialEq, Eq)]
+#[derive(Clone, Copy, Debug, Default, PartialEq, Eq)]
 pub(crate) struct LoadMeter {
     since: u64,
     polls: u32,
 }
 
 impl LoadMeter {
-    /// It begins to work.
-    pub(crate) fn new() -> LoadMeter {
-        LoadMeter { since: 0, polls: 0 }
-    }
-
     /// The worker has polled. Whether it has been without a rest for so long that it may want help.
     pub(crate) fn note_poll(&mut self, before: u64, after: u64) -> bool
         ensures rest { REST_US ≤ after - before → (result ≡ false) × (self.new.since ≡ after) × (self.new.polls ≡ 0) }

@@ -1,18 +1,22 @@
 //! Which connections are admitted, and which are given up for them.
-ghost use Rattle.std.specs.Prelude.{◌≡◌, ◌↔◌, ◌⊎◌, ◌-◌, ◌<◌, true, false, IfSome};
+ghost use Rattle.std.specs.Prelude.{◌≡◌, ◌↔◌, ◌⊎◌, ◌+◌, ◌-◌, ◌^◌, ◌<◌, ◌≤◌, true, false, min, None, IfSome, IfNone};
+ghost use Rattle.portmap_worker.specs.declared.limits.TheConstants.{ROOM_BACKOFF_MS};
 ghost use Rattle.portmap_worker.specs.Listening.{IsFreshFrom};
 ghost use Rattle.portmap_worker.specs.Peers.{is_local_by};
 
 use crate::Turn;
 use crate::host::Host;
 use crate::limits::{PLACE_TIMEOUT_MS, ROOM_BACKOFF_MS};
-use crate::link::{Link, OpenLink};
+use crate::link::Link;
+use crate::open_link::{Links, OpenLink};
 use crate::peer::{is_local_by, own_ip};
 use crate::pending::Waiting;
 use crate::quota::{Candidate, Permit, first_of, spares_local};
+use crate::shared::Shared;
 use crate::socket_source::SocketSource;
+use crate::sockets::Sockets;
 use crate::system::{Stream, System};
-use portmap_ready::{Place, Ready};
+use portmap_ready::Place;
 use std::net::IpAddr;
 use std::rt::Clock;
 use std::sync::Wait;
@@ -82,12 +86,41 @@ impl<S: Stream> Door<S> {
         is_last
     }
 
+    /// The link that goes first of those that may be given up for another one, if it is time to look for one.
+    fn candidate(&mut self, links: &Links<'_, S>, with_local: bool, now: u64) -> Option<usize>
+        ensures early { now < self.old.room_backoff → (result ≡ None) × (self.new ≡ self.old) }
+        ensures found { IfSome result (λ _. self.new ≡ self.old) }
+        ensures later { self.old.room_backoff ≤ now → IfNone result (self.new ≡ record self.old { room_backoff = min (now + ROOM_BACKOFF_MS) (2 ^ 64 - 1) }) }
+    {
+        if now < self.room_backoff {
+            return None;
+        }
+        let first = first_to_go(links, with_local, now);
+        if first.is_none() {
+            self.room_backoff = now.saturating_add(ROOM_BACKOFF_MS);
+        }
+        first
+    }
+
     /// A link that is held is told.
     pub(crate) fn pass(&mut self)
         ensures { self.new ≡ record self.old { has_accepted = false; backlog = 0 } }
     {
         self.has_accepted = false;
         self.backlog = 0;
+    }
+}
+
+impl<S: System> Sockets<S> {
+    /// The next connection that waits at a listener.
+    fn accept(&mut self, shared: &Shared<S::Waker>, now: u64) -> Option<Newcomer<S::Stream>> {
+        let accepted = self.listeners.accept(&mut self.system, now);
+        if self.listeners.take_idle() {
+            shared.stop_accepting(self.worker);
+        }
+        let (stream, peer) = accepted?;
+        let own = own_ip(&stream, peer);
+        Some(Newcomer::new(stream, peer, own, now))
     }
 }
 
@@ -100,7 +133,7 @@ impl<'a, L: Ledger, S: System, R: Host + Wait + Clock> SocketSource<'a, L, S, R>
         let has_waited = waiting.is_some();
         let newcomer = match waiting {
             Some(newcomer) => newcomer,
-            None => self.accept()?,
+            None => self.sockets.accept(self.shared, self.rounds.time)?,
         };
         let turn = match self.shared.quota.take(newcomer.is_local) {
             Some(permit) => self.take(newcomer, permit),
@@ -111,20 +144,6 @@ impl<'a, L: Ledger, S: System, R: Host + Wait + Clock> SocketSource<'a, L, S, R>
             self.shared.quota.want_none();
         }
         turn
-    }
-
-    /// The next connection that waits at a listener.
-    fn accept(&mut self) -> Option<Newcomer<S::Stream>>
-        ensures { self.new.ready ≡ self.old.ready }
-    {
-        let listeners = &mut self.sockets.listeners;
-        let accepted = listeners.accept(&mut self.sockets.system, self.rounds.time);
-        if listeners.take_idle() {
-            self.shared.stop_accepting(self.sockets.worker);
-        }
-        let (stream, peer) = accepted?;
-        let own = own_ip(&stream, peer);
-        Some(Newcomer::new(stream, peer, own, self.rounds.time))
     }
 
     /// Takes a connection that has a place, if there is memory for it. It is closed otherwise.
@@ -169,9 +188,13 @@ impl<'a, L: Ledger, S: System, R: Host + Wait + Clock> SocketSource<'a, L, S, R>
     {
         let waited = self.rounds.time.saturating_sub(newcomer.came);
         let remote_first = spares_local(waited, self.shared.quota.remote());
-        if let Some(key) = self.candidate(newcomer.is_local && !remote_first) {
+        let with_local = newcomer.is_local && !remote_first;
+        let candidate = self
+            .door
+            .candidate(&self.ready, with_local, self.rounds.time);
+        if let Some(key) = candidate {
             self.door.newcomer = Some(newcomer);
-            return Some(self.give_way(key));
+            return Some(give_way(&mut self.ready, key, self.rounds.time));
         }
         if newcomer.is_local && waited < PLACE_TIMEOUT_MS {
             if self.shared.quota.want(remote_first) {
@@ -190,50 +213,32 @@ impl<'a, L: Ledger, S: System, R: Host + Wait + Clock> SocketSource<'a, L, S, R>
         if !is_wanted || self.door.newcomer.is_some() {
             return None;
         }
-        let key = self.candidate(is_any)?;
+        let key = self.door.candidate(&self.ready, is_any, self.rounds.time)?;
         self.shared.quota.want_none();
-        Some(self.give_way(key))
+        Some(give_way(&mut self.ready, key, self.rounds.time))
     }
+}
 
-    /// The connection with this key is given up.
-    fn give_way(&mut self, key: usize) -> Turn
-        ensures { self.new.ready.told ≡ self.old.ready.told }
-    {
-        if let Some(held) = self.ready.get_mut(key) {
-            held.link.give_way(self.rounds.time);
-        }
-        Turn::Late(key as u64)
+/// The link with this key is given up.
+fn give_way<S: Stream>(links: &mut Links<'_, S>, key: usize, now: u64) -> Turn
+    ensures told { links.new.told ≡ links.old.told }
+    ensures late { result ≡ Turn.Late key }
+{
+    if let Some(held) = links.get_mut(key) {
+        held.link.give_way(now);
     }
-
-    /// The connection that goes first of those that may be given up for another one: those of remote peers, and, with local ones, of
-    /// any.
-    fn candidate(&mut self, with_local: bool) -> Option<usize>
-        ensures { self.new.ready ≡ self.old.ready }
-    {
-        if self.rounds.time < self.door.room_backoff {
-            return None;
-        }
-        let first = first_to_go(&self.ready, with_local, self.rounds.time);
-        if first.is_none() {
-            self.door.room_backoff = self.rounds.time.saturating_add(ROOM_BACKOFF_MS);
-        }
-        first.map(|first| first.key)
-    }
+    Turn::Late(key as u64)
 }
 
 /// The one that goes first of the links that may be given up for another one: of those of remote peers, and, with local ones, of all. None
 /// that is pending is.
-fn first_to_go<S: Stream>(
-    ready: &Ready<OpenLink<'_, S>>,
-    with_local: bool,
-    now: u64,
-) -> Option<Candidate> {
+fn first_to_go<S: Stream>(links: &Links<'_, S>, with_local: bool, now: u64) -> Option<usize> {
     let mut first: Option<Candidate> = None;
-    for key in 0..ready.keys() {
-        if ready.place(key) == Some(Place::Pending) {
+    for key in 0..links.keys() {
+        if links.place(key) == Some(Place::Pending) {
             continue;
         }
-        if let Some(OpenLink { link, .. }) = ready.get(key) {
+        if let Some(OpenLink { link, .. }) = links.get(key) {
             let candidate = Candidate {
                 is_local: link.is_local,
                 came: link.came,
@@ -244,5 +249,5 @@ fn first_to_go<S: Stream>(
             }
         }
     }
-    first
+    Some(first?.key)
 }

@@ -64,7 +64,6 @@ impl<L: Ledger> Carrier<L> {
         alloc: Global,
         desk: &Desk<L>,
         seat: &mut Seat<L>,
-        worker: u32,
         link: &mut I,
         gate: &G,
     ) -> (Option<(u64, Answer)>, Next)
@@ -97,9 +96,9 @@ impl<L: Ledger> Carrier<L> {
             Pull::Piece(n) => match desk.piece(rt, alloc, seat, &self.conn, &buffer[..n]) {
                 Err(fault) => (None, next_of(fault)),
                 Ok((place, answer)) => {
-                    gate.pass(worker, Point::Answered);
+                    gate.pass(seat.worker(), Point::Answered);
                     let next = self.reply(link, &answer);
-                    gate.pass(worker, Point::Sent);
+                    gate.pass(seat.worker(), Point::Sent);
                     (Some((place, answer)), next)
                 }
             },

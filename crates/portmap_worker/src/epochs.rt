@@ -72,7 +72,7 @@ pub(crate) struct Polled {
 }
 
 /// How far a worker is with what its poll has reported.
-#[derive(Drop)]
+#[derive(Default, Drop)]
 pub(crate) struct Pass {
     /// The epoch that is passed once all is told that was to be told when the poll had answered, and how much of that is left.
     epoch: u64,
@@ -80,11 +80,6 @@ pub(crate) struct Pass {
 }
 
 impl Pass {
-    /// The poll was never asked.
-    pub(crate) fn new() -> Pass {
-        Pass { epoch: 0, left: 0 }
-    }
-
     /// Its epoch.
     pub(crate) fn begun(&self) -> Begun
         ensures { result.epoch ≡ self.now.epoch }
@@ -141,10 +136,7 @@ impl<L: Ledger, S: System, R: Host + Wait + Clock> SocketSource<'_, L, S, R> {
         requires { 0 < timeout → self.old.ready.queue ≡ [] }
         ensures { IfSome result (λ polled. polled.epoch ≡ begun.epoch) }
     {
-        if self.ask(timeout) {
-            Some(Polled { epoch: begun.epoch })
-        } else {
-            None
-        }
+        let is_well = self.sockets.ask(&mut self.ready, timeout);
+        is_well.then_some(Polled { epoch: begun.epoch })
     }
 }

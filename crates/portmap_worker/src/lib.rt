@@ -16,8 +16,8 @@
 //! - Each place that is taken is a `Permit`, made by `Quota::take` alone and given back as it is dropped: so what the quota counts is what links have.
 //! - Which connections are open is decided by functions over values, each exact (`is_free`, `goes_before`, `spares_local`, `poll_timeout`, `note_poll`,
 //!   `is_held`, `acceptors_without`, `accept_error`, `starved_for`, `failure_of`), and so are a link's times (`may_move`, `since_at`, `expire`,
-//!   `take_late`), when the log is taken out, what waits and when a file is full (`is_due`, `fits`, `is_full`), and what the operator is told (`notice`,
-//!   `Refused`). That they are asked: tests and the simulation.
+//!   `take_late`), how a registration waits (`told_at_once`, `Waiting::next`), when the log is taken out, what waits and when a file is full (`is_due`,
+//!   `fits`, `is_full`), and what the operator is told (`notice`, `Refused`). That they are asked: tests and the simulation.
 //! - `System`, `Stream`, `Wake`: what workers ask of the system. Nothing is asked of who answers but that a read or a write moves no more bytes than
 //!   there is room for.
 #![tactic(auto)]
@@ -26,6 +26,7 @@ mod accept_scheduler;
 mod admission;
 mod carrier;
 mod drain;
+mod ending;
 mod epochs;
 mod first_piece;
 mod gate;
@@ -34,6 +35,8 @@ mod limits;
 mod link;
 mod listener;
 mod memory;
+mod news;
+mod open_link;
 mod peer;
 mod pending;
 mod polling;
@@ -47,6 +50,7 @@ mod rounds;
 mod serving;
 mod shared;
 mod socket_source;
+mod sockets;
 mod source;
 mod system;
 mod timer;
@@ -54,18 +58,21 @@ mod workplace;
 
 pub use crate::carrier::{Carrier, Next};
 pub use crate::drain::{Drain, Drained, begin_file, drain_log};
+pub use crate::ending::{Ending, Failure};
 pub use crate::gate::{Gate, Open, Point};
 pub use crate::host::{Host, Notice, RecordFile};
 pub use crate::limits::{EVENTS_MOST, FILE_BYTES_MOST, PULL_BYTES_MOST, numbers_are_the_profiles};
 pub use crate::link::Link;
+pub use crate::news::Noted;
 pub use crate::peer::is_local_peer;
 pub use crate::queue::{Beginning, Part, RecordQueue};
 pub use crate::recorder::{Recorder, recordings_are_fronts, recordings_are_records};
 pub use crate::recording::{RecordWriter, write_recording};
 pub use crate::refused::Refused;
 pub use crate::serving::{Outcome, Worker, serve};
-pub use crate::shared::{Failure, Shared, WorkerState};
-pub use crate::socket_source::{SocketSource, Sockets};
+pub use crate::shared::{Shared, WorkerState};
+pub use crate::socket_source::SocketSource;
+pub use crate::sockets::Sockets;
 pub use crate::source::{Source, Turn};
 pub use crate::system::{Interest, Report, Stream, System, Wake};
 pub use crate::workplace::Workplace;

@@ -1,13 +1,12 @@
 //! A connection that a worker holds: its stream as a device, and what the worker's source has to know of it.
-ghost use Rattle.std.specs.Prelude.{◌≡◌, ◌↔◌, ◌-◌, ◌<◌, [], Some, None, true, false};
+ghost use Rattle.std.specs.Prelude.{◌≡◌, ◌↔◌, ◌+◌, ◌-◌, ◌^◌, ◌<◌, [], min, Some, None, true, false};
 ghost use Rattle.portmap_worker.specs.Link.{IsBroken, IsOf, is_answered, is_timed, may_move};
 ghost use Rattle.portmap_worker.specs.declared.limits.TheConstants.{YOUNG_MS};
 
 use crate::Turn;
 use crate::first_piece::FirstPiece;
 use crate::limits::YOUNG_MS;
-use crate::pending::Waiting;
-use crate::quota::Permit;
+use crate::open_link::Fate;
 use crate::readiness::Readiness;
 use crate::rounds::Rounds;
 use crate::system::{Stream, System};
@@ -15,8 +14,8 @@ use crate::timer::Timer;
 use portmap_core::Name;
 use portmap_link::{Device, Input, Output, Past, Pull, Put, pull_from, put_from};
 use std::alloc::Global;
-use std::io;
 use std::io::{ErrorKind, Read, Write};
+use std::{io, mem};
 
 /// How far a connection is.
 #[derive(Clone, Copy, Debug, PartialEq, Eq)]
@@ -58,10 +57,7 @@ pub struct Link<S: Read + Write> {
 
 /// Whether a call would have blocked: then there will be a report.
 fn would_block(told: &io::Result<usize>) -> bool {
-    match told {
-        Ok(_) => false,
-        Err(error) => error.kind() == ErrorKind::WouldBlock,
-    }
+    matches!(told, Err(error) if error.kind() == ErrorKind::WouldBlock)
 }
 
 impl<S: Read + Write> Link<S> {
@@ -88,7 +84,7 @@ impl<S: Read + Write> Link<S> {
             },
             readiness: Readiness::new(),
             progress: Progress::Asked,
-            timer: Timer::new(),
+            timer: Timer::default(),
             is_local,
             came: now,
             is_resting: false,
@@ -124,9 +120,7 @@ impl<S: Read + Write> Link<S> {
 
     /// How many bytes have moved since this was last asked.
     pub(crate) fn take_moved_bytes(&mut self) -> usize {
-        let bytes = self.moved_bytes;
-        self.moved_bytes = 0;
-        bytes
+        mem::replace(&mut self.moved_bytes, 0)
     }
 
     /// Whether its peer has only so much time: for its request, or for the bytes that wait to be written. One that was answered
@@ -218,14 +212,21 @@ impl<S: Read + Write> Link<S> {
         true
     }
 
+    /// So many bytes have moved.
+    fn note_moved(&mut self, count: usize)
+        ensures { self.new ≡ record self.old { timer = record self.old.timer { has_moved = true }; moved_bytes = min (self.old.moved_bytes + count) (2 ^ 64 - 1) } }
+    {
+        self.timer.has_moved = true;
+        self.moved_bytes = self.moved_bytes.saturating_add(count);
+    }
+
     /// So many bytes were read: one that was answered rests then.
     fn note_read(&mut self, count: usize)
         ensures moved { self.new.timer.has_moved ≡ true }
         ensures rests { self.new.is_resting ≡ is_answered self.old.progress }
         ensures history { self.new.history ≡ self.old.history }
     {
-        self.timer.has_moved = true;
-        self.moved_bytes = self.moved_bytes.saturating_add(count);
+        self.note_moved(count);
         self.is_resting = self.is_answered();
     }
 
@@ -235,8 +236,7 @@ impl<S: Read + Write> Link<S> {
         ensures answered { is_answered self.new.progress ≡ true }
         ensures history { self.new.history ≡ self.old.history }
     {
-        self.timer.has_moved = true;
-        self.moved_bytes = self.moved_bytes.saturating_add(count);
+        self.note_moved(count);
         if self.progress == Progress::Asked {
             self.progress = Progress::Answered;
         }
@@ -264,38 +264,12 @@ impl<S: Stream> Link<S> {
             Fate::Waits
         }
     }
-}
 
-/// What becomes of a link that was told.
-#[derive(Clone, Copy, Debug, PartialEq, Eq)]
-pub(crate) enum Fate {
-    /// There is more to tell of it.
-    Again,
-    /// It rests.
-    Rests,
-    /// The poll is to report it.
-    Waits,
-}
-
-/// A link that a worker holds. However it is given up, a peer that doesn't have all of its answer sees that: its connection ends by a
-/// reset in place of an end.
-pub(crate) struct OpenLink<'a, S: Stream> {
-    pub(crate) link: Link<S>,
-    /// How long its registration goes on waiting, while it is pending.
-    pub(crate) waiting: Waiting,
-    pub(crate) permit: Permit<'a>,
-}
-
-impl<S: Stream> Drop for OpenLink<'_, S> {
-    fn drop(mut self) {
-        if self.link.readiness.is_unsent() {
-            self.link.stream.reset();
+    /// It is given up: it ends by a reset, if bytes wait to be written.
+    pub(crate) fn reset_unsent(&mut self) {
+        if self.readiness.is_unsent() {
+            self.stream.reset();
         }
-        let OpenLink {
-            link: _link,
-            waiting: _,
-            permit: _permit,
-        } = self;
     }
 }
 

@@ -8,6 +8,7 @@ use crate::system::System;
 use portmap_link::NoMemory;
 use std::alloc::Global;
 use std::io::ErrorKind;
+use std::mem;
 use std::net::IpAddr;
 
 /// How a worker stands to a listening socket.
@@ -239,9 +240,7 @@ impl Listeners {
         ensures taken { result ≡ self.old.exhausted }
         ensures asked { self.new.exhausted ≡ false }
     {
-        let is_exhausted = self.exhausted;
-        self.exhausted = false;
-        is_exhausted
+        mem::replace(&mut self.exhausted, false)
     }
 
     /// Watches the listeners from now on, or leaves them, as the worker accepts or not. Those that are to be watched again are, if it

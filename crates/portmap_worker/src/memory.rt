@@ -3,7 +3,7 @@ ghost use Rattle.std.specs.Prelude.{◌≡◌, ◌+◌, ◌||◌, ◌&&◌, not,
 
 use crate::host::Host;
 use crate::limits::{RESERVE_BYTES, STARVED_SECONDS_MOST};
-use crate::shared::News;
+use crate::news::News;
 use std::alloc::Global;
 use std::sync::atomic::{AtomicBool, Ordering};
 

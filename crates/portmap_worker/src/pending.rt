@@ -2,14 +2,18 @@
 //!
 //! If a name is active when it is asked for, perhaps the connection that owns it has ended, or is ending: then the name is free soon.
 //! What the machine says after that is final.
-ghost use Rattle.std.specs.Prelude.{◌≡◌, ◌↔◌, ◌+◌, ◌-◌, ◌≤◌, ◌^◌, true, min, None};
-ghost use Rattle.portmap_worker.specs.declared.limits.TheConstants.{EPOCH_ROUNDS_MOST, EPOCH_TIMEOUT_MS};
+ghost use Rattle.std.specs.Prelude.{◌≡◌, ◌↔◌, ◌<◌, ◌≤◌, true, false, Some, None};
+ghost use Rattle.portmap_worker.specs.Pending.{GivesUp, GoesOn, earliest, until};
+ghost use Rattle.portmap_worker.specs.declared.limits.TheConstants.{PENDING_MOST};
 
 use crate::Turn;
 use crate::host::Host;
 use crate::limits::{EPOCH_ROUNDS_MOST, EPOCH_TIMEOUT_MS, NAME_TIMEOUT_MS, PENDING_MOST};
+use crate::open_link::Links;
+use crate::rounds::Rounds;
+use crate::shared::Shared;
 use crate::socket_source::SocketSource;
-use crate::system::System;
+use crate::system::{Stream, System, Wake};
 use std::rt::Clock;
 use std::sync::Wait;
 use std::sync::atomic::Ordering;
@@ -30,17 +34,66 @@ pub(crate) enum Waiting {
 
 impl Waiting {
     /// Until when the poll may wait for it, at this time.
-    fn until(self, now: u64) -> u64 {
+    fn until(self, now: u64) -> u64
+        ensures { result ≡ until self now }
+    {
         match self {
             Waiting::Come | Waiting::Asked => now,
             Waiting::Name { until } | Waiting::Epoch { until, .. } => until,
         }
     }
+
+    /// How one whose name is active goes on waiting, if it does: for its name, and then until every worker has looked for connections
+    /// that have ended.
+    fn next<W: Wake>(self, now: u64, shared: &Shared<W>, worker: usize) -> Option<Waiting>
+        ensures { GoesOn self now result }
+    {
+        match self {
+            Waiting::Come => Some(Waiting::Asked),
+            Waiting::Asked => Some(Waiting::Name {
+                until: now.saturating_add(NAME_TIMEOUT_MS),
+            }),
+            Waiting::Name { until } if now < until => Some(self),
+            Waiting::Name { until } => Some(Waiting::Epoch {
+                until,
+                epoch: shared.begin_epoch(worker),
+                rounds: 0,
+            }),
+            Waiting::Epoch {
+                until,
+                epoch,
+                rounds,
+            } => {
+                let is_over = gives_up(rounds, now, until) || shared.have_passed(epoch);
+                (!is_over).then_some(Waiting::Epoch {
+                    until,
+                    epoch,
+                    rounds: rounds.saturating_add(1),
+                })
+            }
+        }
+    }
+}
+
+/// What is told at once of the link with this key that keeps a registration back, while so many are pending; none if it is to wait.
+fn told_at_once(key: u64, is_short: bool, is_active: bool, pending: usize) -> Option<Turn>
+    ensures short { is_short ≡ true → result ≡ Some (Turn.Late key) }
+    ensures free { is_short ≡ false → is_active ≡ false → result ≡ Some (Turn.Ready key) }
+    ensures full { is_short ≡ false → PENDING_MOST ≤ pending → result ≡ Some (Turn.Ready key) }
+    ensures waits { is_short ≡ false → is_active ≡ true → pending < PENDING_MOST → result ≡ None }
+{
+    if is_short {
+        Some(Turn::Late(key))
+    } else if !is_active || pending >= PENDING_MOST {
+        Some(Turn::Ready(key))
+    } else {
+        None
+    }
 }
 
 /// Whether one that waits for an epoch gives up after so many rounds, at this time: it has waited for its name alone until then.
 fn gives_up(rounds: u32, now: u64, until: u64) -> bool
-    ensures { (result ≡ true) ↔ ((EPOCH_ROUNDS_MOST ≤ rounds) × (min (until + EPOCH_TIMEOUT_MS) (2 ^ 64 - 1) ≤ now)) }
+    ensures { (result ≡ true) ↔ GivesUp rounds now until }
 {
     rounds >= EPOCH_ROUNDS_MOST && now >= until.saturating_add(EPOCH_TIMEOUT_MS)
 }
@@ -62,11 +115,10 @@ impl<L: Ledger, S: System, R: Host + Wait + Clock> SocketSource<'_, L, S, R> {
     pub(crate) fn hold_back(&mut self) -> Option<Turn> {
         let key = self.ready.told()?;
         let is_active = self.is_name_active(key)?;
-        if self.is_short() {
-            return Some(Turn::Late(key as u64));
-        }
-        if !is_active || self.ready.pending() >= PENDING_MOST {
-            return Some(Turn::Ready(key as u64));
+        let pending = self.ready.pending();
+        let told = told_at_once(key as u64, self.is_short(), is_active, pending);
+        if told.is_some() {
+            return told;
         }
         self.ready.get_mut(key)?.waiting = Waiting::Come;
         self.ready.hold(key);
@@ -87,73 +139,23 @@ impl<L: Ledger, S: System, R: Host + Wait + Clock> SocketSource<'_, L, S, R> {
                 break;
             };
             match self.goes_on(key) {
-                Some(waiting) => self.wait_on(key, waiting),
-                None => self.resume(key),
+                Some(waiting) => wait_on(&mut self.ready, &mut self.rounds, key, waiting),
+                None => {
+                    let is_short = self.is_short();
+                    resume(&mut self.ready, key, is_short);
+                }
             }
         }
         self.note_pending();
     }
 
-    /// How one goes on waiting, if it does: for its name, and then until every worker has looked for connections that have ended.
+    /// How one goes on waiting, if it does.
     fn goes_on(&self, key: usize) -> Option<Waiting> {
         if self.is_name_active(key) != Some(true) {
             return None;
         }
-        let now = self.rounds.time;
-        Some(match self.ready.get(key)?.waiting {
-            Waiting::Come => Waiting::Asked,
-            Waiting::Asked => Waiting::Name {
-                until: now.saturating_add(NAME_TIMEOUT_MS),
-            },
-            Waiting::Name { until } if now < until => Waiting::Name { until },
-            Waiting::Name { until } => Waiting::Epoch {
-                until,
-                epoch: self.shared.begin_epoch(self.sockets.worker),
-                rounds: 0,
-            },
-            Waiting::Epoch {
-                until,
-                epoch,
-                rounds,
-            } => {
-                if gives_up(rounds, now, until) || self.shared.have_passed(epoch) {
-                    return None;
-                }
-                Waiting::Epoch {
-                    until,
-                    epoch,
-                    rounds: rounds.saturating_add(1),
-                }
-            }
-        })
-    }
-
-    /// The link that was told last goes on waiting for its name.
-    fn wait_on(&mut self, key: usize, waiting: Waiting)
-        requires { self.old.ready.told ≡ Some key }
-        ensures { self.new.ready.told ≡ None }
-    {
-        if let Some(held) = self.ready.get_mut(key) {
-            held.waiting = waiting;
-        }
-        self.ready.hold(key);
-        let until = waiting.until(self.rounds.time);
-        self.rounds.pending_until = Some(match self.rounds.pending_until {
-            Some(earliest) => earliest.min(until),
-            None => until,
-        });
-    }
-
-    /// What the link that was told last keeps back is to be told, unless no registration is taken.
-    fn resume(&mut self, key: usize)
-        requires { self.old.ready.told ≡ Some key }
-        ensures { self.new.ready.told ≡ None }
-    {
-        let is_late = self.is_short();
-        if let Some(held) = self.ready.get_mut(key) {
-            held.link.set_late(is_late);
-        }
-        self.ready.put_back(key);
+        let waiting = self.ready.get(key)?.waiting;
+        waiting.next(self.rounds.time, self.shared, self.sockets.worker)
     }
 
     /// The other workers are to know how many wait.
@@ -161,4 +163,28 @@ impl<L: Ledger, S: System, R: Host + Wait + Clock> SocketSource<'_, L, S, R> {
         let count = self.ready.pending() as u64;
         self.state.pending.store(count, Ordering::SeqCst);
     }
+}
+
+/// The link that was told last goes on waiting for its name.
+fn wait_on<S: Stream>(links: &mut Links<'_, S>, rounds: &mut Rounds, key: usize, waiting: Waiting)
+    requires { links.old.told ≡ Some key }
+    ensures told { links.new.told ≡ None }
+    ensures until { rounds.new ≡ record rounds.old { pending_until = Some (earliest rounds.old.pending_until (until waiting rounds.old.time)) } }
+{
+    if let Some(held) = links.get_mut(key) {
+        held.waiting = waiting;
+    }
+    links.hold(key);
+    rounds.note_until(waiting.until(rounds.time));
+}
+
+/// What the link that was told last keeps back is to be told, or that no registration is taken.
+fn resume<S: Stream>(links: &mut Links<'_, S>, key: usize, is_short: bool)
+    requires { links.old.told ≡ Some key }
+    ensures { links.new.told ≡ None }
+{
+    if let Some(held) = links.get_mut(key) {
+        held.link.set_late(is_short);
+    }
+    links.put_back(key);
 }

@@ -2,15 +2,15 @@
 ghost use Rattle.std.specs.Prelude.{◌≡◌, ◌<◌, [], None};
 
 use crate::Turn;
+use crate::ending::Failure;
 use crate::epochs::Begun;
 use crate::host::Host;
-use crate::limits::{BACKLOG_MOST, EVENTS_MOST, IDLE_TIMEOUT_MS, RESTS_MOST};
-use crate::link::OpenLink;
+use crate::limits::BACKLOG_MOST;
+use crate::open_link::end_rests;
 use crate::rounds::poll_timeout;
 use crate::shared::IDLE;
 use crate::socket_source::SocketSource;
-use crate::system::{Report, Stream, System};
-use portmap_ready::{Place, Ready};
+use crate::system::System;
 use std::rt::Clock;
 use std::sync::Wait;
 use std::sync::atomic::Ordering;
@@ -27,7 +27,7 @@ impl<L: Ledger, S: System, R: Host + Wait + Clock> SocketSource<'_, L, S, R> {
         let is_well = self.wait();
         let after = self.time_us();
         if self.rounds.note_answer(after) {
-            self.end_rests();
+            end_rests(&mut self.ready);
         }
         self.state
             .busy_since
@@ -35,7 +35,7 @@ impl<L: Ledger, S: System, R: Host + Wait + Clock> SocketSource<'_, L, S, R> {
         if !is_well {
             return Some(self.fail());
         }
-        if self.shared.stopping.load(Ordering::SeqCst) {
+        if self.shared.ending.is_stopping() {
             return Some(Turn::Stop);
         }
         let worker = self.sockets.worker;
@@ -53,20 +53,6 @@ impl<L: Ledger, S: System, R: Host + Wait + Clock> SocketSource<'_, L, S, R> {
         }
     }
 
-    /// A millisecond is over: of the links that have rested longest a few may move again.
-    fn end_rests(&mut self) {
-        for _ in 0..RESTS_MOST {
-            let Some(key) = self.ready.end_rest() else {
-                return;
-            };
-            if let Some(held) = self.ready.get_mut(key) {
-                if held.link.end_rest() {
-                    self.ready.report(key);
-                }
-            }
-        }
-    }
-
     /// Watches the listeners or leaves them, as the worker accepts or not.
     fn pass_listeners(&mut self) {
         let is_on = self.shared.accepts(self.sockets.worker);
@@ -79,23 +65,17 @@ impl<L: Ledger, S: System, R: Host + Wait + Clock> SocketSource<'_, L, S, R> {
 
     /// The poll has failed: the worker ends, and with it the others.
     fn fail(&self) -> Turn {
-        self.shared.poll_failed.store(true, Ordering::SeqCst);
+        self.shared.ending.note_failure(Failure::Poll);
         Turn::Stop
     }
 
     /// Until when a poll may wait if there is nothing to do.
     fn until(&self) -> u64 {
-        let now = self.rounds.time;
         if self.door.newcomer.is_some() || self.ready.resting() > 0 {
-            return now;
+            return self.rounds.time;
         }
-        let look = if self.ready.is_empty() && self.tally.is_told() {
-            now.saturating_add(IDLE_TIMEOUT_MS)
-        } else {
-            self.rounds.look_due
-        };
-        let pending = self.rounds.pending_until.unwrap_or(look);
-        self.sockets.listeners.until(pending.min(look))
+        let is_idle = self.ready.is_empty() && self.tally.is_told();
+        self.sockets.listeners.until(self.rounds.until(is_idle))
     }
 
     /// For how many milliseconds the poll may wait: not at all while something is to be told, connections may wait at a listener, or this
@@ -114,7 +94,7 @@ impl<L: Ledger, S: System, R: Host + Wait + Clock> SocketSource<'_, L, S, R> {
         self.rounds.end_turns();
         if !self.rounds.pass.is_over() {
             let timeout = self.timeout(self.rounds.pass.begun());
-            return self.ask(timeout);
+            return self.sockets.ask(&mut self.ready, timeout);
         }
         let has_links = !self.ready.is_empty();
         let begun = self.rounds.pass.end(self.shared, self.state, has_links);
@@ -122,41 +102,15 @@ impl<L: Ledger, S: System, R: Host + Wait + Clock> SocketSource<'_, L, S, R> {
         let Some(polled) = self.ask_behind(begun, timeout) else {
             return false;
         };
-        let is_all = !self.sockets.system.is_full() || self.ask_for_all();
+        let is_all = !self.sockets.system.is_full() || self.sockets.ask_for_all(&mut self.ready);
         self.rounds.pass.begin(polled, self.ready.backlog());
         is_all
-    }
-
-    /// Asks the poll, which may wait for so many milliseconds where nothing is to be told, and notes what it reports. False if it has
-    /// failed.
-    pub(crate) fn ask(&mut self, timeout: u64) -> bool
-        requires { 0 < timeout → self.old.ready.queue ≡ [] }
-    {
-        let is_well = self.sockets.system.poll(timeout);
-        if is_well {
-            self.take_events();
-        }
-        is_well
-    }
-
-    /// Notes what the poll has reported.
-    fn take_events(&mut self) {
-        for place in 0..EVENTS_MOST {
-            match self.sockets.system.report(place) {
-                None => return,
-                Some(Report::Woken) => {}
-                Some(Report::Listener(place)) => self.sockets.listeners.report(place),
-                Some(Report::Stream { key, is_closed }) => {
-                    report(&mut self.ready, key, is_closed);
-                }
-            }
-        }
     }
 
     /// Looks at every link: whether its time is over, and whether the poll has refused to report it. The time was read before, and
     /// however long this thread was stopped since, all that came meanwhile is noted first. False if the poll has failed.
     fn look_round(&mut self) -> bool {
-        if !self.ask_for_all() {
+        if !self.sockets.ask_for_all(&mut self.ready) {
             return false;
         }
         for key in 0..self.ready.keys() {
@@ -169,35 +123,5 @@ impl<L: Ledger, S: System, R: Host + Wait + Clock> SocketSource<'_, L, S, R> {
         self.rounds.note_look();
         self.tally.tell(self.shared);
         true
-    }
-
-    /// Has the poll report all that there is, without waiting. It tells what came first before what came later, so as many answers
-    /// as hold one report of each that is watched are enough. False if it has failed.
-    fn ask_for_all(&mut self) -> bool {
-        let watched = self
-            .ready
-            .len()
-            .saturating_add(self.sockets.listeners.len());
-        for _ in 0..watched / EVENTS_MOST + 1 {
-            if !self.ask(0) {
-                return false;
-            }
-            if !self.sockets.system.is_full() {
-                break;
-            }
-        }
-        true
-    }
-}
-
-/// The poll has reported a link, and perhaps that its peer sends no more. There is something to tell of it, unless it rests and goes on
-/// sending.
-fn report<S: Stream>(ready: &mut Ready<OpenLink<'_, S>>, key: usize, is_closed: bool) {
-    let rests = ready.place(key) == Some(Place::Resting);
-    if let Some(held) = ready.get_mut(key) {
-        held.link.note_event(is_closed);
-    }
-    if is_closed || !rests {
-        ready.report(key);
     }
 }

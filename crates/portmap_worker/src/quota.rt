@@ -123,11 +123,7 @@ impl Quota {
         } else {
             (self.local.load(Ordering::SeqCst), taken)
         };
-        if is_free(is_local, self.most, local, remote) {
-            Some(permit)
-        } else {
-            None
-        }
+        is_free(is_local, self.most, local, remote).then_some(permit)
     }
 
     /// How many places remote peers have.

@@ -1,10 +1,11 @@
 //! When a worker asks its poll, and when it looks at all of its links. Times are in milliseconds since the daemon began.
-ghost use Rattle.std.specs.Prelude.{◌≡◌, ◌↔◌, ◌+◌, ◌-◌, ◌/◌, ◌≤◌, ◌<◌, ◌^◌, true, false, min, max};
-ghost use Rattle.portmap_worker.specs.declared.limits.TheConstants.{LOOK_INTERVAL_MS, SHORT_TIMEOUT_MS, TURNS_MOST};
+ghost use Rattle.std.specs.Prelude.{◌≡◌, ◌↔◌, ◌+◌, ◌-◌, ◌/◌, ◌≤◌, ◌<◌, ◌^◌, true, false, cond, min, max, Some};
+ghost use Rattle.portmap_worker.specs.Pending.{earliest};
+ghost use Rattle.portmap_worker.specs.declared.limits.TheConstants.{IDLE_TIMEOUT_MS, LOOK_INTERVAL_MS, SHORT_TIMEOUT_MS, TURNS_MOST};
 
 use crate::accept_scheduler::LoadMeter;
 use crate::epochs::Pass;
-use crate::limits::{LOOK_INTERVAL_MS, SHORT_TIMEOUT_MS, TURNS_MOST};
+use crate::limits::{IDLE_TIMEOUT_MS, LOOK_INTERVAL_MS, SHORT_TIMEOUT_MS, TURNS_MOST};
 
 /// How many milliseconds a poll may wait: not at all while there is something to do; else until this time, but at least a moment.
 pub(crate) fn poll_timeout(is_busy: bool, now: u64, until: u64) -> u64
@@ -18,6 +19,16 @@ pub(crate) fn poll_timeout(is_busy: bool, now: u64, until: u64) -> u64
     }
 }
 
+/// The earlier of two times, of which one is perhaps not set.
+fn earliest(time: Option<u64>, other: u64) -> u64
+    ensures { result ≡ earliest time other }
+{
+    match time {
+        Some(time) => time.min(other),
+        None => other,
+    }
+}
+
 /// What a worker knows of its polls.
 #[derive(Drop)]
 pub(crate) struct Rounds {
@@ -26,10 +37,10 @@ pub(crate) struct Rounds {
     /// How many turns since the poll was asked.
     turns: u32,
     pub(crate) pass: Pass,
-    /// The earliest time until which a registration waits for its name alone, if one is pending.
+    /// Until when the poll may wait for those that are pending, if any is.
     pub(crate) pending_until: Option<u64>,
     /// When the next look is due, and the time of the last one.
-    pub(crate) look_due: u64,
+    look_due: u64,
     pub(crate) looked: u64,
     pub(crate) load: LoadMeter,
 }
@@ -40,11 +51,11 @@ impl Rounds {
         Rounds {
             time: 0,
             turns: 0,
-            pass: Pass::new(),
+            pass: Pass::default(),
             pending_until: None,
             look_due: LOOK_INTERVAL_MS,
             looked: 0,
-            load: LoadMeter::new(),
+            load: LoadMeter::default(),
         }
     }
 
@@ -76,6 +87,25 @@ impl Rounds {
         ensures { self.new ≡ record self.old { turns = 0 } }
     {
         self.turns = 0;
+    }
+
+    /// The poll may wait until this time for one more that is pending.
+    pub(crate) fn note_until(&mut self, until: u64)
+        ensures { self.new ≡ record self.old { pending_until = Some (earliest self.old.pending_until until) } }
+    {
+        self.pending_until = Some(earliest(self.pending_until, until));
+    }
+
+    /// Until when a poll may wait: for what is pending, and for the next look, or a while where there is nothing to look at.
+    pub(crate) fn until(&self, is_idle: bool) -> u64
+        ensures { result ≡ earliest self.now.pending_until (cond is_idle (min (self.now.time + IDLE_TIMEOUT_MS) (2 ^ 64 - 1)) self.now.look_due) }
+    {
+        let look = if is_idle {
+            self.time.saturating_add(IDLE_TIMEOUT_MS)
+        } else {
+            self.look_due
+        };
+        earliest(self.pending_until, look)
     }
 
     /// Whether all links are to be looked at.

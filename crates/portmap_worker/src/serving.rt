@@ -29,7 +29,6 @@ pub struct Worker<'a, L: Ledger, S: Source, G: Gate, R: Wait> {
     rt: &'a R,
     alloc: Global,
     desk: &'a Desk<L>,
-    number: u32,
     gate: &'a G,
     seat: Seat<L>,
     source: S,
@@ -38,7 +37,7 @@ pub struct Worker<'a, L: Ledger, S: Source, G: Gate, R: Wait> {
 }
 
 impl<'a, L: Ledger, S: Source + Drop, G: Gate, R: Wait> Worker<'a, L, S, G, R> {
-    /// A worker that holds no connection. It has the number of its seat.
+    /// A worker that holds no connection.
     pub fn new(
         rt: &'a R,
         alloc: Global,
@@ -53,7 +52,6 @@ impl<'a, L: Ledger, S: Source + Drop, G: Gate, R: Wait> Worker<'a, L, S, G, R> {
             rt,
             alloc,
             desk,
-            number: seat.worker(),
             gate,
             seat,
             source,
@@ -136,7 +134,6 @@ impl<'a, L: Ledger, S: Source + Drop, G: Gate, R: Wait> Worker<'a, L, S, G, R> {
             self.alloc,
             self.desk,
             &mut self.seat,
-            self.number,
             link,
             self.gate,
         );
@@ -264,7 +261,6 @@ pub fn serve<'a, L: Ledger, S: Source + Drop, G: Gate, R: Wait>(
     alloc: Global,
     desk: &'a Desk<L>,
     seat: Seat<L>,
-    number: u32,
     source: S,
     gate: &'a G,
 ) -> Outcome<L>
@@ -272,7 +268,6 @@ pub fn serve<'a, L: Ledger, S: Source + Drop, G: Gate, R: Wait>(
 {
     let before = seat.count();
     let mut worker = Worker::new(rt, alloc, desk, seat, source, gate);
-    worker.number = number;
     for _ in rt.forever() {
         if !worker.turn() {
             break;

@@ -1,8 +1,9 @@
 //! What the threads of a daemon share.
-ghost use Rattle.std.specs.Prelude.{◌≡◌, true, false, vec_len, Some, None, IfOk};
+ghost use Rattle.std.specs.Prelude.{◌≡◌, vec_len, IfOk};
 
+use crate::ending::Ending;
 use crate::epochs::NO_CONNECTIONS;
-use crate::limits::WEIGH_BYTES;
+use crate::news::Noted;
 use crate::quota::Quota;
 use crate::system::Wake;
 use portmap_link::NoMemory;
@@ -46,94 +47,6 @@ impl<W: Wake> WorkerState<W> {
     }
 }
 
-/// What has become of connections since that was last asked.
-#[derive(Clone, Copy, Debug, PartialEq, Eq)]
-pub(crate) struct News {
-    /// Bytes were written to one.
-    pub(crate) answered: bool,
-    /// One has ended to which none ever were.
-    pub(crate) unanswered: bool,
-    /// One waits that can't be accepted, for want of descriptors or of memory.
-    pub(crate) exhausted: bool,
-}
-
-/// No news.
-const NO_NEWS: News = News {
-    answered: false,
-    unanswered: false,
-    exhausted: false,
-};
-
-/// What a worker is to tell the others soon.
-#[derive(Drop)]
-pub(crate) struct Tally {
-    pub(crate) news: News,
-    /// How many bytes its links have moved since the log was weighed.
-    unweighed_bytes: usize,
-}
-
-impl Tally {
-    /// Nothing.
-    pub(crate) fn new() -> Tally {
-        Tally {
-            news: NO_NEWS,
-            unweighed_bytes: 0,
-        }
-    }
-
-    /// Whether all news are told.
-    pub(crate) fn is_told(&self) -> bool {
-        self.news == NO_NEWS
-    }
-
-    /// A link has moved so many bytes. Whether the log is to be weighed.
-    pub(crate) fn note_moved(&mut self, bytes: usize) -> bool {
-        self.news.answered = self.news.answered || bytes > 0;
-        self.unweighed_bytes = self.unweighed_bytes.saturating_add(bytes);
-        let is_due = self.unweighed_bytes >= WEIGH_BYTES;
-        if is_due {
-            self.unweighed_bytes = 0;
-        }
-        is_due
-    }
-
-    /// A connection has ended, or was closed at once, to which nothing was ever written: perhaps for want of memory.
-    pub(crate) fn note_unanswered<W: Wake>(&mut self, shared: &Shared<W>) {
-        self.news.unanswered = true;
-        self.tell(shared);
-    }
-
-    /// The news are told.
-    pub(crate) fn tell<W: Wake>(&mut self, shared: &Shared<W>) {
-        shared.note(self.news);
-        self.news = NO_NEWS;
-    }
-}
-
-/// Why workers end before they are told to.
-#[derive(Clone, Copy, Debug, PartialEq, Eq)]
-pub enum Failure {
-    /// Readiness of sockets can no longer be had.
-    Poll,
-    /// Nothing gets through any more for want of memory.
-    NoMemory,
-}
-
-/// Why they do, by whether nothing gets through any more for want of memory, and whether readiness can no longer be had.
-fn failure_of(is_starved: bool, has_poll_failed: bool) -> Option<Failure>
-    ensures starved { is_starved ≡ true → result ≡ Some Failure.NoMemory }
-    ensures poll { is_starved ≡ false → has_poll_failed ≡ true → result ≡ Some Failure.Poll }
-    ensures none { is_starved ≡ false → has_poll_failed ≡ false → result ≡ None }
-{
-    if is_starved {
-        Some(Failure::NoMemory)
-    } else if has_poll_failed {
-        Some(Failure::Poll)
-    } else {
-        None
-    }
-}
-
 /// What threads share. Workers have numbers from 0.
 #[derive(Drop)]
 pub struct Shared<W: Wake> {
@@ -147,19 +60,10 @@ pub struct Shared<W: Wake> {
     pub(crate) acceptors: AtomicU64,
     /// The last poll epoch that has begun.
     pub(crate) epoch: AtomicU64,
-    /// How many workers have not ended.
-    running: AtomicU64,
-    /// Every worker is to end.
-    pub(crate) stopping: AtomicBool,
-    /// Readiness of sockets can no longer be had.
-    pub(crate) poll_failed: AtomicBool,
-    /// Nothing gets through any more for want of memory.
-    pub(crate) starved: AtomicBool,
     /// The reserve of memory is given back, for the log and for look-ups: no registration is taken.
     pub(crate) short: AtomicBool,
-    answered: AtomicBool,
-    unanswered: AtomicBool,
-    exhausted: AtomicBool,
+    pub ending: Ending,
+    pub noted: Noted,
 }
 
 impl<W: Wake> Shared<W> {
@@ -174,14 +78,9 @@ impl<W: Wake> Shared<W> {
             quota: Quota::new(places),
             acceptors: AtomicU64::new(1),
             epoch: AtomicU64::new(0),
-            running: AtomicU64::new(0),
-            stopping: AtomicBool::new(false),
-            poll_failed: AtomicBool::new(false),
-            starved: AtomicBool::new(false),
             short: AtomicBool::new(false),
-            answered: AtomicBool::new(false),
-            unanswered: AtomicBool::new(false),
-            exhausted: AtomicBool::new(false),
+            ending: Ending::default(),
+            noted: Noted::default(),
         }
     }
 
@@ -214,43 +113,22 @@ impl<W: Wake> Shared<W> {
         self.drain.wake();
     }
 
-    /// One more worker begins.
-    pub fn begin_one(&self) {
-        self.running.fetch_add(1, Ordering::SeqCst);
-    }
-
-    /// One could not begin, or has ended.
-    pub fn end_one(&self) {
-        self.running.fetch_sub(1, Ordering::SeqCst);
-    }
-
     /// A worker has ended after so many acts, and all others are to end.
     pub fn end_worker(&self, worker: usize, served: u64) {
         if let Some(state) = self.workers.get(worker) {
             state.served.store(served, Ordering::SeqCst);
         }
-        self.end_one();
+        self.ending.end_one();
         self.stop_all();
-    }
-
-    /// Whether every worker has ended.
-    pub(crate) fn are_done(&self) -> bool {
-        self.running.load(Ordering::SeqCst) == 0
     }
 
     /// Has every worker end, and the thread that takes out the log look for that.
     pub fn stop_all(&self) {
-        self.stopping.store(true, Ordering::SeqCst);
+        self.ending.stop();
         for state in &self.workers {
             state.wake();
         }
         self.wake_drain();
-    }
-
-    /// Why the workers have ended, or are to end, before they were told to.
-    pub fn failure(&self) -> Option<Failure> {
-        let is_starved = self.starved.load(Ordering::SeqCst);
-        failure_of(is_starved, self.poll_failed.load(Ordering::SeqCst))
     }
 
     /// How many acts each worker made.
@@ -261,33 +139,5 @@ impl<W: Wake> Shared<W> {
             .iter()
             .map(|state| state.served.load(Ordering::SeqCst))
             .collect(alloc)
-    }
-
-    /// Notes what a worker knows of its connections. If one has ended unanswered, perhaps for want of memory, that is looked into
-    /// soon.
-    pub(crate) fn note(&self, news: News) {
-        if news.answered {
-            self.answered.store(true, Ordering::SeqCst);
-        }
-        if news.exhausted {
-            self.exhausted.store(true, Ordering::SeqCst);
-        }
-        if news.unanswered && !self.unanswered.swap(true, Ordering::SeqCst) {
-            self.wake_drain();
-        }
-    }
-
-    /// Whether a connection has ended unanswered since that was last taken.
-    pub fn is_unanswered(&self) -> bool {
-        self.unanswered.load(Ordering::SeqCst)
-    }
-
-    /// What was noted since this was last asked.
-    pub(crate) fn take_news(&self) -> News {
-        News {
-            answered: self.answered.swap(false, Ordering::SeqCst),
-            unanswered: self.unanswered.swap(false, Ordering::SeqCst),
-            exhausted: self.exhausted.swap(false, Ordering::SeqCst),
-        }
     }
 }

@@ -1,36 +1,26 @@
 //! The source of a worker over sockets.
-ghost use Rattle.std.specs.Prelude.{◌≡◌, ◌<◌, ◌+◌, ◌-◌, ◌^◌, ◌==◌, [], Some, None, min, slice_get, IfOk, IfNone, IfSome};
+ghost use Rattle.std.specs.Prelude.{◌≡◌, ◌<◌, [], None, slice_get, IfNone, IfSome};
 ghost use Rattle.portmap_worker.specs.Link.{IsOf};
 ghost use Rattle.portmap_worker.specs.declared.limits.TheConstants.{TURNS_MOST};
 
 use crate::admission::Door;
 use crate::host::Host;
 use crate::limits::{LOG_BYTES_HEAVY, POLLS_MOST};
-use crate::link::{Fate, Link, OpenLink};
-use crate::listener::Listeners;
+use crate::link::Link;
+use crate::news::Tally;
+use crate::open_link::{Links, put_in_place};
 use crate::rounds::Rounds;
-use crate::shared::{Shared, Tally, WorkerState};
+use crate::shared::{Shared, WorkerState};
+use crate::sockets::Sockets;
 use crate::system::System;
 use crate::{Source, Turn};
 use portmap_book::Desk;
-use portmap_link::NoMemory;
 use portmap_ready::Ready;
 use std::alloc::Global;
 use std::rt::Clock;
 use std::sync::Wait;
 use std::sync::atomic::Ordering;
 use std::sync::ledger::Ledger;
-
-/// The sockets of one worker.
-#[derive(Drop)]
-pub struct Sockets<S: System> {
-    /// Which worker it is, from 0.
-    pub worker: usize,
-    /// How many milliseconds a link may move no byte.
-    pub timeout: u64,
-    pub(crate) system: S,
-    pub(crate) listeners: Listeners,
-}
 
 /// A worker's sockets and links, with the desk and what it shares with the other workers. Times are in milliseconds since the daemon
 /// began.
@@ -44,40 +34,11 @@ pub struct SocketSource<'a, L: Ledger, S: System, R: Host + Wait + Clock> {
     pub(crate) state: &'a WorkerState<S::Waker>,
     pub(crate) sockets: Sockets<S>,
     /// The links, each at its place.
-    pub(crate) ready: Ready<OpenLink<'a, S::Stream>>,
+    pub(crate) ready: Links<'a, S::Stream>,
     pub(crate) door: Door<S::Stream>,
     pub(crate) rounds: Rounds,
     /// What is to be told to others soon.
     pub(crate) tally: Tally,
-}
-
-impl<S: System> Sockets<S> {
-    /// The sockets of this worker. The first one accepts.
-    pub fn new(
-        alloc: Global,
-        worker: usize,
-        system: S,
-        timeout: u64,
-    ) -> Result<Sockets<S>, NoMemory>
-        ensures worker { IfOk result (λ sockets. sockets.worker ≡ worker) }
-        ensures is_on { IfOk result (λ sockets. sockets.listeners.is_on ≡ (worker == 0)) }
-        ensures timeout { IfOk result (λ sockets. sockets.timeout ≡ timeout) }
-    {
-        let listeners = Listeners::new(alloc, system.listeners(), worker == 0)?;
-        Ok(Sockets {
-            worker,
-            timeout,
-            system,
-            listeners,
-        })
-    }
-
-    /// The number of its seat: workers have them from 1.
-    pub fn number(&self) -> u32
-        ensures { result ≡ min (self.now.worker + 1) (2 ^ 32 - 1) }
-    {
-        u32::try_from(self.worker.saturating_add(1)).unwrap_or(u32::MAX)
-    }
 }
 
 impl<'a, L: Ledger, S: System, R: Host + Wait + Clock> SocketSource<'a, L, S, R> {
@@ -100,21 +61,21 @@ impl<'a, L: Ledger, S: System, R: Host + Wait + Clock> SocketSource<'a, L, S, R>
             ready: Ready::new(alloc),
             door: Door::new(),
             rounds: Rounds::new(),
-            tally: Tally::new(),
+            tally: Tally::default(),
         })
     }
 
     /// The microseconds since the daemon began. If the clock can't be read, a millisecond passes with each answer of the poll.
     pub(crate) fn time_us(&self) -> u64 {
-        match self.shared.time_us(self.rt) {
-            Some(time) => time,
-            None => self.rounds.time.saturating_add(1).saturating_mul(1000),
-        }
+        let next = self.rounds.time.saturating_add(1).saturating_mul(1000);
+        self.shared.time_us(self.rt).unwrap_or(next)
     }
 
-    /// Has the log taken out if it has become heavy.
-    fn weigh(&self) {
-        if self.desk.weight(self.rt) >= LOG_BYTES_HEAVY {
+    /// A link has moved so many bytes. Has the log taken out if it has become heavy.
+    fn note_moved(&mut self, bytes: usize)
+        ensures { self.new.ready ≡ self.old.ready }
+    {
+        if self.tally.note_moved(bytes) && self.desk.weight(self.rt) >= LOG_BYTES_HEAVY {
             self.shared.wake_drain();
         }
     }
@@ -126,10 +87,8 @@ impl<'a, L: Ledger, S: System, R: Host + Wait + Clock> SocketSource<'a, L, S, R>
         let Some(key) = self.ready.told() else {
             return;
         };
-        let bytes = put_back(&mut self.ready, &mut self.sockets.system, key);
-        if self.tally.note_moved(bytes) {
-            self.weigh();
-        }
+        let bytes = put_in_place(&mut self.ready, &mut self.sockets.system, key);
+        self.note_moved(bytes);
     }
 
     /// What is to be told without a poll. A connection that comes and a link that is held are told by turns.
@@ -186,28 +145,6 @@ impl<'a, L: Ledger, S: System, R: Host + Wait + Clock> SocketSource<'a, L, S, R>
     }
 }
 
-/// The link that was told last is put at the place that it is to stand at. How many bytes it has moved.
-fn put_back<S: System>(
-    ready: &mut Ready<OpenLink<'_, S::Stream>>,
-    system: &mut S,
-    key: usize,
-) -> usize
-    requires { ready.old.told ≡ Some key }
-    ensures { ready.new.told ≡ None }
-{
-    let Some(held) = ready.get_mut(key) else {
-        ready.leave(key);
-        return 0;
-    };
-    let bytes = held.link.take_moved_bytes();
-    match held.link.fate(system, key) {
-        Fate::Again => ready.put_back(key),
-        Fate::Rests => ready.rest(key),
-        Fate::Waits => ready.leave(key),
-    }
-    bytes
-}
-
 impl<L: Ledger, S: System, R: Host + Wait + Clock> Source for SocketSource<'_, L, S, R> {
     type Link = Link<S::Stream>;
 
@@ -221,19 +158,14 @@ impl<L: Ledger, S: System, R: Host + Wait + Clock> Source for SocketSource<'_, L
     }
 
     fn link(&mut self, key: u64) -> Option<&mut Link<S::Stream>> {
-        match self.ready.get_mut(key as usize) {
-            Some(held) => Some(&mut held.link),
-            None => None,
-        }
+        Some(&mut self.ready.get_mut(key as usize)?.link)
     }
 
     fn end(&mut self, key: u64) {
         let Some(mut held) = self.ready.remove(key as usize) else {
             return;
         };
-        if self.tally.note_moved(held.link.take_moved_bytes()) {
-            self.weigh();
-        }
+        self.note_moved(held.link.take_moved_bytes());
         if !held.link.is_answered() {
             self.tally.note_unanswered(self.shared);
         }

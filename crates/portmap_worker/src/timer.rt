@@ -34,7 +34,7 @@ fn is_over(since: Option<u64>, then: u64, timeout: u64) -> bool
 /// It begins anew at looks alone: at the first look after it came, or, for a local peer, after bytes have moved. The time of a look is read
 /// before the poll is asked for all that it has to report, so whatever pauses come, one whose time is over by it had no news up to it. So a
 /// connection times out up to about a second after its time was over, and never before.
-#[derive(Clone, Copy)]
+#[derive(Clone, Copy, Default)]
 pub(crate) struct Timer {
     /// At which look it began.
     pub(crate) since: Option<u64>,
@@ -45,15 +45,6 @@ pub(crate) struct Timer {
 }
 
 impl Timer {
-    /// It has not begun.
-    pub(crate) fn new() -> Timer {
-        Timer {
-            since: None,
-            has_moved: false,
-            is_late: false,
-        }
-    }
-
     /// A look: it begins, if it is to begin, or to begin anew.
     pub(crate) fn begin(&mut self, is_timed: bool, is_local: bool, now: u64) {
         let renews = self.has_moved && is_local;

@@ -1,7 +1,8 @@
 //! What the workers of a daemon have around them, and how each of them works there.
 use crate::host::Host;
 use crate::shared::Shared;
-use crate::socket_source::{SocketSource, Sockets};
+use crate::socket_source::SocketSource;
+use crate::sockets::Sockets;
 use crate::system::{System, Wake};
 use crate::{Gate, serve};
 use portmap_book::Desk;
@@ -39,10 +40,9 @@ impl<L: Ledger, W: Wake, G: Gate> Workplace<'_, L, W, G> {
         alloc: Global,
         sockets: Sockets<S>,
     ) -> Option<u64> {
-        let number = sockets.number();
-        let seat = self.desk.seat(rt, number)?;
+        let seat = self.desk.seat(rt, sockets.number())?;
         let source = SocketSource::new(rt, alloc, self.desk, self.shared, sockets)?;
-        let outcome = serve(rt, alloc, self.desk, seat, number, source, self.gate);
+        let outcome = serve(rt, alloc, self.desk, seat, source, self.gate);
         Some(outcome.served)
     }
 }

@@ -70,9 +70,9 @@ impl<'a, L: Ledger, S: Source + Drop, R: Wait + Drop> Daemon<'a, L, S, R> {
     /// A turn of a worker.
     fn work(&mut self, number: usize) -> Option<()> {
         let shared = self.around.shared;
-        let was_unanswered = shared.is_unanswered();
+        let was_unanswered = shared.noted.is_unanswered();
         let (goes_on, has_acted) = turn(self.workers.get_mut(number)?.as_mut()?);
-        let is_unanswered = !was_unanswered && shared.is_unanswered();
+        let is_unanswered = !was_unanswered && shared.noted.is_unanswered();
         self.scene
             .note_turn(number, goes_on, has_acted, is_unanswered)?;
         if goes_on {
@@ -93,7 +93,7 @@ impl<'a, L: Ledger, S: Source + Drop, R: Wait + Drop> Daemon<'a, L, S, R> {
     /// A turn of who takes the log out.
     fn take_out(&mut self) -> Option<()> {
         let around = self.around;
-        let is_owed = self.scene.is_starved()? && around.shared.is_unanswered();
+        let is_owed = self.scene.is_starved()? && around.shared.noted.is_unanswered();
         let alloc = self.scene.alloc;
         let drained = self
             .drain

@@ -68,7 +68,7 @@ impl<'a, L: Ledger, S: Source + Drop, R: Wait + Drop> Daemon<'a, L, S, R> {
     fn judge_rest(&mut self) -> bool {
         let is_written = !self.is_writing || self.around.queue.is_idle(self.around.host);
         let is_out = self.weight() == 0 && is_written;
-        let is_looked_into = !self.around.shared.is_unanswered();
+        let is_looked_into = !self.around.shared.noted.is_unanswered();
         self.scene.judge_rest(is_out, is_looked_into).is_some()
     }
 
@@ -148,7 +148,7 @@ impl<'a, L: Ledger, S: Source + Drop, R: Wait + Drop> Daemon<'a, L, S, R> {
         let has_ended = self.has_ended();
         let may_end = self.scene.scenario.may_end;
         self.scene.check(!has_ended || may_end, HAS_ENDED);
-        let told = self.around.shared.failure();
+        let told = self.around.shared.ending.failure();
         let until = self.scene.begin_end(told)?;
         if !has_ended {
             self.around.shared.stop_all();

@@ -184,7 +184,7 @@ fn workers_of<'a, L: Ledger, S: Source + Drop, R: Wait + Drop>(
     for source in sources {
         number = number.saturating_add(1);
         let seat = around.desk.seat(around.host, number)?;
-        around.shared.begin_one();
+        around.shared.ending.begin_one();
         let worker = Worker::new(around.host, alloc, around.desk, seat, source, &Open);
         workers.push(Some(worker)).ok()?;
     }

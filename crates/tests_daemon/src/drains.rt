@@ -87,7 +87,7 @@ fn polls<L: Ledger + Send + Sync, R: Net + Host<File = File> + Threads + Wait + 
     let desk: Desk<L> = Desk::new(blank, small_book(alloc)?);
     let (_, waker) = MioSystem::open(rt, alloc, &[]).ok()?;
     let shared = Shared::new(rt, Vec::new(alloc), waker, 2);
-    shared.begin_one();
+    shared.ending.begin_one();
     let drain = Drain::begin(rt, alloc, &desk, None).ok()?;
     let polls = AtomicU64::new(0);
     let deaf = Deaf { polls: &polls };

@@ -1,0 +1,28 @@
+-- Registrations that wait for their names: profile. Times are in milliseconds.
+use Rattle.std.specs.Prelude.{◌≡◌, ℕ, ◌+◌, ◌-◌, ◌<◌, ◌≤◌, ◌^◌, ◌⊎◌, min, Option, Some, None}
+use Rattle.portmap_worker.specs.declared.limits.TheConstants.{EPOCH_ROUNDS_MOST, EPOCH_TIMEOUT_MS, NAME_TIMEOUT_MS}
+use Rattle.portmap_worker.specs.declared.pending.Waiting.{Waiting}
+use Rattle.portmap_worker.specs.declared.pending.Waiting.TheVariants.{Come, Asked, Name, Epoch}
+
+-- the earlier of two times, of which one is perhaps not set
+abbrev pub earliest : Option ℕ → ℕ → ℕ
+earliest (Some time) other = min time other
+earliest None other = other
+
+-- until when the poll may wait for one that waits so, at this time
+abbrev pub until : Waiting → ℕ → ℕ
+until Come now = now
+until Asked now = now
+until (Name time) now = time
+until (Epoch time epoch rounds) now = time
+
+-- one that has waited for its name alone until then, and for its epoch for so many rounds, gives up at this time
+abbrev pub GivesUp : ℕ → ℕ → ℕ → Type 0
+GivesUp rounds now until = (EPOCH_ROUNDS_MOST ≤ rounds) × (min (until + EPOCH_TIMEOUT_MS) (2 ^ 64 - 1) ≤ now)
+
+-- how one whose name is active goes on waiting at this time: which epoch begins, and whether one was passed, others say
+abbrev pub GoesOn : Waiting → ℕ → Option Waiting → Type 0
+GoesOn Come now next = next ≡ Some Asked
+GoesOn Asked now next = next ≡ Some (Name (min (now + NAME_TIMEOUT_MS) (2 ^ 64 - 1)))
+GoesOn (Name until) now next = ((now < until) × (next ≡ Some (Name until))) ⊎ ((until ≤ now) × (epoch : ℕ) × (next ≡ Some (Epoch until epoch 0)))
+GoesOn (Epoch until epoch rounds) now next = (next ≡ None) ⊎ ((GivesUp rounds now until → ⊥) × (next ≡ Some (Epoch until epoch (min (rounds + 1) (2 ^ 32 - 1)))))

@@ -1,0 +1,87 @@
+//! What has become of connections: workers tell it to the thread that takes out the log.
+use crate::limits::WEIGH_BYTES;
+use crate::shared::Shared;
+use crate::system::Wake;
+use std::mem;
+use std::sync::atomic::{AtomicBool, Ordering};
+
+/// What has become of connections since that was last asked.
+#[derive(Clone, Copy, Debug, Default, PartialEq, Eq)]
+pub(crate) struct News {
+    /// Bytes were written to one.
+    pub(crate) answered: bool,
+    /// One has ended to which none ever were.
+    pub(crate) unanswered: bool,
+    /// One waits that can't be accepted, for want of descriptors or of memory.
+    pub(crate) exhausted: bool,
+}
+
+/// The news of all workers.
+#[derive(Default, Drop)]
+pub struct Noted {
+    answered: AtomicBool,
+    unanswered: AtomicBool,
+    exhausted: AtomicBool,
+}
+
+impl Noted {
+    /// Adds what a worker knows. Whether a connection has ended unanswered, and none had that was noted: that is to be looked into soon.
+    fn add(&self, news: News) -> bool {
+        self.answered.fetch_or(news.answered, Ordering::SeqCst);
+        self.exhausted.fetch_or(news.exhausted, Ordering::SeqCst);
+        news.unanswered && !self.unanswered.swap(true, Ordering::SeqCst)
+    }
+
+    /// Whether a connection has ended unanswered since that was last taken.
+    pub fn is_unanswered(&self) -> bool {
+        self.unanswered.load(Ordering::SeqCst)
+    }
+
+    /// What was noted since this was last asked.
+    pub(crate) fn take(&self) -> News {
+        News {
+            answered: self.answered.swap(false, Ordering::SeqCst),
+            unanswered: self.unanswered.swap(false, Ordering::SeqCst),
+            exhausted: self.exhausted.swap(false, Ordering::SeqCst),
+        }
+    }
+}
+
+/// What a worker is to tell the others soon.
+#[derive(Default, Drop)]
+pub(crate) struct Tally {
+    pub(crate) news: News,
+    /// How many bytes its links have moved since the log was weighed.
+    unweighed_bytes: usize,
+}
+
+impl Tally {
+    /// Whether all news are told.
+    pub(crate) fn is_told(&self) -> bool {
+        self.news == News::default()
+    }
+
+    /// A link has moved so many bytes. Whether the log is to be weighed.
+    pub(crate) fn note_moved(&mut self, bytes: usize) -> bool {
+        self.news.answered = self.news.answered || bytes > 0;
+        self.unweighed_bytes = self.unweighed_bytes.saturating_add(bytes);
+        let is_due = self.unweighed_bytes >= WEIGH_BYTES;
+        if is_due {
+            self.unweighed_bytes = 0;
+        }
+        is_due
+    }
+
+    /// A connection has ended, or was closed at once, to which nothing was ever written: perhaps for want of memory.
+    pub(crate) fn note_unanswered<W: Wake>(&mut self, shared: &Shared<W>) {
+        self.news.unanswered = true;
+        self.tell(shared);
+    }
+
+    /// The news are told.
+    pub(crate) fn tell<W: Wake>(&mut self, shared: &Shared<W>) {
+        if shared.noted.add(mem::take(&mut self.news)) {
+            shared.wake_drain();
+        }
+    }
+}

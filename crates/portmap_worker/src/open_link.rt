@@ -1,0 +1,91 @@
+//! The links that a worker holds, each at its place.
+ghost use Rattle.std.specs.Prelude.{◌≡◌, Some, None};
+
+use crate::limits::RESTS_MOST;
+use crate::link::Link;
+use crate::pending::Waiting;
+use crate::quota::Permit;
+use crate::system::{Stream, System};
+use portmap_ready::{Place, Ready};
+
+/// What becomes of a link that was told.
+#[derive(Clone, Copy, Debug, PartialEq, Eq)]
+pub(crate) enum Fate {
+    /// There is more to tell of it.
+    Again,
+    /// It rests.
+    Rests,
+    /// The poll is to report it.
+    Waits,
+}
+
+/// A link that a worker holds. However it is given up, a peer that doesn't have all of its answer sees that: its connection ends by a
+/// reset in place of an end.
+pub(crate) struct OpenLink<'a, S: Stream> {
+    pub(crate) link: Link<S>,
+    /// How long its registration goes on waiting, while it is pending.
+    pub(crate) waiting: Waiting,
+    pub(crate) permit: Permit<'a>,
+}
+
+impl<S: Stream> Drop for OpenLink<'_, S> {
+    fn drop(mut self) {
+        self.link.reset_unsent();
+        let OpenLink {
+            link: _link,
+            waiting: _,
+            permit: _permit,
+        } = self;
+    }
+}
+
+/// The links of a worker, by key.
+pub(crate) type Links<'a, S> = Ready<OpenLink<'a, S>>;
+
+/// The link that was told last is put at the place that it is to stand at. How many bytes it has moved.
+pub(crate) fn put_in_place<S: System>(
+    links: &mut Links<'_, S::Stream>,
+    system: &mut S,
+    key: usize,
+) -> usize
+    requires { links.old.told ≡ Some key }
+    ensures { links.new.told ≡ None }
+{
+    let Some(held) = links.get_mut(key) else {
+        links.leave(key);
+        return 0;
+    };
+    let bytes = held.link.take_moved_bytes();
+    match held.link.fate(system, key) {
+        Fate::Again => links.put_back(key),
+        Fate::Rests => links.rest(key),
+        Fate::Waits => links.leave(key),
+    }
+    bytes
+}
+
+/// The poll has reported a link, and perhaps that its peer sends no more. There is something to tell of it, unless it rests and goes on
+/// sending.
+pub(crate) fn report<S: Stream>(links: &mut Links<'_, S>, key: usize, is_closed: bool) {
+    let rests = links.place(key) == Some(Place::Resting);
+    if let Some(held) = links.get_mut(key) {
+        held.link.note_event(is_closed);
+    }
+    if is_closed || !rests {
+        links.report(key);
+    }
+}
+
+/// A millisecond is over: of the links that have rested longest a few may move again.
+pub(crate) fn end_rests<S: Stream>(links: &mut Links<'_, S>) {
+    for _ in 0..RESTS_MOST {
+        let Some(key) = links.end_rest() else {
+            return;
+        };
+        if let Some(held) = links.get_mut(key) {
+            if held.link.end_rest() {
+                links.report(key);
+            }
+        }
+    }
+}

@@ -1,0 +1,88 @@
+//! The sockets of one worker, and what its poll reports of them.
+ghost use Rattle.std.specs.Prelude.{◌≡◌, ◌<◌, ◌+◌, ◌-◌, ◌^◌, ◌==◌, [], min, IfOk};
+
+use crate::limits::EVENTS_MOST;
+use crate::listener::Listeners;
+use crate::open_link::{Links, report};
+use crate::system::{Report, System};
+use portmap_link::NoMemory;
+use std::alloc::Global;
+
+/// The sockets of one worker.
+#[derive(Drop)]
+pub struct Sockets<S: System> {
+    /// Which worker it is, from 0.
+    pub worker: usize,
+    /// How many milliseconds a link may move no byte.
+    pub timeout: u64,
+    pub(crate) system: S,
+    pub(crate) listeners: Listeners,
+}
+
+impl<S: System> Sockets<S> {
+    /// The sockets of this worker. The first one accepts.
+    pub fn new(
+        alloc: Global,
+        worker: usize,
+        system: S,
+        timeout: u64,
+    ) -> Result<Sockets<S>, NoMemory>
+        ensures worker { IfOk result (λ sockets. sockets.worker ≡ worker) }
+        ensures is_on { IfOk result (λ sockets. sockets.listeners.is_on ≡ (worker == 0)) }
+        ensures timeout { IfOk result (λ sockets. sockets.timeout ≡ timeout) }
+    {
+        let listeners = Listeners::new(alloc, system.listeners(), worker == 0)?;
+        Ok(Sockets {
+            worker,
+            timeout,
+            system,
+            listeners,
+        })
+    }
+
+    /// The number of its seat: workers have them from 1.
+    pub fn number(&self) -> u32
+        ensures { result ≡ min (self.now.worker + 1) (2 ^ 32 - 1) }
+    {
+        u32::try_from(self.worker.saturating_add(1)).unwrap_or(u32::MAX)
+    }
+
+    /// Asks the poll, which may wait for so many milliseconds where nothing is to be told, and notes what it reports. False if it has
+    /// failed.
+    pub(crate) fn ask(&mut self, links: &mut Links<'_, S::Stream>, timeout: u64) -> bool
+        requires { 0 < timeout → links.old.queue ≡ [] }
+    {
+        let is_well = self.system.poll(timeout);
+        if is_well {
+            self.take_events(links);
+        }
+        is_well
+    }
+
+    /// Notes what the poll has reported.
+    fn take_events(&mut self, links: &mut Links<'_, S::Stream>) {
+        for place in 0..EVENTS_MOST {
+            match self.system.report(place) {
+                None => return,
+                Some(Report::Woken) => {}
+                Some(Report::Listener(place)) => self.listeners.report(place),
+                Some(Report::Stream { key, is_closed }) => report(links, key, is_closed),
+            }
+        }
+    }
+
+    /// Has the poll report all that there is, without waiting. It tells what came first before what came later, so as many answers
+    /// as hold one report of each that is watched are enough. False if it has failed.
+    pub(crate) fn ask_for_all(&mut self, links: &mut Links<'_, S::Stream>) -> bool {
+        let watched = links.len().saturating_add(self.listeners.len());
+        for _ in 0..watched / EVENTS_MOST + 1 {
+            if !self.ask(links, 0) {
+                return false;
+            }
+            if !self.system.is_full() {
+                break;
+            }
+        }
+        true
+    }
+}
