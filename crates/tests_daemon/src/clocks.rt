@@ -30,6 +30,8 @@ pub struct Pushing {
     pub asked: AtomicU64,
     /// How often the operator was told that the recording has failed.
     pub told: AtomicU64,
+    /// No further copy of it can be had.
+    pub is_alone: AtomicBool,
 }
 
 impl<R: Clock + Copy> Pushed<R> {
@@ -40,6 +42,7 @@ impl<R: Clock + Copy> Pushed<R> {
             is_short: AtomicBool::new(false),
             asked: AtomicU64::new(0),
             told: AtomicU64::new(0),
+            is_alone: AtomicBool::new(false),
         };
         let shared = Arc::new(alloc, pushing)?;
         Ok(Pushed { rt, shared })
@@ -66,6 +69,9 @@ impl Pushing {
 
 impl<R: Clock + Copy> Clone for Pushed<R> {
     fn clone(&self) -> Result<Pushed<R>, AllocError> {
+        if self.shared.is_alone.load(Ordering::SeqCst) {
+            return Err(AllocError);
+        }
         Ok(Pushed {
             rt: self.rt,
             shared: Arc::try_clone(&self.shared)?,

@@ -22,11 +22,13 @@ const PORT: u16 = 14_420;
 
 const MUTE_PORT: u16 = 14_422;
 
+const UNSTARTED_PORT: u16 = 14_423;
+
 /// So many look-ups are more than a pipe takes that nobody reads: each is 41 bytes of a recording, and a pipe has room for 65,536.
 const LOOK_UPS: u32 = 2000;
 
 /// The path by which the system opens a pipe once more.
-fn path_of(alloc: Global, pipe: &PipeWriter) -> Result<String, Fail> {
+pub fn path_of(alloc: Global, pipe: &PipeWriter) -> Result<String, Fail> {
     Ok(format!(in alloc; "/proc/self/fd/{}", pipe.as_raw_fd())?)
 }
 
@@ -64,10 +66,11 @@ fn is_told_once<R: Clock + Copy>(host: &Pushed<R>, ended: &Result<RunEnd, RunFau
 fn is_told_at_once<R: Net<Stream = TcpStream> + Clock + Copy>(
     rt: &R,
     host: &Pushed<R>,
+    port: u16,
 ) -> Option<bool> {
     let is_told = is_raised(rt, &host.pushing().told);
-    let serves = is_answered(rt, MUTE_PORT, PORT_A, NOT_FOUND)?;
-    Some(is_answered(rt, MUTE_PORT, KILL, b"OK")? && is_told && serves)
+    let serves = is_answered(rt, port, PORT_A, NOT_FOUND)?;
+    Some(is_answered(rt, port, KILL, b"OK")? && is_told && serves)
 }
 
 #[test]
@@ -78,7 +81,23 @@ fn a_recording_that_fails_is_told_at_once_and_once(rt: HostRuntime) -> Result<()
     let (ended, told) = thread::join(
         &rt,
         || run(&host, alloc, settings),
-        || is_told_at_once(&rt, &host),
+        || is_told_at_once(&rt, &host, MUTE_PORT),
+    );
+    assert!(rt; told == Some(true) && is_told_once(&host, &ended));
+    Ok(())
+}
+
+/// Its thread needs a host of its own, which can't be had.
+#[test]
+fn a_recording_that_can_not_start_is_told_at_once_and_once(rt: HostRuntime) -> Result<(), Fail> {
+    let alloc = rt.alloc();
+    let settings = settings_at(alloc, UNSTARTED_PORT, 60, 1, Some("unstarted"))?;
+    let host = Pushed::new(rt, alloc)?;
+    host.pushing().is_alone.store(true, Ordering::SeqCst);
+    let (ended, told) = thread::join(
+        &rt,
+        || run(&host, alloc, settings),
+        || is_told_at_once(&rt, &host, UNSTARTED_PORT),
     );
     assert!(rt; told == Some(true) && is_told_once(&host, &ended));
     Ok(())

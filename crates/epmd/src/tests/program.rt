@@ -1,11 +1,12 @@
 //! What the program takes from the system: the clock, files, and where it listens and connects.
 use super::ending;
 use super::typed::command;
-use crate::{connect, perform, since_1970, stand_in};
+use crate::{connect, perform, since_1970, stand_ins};
 use portmap_daemon::Host;
-use portmap_link::Writing;
+use portmap_link::{Reading, Writing};
 use portmap_testing::peers::sent;
 use portmap_testing::sessions::{SESSION, wrong_session};
+use portmap_testing::streams::Broken;
 use std::fs::File;
 use std::io::{Read, Write};
 use std::net::{Ipv4Addr, Net, TcpListener, TcpStream};
@@ -89,16 +90,17 @@ fn is_between(
     }
 }
 
-/// Whether a command of this line ends so, as a daemon with this host.
+/// Whether a command of this line ends so, as a daemon with this host and with an input that fails.
 fn ends_so<
     R: Net + Host<File = File> + Threads + Wait + Clock + Clone + Drop + Send + Sync + 'static,
 >(rt: &HostRuntime, host: &R, line: &str, wanted: &str) -> bool {
     let Ok(command) = command(rt.alloc(), line) else {
         return false;
     };
+    let mut input = Reading::new(Broken);
     let mut output = Writing::new(Vec::new(rt.alloc()));
     let mut errors = Writing::new(Vec::new(rt.alloc()));
-    let status = perform(rt, host, &command, &mut output, &mut errors);
+    let status = perform(rt, host, &command, &mut input, &mut output, &mut errors);
     match ending(
         rt.alloc(),
         status,
@@ -170,6 +172,12 @@ fn a_file_is_judged_at_its_path(rt: HostRuntime) -> Result<(), Fail> {
 }
 
 #[test]
+fn an_input_that_fails_is_told(rt: HostRuntime) -> Result<(), Fail> {
+    assert!(rt; ends_so(&rt, &rt, "epmd -once", FAILED));
+    Ok(())
+}
+
+#[test]
 fn a_port_mapper_that_is_not_there_is_told(rt: HostRuntime) -> Result<(), Fail> {
     let told = "1 err epmd: Cannot connect to local epmd|";
     assert!(rt; ends_so(&rt, &rt, "epmd -port 14452 -names", told));
@@ -178,16 +186,22 @@ fn a_port_mapper_that_is_not_there_is_told(rt: HostRuntime) -> Result<(), Fail> 
 
 #[test]
 fn what_is_open_needs_no_stand_in(rt: HostRuntime) -> Result<(), Fail> {
-    for number in 0..3 {
-        assert!(rt; stand_in(&rt, number).is_none());
-    }
+    assert!(rt; matches!(stand_ins(&rt, 0), [None, None, None]));
     Ok(())
 }
 
+/// Whether files stand in for three descriptors, of which the first can't be read and the others can't be written.
+fn take_nothing(stand_ins: [Option<File>; 3]) -> bool {
+    let [Some(mut input), Some(mut output), Some(mut errors)] = stand_ins else {
+        return false;
+    };
+    let is_mute = input.read(&mut [0; 1]).is_err();
+    is_mute && output.write(b"a").is_err() && errors.write(b"a").is_err()
+}
+
 #[test]
-fn what_is_closed_gets_a_stand_in_that_takes_nothing(rt: HostRuntime) -> Result<(), Fail> {
+fn what_is_closed_gets_stand_ins_that_take_nothing(rt: HostRuntime) -> Result<(), Fail> {
     let number = File::open(&rt, "/dev/null")?.as_raw_fd();
-    let refused = stand_in(&rt, number).map(|mut file| file.write(b"a").is_err());
-    assert_eq!(rt; refused, Some(true));
+    assert!(rt; take_nothing(stand_ins(&rt, number)));
     Ok(())
 }
