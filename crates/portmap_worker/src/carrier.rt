@@ -56,14 +56,15 @@ impl<L: Ledger> Carrier<L> {
     }
 
     /// Goes on with the connection: writes what waits, and, unless a close is due, pulls once for a piece of `PULL_BYTES_MOST` bytes at
-    /// most, has the desk answer it, and writes the answer as far as the link takes it. The gate is passed before the answer is
-    /// written and after. Gives the place and the answer that the desk told, if it did, and what is to be done next.
+    /// most, has the desk answer it, and writes the answer as far as the link takes it. The gate is passed with
+    /// the seat's number before the answer is written and after. Gives the place and the answer that the desk told, if it did, and what is to be done next.
     pub fn ready<I: Input + Output, G: Gate, R: Wait>(
         &mut self,
         rt: &R,
         alloc: Global,
         desk: &Desk<L>,
         seat: &mut Seat<L>,
+        worker: u32,
         link: &mut I,
         gate: &G,
     ) -> (Option<(u64, Answer)>, Next)
@@ -96,9 +97,9 @@ impl<L: Ledger> Carrier<L> {
             Pull::Piece(n) => match desk.piece(rt, alloc, seat, &self.conn, &buffer[..n]) {
                 Err(fault) => (None, next_of(fault)),
                 Ok((place, answer)) => {
-                    gate.pass(seat.worker(), Point::Answered);
+                    gate.pass(worker, Point::Answered);
                     let next = self.reply(link, &answer);
-                    gate.pass(seat.worker(), Point::Sent);
+                    gate.pass(worker, Point::Sent);
                     (Some((place, answer)), next)
                 }
             },

@@ -29,6 +29,7 @@ pub struct Worker<'a, L: Ledger, S: Source, G: Gate, R: Wait> {
     rt: &'a R,
     alloc: Global,
     desk: &'a Desk<L>,
+    number: u32,
     gate: &'a G,
     seat: Seat<L>,
     source: S,
@@ -37,7 +38,7 @@ pub struct Worker<'a, L: Ledger, S: Source, G: Gate, R: Wait> {
 }
 
 impl<'a, L: Ledger, S: Source + Drop, G: Gate, R: Wait> Worker<'a, L, S, G, R> {
-    /// A worker that holds no connection.
+    /// A worker that holds no connection. It has the number of its seat.
     pub fn new(
         rt: &'a R,
         alloc: Global,
@@ -52,6 +53,7 @@ impl<'a, L: Ledger, S: Source + Drop, G: Gate, R: Wait> Worker<'a, L, S, G, R> {
             rt,
             alloc,
             desk,
+            number: seat.worker(),
             gate,
             seat,
             source,
@@ -134,6 +136,7 @@ impl<'a, L: Ledger, S: Source + Drop, G: Gate, R: Wait> Worker<'a, L, S, G, R> {
             self.alloc,
             self.desk,
             &mut self.seat,
+            self.number,
             link,
             self.gate,
         );
@@ -255,12 +258,13 @@ impl<'a, L: Ledger, S: Source + Drop, G: Gate, R: Wait> Worker<'a, L, S, G, R> {
 }
 
 /// Serves what the source brings at the desk, until the source stops or the port mapper has ended, and closes what it still
-/// holds. It waits: for the desk's lock, and as the source does.
+/// holds. The gate is passed with this number, which is the seat's. It waits: for the desk's lock, and as the source does.
 pub fn serve<'a, L: Ledger, S: Source + Drop, G: Gate, R: Wait>(
     rt: &'a R,
     alloc: Global,
     desk: &'a Desk<L>,
     seat: Seat<L>,
+    number: u32,
     source: S,
     gate: &'a G,
 ) -> Outcome<L>
@@ -268,6 +272,7 @@ pub fn serve<'a, L: Ledger, S: Source + Drop, G: Gate, R: Wait>(
 {
     let before = seat.count();
     let mut worker = Worker::new(rt, alloc, desk, seat, source, gate);
+    worker.number = number;
     for _ in rt.forever() {
         if !worker.turn() {
             break;

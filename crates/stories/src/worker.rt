@@ -277,7 +277,7 @@ fn served<L: Ledger, R: Wait>(
         wires: &mut *wires,
         turns: scene.turns.iter(),
     };
-    let Outcome { seat, served } = serve(rt, alloc, &desk, seat, source, &Open);
+    let Outcome { seat, served } = serve(rt, alloc, &desk, seat, 0, source, &Open);
     end(alloc);
     if wires.log.is_empty() {
         wires.take_log(rt, alloc, &desk);

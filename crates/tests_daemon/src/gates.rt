@@ -83,7 +83,7 @@ impl<R: Clock> Order for Meet<'_, R> {
     fn follow(&self) {}
 }
 
-/// A gate for a worker 1 and one that comes behind it: it holds worker 1 at `Sent` until the other one is there too. After ten
+/// A gate for a worker 0 and one that comes behind it: it holds worker 0 at `Sent` until the other one is there too. After ten
 /// seconds it lets go, and notes it.
 #[derive(Drop)]
 pub struct Relay<'a, R: Clock> {
@@ -119,7 +119,7 @@ impl<R: Clock> Gate for Relay<'_, R> {
     fn pass(&self, worker: u32, point: Point) {
         match (worker, point) {
             (_, Point::Answered) => {}
-            (1, Point::Sent) => {
+            (0, Point::Sent) => {
                 self.ahead.store(1, Ordering::SeqCst);
                 self.wait(&self.behind);
             }
@@ -129,7 +129,7 @@ impl<R: Clock> Gate for Relay<'_, R> {
 }
 
 impl<R: Clock> Order for Relay<'_, R> {
-    /// Once worker 1 is at `Sent`.
+    /// Once worker 0 is at `Sent`.
     fn follow(&self) {
         self.wait(&self.ahead);
     }

@@ -85,7 +85,7 @@ fn passed<L: Ledger, R: Wait>(
     };
     let mut link = Watched::new(Tape::new(alloc, ALIVE_A, STEADY), &written);
     let (_, conn) = desk.connect(rt, alloc, seat, true).ok()?;
-    Carrier::new(alloc, conn).ready(rt, alloc, desk, seat, &mut link, &gate);
+    Carrier::new(alloc, conn).ready(rt, alloc, desk, seat, 0, &mut link, &gate);
     Some([
         gate.answered.load(Ordering::SeqCst),
         gate.sent.load(Ordering::SeqCst),
@@ -107,11 +107,12 @@ fn worked<L: Ledger, G: Gate, R: Wait>(
     alloc: Global,
     desk: &Desk<L>,
     seat: Seat<L>,
+    number: u32,
     gate: &G,
     (request, reply): (Bytes, Bytes),
 ) -> (Outcome<L>, bool) {
     let mut link = Tape::new(alloc, request, STEADY);
-    let outcome = serve(rt, alloc, desk, seat, One(&mut link, 0), gate);
+    let outcome = serve(rt, alloc, desk, seat, number, One(&mut link, 0), gate);
     (outcome, link.sink.as_slice() == reply)
 }
 
@@ -149,10 +150,10 @@ fn two_workers<L: Ledger + Send + Sync, G: Order + Sync, R: Threads + Wait + Syn
     let shared = &desk;
     let ((one, is_one), (two, is_two)) = thread::join(
         rt,
-        move || worked(rt, alloc, shared, one, gate, first),
+        move || worked(rt, alloc, shared, one, 0, gate, first),
         move || {
             gate.follow();
-            worked(rt, alloc, shared, two, gate, second)
+            worked(rt, alloc, shared, two, 1, gate, second)
         },
     );
     if !is_one || !is_two {
