@@ -206,6 +206,9 @@ impl<'a> Scene<'a> {
         if is_unread || weight / LOG_BYTES_MOST > workers {
             return Some("the log is not taken out");
         }
+        if world.is_overdrawn {
+            return Some("a connection is held without memory");
+        }
         if world.has_made(STEPS_MOST) {
             return Some("a worker does not poll");
         }
