@@ -190,7 +190,10 @@ impl<'a> Scene<'a> {
     /// What is wrong about how long somebody waits, or is kept.
     fn complaint(&self, world: &World, slack: u64) -> Option<Wrong> {
         let is_late = |person: &Person| person.is_late(world, slack);
-        let is_kept = |person: &Person| person.overdue(world).is_some_and(|time| time > slack);
+        // A look passes over a connection that no poll reports, if it was to be read just then: it is given up with a later one.
+        let is_unreported = world.weather.has_happened(Fault::Unreported);
+        let more = if is_unreported { SECOND_US } else { slack };
+        let is_kept = |person: &Person| person.overdue(world).is_some_and(|time| time > more);
         if self.people.iter().any(is_late) {
             return Some("an answer took too long");
         }
@@ -205,6 +208,9 @@ impl<'a> Scene<'a> {
         let is_unread = world.read_bytes > heavy && !world.is_due(self.workers);
         if is_unread || weight / LOG_BYTES_MOST > workers {
             return Some("the log is not taken out");
+        }
+        if world.is_overdrawn {
+            return Some("a connection is held without memory");
         }
         if world.has_made(STEPS_MOST) {
             return Some("a worker does not poll");

@@ -43,6 +43,8 @@ pub struct Thread {
     pub(crate) held_until: u64,
     /// It has ended.
     has_ended: bool,
+    /// It was told of a connection that has come: there is room for one.
+    has_held: bool,
     /// What its source told last, if it is a worker's, and the connection of that with whether there was news of it.
     told: Option<Turn>,
     met: Option<(usize, bool)>,
@@ -62,6 +64,7 @@ impl Thread {
             until: None,
             held_until: 0,
             has_ended: false,
+            has_held: false,
             told: None,
             met: None,
             polls: 0,
@@ -155,8 +158,23 @@ impl World {
         Some(at.max(thread.held_until))
     }
 
+    /// A worker holds a connection that has come.
+    fn hold_comer(&mut self, number: usize, fresh: usize) {
+        let is_starved = self.is_starved();
+        if let Some(wire) = self.wires.get_mut(fresh) {
+            wire.is_held = true;
+        }
+        if let Some(thread) = self.threads.get_mut(number) {
+            self.is_overdrawn = self.is_overdrawn || (is_starved && !thread.has_held);
+            thread.has_held = true;
+        }
+    }
+
     /// A worker's source tells this, of this connection, where there is news of it or is not.
     pub fn tell(&mut self, number: usize, told: Option<Turn>, met: Option<(usize, bool)>) {
+        if let (Some(Turn::Fresh { .. }), Some((fresh, _))) = (told, met) {
+            self.hold_comer(number, fresh);
+        }
         if let Some(thread) = self.threads.get_mut(number) {
             thread.told = told;
             thread.met = met;

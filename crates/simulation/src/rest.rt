@@ -52,9 +52,7 @@ impl<'a, L: Ledger, S: Source + Drop, R: Wait + Drop> Daemon<'a, L, S, R> {
             && self.pass(SETTLING_US)
             && self.sleep(scenario.rest_us)
             && self.judge_rest()
-            && self.trickle()
-            && self.let_in()
-            && self.list()
+            && self.greet(scenario.conn_max)
             && self.fill(scenario.conn_max).is_some()
     }
 
@@ -70,6 +68,12 @@ impl<'a, L: Ledger, S: Source + Drop, R: Wait + Drop> Daemon<'a, L, S, R> {
         let is_out = self.weight() == 0 && is_written;
         let is_looked_into = !self.around.shared.noted.is_unanswered();
         self.scene.judge_rest(is_out, is_looked_into).is_some()
+    }
+
+    /// Who comes at rest is accepted, let in and told the names, if a place is left.
+    fn greet(&mut self, conn_max: u32) -> bool {
+        let is_full = self.scene.holding() >= conn_max as usize;
+        is_full || (self.trickle() && self.let_in() && self.list())
     }
 
     /// Connections that come one by one are accepted at each listener, and soon few workers are told of them.

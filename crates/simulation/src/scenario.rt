@@ -216,6 +216,15 @@ pub const SCENARIOS: &[Scenario] = &[
         ..USUAL
     },
     Scenario {
+        name: "lulls",
+        least: Deeds(0, 0, 754, 0),
+        people: &[Local(&SEEKER, 3)],
+        chances: &[(Fault::Unwatched, 500)],
+        burst_us: 8_000_000,
+        limit_ms: 3000,
+        ..USUAL
+    },
+    Scenario {
         name: "threads",
         least: Deeds(726, 647, 12050, 0),
         people: LOAD,
@@ -402,6 +411,16 @@ pub const SCENARIOS: &[Scenario] = &[
         ..USUAL
     },
     Scenario {
+        name: "occupied",
+        least: Deeds(54, 0, 62, 0),
+        people: &[Local(&NODE, 8), Local(&SEEKER, 1)],
+        conn_max: 8,
+        hold_us: 60_000_000,
+        limit_ms: 250,
+        is_strict: false,
+        ..USUAL
+    },
+    Scenario {
         name: "encamped",
         least: Deeds(59, 39, 709, 0),
         people: &[Remote(&SILENT, 4), Local(&NODE, 3), Local(&SEEKER, 2)],
@@ -543,6 +562,7 @@ pub const SCENARIOS: &[Scenario] = &[
             Local(&SEEKER, 3),
         ],
         chances: &[(Fault::Unreported, 1000)],
+        limit_ms: 10,
         ..USUAL
     },
     Scenario {

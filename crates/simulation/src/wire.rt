@@ -47,6 +47,8 @@ pub struct Wire {
     pub received: Vec<u8>,
     /// The thread that has accepted it, and when.
     pub accepted: Option<(usize, u64)>,
+    /// A worker was told that it has come: there was a place for it, and memory.
+    pub is_held: bool,
     /// When the worker was told last that its time is over.
     pub late_at: Option<u64>,
     pub watch: Option<Watch>,
@@ -73,6 +75,7 @@ impl Wire {
             is_reset: false,
             received: Vec::new(alloc),
             accepted: None,
+            is_held: false,
             late_at: None,
             watch: None,
             news_at: None,

@@ -65,6 +65,8 @@ pub struct World {
     /// By how much the clock has jumped forward.
     pub jumped: u64,
     starved_until: u64,
+    /// A worker has held its first connection, for which there is no room yet, while no memory could be had.
+    pub is_overdrawn: bool,
     pub stalled_until: u64,
     pub is_disk_full: bool,
     /// How many connections of other hosts the daemon has, and of this one.
@@ -120,6 +122,7 @@ impl World {
             unread_until: 0,
             jumped: 0,
             starved_until: 0,
+            is_overdrawn: false,
             stalled_until: 0,
             is_disk_full: false,
             remote: 0,
@@ -395,9 +398,13 @@ impl World {
         }
     }
 
-    /// The daemon gives a connection up.
+    /// The daemon gives a connection up. One that it could not hold for want of memory could not be accepted.
     pub fn close(&mut self, number: usize) {
+        let is_starved = self.is_starved();
         if let Some(wire) = self.wires.get_mut(number) {
+            if is_starved && !wire.is_held {
+                self.notices.note_unaccepted(self.now);
+            }
             wire.is_down_ended = true;
             wire.is_ended_well = !wire.is_up_ended && !wire.is_reset;
             wire.has_peer_news = true;
