@@ -40,9 +40,10 @@ impl<L: Ledger, W: Wake, G: Gate> Workplace<'_, L, W, G> {
         alloc: Global,
         sockets: Sockets<S>,
     ) -> Option<u64> {
-        let seat = self.desk.seat(rt, sockets.number())?;
+        let number = sockets.number();
+        let seat = self.desk.seat(rt, number)?;
         let source = SocketSource::new(rt, alloc, self.desk, self.shared, sockets)?;
-        let outcome = serve(rt, alloc, self.desk, seat, source, self.gate);
+        let outcome = serve(rt, alloc, self.desk, seat, number, source, self.gate);
         Some(outcome.served)
     }
 }
