@@ -28,7 +28,7 @@ use Rattle.epmd.specs.declared.commands.Answer.{Answer}
 use Rattle.epmd.specs.declared.commands.Answer.TheVariants as answer
 use Rattle.epmd.specs.declared.commands.Page.{Page}
 use Rattle.epmd.specs.declared.words.Action.{Action}
-use Rattle.epmd.specs.declared.words.Action.TheVariants.{Serve, Names, Kill as AskKill, Stop as AskStop, Dump, Once, Check, Play, Local}
+use Rattle.epmd.specs.declared.words.Action.TheVariants.{Serve, Names, Kill as AskKill, Stop as AskStop, Dump, Once, Check, Play, Local, Audit}
 
 -- ---- what is asked
 
@@ -43,6 +43,7 @@ IsOfClient Once = ⊥
 IsOfClient (Check path) = ⊥
 IsOfClient (Play path) = ⊥
 IsOfClient (Local path) = ⊥
+IsOfClient (Audit path) = ⊥
 
 -- the result of a call, as that of an action
 abbrev pub answered : {X : Type 0} → (X → Answer) → Result X ClientFault → Result Answer ClientFault

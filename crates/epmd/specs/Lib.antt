@@ -7,3 +7,4 @@ pub mod Values
 pub mod Meaning
 pub mod Daemon
 pub mod Commands
+pub mod Auditing

@@ -1,7 +1,7 @@
 -- The words that a value follows.
 use Rattle.std.specs.Prelude.{ℕ, List, Bool, true, false, codes}
 use Rattle.epmd.specs.declared.items.Valued.{Valued}
-use Rattle.epmd.specs.declared.items.Valued.TheVariants.{Port, Address, Timeout, Workers, Record, Stop, Check, Play, Local}
+use Rattle.epmd.specs.declared.items.Valued.TheVariants.{Port, Address, Timeout, Workers, Record, Stop, Check, Play, Local, Audit}
 
 abbrev pub name_of : Valued → List ℕ
 name_of Port = codes "-port"
@@ -13,6 +13,7 @@ name_of Stop = codes "-stop"
 name_of Check = codes "-check"
 name_of Play = codes "-play"
 name_of Local = codes "-local"
+name_of Audit = codes "-audit"
 
 -- it asks for an action
 abbrev pub asks_action : Valued → Bool
@@ -25,3 +26,4 @@ asks_action Stop = true
 asks_action Check = true
 asks_action Play = true
 asks_action Local = true
+asks_action Audit = true

@@ -1,4 +1,4 @@
--- The words of the command: the options of epmd(1) and, as profile, -workers, -record, -dump, -once, -check, -play and -local.
+-- The words of the command: the options of epmd(1) and, as profile, -workers, -record, -dump, -once, -check, -play, -local and -audit.
 use Rattle.std.specs.Option.{option_or}
 use Rattle.std.specs.Prelude.{◌≡◌, ℕ, List, [], ◌∷◌, Bool, true, false, codes, string_bytes, Option, Some, None, ◌⊎◌}
 use Rattle.portmap_wire.specs.Name.{IsName}
@@ -22,6 +22,7 @@ pub data Asked : Type 0 where
   Check : List ℕ → Asked
   Play : List ℕ → Asked
   Local : List ℕ → Asked
+  Audit : List ℕ → Asked
 
 -- an action without its memory
 abbrev pub asked_in : Action → Asked
@@ -34,6 +35,7 @@ asked_in action.Once = Once
 asked_in (action.Check path) = Check (string_bytes path)
 asked_in (action.Play path) = Play (string_bytes path)
 asked_in (action.Local path) = Local (string_bytes path)
+asked_in (action.Audit path) = Audit (string_bytes path)
 
 -- what one word says, with the value behind it if it has one; what is recorded to is a path
 pub data Item : Type 0 where
@@ -72,6 +74,7 @@ BeginsAction Once words rest = words ≡ codes "-once" ∷ rest
 BeginsAction (Check path) words rest = words ≡ codes "-check" ∷ path ∷ rest
 BeginsAction (Play path) words rest = words ≡ codes "-play" ∷ path ∷ rest
 BeginsAction (Local path) words rest = words ≡ codes "-local" ∷ path ∷ rest
+BeginsAction (Audit path) words rest = words ≡ codes "-audit" ∷ path ∷ rest
 
 -- the first word, or the first two, spell this item; behind them is the rest
 abbrev pub Begins : Item → List (List ℕ) → List (List ℕ) → Type 0

@@ -48,9 +48,9 @@ const FIRST_CREATION: u32 = 4;
 const TURNS: u64 = 1_000_000;
 
 /// How many pulls and puts a recorded session gets.
-const FILE_TURNS: u64 = 1_000_000_000;
+pub const FILE_TURNS: u64 = 1_000_000_000;
 
-const BROKEN_AT: &[u8] = b"broken at entry ";
+pub const BROKEN_AT: &[u8] = b"broken at entry ";
 
 const BAD_RECORD: &[u8] = b"epmd: bad record\n";
 
@@ -123,7 +123,7 @@ impl From<PlayFault> for Failure {
 }
 
 /// The status that tells a failure.
-fn status_of(failure: Failure) -> u8
+pub fn status_of(failure: Failure) -> u8
     ensures { result ≡ status_of failure }
 {
     match failure {

@@ -178,7 +178,7 @@ fn learn<S: Input + Output>(alloc: Global, action: &Action, stream: &mut S) -> R
 }
 
 /// Prints a text, and gives the status that was reached, or that of a device that failed.
-fn print<W: Write, E: Write>(
+pub fn print<W: Write, E: Write>(
     output: &mut Writing<W>,
     errors: &mut Writing<E>,
     text: &[u8],

@@ -43,6 +43,7 @@ enum Valued {
     Check,
     Play,
     Local,
+    Audit,
 }
 
 /// What this word says by itself.
@@ -76,6 +77,7 @@ fn asks_value(word: &str) -> Option<Valued>
         "-check" => Valued::Check,
         "-play" => Valued::Play,
         "-local" => Valued::Local,
+        "-audit" => Valued::Audit,
         _ => return None,
     };
     Some(asks)
@@ -112,6 +114,7 @@ fn with_value(alloc: Global, asks: Valued, value: &str) -> Result<Option<Word>, 
         Valued::Check => Some(Word::Act(Action::Check(String::from_str(alloc, value)?))),
         Valued::Play => Some(Word::Act(Action::Play(String::from_str(alloc, value)?))),
         Valued::Local => Some(Word::Act(Action::Local(String::from_str(alloc, value)?))),
+        Valued::Audit => Some(Word::Act(Action::Audit(String::from_str(alloc, value)?))),
     };
     Ok(said)
 }
@@ -129,7 +132,7 @@ fn asks_action(asks: Valued) -> bool
 {
     matches!(
         asks,
-        Valued::Stop | Valued::Check | Valued::Play | Valued::Local
+        Valued::Stop | Valued::Check | Valued::Play | Valued::Local | Valued::Audit
     )
 }
 

@@ -42,6 +42,8 @@ pub enum Action {
     Play(String),
     /// To judge it, and to write it without its remote peers.
     Local(String),
+    /// To judge the files of the recording whose first one has this path, as one session.
+    Audit(String),
 }
 
 /// What the environment says.

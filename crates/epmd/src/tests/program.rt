@@ -1,4 +1,5 @@
 //! What the program takes from the system: the clock, files, and where it listens and connects.
+use super::auditing::file_of;
 use super::ending;
 use super::typed::command;
 use crate::{connect, perform, since_1970, stand_ins};
@@ -168,6 +169,41 @@ fn a_file_is_judged_at_its_path(rt: HostRuntime) -> Result<(), Fail> {
     }
     fs::remove_file(&rt, "judged")?;
     assert!(rt; ends_so(&rt, &rt, "epmd -check judged", FAILED));
+    Ok(())
+}
+
+/// Files of a recording, and others beside them.
+const RECORDED: &[(&str, &str)] = &[
+    ("recorded", "a0..2"),
+    ("recorded.2", "a2..5"),
+    ("recorded.10", "a5..6"),
+    ("recorded.02", "a5..6"),
+    ("recorded-20261128T040632Z", "a5..6"),
+];
+
+#[test]
+fn the_files_of_a_recording_are_found_beside_its_first(rt: HostRuntime) -> Result<(), Fail> {
+    for (path, word) in RECORDED {
+        fs::write(&rt, *path, &file_of(rt.alloc(), word)?)?;
+    }
+    for (line, wanted) in [
+        ("epmd -audit recorded", "0 out run of 6 entries in 3 files|"),
+        (
+            "epmd -audit ./recorded.2",
+            "0 out run of 3 entries in 1 files|",
+        ),
+        ("epmd -audit ./recorded.1", FAILED),
+    ] {
+        assert!(rt; ends_so(&rt, &rt, line, wanted), "{line}");
+    }
+    fs::remove_file(&rt, "recorded")?;
+    let told =
+        "0 out run of 4 entries in 2 files| err epmd: the files before ./recorded.2 are gone|";
+    assert!(rt; ends_so(&rt, &rt, "epmd -audit ./recorded", told));
+    assert!(rt; ends_so(&rt, &rt, "epmd -audit gone/recorded", FAILED));
+    for (path, _) in RECORDED.iter().skip(1) {
+        fs::remove_file(&rt, *path)?;
+    }
     Ok(())
 }
 

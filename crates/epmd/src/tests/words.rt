@@ -26,6 +26,7 @@ fn show_action<W: fmt::Write>(action: &Action, f: &mut fmt::Formatter<W>) -> fmt
         Action::Check(path) => write!(f, "check <{path}>"),
         Action::Play(path) => write!(f, "play <{path}>"),
         Action::Local(path) => write!(f, "local <{path}>"),
+        Action::Audit(path) => write!(f, "audit <{path}>"),
     }
 }
 
@@ -99,6 +100,9 @@ fn an_action_is_asked_for(rt: HostRuntime) -> Result<(), Fail> {
         epmd -local -play -> local <-play>
         epmd -local '' -> local <>
         epmd -d -local x -port 1 -> local <x> port 1 debug
+        epmd -audit x -> audit <x>
+        epmd -audit -check -> audit <-check>
+        epmd -audit '' -> audit <>
         epmd -port 4370 -names -> names port 4370
         epmd -names -port 4370 -> names port 4370
         epmd -once -d -workers 2 -daemon -> once workers 2 debug
@@ -211,6 +215,7 @@ fn the_port_of_the_environment_is_digits_too(rt: HostRuntime) -> Result<(), Fail
         ERL_EPMD_PORT=x epmd -check a -> fault BadEnvPort
         ERL_EPMD_PORT=x epmd -play a -> fault BadEnvPort
         ERL_EPMD_PORT=x epmd -local a -> fault BadEnvPort
+        ERL_EPMD_PORT=x epmd -audit a -> fault BadEnvPort
         ERL_EPMD_PORT=x epmd -d -workers 2 -> fault BadEnvPort
     ";
     all_come(&rt, &Asks, table)

@@ -15,6 +15,7 @@ fn a_word_that_is_not_known_is_told(rt: HostRuntime) -> Result<(), Fail> {
         epmd -records x -> fault Unknown(0)
         epmd -Local x -> fault Unknown(0)
         epmd -locals x -> fault Unknown(0)
+        epmd -audits x -> fault Unknown(0)
         epmd a -check -> fault Unknown(0)
         epmd -foo -bar -> fault Unknown(0)
         epmd -names x -> fault Unknown(1)
@@ -29,7 +30,7 @@ fn a_word_that_is_not_known_is_told(rt: HostRuntime) -> Result<(), Fail> {
 #[test]
 fn a_value_that_is_missing_is_told(rt: HostRuntime) -> Result<(), Fail> {
     let table = "
-        epmd with -port -address -packet_timeout -workers -record -stop -check -play -local -> fault MissingValue(0)
+        epmd with -port -address -packet_timeout -workers -record -stop -check -play -local -audit -> fault MissingValue(0)
         epmd -d -names -port -> fault MissingValue(2)
         epmd -port 1 -port -> fault MissingValue(2)
         epmd -record x -record -> fault MissingValue(2)
@@ -81,6 +82,7 @@ fn the_first_fault_is_told(rt: HostRuntime) -> Result<(), Fail> {
         epmd -names -check -> fault TwoCommands(1)
         epmd -names -play -> fault TwoCommands(1)
         epmd -names -local -> fault TwoCommands(1)
+        epmd -names -audit -> fault TwoCommands(1)
         epmd -local x -local x -> fault TwoCommands(2)
         epmd -local x -play x -> fault TwoCommands(2)
         epmd -kill -stop -> fault TwoCommands(1)
@@ -114,6 +116,7 @@ const ACTIONS: &[(&str, usize)] = &[
     ("-check a", 2),
     ("-play a", 2),
     ("-local a", 2),
+    ("-audit a", 2),
 ];
 
 /// A failure, unless each action behind this one is refused at its first word.
