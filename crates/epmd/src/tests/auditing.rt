@@ -129,7 +129,7 @@ impl Trial for Files {
             numbers.push(number.parse::<u64>()?)?;
             files.push(file_of(alloc, word)?)?;
         }
-        let parts = parts_of(alloc, "session", &numbers)?;
+        let parts = parts_of(alloc, "session", numbers)?;
         let mut inputs = VecDeque::new(alloc);
         for file in &files {
             inputs.push_back(Reading::new(file.as_slice()))?;
