@@ -58,8 +58,8 @@ fn is_impatient(rt: &HostRuntime, port: u16) -> Option<bool> {
 
 #[test]
 fn a_port_mapper_that_is_silent_holds_nobody(rt: HostRuntime) -> Result<(), Fail> {
-    let _listener = TcpListener::bind(&rt, (Ipv4Addr::LOCALHOST, 14_450))?;
-    assert_eq!(rt; is_impatient(&rt, 14_450), Some(true));
+    let _listener = TcpListener::bind(&rt, (Ipv4Addr::LOCALHOST, 14_470))?;
+    assert_eq!(rt; is_impatient(&rt, 14_470), Some(true));
     Ok(())
 }
 
@@ -113,9 +113,9 @@ fn ends_so<
     }
 }
 
-const SERVES: &str = "epmd -relaxed_command_check -port 14451 -address 127.0.0.1";
+const SERVES: &str = "epmd -relaxed_command_check -port 14471 -address 127.0.0.1";
 
-const LISTED: &str = "0 out epmd: up and running on port 14451 with data:|name a at port 5000|";
+const LISTED: &str = "0 out epmd: up and running on port 14471 with data:|name a at port 5000|";
 
 #[test]
 fn a_daemon_and_its_commands_meet_at_the_port_of_their_words(rt: HostRuntime) -> Result<(), Fail> {
@@ -124,11 +124,11 @@ fn a_daemon_and_its_commands_meet_at_the_port_of_their_words(rt: HostRuntime) ->
         &rt,
         || ends_so(&rt, &rt, SERVES, "0"),
         || {
-            let node = node(&rt, 14_451);
+            let node = node(&rt, 14_471);
             (
                 is_between(&node, before, since_1970(&rt)),
-                ends_so(&rt, &rt, "epmd -port 14451 -names", LISTED),
-                ends_so(&rt, &rt, "epmd -kill -port 14451", "0 out Killed|"),
+                ends_so(&rt, &rt, "epmd -port 14471 -names", LISTED),
+                ends_so(&rt, &rt, "epmd -kill -port 14471", "0 out Killed|"),
             )
         },
     );
@@ -216,7 +216,7 @@ fn an_input_that_fails_is_told(rt: HostRuntime) -> Result<(), Fail> {
 #[test]
 fn a_port_mapper_that_is_not_there_is_told(rt: HostRuntime) -> Result<(), Fail> {
     let told = "1 err epmd: Cannot connect to local epmd|";
-    assert!(rt; ends_so(&rt, &rt, "epmd -port 14452 -names", told));
+    assert!(rt; ends_so(&rt, &rt, "epmd -port 14472 -names", told));
     Ok(())
 }
 
