@@ -68,6 +68,9 @@ const STEPS_MOST: u32 = 130;
 /// Who takes the log out looks at it once in so much time.
 const SECOND_US: u64 = 1_000_000;
 
+/// A connection that no poll reports is passed over by a look where it was to be read just then, and by the next one again, but not for so long.
+const PASSED_OVER_US: u64 = 3_000_000;
+
 /// When connections have come one by one so many workers are told of the next one: one, and one that was called for its help since.
 const LISTENING_MOST: usize = 2;
 
@@ -190,9 +193,8 @@ impl<'a> Scene<'a> {
     /// What is wrong about how long somebody waits, or is kept.
     fn complaint(&self, world: &World, slack: u64) -> Option<Wrong> {
         let is_late = |person: &Person| person.is_late(world, slack);
-        // A look passes over a connection that no poll reports, if it was to be read just then: it is given up with a later one.
         let is_unreported = world.weather.has_happened(Fault::Unreported);
-        let more = if is_unreported { SECOND_US } else { slack };
+        let more = if is_unreported { PASSED_OVER_US } else { slack };
         let is_kept = |person: &Person| person.overdue(world).is_some_and(|time| time > more);
         if self.people.iter().any(is_late) {
             return Some("an answer took too long");

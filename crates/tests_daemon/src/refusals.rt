@@ -70,11 +70,6 @@ fn is_told_whole<L: Ledger, R: Host + Wait + Clock>(
     Some(is_out && queue.is_written(rt, Duration::ZERO))
 }
 
-/// The same at a desk of its own.
-fn is_told<R: Host + Wait + Clock>(rt: &R, alloc: Global, path: &str) -> Option<bool> {
-    is_told_whole::<Brand, R>(rt, alloc, Blank::new(PARTS), path)
-}
-
 /// Whether what was written to a pipe is all of the log.
 fn has_all(alloc: Global, mut pipe: PipeReader) -> Result<bool, Fail> {
     let mut bytes = Vec::new(alloc);
@@ -87,7 +82,9 @@ fn a_recording_that_lacks_entries_is_told_to_have_failed(rt: HostRuntime) -> Res
     let alloc = rt.alloc();
     let (reader, writer) = pipe(&rt)?;
     let path = path_of(alloc, &writer)?;
-    let told = is_told(&Pushed::new(rt, alloc)?, alloc, path.as_str());
+    let host = Pushed::new(rt, alloc)?;
+    let blank = Blank::new(PARTS);
+    let told = is_told_whole::<Brand, Pushed<HostRuntime>>(&host, alloc, blank, path.as_str());
     drop(writer);
     let has_all = has_all(alloc, reader)?;
     assert_eq!(rt; told, Some(has_all));
