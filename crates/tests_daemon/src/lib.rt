@@ -28,6 +28,4 @@ mod polls;
 #[cfg(test)]
 mod recordings;
 #[cfg(test)]
-mod refusals;
-#[cfg(test)]
 mod workers;
