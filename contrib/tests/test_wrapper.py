@@ -1,5 +1,6 @@
 """What the wrapper calls, with a stand-in for the port mapper that notes its words."""
 import os
+import re
 import subprocess
 import tempfile
 import time
@@ -180,6 +181,16 @@ class Wrapper(unittest.TestCase):
     def test_a_command_is_asked_in_the_foreground(self):
         self.call("-daemon", "-kill")
         self.assertEqual(self.words(), ["-daemon -kill"])
+
+    def test_it_knows_each_command_of_the_program(self):
+        with open(os.path.join(os.path.dirname(WRAPPER), "..", "crates", "epmd", "src", "items.rt")) as source:
+            text = source.read()
+        said = dict(re.findall(r'"(-\w+)" => (?:Word::Act\(Action|Valued)::(\w+)', text))
+        acts = [word for word, name in said.items() if f"Action::{name}" in text]
+        self.assertIn("-audit", acts)
+        for word in acts:
+            self.assertIn(word, self.call("-help").stdout)
+            self.assertEqual(self.call(word, "x", ERL_EPMD_ADDRESS="fe80::1").stderr, "", word)
 
     def test_it_does_not_call_itself(self):
         copy = os.path.join(self.folder, "epmd")

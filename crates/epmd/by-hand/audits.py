@@ -21,7 +21,7 @@ def told(path, word, file):
 
 
 def load(daemon, ended):
-    """Asks for lists, registers names that leave, and looks them up, until it has ended."""
+    """Asks for lists, registers names that leave, and looks them up, until it has ended: so slowly that a disk can follow."""
     count = 0
     while not ended.is_set() and daemon.runs():
         ask(daemon.port, b"n", 10)
@@ -30,10 +30,11 @@ def load(daemon, ended):
         if held:
             held.close()
         count += 1
+        time.sleep(0.05)
 
 
 def record(path, file, count):
-    """A recording of so many files, of a daemon that was killed. How many names were held."""
+    """A recording of so many files, of a daemon that was killed. How many names were held, and what it has told."""
     last = f"{file}.{count - 1}" if count > 1 else file
     with Daemon(path, "-workers", "4", "-relaxed_command_check", "-record", file) as daemon:
         held, _ = hold(daemon.port, NAMES, bear=2)
@@ -50,7 +51,7 @@ def record(path, file, count):
         ended.set()
         for thread in threads:
             thread.join()
-        return len(held)
+        return len(held), daemon.lines()
 
 
 def changed(path, file, part, place):
@@ -73,7 +74,8 @@ def main():
     with tempfile.TemporaryDirectory() as place:
         file = os.path.join(place, "r")
         files = [file] + [f"{file}.{number}" for number in range(1, count)]
-        say(record(path, file, count) == len(NAMES) and all(map(os.path.exists, files)), f"{count} files are recorded, the daemon is killed:")
+        recorded = record(path, file, count)
+        say(recorded == (len(NAMES), []) and all(map(os.path.exists, files)), f"{count} files are recorded, the daemon is killed:")
         alone = [told(path, "-check", part) for part in files]
         status, text, seconds, memory = told(path, "-audit", file)
         say(status == 0 and f"in {count} files" in text, f"all of them: {text}:")
