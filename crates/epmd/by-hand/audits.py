@@ -30,7 +30,7 @@ def load(daemon, ended):
         if held:
             held.close()
         count += 1
-        time.sleep(0.05)
+        time.sleep(0.15)
 
 
 def record(path, file, count):
@@ -43,7 +43,7 @@ def record(path, file, count):
         for thread in threads:
             thread.start()
         until = time.monotonic() + PATIENCE
-        while time.monotonic() < until and not os.path.exists(last):
+        while time.monotonic() < until and not os.path.exists(last) and not daemon.lines():
             time.sleep(0.2)
         time.sleep(1.5)
         daemon.process.send_signal(signal.SIGKILL)
