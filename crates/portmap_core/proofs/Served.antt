@@ -23,7 +23,7 @@ use Rattle.portmap_core.specs.Held.{stage_held}
 use Rattle.portmap_core.specs.Serving.{MayTake, Served, Serves, ServesBody, ToldAt, alive_served, awaits, registers, replied, served}
 use Rattle.portmap_core.specs.Telling.{AnswersAll, IsAllTold, IsChosen, MayChange, MayRegister, Tells, TellsAll, names_after, served_by, shown_creation, stopped_by}
 use Rattle.portmap_core.specs.declared.asked.Asked.{Asked}
-use Rattle.portmap_core.specs.declared.serve.Told.{Told}
+use Rattle.portmap_core.specs.declared.serve.Response.{Response}
 use Rattle.portmap_core.proofs.Determined.{shows}
 
 -- ---- a registration, by how its name stands
@@ -50,7 +50,7 @@ all_alike cfg names local slot request wanted o is legal = record {
   only = λ other p e. p.is ∙ sym (is p.creation);
 }
 
-pub tells_alike : {E : Type 0} (asked : Asked) (local : Bool) (request : Request) (o : Served) (result : Result Told E) → ((slot creation : ℕ) → o ≡ served asked.config asked.table.now.names local slot request creation) → MayTake asked.table.now.names request 0
+pub tells_alike : {E : Type 0} (asked : Asked) (local : Bool) (request : Request) (o : Served) (result : Result Response E) → ((slot creation : ℕ) → o ≡ served asked.config asked.table.now.names local slot request creation) → MayTake asked.table.now.names request 0
     → IfOk result (λ told. Tells asked told o) → AnswersAll asked result (λ cfg names slot. Serves cfg names local slot request)
 tells_alike asked local request o result is legal =
     let cfg = asked.config in
@@ -62,7 +62,7 @@ tells_alike asked local request o result is legal =
     })
 
 -- where it is local, as one that is
-pub near : {E : Type 0} (asked : Asked) (request : Request) (result : Result Told E) → asked.local ≡ true → AnswersAll asked result (λ cfg names slot. Serves cfg names true slot request) → AnswersAll asked result (λ cfg names slot. Serves cfg names asked.local slot request)
+pub near : {E : Type 0} (asked : Asked) (request : Request) (result : Result Response E) → asked.local ≡ true → AnswersAll asked result (λ cfg names slot. Serves cfg names true slot request) → AnswersAll asked result (λ cfg names slot. Serves cfg names asked.local slot request)
 near asked request result e h = subst (λ (l : Bool). AnswersAll asked result (λ cfg names slot. Serves cfg names l slot request)) (sym e) h
 
 -- a registration for which there is no room
@@ -71,7 +71,7 @@ is_full true full last e = absurd cc
 is_full false true last e = (refl, refl)
 is_full false false last e = absurd cc
 
-pub refused : (asked : Asked) (g : Node) (told : Told) → standing asked.config.known_max g.name asked.table.now.names ≡ how.NoRoom → told.reply.items ≡ alive_reply g.high 2 0 → told.fate ≡ Close → told.phase ≡ phase.Done → told.change ≡ Nothing
+pub refused : (asked : Asked) (g : Node) (told : Response) → standing asked.config.known_max g.name asked.table.now.names ≡ how.NoRoom → told.reply.items ≡ alive_reply g.high 2 0 → told.fate ≡ Close → told.phase ≡ phase.Done → told.change ≡ Nothing
     → (bytes : List ℕ) → TellsAll (λ slot. Serves asked.config asked.table.now.names true slot (Alive g)) asked bytes told
 refused asked g told e text fate phase change bytes =
     let cfg = asked.config in
@@ -123,7 +123,7 @@ all_spelled cfg names local slot body request wanted o spells all = record {
   ];
 }
 
-pub tells_spelled : {E : Type 0} (asked : Asked) (body : List ℕ) (request : Request) (result : Result Told E) → Spells body request
+pub tells_spelled : {E : Type 0} (asked : Asked) (body : List ℕ) (request : Request) (result : Result Response E) → Spells body request
     → AnswersAll asked result (λ cfg names slot. Serves cfg names asked.local slot request) → AnswersAll asked result (λ cfg names slot. ServesBody cfg names asked.local slot body)
 tells_spelled asked body request result spells =
     let cfg = asked.config in
@@ -133,7 +133,7 @@ tells_spelled asked body request result spells =
 
 -- ---- all that was sent
 
-pub tells_whole : {E : Type 0} (asked : Asked) (received body : List ℕ) (sight : Sight) (result : Result Told E) → Some body ≡ body_in sight
+pub tells_whole : {E : Type 0} (asked : Asked) (received body : List ℕ) (sight : Sight) (result : Result Response E) → Some body ≡ body_in sight
     → AnswersAll asked result (λ cfg names slot. ServesBody cfg names asked.local slot body) → IfOk result (λ told. TellsAll (λ slot. ToldAt asked.config asked.table.now.names asked.local slot received sight) asked received told)
 tells_whole asked received body More result is = absurd cc
 tells_whole asked received body Zero result is = absurd cc

@@ -11,7 +11,7 @@ use Rattle.portmap_table.specs.Table.{TableState}
 use Rattle.portmap_core.specs.declared.asked.Asked.{Asked}
 use Rattle.portmap_core.specs.declared.serve.Change.{Change}
 use Rattle.portmap_core.specs.declared.serve.Change.TheVariants.{Nothing, Listed, Register, Retire}
-use Rattle.portmap_core.specs.declared.serve.Told.{Told}
+use Rattle.portmap_core.specs.declared.serve.Response.{Response}
 use Rattle.portmap_core.specs.declared.live.Said.{Said}
 use Rattle.portmap_core.specs.declared.connection.Phase.{Phase}
 use Rattle.portmap_core.specs.Config.{Configuration}
@@ -60,7 +60,7 @@ IsChosen port t wanted reply (Retire owner) = Unit {0}
 -- ---- what is told
 
 -- the connection that asks keeps these bytes while it waits
-abbrev pub served_by : Configuration → rows.Names → ℕ → List ℕ → Told → Served
+abbrev pub served_by : Configuration → rows.Names → ℕ → List ℕ → Response → Served
 served_by cfg names slot bytes told = record {
   reply = told.reply.items;
   fate = told.fate;
@@ -70,7 +70,7 @@ served_by cfg names slot bytes told = record {
 }
 
 -- it is this, whoever asks
-pub record Tells (asked : Asked) (told : Told) (o : Served) : Type 0 where
+pub record Tells (asked : Asked) (told : Response) (o : Served) : Type 0 where
   pub is : (slot : ℕ) (bytes : List ℕ) → served_by asked.config asked.table.now.names slot bytes told ≡ o
   pub may : MayChange asked.config.known_max asked.table.now.names told.change
   pub chosen : IsChosen asked.config.port asked.table.now asked.wanted told.reply.items told.change
@@ -99,14 +99,14 @@ pub record IsAllTold (Tells : Served → Type 0) (wanted : Option ℕ) (o : Serv
   pub only : (other : Served) → Tells other → shown_creation other.reply ≡ wanted → other ≡ o
 
 -- so it is, whatever slot asks, and what it changes may be
-pub record TellsAll (Is : ℕ → Served → Type 0) (asked : Asked) (bytes : List ℕ) (told : Told) : Type 0 where
+pub record TellsAll (Is : ℕ → Served → Type 0) (asked : Asked) (bytes : List ℕ) (told : Response) : Type 0 where
   pub all : (slot : ℕ) → IsAllTold (Is slot) asked.wanted (served_by asked.config asked.table.now.names slot bytes told)
   pub may : MayChange asked.config.known_max asked.table.now.names told.change
   pub chosen : IsChosen asked.config.port asked.table.now asked.wanted told.reply.items told.change
 
 -- the same of what is told by who is asked, without regard to the bytes that are kept
-abbrev pub AnswersAll : {E : Type 0} → Asked → Result Told E → (Configuration → rows.Names → ℕ → Served → Type 0) → Type 0
+abbrev pub AnswersAll : {E : Type 0} → Asked → Result Response E → (Configuration → rows.Names → ℕ → Served → Type 0) → Type 0
 AnswersAll asked result Is = IfOk result (λ told. (bytes : List ℕ) → TellsAll (Is asked.config asked.table.now.names) asked bytes told)
 
-abbrev pub Answers : {E : Type 0} → Asked → Result Told E → (Configuration → rows.Names → Served) → Type 0
+abbrev pub Answers : {E : Type 0} → Asked → Result Response E → (Configuration → rows.Names → Served) → Type 0
 Answers asked result served = IfOk result (λ told. Tells asked told (served asked.config asked.table.now.names))

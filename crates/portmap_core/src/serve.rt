@@ -62,7 +62,7 @@ impl Change {
 
 /// What a connection is told, and what goes with it.
 #[derive(Drop)]
-pub(crate) struct Told {
+pub(crate) struct Response {
     pub(crate) phase: Phase,
     pub(crate) reply: Vec<u8>,
     pub(crate) fate: Fate,
@@ -70,13 +70,13 @@ pub(crate) struct Told {
 }
 
 /// A reply, and a close.
-fn replied(reply: Vec<u8>) -> Told
+fn replied(reply: Vec<u8>) -> Response
     ensures text { result.reply.items ≡ reply.items }
     ensures fate { result.fate ≡ Close }
     ensures phase { result.phase ≡ Done }
     ensures change { result.change ≡ Nothing }
 {
-    Told {
+    Response {
         phase: Phase::Done,
         reply,
         fate: Fate::Close,
@@ -146,14 +146,14 @@ fn dump_text(alloc: Global, port: u16, table: &Table) -> Result<Vec<u8>, NoMemor
 
 impl Asked<'_> {
     /// NAMES_REQ: the list as it was kept, where it was, else as it is made.
-    fn list(&self, alloc: Global) -> Result<Told, NoMemory>
+    fn list(&self, alloc: Global) -> Result<Response, NoMemory>
         ensures { Answers self.now result names_served }
     {
         let reply = match self.kept {
             Some(list) => Vec::from_slice(alloc, list)?,
             None => names_text(alloc, self.config.port, self.table)?,
         };
-        Ok(Told {
+        Ok(Response {
             phase: Phase::Done,
             reply,
             fate: Fate::Close,
@@ -162,7 +162,7 @@ impl Asked<'_> {
     }
 
     /// PORT_PLEASE2_REQ.
-    fn port(&self, alloc: Global, name: &Name) -> Result<Told, NoMemory>
+    fn port(&self, alloc: Global, name: &Name) -> Result<Response, NoMemory>
         ensures { Answers self.now result (λ cfg names. port_served names name.now) }
     {
         let found = self.table.find(name).map(|row| &row.reg);
@@ -170,20 +170,20 @@ impl Asked<'_> {
     }
 
     /// DUMP_REQ.
-    fn dump(&self, alloc: Global) -> Result<Told, NoMemory>
+    fn dump(&self, alloc: Global) -> Result<Response, NoMemory>
         ensures { Answers self.now result dump_served }
     {
         Ok(replied(dump_text(alloc, self.config.port, self.table)?))
     }
 
     /// KILL_REQ.
-    fn kill(&self, alloc: Global) -> Result<Told, NoMemory>
+    fn kill(&self, alloc: Global) -> Result<Response, NoMemory>
         ensures { Answers self.now result kill_served }
     {
         if self.table.active_len() > 0 && !self.config.relaxed {
             return Ok(replied(Vec::from_slice(alloc, b"NO")?));
         }
-        Ok(Told {
+        Ok(Response {
             phase: Phase::Done,
             reply: Vec::from_slice(alloc, b"OK")?,
             fate: Fate::Halt,
@@ -192,7 +192,7 @@ impl Asked<'_> {
     }
 
     /// STOP_REQ.
-    fn stop(&self, alloc: Global, name: &Name) -> Result<Told, NoMemory>
+    fn stop(&self, alloc: Global, name: &Name) -> Result<Response, NoMemory>
         ensures { Answers self.now result (λ cfg names. stop_served cfg names name.now) }
     {
         if !self.config.relaxed {
@@ -201,7 +201,7 @@ impl Asked<'_> {
         let Some(owner) = self.table.owner(name) else {
             return Ok(replied(Vec::from_slice(alloc, b"NOEXIST")?));
         };
-        Ok(Told {
+        Ok(Response {
             phase: Phase::Done,
             reply: Vec::from_slice(alloc, b"STOPPED")?,
             fate: Fate::Close,
@@ -217,7 +217,7 @@ impl Asked<'_> {
     }
 
     /// ALIVE2_REQ of a local peer.
-    fn alive(&self, alloc: Global, reg: Reg) -> Result<Told, NoMemory>
+    fn alive(&self, alloc: Global, reg: Reg) -> Result<Response, NoMemory>
         ensures { AnswersAll self.now result (λ cfg names slot. Serves cfg names true slot (Alive reg)) }
     {
         let last = match self.standing(&reg.name) {
@@ -226,7 +226,7 @@ impl Asked<'_> {
             Standing::Free(last) => last,
         };
         let creation = creation_for(self.wanted, self.table.counter(), reg.high, last);
-        Ok(Told {
+        Ok(Response {
             phase: Phase::Holding,
             reply: write_alive(alloc, reg.high, 0, creation)?,
             fate: Fate::Stay,
@@ -234,7 +234,7 @@ impl Asked<'_> {
         })
     }
 
-    fn tell_request(&self, alloc: Global, request: Request) -> Result<Told, NoMemory>
+    fn tell_request(&self, alloc: Global, request: Request) -> Result<Response, NoMemory>
         ensures { AnswersAll self.now result (λ cfg names slot. Serves cfg names self.now.local slot request) }
     {
         match request {
@@ -250,7 +250,7 @@ impl Asked<'_> {
         }
     }
 
-    fn tell_body(&self, alloc: Global, body: &[u8]) -> Result<Told, NoMemory>
+    fn tell_body(&self, alloc: Global, body: &[u8]) -> Result<Response, NoMemory>
         ensures { AnswersAll self.now result (λ cfg names slot. ServesBody cfg names self.now.local slot body.now) }
     {
         match read_request(alloc, body) {
@@ -266,12 +266,12 @@ impl Asked<'_> {
     }
 
     /// What is told by what was sent in all, and what is seen of that. Nothing is changed yet.
-    pub(crate) fn tell(&self, alloc: Global, feed: &Feed, seen: Seen) -> Result<Told, NoMemory>
+    pub(crate) fn tell(&self, alloc: Global, feed: &Feed, seen: Seen) -> Result<Response, NoMemory>
         requires { seen ≡ seen_of (first_request feed.now) }
         ensures { IfOk result (λ told. TellsAll (λ slot. ToldAt self.now.config self.now.table.now.names self.now.local slot feed.now (first_request feed.now)) self.now feed.now told) }
     {
         match seen {
-            Seen::More => Ok(Told {
+            Seen::More => Ok(Response {
                 phase: Phase::Waiting,
                 reply: Vec::new(alloc),
                 fate: Fate::Stay,
