@@ -15,7 +15,7 @@ use crate::errors::{say, say_number};
 use crate::words::Action;
 use portmap_core::{Config, Fate};
 use portmap_link::{OnceFault, Reading, Writing, once};
-use portmap_record::{PlayFault, Verdict, play, tell_verdict, write_local};
+use portmap_record::{PlayFault, Verdict, play, write_local, write_verdict};
 use std::alloc::Global;
 use std::io::{Read, Write};
 
@@ -240,7 +240,7 @@ fn show<R: Read, W: Write>(
         MakesTurns FILE_TURNS (seen input.old output.old) (seen input.new output.new) result (λ sent. Err (PlayFault.TooManyTurns sent)) }
 {
     match action {
-        Action::Check(_) => tell_verdict(alloc, input, output, FILE_TURNS),
+        Action::Check(_) => write_verdict(alloc, input, output, FILE_TURNS),
         Action::Play(_) => play(alloc, input, output, FILE_TURNS),
         _ => unreachable!(),
     }

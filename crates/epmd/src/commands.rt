@@ -13,7 +13,7 @@ use crate::actions::{DONE, FAILED, Failure, NOT_DONE, end, fail};
 use crate::words::Action;
 use itoa::Buffer;
 use portmap_client::{ClientFault, Kill, Stop, dump, kill, names, stop};
-use portmap_link::{Input, NoMemory, Output, Writing, tell};
+use portmap_link::{Input, NoMemory, Output, Writing, write_reply};
 use portmap_wire::{Line, put_names_line};
 use std::alloc::Global;
 use std::io::Write;
@@ -187,7 +187,7 @@ pub fn print<W: Write, E: Write>(
     ensures prints { Prints text.now status result (W.contents (writing_inner output.old)) (W.contents (writing_inner output.new)) (writing_broken output.new) (errors.new ≡ errors.old) (Fails E.contents errors.old errors.new) }
     ensures silent { result ≢ FAILED → errors.new ≡ errors.old }
 {
-    match tell(output, text, TURNS) {
+    match write_reply(output, text, TURNS) {
         Ok(()) => end(output, errors, status),
         Err(fault) => fail(errors, Failure::from(fault)),
     }

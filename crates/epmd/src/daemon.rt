@@ -63,7 +63,7 @@ pub fn settings(
 }
 
 /// Tells how many acts of the port mapper this worker made.
-fn tell_worker<E: Write>(errors: &mut Writing<E>, worker: usize, count: u64) -> bool
+fn report_worker<E: Write>(errors: &mut Writing<E>, worker: usize, count: u64) -> bool
     ensures taken { IsTaken (served_line worker count) result (E.contents (writing_inner errors.old)) (E.contents (writing_inner errors.new)) }
     ensures spent { result ≡ false → IsSpent errors.new }
 {
@@ -80,18 +80,18 @@ fn tell_worker<E: Write>(errors: &mut Writing<E>, worker: usize, count: u64) -> 
 }
 
 /// Tells how many acts of the port mapper each worker made.
-fn tell_served<E: Write>(errors: &mut Writing<E>, served: &[u64])
+fn report_served<E: Write>(errors: &mut Writing<E>, served: &[u64])
     ensures { IsSaid E.contents (served_lines 1 served.now) errors.old errors.new }
 {
     for (place, count) in served.iter().enumerate() {
-        if !tell_worker(errors, place + 1, *count) {
+        if !report_worker(errors, place + 1, *count) {
             return;
         }
     }
 }
 
 /// Tells that the daemon can't listen at this address.
-fn tell_unheard<E: Write>(errors: &mut Writing<E>, address: [u8; 4], port: u16)
+fn report_unheard<E: Write>(errors: &mut Writing<E>, address: [u8; 4], port: u16)
     ensures { IsSaid E.contents (unheard_line address port) errors.old errors.new }
 {
     let [a, b, c, d] = address;
@@ -158,13 +158,13 @@ pub fn end_daemon<E: Write>(
     match ended {
         Ok(end) => {
             if command.debug {
-                tell_served(errors, end.served.as_slice());
+                report_served(errors, end.served.as_slice());
             }
             if end.recorded { DONE } else { FAILED }
         }
         Err(RunFault::Listen(place)) => {
             if let Some(address) = command.addresses.get(*place) {
-                tell_unheard(errors, *address, command.port);
+                report_unheard(errors, *address, command.port);
             }
             NOT_DONE
         }

@@ -6,7 +6,7 @@ ghost use Rattle.portmap_link.specs.Adapters.{writing_inner};
 ghost use Rattle.epmd.specs.Errors.{IsTaken, IsSpent};
 
 use itoa::Buffer;
-use portmap_link::{Writing, tell};
+use portmap_link::{Writing, write_reply};
 use std::io::Write;
 
 /// How many puts each piece of a text gets.
@@ -17,7 +17,7 @@ pub fn say<E: Write>(errors: &mut Writing<E>, text: &[u8]) -> bool
     ensures taken { IsTaken text.now result (E.contents (writing_inner errors.old)) (E.contents (writing_inner errors.new)) }
     ensures spent { result ≡ false → IsSpent errors.new }
 {
-    match tell(errors, text, PUTS_MOST) {
+    match write_reply(errors, text, PUTS_MOST) {
         Ok(()) => true,
         Err(_) => false,
     }

@@ -71,7 +71,7 @@ pub(crate) fn register<S: Input + Output>(
 }
 
 /// Puts the texts of a node into a buffer, and tells where they lie there.
-fn tell_node(reg: &Reg, texts: &mut [u8], found: &mut EpmdFound) -> i32
+fn put_node(reg: &Reg, texts: &mut [u8], found: &mut EpmdFound) -> i32
     ensures told { TellsNode reg.now texts.old texts.new found.new result }
     ensures memory { result ≢ EPMD_NO_MEMORY }
 {
@@ -99,7 +99,7 @@ pub(crate) fn lookup<S: Input + Output>(
         Err(unmade) => return unmade_status(unmade),
     };
     match portmap_client::lookup(alloc, stream, &name) {
-        Ok(Some(reg)) => tell_node(&reg, texts, found),
+        Ok(Some(reg)) => put_node(&reg, texts, found),
         Ok(None) => EPMD_NOT_REGISTERED,
         Err(fault) => client_status(fault),
     }

@@ -16,7 +16,7 @@ pub(crate) struct Descriptor {
 }
 
 /// What a call of the system told that moved so many bytes, or that failed with this number where it moved fewer than none.
-pub(crate) fn told(count: isize, errno: i32) -> io::Result<usize>
+pub(crate) fn call_result(count: isize, errno: i32) -> io::Result<usize>
     ensures { MatchResult result (λ n. count ≡ pos n)
         (λ error. (raw_os_error error ≡ Some errno) × (error_kind error ≡ os_error_kind errno)) }
 {
@@ -32,7 +32,7 @@ fn read_from(number: i32, buffer: &mut [u8]) -> Pull
     ensures { PullConsumes None None result buffer.new }
 {
     let count = libc::read(number, buffer);
-    pull_from(told(count, os::errno()))
+    pull_from(call_result(count, os::errno()))
 }
 
 /// Writes once. Where the peer reads no more the call fails, and no signal is raised.
@@ -41,7 +41,7 @@ fn write_to(number: i32, bytes: &[u8]) -> Put
     ensures { PutAppends None None result bytes.now }
 {
     let count = unsafe { libc::net::send(number, bytes, libc::net::MSG_NOSIGNAL) };
-    put_from(told(count, os::errno()))
+    put_from(call_result(count, os::errno()))
 }
 
 impl Descriptor {

@@ -6,7 +6,7 @@ use std::io::{ErrorKind, Read, Write};
 
 /// What one call is answered.
 #[derive(Clone, Copy)]
-pub enum Told {
+pub enum CallOutcome {
     Count(usize),
     Error(ErrorKind),
 }
@@ -14,12 +14,12 @@ pub enum Told {
 /// A stream that answers from a list, and notes how often it was asked.
 #[derive(Drop)]
 pub struct Script<'a> {
-    told: &'a [Told],
+    told: &'a [CallOutcome],
     pub asked: usize,
 }
 
 /// A stream that was asked nothing yet.
-pub fn scripted(told: &[Told]) -> Script<'_> {
+pub fn scripted(told: &[CallOutcome]) -> Script<'_> {
     Script { told, asked: 0 }
 }
 
@@ -31,8 +31,8 @@ impl<'a> Script<'a> {
         let told = self.told.get(self.asked).copied();
         self.asked = self.asked.saturating_add(1);
         match told {
-            Some(Told::Count(n)) => Ok(n.min(most)),
-            Some(Told::Error(kind)) => Err(io::Error::from(kind)),
+            Some(CallOutcome::Count(n)) => Ok(n.min(most)),
+            Some(CallOutcome::Error(kind)) => Err(io::Error::from(kind)),
             None => Ok(0),
         }
     }

@@ -8,20 +8,20 @@ use std::sync::atomic::{AtomicU64, Ordering};
 /// How a device answers its calls, pulls and puts counted together from 0: those from one number up to another are Later, one
 /// and all after it are faults, and the others move so many bytes at most.
 #[derive(Clone, Copy)]
-pub struct Plan {
+pub struct DevicePlan {
     pub most: usize,
     pub later: &'static [(usize, usize)],
     pub fault: Option<usize>,
 }
 
 /// As much as is wanted at each call.
-pub const STEADY: Plan = Plan {
+pub const STEADY: DevicePlan = DevicePlan {
     most: usize::MAX,
     later: &[],
     fault: None,
 };
 
-pub const SINGLE: Plan = Plan { most: 1, ..STEADY };
+pub const SINGLE: DevicePlan = DevicePlan { most: 1, ..STEADY };
 
 /// What one call is to do.
 #[derive(Clone, Copy)]
@@ -31,7 +31,7 @@ enum Turn {
     Fault,
 }
 
-impl Plan {
+impl DevicePlan {
     fn is_later(&self, call: usize) -> bool {
         for (from, until) in self.later {
             if *from <= call && call < *until {
@@ -61,7 +61,7 @@ impl Plan {
 pub struct Tape<'a> {
     pub source: &'a [u8],
     pub sink: Vec<u8>,
-    plan: Plan,
+    plan: DevicePlan,
     pub calls: usize,
     failed: bool,
     pulls: Past<Pull>,
@@ -69,7 +69,7 @@ pub struct Tape<'a> {
 }
 
 impl<'a> Tape<'a> {
-    pub fn new(alloc: Global, source: &'a [u8], plan: Plan) -> Tape<'a> {
+    pub fn new(alloc: Global, source: &'a [u8], plan: DevicePlan) -> Tape<'a> {
         Tape {
             source,
             sink: Vec::new(alloc),

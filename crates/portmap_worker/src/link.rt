@@ -183,7 +183,7 @@ impl<S: Read + Write> Link<S> {
     }
 
     /// What is to be told of it. If one that is late is kept its time begins anew.
-    pub(crate) fn tell(&mut self, key: usize) -> Turn
+    pub(crate) fn turn(&mut self, key: usize) -> Turn
         ensures link { IsOf (Some key) result }
         ensures anew { result ≡ Turn.Late key → self.new.timer.since ≡ None }
         ensures told { self.new.timer.is_late ≡ false }

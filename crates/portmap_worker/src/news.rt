@@ -75,11 +75,11 @@ impl Tally {
     /// A connection has ended, or was closed at once, to which nothing was ever written: perhaps for want of memory.
     pub(crate) fn note_unanswered<W: Wake>(&mut self, shared: &Shared<W>) {
         self.news.unanswered = true;
-        self.tell(shared);
+        self.publish(shared);
     }
 
     /// The news are told.
-    pub(crate) fn tell<W: Wake>(&mut self, shared: &Shared<W>) {
+    pub(crate) fn publish<W: Wake>(&mut self, shared: &Shared<W>) {
         if shared.noted.add(mem::take(&mut self.news)) {
             shared.wake_drain();
         }

@@ -121,7 +121,7 @@ impl<L: Ledger, S: System, R: Host + Wait + Clock> SocketSource<'_, L, S, R> {
             }
         }
         self.rounds.note_look();
-        self.tally.tell(self.shared);
+        self.tally.publish(self.shared);
         true
     }
 }

@@ -141,7 +141,7 @@ impl<'a, L: Ledger, S: System, R: Host + Wait + Clock> SocketSource<'a, L, S, R>
         if is_short {
             held.link.refuse_part();
         }
-        Some(held.link.tell(key))
+        Some(held.link.turn(key))
     }
 }
 

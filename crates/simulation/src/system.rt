@@ -232,7 +232,7 @@ impl<R: Wait + Drop> Host for SimHost<R> {
         Ok(SimFile { world, number })
     }
 
-    fn tell(&self, notice: Notice) {
+    fn notify(&self, notice: Notice) {
         if let Ok(mut world) = self.world.try_borrow_mut() {
             match notice {
                 Notice::RecordingFailed => {
@@ -246,7 +246,7 @@ impl<R: Wait + Drop> Host for SimHost<R> {
         }
     }
 
-    fn tell_refused(&self, _alloc: Global, refused: &Refused) {
+    fn notify_refused(&self, _alloc: Global, refused: &Refused) {
         if let Ok(mut world) = self.world.try_borrow_mut() {
             let now = world.now;
             world.notices.tell_in_use(now, refused.count());

@@ -5,7 +5,7 @@ use crate::words::{by_name, bytes, number, text};
 use anyhow::Result;
 use portmap_record::{AuditFault, Audited, PlayFault, audit};
 use portmap_testing::marks::begin;
-use portmap_testing::tape::{Plan, Tape};
+use portmap_testing::tape::{DevicePlan, Tape};
 use std::alloc::Global;
 use std::collections::VecDeque;
 
@@ -21,7 +21,7 @@ pub fn audited(alloc: Global, device: &str, turns: &str, words: &[&str]) -> Resu
     told(alloc, marked(alloc, audit(alloc, inputs, turns)))
 }
 
-fn tapes(alloc: Global, plan: Plan, files: &[Vec<u8>]) -> Result<VecDeque<Tape<'_>>> {
+fn tapes(alloc: Global, plan: DevicePlan, files: &[Vec<u8>]) -> Result<VecDeque<Tape<'_>>> {
     let mut tapes = VecDeque::new(alloc);
     for file in files {
         tapes.push_back(Tape::new(alloc, file, plan))?;

@@ -6,9 +6,9 @@ use crate::requests::{Fields, registration};
 use crate::words::{Digits, by_name, bytes, digits_of, name, number, shown, text, wrong};
 use anyhow::Result;
 use portmap_client::{ClientFault, Registration, dump, kill, lookup, names, stop};
-use portmap_link::{Input, Outbox, Output, send, tell};
+use portmap_link::{Input, Outbox, Output, send, write_reply};
 use portmap_testing::marks::{begin, end};
-use portmap_testing::tape::{Fountain, Plan, STEADY, Tape};
+use portmap_testing::tape::{DevicePlan, Fountain, STEADY, Tape};
 use portmap_wire::Reg;
 use std::alloc::Global;
 
@@ -45,7 +45,13 @@ impl Calls {
     }
 
     /// What a call says, writes, and leaves of the answer that this device gives.
-    fn called(&mut self, alloc: Global, call: &[&str], plan: Plan, gives: &[u8]) -> Result<String> {
+    fn called(
+        &mut self,
+        alloc: Global,
+        call: &[&str],
+        plan: DevicePlan,
+        gives: &[u8],
+    ) -> Result<String> {
         let mut tape = device(alloc, gives, plan, 10_000)?;
         if let ["register", port, name, extra] = *call {
             return self.registered(alloc, &node(alloc, port, name, extra)?, tape);
@@ -85,7 +91,7 @@ impl Calls {
     }
 
     /// Turns to another device, for which no bytes wait.
-    fn turn_to(&mut self, alloc: Global, plan: Plan) {
+    fn turn_to(&mut self, alloc: Global, plan: DevicePlan) {
         self.output = Tape::new(alloc, &[], plan);
         self.outbox = Outbox::new(alloc);
     }
@@ -105,7 +111,10 @@ impl Calls {
             }
             ["tell", word, turns] => {
                 let turns = number(turns)?;
-                return shown(alloc, tell(&mut self.output, &bytes(alloc, word)?, turns));
+                return shown(
+                    alloc,
+                    write_reply(&mut self.output, &bytes(alloc, word)?, turns),
+                );
             }
             ["written"] if Output::failed(&self.output) => return text(format!(in alloc;
                 "{} failed",

@@ -1,7 +1,7 @@
 //! Devices by their names.
 use crate::words::{number, unknown};
 use anyhow::Result;
-use portmap_testing::tape::{Plan, Tape};
+use portmap_testing::tape::{DevicePlan, Tape};
 use std::alloc::Global;
 
 /// As many bytes as are wanted.
@@ -41,14 +41,14 @@ const DEVICES: &[(&str, usize, &[(usize, usize)])] = &[
 ];
 
 /// How a device answers: the word for that, and behind a `:` the call that fails.
-pub fn plan(word: &str) -> Result<Plan> {
+pub fn plan(word: &str) -> Result<DevicePlan> {
     let (name, fault) = match word.split_once(':') {
         Some((name, call)) => (name, Some(number(call)?)),
         None => (word, None),
     };
     for (device, most, later) in DEVICES {
         if *device == name {
-            return Ok(Plan {
+            return Ok(DevicePlan {
                 most: *most,
                 later,
                 fault,
@@ -59,7 +59,7 @@ pub fn plan(word: &str) -> Result<Plan> {
 }
 
 /// A device that gives these bytes, and takes so many without memory.
-pub fn device(alloc: Global, bytes: &[u8], plan: Plan, room: usize) -> Result<Tape<'_>> {
+pub fn device(alloc: Global, bytes: &[u8], plan: DevicePlan, room: usize) -> Result<Tape<'_>> {
     let mut tape = Tape::new(alloc, bytes, plan);
     tape.sink.reserve(room)?;
     Ok(tape)

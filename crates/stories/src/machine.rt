@@ -1,7 +1,7 @@
 //! The machine with its log, and what follows it: a replay, and at the end a run and a recording.
 use crate::events::{came_of, entry, event, line};
 use crate::recording::{is_recorded, recorded_part};
-use crate::run::{Told, is_at, runs_so};
+use crate::run::{Happened, is_at, runs_so};
 use crate::states::is_built_again;
 use crate::words::{
     answer, by_name, bytes, digits_of, is_relaxed, joined, name, number, text, unknown, wanted,
@@ -22,7 +22,7 @@ pub struct Machine {
     book: Book,
     first: u32,
     replay: Replay,
-    told: Vec<Told>,
+    told: Vec<Happened>,
     /// The transcript of the log, and of how many entries it is.
     lines: String,
     lines_told: u64,
@@ -153,7 +153,7 @@ impl Machine {
         let came = came_of(alloc, words.first().copied().unwrap_or(""), &outcome)?;
         if came.as_str() != "NoMemory" {
             self.show(alloc, words, came.as_str())?;
-            self.told.push(Told {
+            self.told.push(Happened {
                 act: joined(alloc, words)?,
                 came: came.clone()?,
             })?;

@@ -5,7 +5,7 @@ use crate::words::{Digits, number, shown, text, wanted, wrong};
 use anyhow::Result;
 use portmap_core::Config;
 use portmap_link::once;
-use portmap_record::{play, tell_verdict, write_local};
+use portmap_record::{play, write_local, write_verdict};
 use portmap_testing::marks::begin;
 use portmap_testing::tape::Tape;
 use std::alloc::Global;
@@ -47,7 +47,7 @@ fn ended(
     match act {
         "tell" => shown(
             alloc,
-            marked(alloc, tell_verdict(alloc, input, output, turns)),
+            marked(alloc, write_verdict(alloc, input, output, turns)),
         ),
         "leave" => shown(
             alloc,

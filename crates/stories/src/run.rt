@@ -8,7 +8,7 @@ use std::alloc::Global;
 
 /// An event, and what came of it.
 #[derive(Drop)]
-pub struct Told {
+pub struct Happened {
     pub act: String,
     pub came: String,
 }
@@ -22,7 +22,7 @@ pub fn runs_so(
     alloc: Global,
     config: Config,
     first: u32,
-    told: &[Told],
+    told: &[Happened],
     state: &State,
 ) -> Result<()> {
     let mut core = Core::new(alloc, config, first)?;
@@ -42,7 +42,7 @@ pub fn is_at(alloc: Global, core: &Core, state: &State) -> Result<bool> {
 }
 
 /// What a run tells of all events. One that is refused as a whole has changed nothing, and is made once more.
-fn results_of(alloc: Global, core: &mut Core, told: &[Told]) -> Result<Results> {
+fn results_of(alloc: Global, core: &mut Core, told: &[Happened]) -> Result<Results> {
     let events = events_of(alloc, told)?;
     begin(alloc);
     let results = core.run(alloc, events);
@@ -55,7 +55,7 @@ fn results_of(alloc: Global, core: &mut Core, told: &[Told]) -> Result<Results> 
     }
 }
 
-fn events_of(alloc: Global, told: &[Told]) -> Result<Vec<Event>> {
+fn events_of(alloc: Global, told: &[Happened]) -> Result<Vec<Event>> {
     let mut events = Vec::new(alloc);
     for one in told {
         events.push(event_of(alloc, one.act.as_str())?)?;
@@ -69,7 +69,7 @@ fn event_of(alloc: Global, act: &str) -> Result<Event> {
 }
 
 /// Whether memory was refused to none of the events, which another machine answers the same.
-fn follows(alloc: Global, other: &mut Core, told: &[Told], results: Results) -> Result<bool> {
+fn follows(alloc: Global, other: &mut Core, told: &[Happened], results: Results) -> Result<bool> {
     let (results, is_refused) = results;
     let mut is_whole = true;
     for (one, (event, outcome)) in told.iter().zip(results) {
@@ -87,7 +87,7 @@ fn follows(alloc: Global, other: &mut Core, told: &[Told], results: Results) -> 
 fn answers(
     alloc: Global,
     other: &mut Core,
-    one: &Told,
+    one: &Happened,
     event: Event,
     came: &str,
     is_whole: bool,

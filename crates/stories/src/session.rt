@@ -285,14 +285,14 @@ fn beginning(alloc: Global, session: &Record) -> Result<String> {
         workers,
     } = &session.version
     {
-        tell_beginning(&mut told, *first, start, workers)?;
+        write_beginning(&mut told, *first, start, workers)?;
     }
     Ok(told)
 }
 
-fn tell_beginning(told: &mut String, first: u64, start: &State, workers: &[u32]) -> Result<()> {
+fn write_beginning(told: &mut String, first: u64, start: &State, workers: &[u32]) -> Result<()> {
     write!(told, " first {first}")?;
-    tell_start(told, start)?;
+    write_start(told, start)?;
     told.push_str(" workers")?;
     for worker in workers {
         write!(told, " {worker}")?;
@@ -301,7 +301,7 @@ fn tell_beginning(told: &mut String, first: u64, start: &State, workers: &[u32])
 }
 
 /// Tells a state by its parts.
-fn tell_start(told: &mut String, start: &State) -> Result<()> {
+fn write_start(told: &mut String, start: &State) -> Result<()> {
     for row in start.active() {
         write!(
             told,

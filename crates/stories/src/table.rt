@@ -22,14 +22,14 @@ fn is_usual(reg: &Reg) -> bool {
 }
 
 /// Adds a name, its slot and its creation.
-fn tell_row(told: &mut String, row: &Row) -> Result<()> {
+fn write_row(told: &mut String, row: &Row) -> Result<()> {
     ensure!(is_usual(&row.reg), "a node that was not registered so");
     let name = Digits(row.reg.name.bytes());
     Ok(write!(told, " {name} {} {}", row.slot, row.creation)?)
 }
 
 /// Adds a retired name and its creation.
-fn tell_old(told: &mut String, old: &Old) -> Result<()> {
+fn write_old(told: &mut String, old: &Old) -> Result<()> {
     if old.port != 40_000 {
         return wrong("a retired node that was not registered so");
     }
@@ -41,12 +41,12 @@ fn known(alloc: Global, names: &Table) -> Result<String> {
     let mut told = String::from_str(alloc, "active")?;
     for place in 0..names.active_len() {
         let row = names.active_at(place).context("fewer names are active")?;
-        tell_row(&mut told, &row.try_copy(alloc)?)?;
+        write_row(&mut told, &row.try_copy(alloc)?)?;
     }
     told.push_str(" retired")?;
     for place in 0..names.retired_len() {
         let old = names.retired_at(place).context("fewer names are retired")?;
-        tell_old(&mut told, &old.try_copy(alloc)?.try_copy(alloc)?)?;
+        write_old(&mut told, &old.try_copy(alloc)?.try_copy(alloc)?)?;
     }
     Ok(told)
 }

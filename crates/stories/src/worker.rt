@@ -10,7 +10,7 @@ use portmap_core::Entry;
 use portmap_record::{Verdict, transcript};
 use portmap_testing::books::{book, is_killed};
 use portmap_testing::marks::{begin, end, was_refused};
-use portmap_testing::tape::{Plan, STEADY, Tape};
+use portmap_testing::tape::{DevicePlan, STEADY, Tape};
 use portmap_worker::{Open, Outcome, Source, Turn, serve};
 use std::alloc::Global;
 use std::marker::Brand;
@@ -26,15 +26,15 @@ pub struct Scene {
     /// What the links 7 and 8 give. Link 8 moves all at each call.
     seven: Vec<u8>,
     eight: Vec<u8>,
-    plan: Plan,
+    plan: DevicePlan,
     /// Whether another connection has ended the port mapper before.
     is_killed: bool,
     turns: Vec<Turn>,
-    told: Told,
+    told: Amounts,
 }
 
 /// How many entries, bytes of link 7, bytes of link 8 and ended links were told.
-type Told = [usize; 4];
+type Amounts = [usize; 4];
 
 /// The links 7 and 8, which were given up, what is logged before the worker is told to stop, and how many turns are made before one to
 /// which memory may be refused.
@@ -92,20 +92,20 @@ impl<'a> Wires<'a> {
     }
 
     /// How much has come.
-    fn told(&self) -> Told {
+    fn amounts(&self) -> Amounts {
         let (seven, eight) = (self.seven.sink.len(), self.eight.sink.len());
         [self.log.len(), seven, eight, self.ended.len()]
     }
 
     /// What has come behind what was told.
-    fn line(&self, alloc: Global, told: Told, is_over: bool) -> Result<String> {
+    fn line(&self, alloc: Global, told: Amounts, is_over: bool) -> Result<String> {
         let mut line = entry_words(alloc, self.log.get(told[0]..).unwrap_or(&[]))?;
         self.put_rest(&mut line, told, is_over)?;
         text(String::from_str(alloc, line.as_str().trim_start_matches(" ; ")))
     }
 
     /// Adds what both links got and gave up to the entries of a line.
-    fn put_rest(&self, line: &mut String, told: Told, is_over: bool) -> Result<()> {
+    fn put_rest(&self, line: &mut String, told: Amounts, is_over: bool) -> Result<()> {
         put_bytes(line, 7, self.seven.sink.get(told[1]..).unwrap_or(&[]))?;
         put_bytes(line, 8, self.eight.sink.get(told[2]..).unwrap_or(&[]))?;
         for key in self.ended.iter().skip(told[3]) {
@@ -153,11 +153,11 @@ impl Scene {
             ["fails", call] => return self.failed(rt, alloc, number(call)?),
             ["killed"] => {
                 self.is_killed = true;
-                return self.tell(rt, alloc);
+                return self.came_new(rt, alloc);
             }
             _ => {
                 self.add(words)?;
-                return self.tell(rt, alloc);
+                return self.came_new(rt, alloc);
             }
         }
         Ok(String::new(alloc))
@@ -193,17 +193,17 @@ impl Scene {
 
     /// Tells what has come of all turns and was not told. Where memory is refused to the last one, its link is given up, and all are made
     /// once more.
-    fn tell<R: Wait>(&mut self, rt: &R, alloc: Global) -> Result<String> {
+    fn came_new<R: Wait>(&mut self, rt: &R, alloc: Global) -> Result<String> {
         let is_marked = !end_of(alloc, self.turns.last())?.is_empty();
         let (line, told) = self.line(rt, alloc, is_marked)?;
         if was_refused(alloc) {
-            return self.tell_again(rt, alloc, line.as_str());
+            return self.came_again(rt, alloc, line.as_str());
         }
         self.told = told;
         Ok(line)
     }
 
-    fn tell_again<R: Wait>(&mut self, rt: &R, alloc: Global, refused: &str) -> Result<String> {
+    fn came_again<R: Wait>(&mut self, rt: &R, alloc: Global, refused: &str) -> Result<String> {
         let (line, told) = self.line(rt, alloc, false)?;
         let given_up = end_of(alloc, self.turns.last())?;
         if refused != line.as_str() && !refused.contains(given_up.as_str()) {
@@ -214,15 +214,15 @@ impl Scene {
     }
 
     /// What has come of all turns and was not told, and how much that is with it. Memory may be refused to the last one.
-    fn line<R: Wait>(&self, rt: &R, alloc: Global, is_marked: bool) -> Result<(String, Told)> {
+    fn line<R: Wait>(&self, rt: &R, alloc: Global, is_marked: bool) -> Result<(String, Amounts)> {
         let mut wires = self.wires(alloc, self.plan, is_marked)?;
         let is_over = serve_all(rt, alloc, self, &mut wires)?;
-        Ok((wires.line(alloc, self.told, is_over)?, wires.told()))
+        Ok((wires.line(alloc, self.told, is_over)?, wires.amounts()))
     }
 
     /// What comes of both links where link 7 fails at this call of it.
     fn failed<R: Wait>(&self, rt: &R, alloc: Global, call: usize) -> Result<String> {
-        let plan = Plan {
+        let plan = DevicePlan {
             fault: Some(call),
             ..self.plan
         };
@@ -232,7 +232,7 @@ impl Scene {
     }
 
     /// The links, where link 7 answers so. What they get and give up is noted without memory.
-    fn wires(&self, alloc: Global, plan: Plan, is_marked: bool) -> Result<Wires<'_>> {
+    fn wires(&self, alloc: Global, plan: DevicePlan, is_marked: bool) -> Result<Wires<'_>> {
         let last = self.turns.len().saturating_sub(1);
         Ok(Wires {
             unmarked: if is_marked { last } else { usize::MAX },

@@ -122,13 +122,13 @@ impl<R: Clock + Files<File = File>> Host for Pushed<R> {
         File::create(&self.rt, path)
     }
 
-    fn tell(&self, notice: Notice) {
+    fn notify(&self, notice: Notice) {
         if notice == Notice::RecordingFailed {
             self.shared.told.fetch_add(1, Ordering::SeqCst);
         }
     }
 
-    fn tell_refused(&self, _alloc: Global, _refused: &Refused) {}
+    fn notify_refused(&self, _alloc: Global, _refused: &Refused) {}
 
     fn has_memory(&self, _alloc: Global) -> bool {
         self.shared.asked.fetch_add(1, Ordering::SeqCst);

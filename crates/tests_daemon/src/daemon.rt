@@ -7,7 +7,7 @@ use crate::gates::Meet;
 use portmap_core::Config;
 use portmap_daemon::{RunEnd, RunFault, Settings, run, run_gated};
 use portmap_link::{Reading, Writing};
-use portmap_record::tell_verdict;
+use portmap_record::write_verdict;
 use portmap_testing::bytes::{ALIVE_A, DUMP, FOUND_A, KILL, NAMES, NOT_FOUND, PORT_A};
 use portmap_testing::cases::is_so;
 use portmap_testing::peers::{connect, sent};
@@ -329,7 +329,7 @@ pub fn acts_of(ended: &Result<RunEnd, RunFault>) -> u64 {
 fn is_run_of<F: Read + Drop>(alloc: Global, file: F, entries: u64) -> Result<bool, Fail> {
     let mut input = Reading::new(file);
     let mut output = Writing::new(Vec::new(alloc));
-    let told = tell_verdict(alloc, &mut input, &mut output, u64::MAX);
+    let told = write_verdict(alloc, &mut input, &mut output, u64::MAX);
     let verdict = format!(in alloc; "run of {entries} entries\n")?;
     Ok(told == Ok(true) && output.into_inner().as_slice() == verdict.as_bytes())
 }

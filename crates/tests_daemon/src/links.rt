@@ -3,7 +3,7 @@ use mio::net;
 use portmap_daemon::MioStream;
 use portmap_link::{Input, Output, Pull, Put};
 use portmap_testing::bytes::{ALIVE_A, NAMES, PORT_A};
-use portmap_testing::streams::{Giving, Script, Told, scripted};
+use portmap_testing::streams::{CallOutcome, Giving, Script, scripted};
 use portmap_worker::{Link, Stream};
 use std::alloc::Global;
 use std::io::ErrorKind;
@@ -18,29 +18,29 @@ enum Call {
 }
 
 /// What the stream tells at a call, whether the link says Later to it, and whether there may be more without a report.
-struct Step(Call, Told, bool, bool);
+struct Step(Call, CallOutcome, bool, bool);
 
-const CUT_SHORT: Told = Told::Error(ErrorKind::Interrupted);
+const CUT_SHORT: CallOutcome = CallOutcome::Error(ErrorKind::Interrupted);
 
-const WAITS: Told = Told::Error(ErrorKind::WouldBlock);
+const WAITS: CallOutcome = CallOutcome::Error(ErrorKind::WouldBlock);
 
 /// A call that a signal cut short says nothing of the stream: only one that would have waited does, and a pull that gave less than
 /// there was room for, which a put that was taken doesn't change. While a put waits for a report nothing else is tried.
 const STEPS: &[Step] = &[
     Step(Call::Pull, CUT_SHORT, true, true),
-    Step(Call::Pull, Told::Count(8), false, true),
-    Step(Call::Pull, Told::Count(3), false, false),
-    Step(Call::Put, Told::Count(2), false, false),
+    Step(Call::Pull, CallOutcome::Count(8), false, true),
+    Step(Call::Pull, CallOutcome::Count(3), false, false),
+    Step(Call::Put, CallOutcome::Count(2), false, false),
     Step(Call::Pull, WAITS, true, false),
     Step(Call::Put, CUT_SHORT, true, true),
     Step(Call::Pull, WAITS, true, true),
-    Step(Call::Put, Told::Count(2), false, false),
+    Step(Call::Put, CallOutcome::Count(2), false, false),
     Step(Call::Put, WAITS, true, false),
     Step(Call::Pull, WAITS, true, false),
     Step(Call::Pull, CUT_SHORT, true, false),
-    Step(Call::Put, Told::Count(3), false, true),
+    Step(Call::Put, CallOutcome::Count(3), false, true),
     Step(Call::Put, WAITS, true, false),
-    Step(Call::Pull, Told::Count(0), false, false),
+    Step(Call::Pull, CallOutcome::Count(0), false, false),
 ];
 
 impl Call {
@@ -55,7 +55,7 @@ impl Call {
 
 #[test]
 fn only_a_call_that_would_have_waited_ends_the_asking(rt: HostRuntime) -> Result<(), Fail> {
-    let told: Vec<Told> = STEPS.iter().map(|step| step.1).collect(rt.alloc())?;
+    let told: Vec<CallOutcome> = STEPS.iter().map(|step| step.1).collect(rt.alloc())?;
     let mut link = Link::new(rt.alloc(), scripted(&told), false, 0);
     assert!(rt; link.may_move());
     for Step(call, _, is_later, may_move) in STEPS {

@@ -9,8 +9,8 @@ use portmap_link::Writing;
 use portmap_testing::bytes::{A_LISTED, Bytes, DUMP, KILL, NAMES, STOP_A};
 use portmap_testing::cases::{Trial, all_come};
 use portmap_testing::nodes::name_a;
-use portmap_testing::streams::{Broken, Told, scripted};
-use portmap_testing::tape::{Plan, STEADY, Tape};
+use portmap_testing::streams::{Broken, CallOutcome, scripted};
+use portmap_testing::tape::{DevicePlan, STEADY, Tape};
 use std::alloc::Global;
 use std::io::{ErrorKind, Write};
 use std::test::Fail;
@@ -29,7 +29,7 @@ fn asked(alloc: Global, word: &str) -> Result<(Action, Bytes), Fail>
 
 /// How a stream answers its calls, the first one being the put of the request: `fails:1` fails at its second call, and `later:999` is
 /// not ready for so many from that one on.
-fn plan(word: &str) -> Plan {
+fn plan(word: &str) -> DevicePlan {
     let fault = word
         .strip_prefix("fails:")
         .and_then(|call| call.parse::<usize>().ok());
@@ -40,7 +40,7 @@ fn plan(word: &str) -> Plan {
         "later:1000" => (usize::MAX, &[(1, 1001)]),
         _ => (usize::MAX, &[]),
     };
-    Plan { most, later, fault }
+    DevicePlan { most, later, fault }
 }
 
 /// The first line of a list. In a table `4369:` stands for it, as it does for the first bytes of the answer.
@@ -184,10 +184,10 @@ fn an_output_that_fails_is_told(rt: HostRuntime) -> Result<(), Fail> {
 }
 
 /// An output that takes the front of a list, is interrupted, and takes the rest.
-const IN_PARTS: &[Told] = &[
-    Told::Count(10),
-    Told::Error(ErrorKind::Interrupted),
-    Told::Count(1000),
+const IN_PARTS: &[CallOutcome] = &[
+    CallOutcome::Count(10),
+    CallOutcome::Error(ErrorKind::Interrupted),
+    CallOutcome::Count(1000),
 ];
 
 #[test]

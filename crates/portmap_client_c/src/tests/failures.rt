@@ -1,5 +1,5 @@
 //! Sockets that fail.
-use crate::descriptor::told;
+use crate::descriptor::call_result;
 use crate::sockets::epmd_kill;
 use crate::tests::Pair;
 use portmap_link::{Pull, Put, pull_from, put_from};
@@ -56,7 +56,10 @@ fn a_socket_without_a_peer_can_not_be_written(rt: HostRuntime) -> Result<(), Fai
 
 /// What a read and a write told that failed so.
 fn failed(errno: i32) -> (Pull, Put) {
-    (pull_from(told(-1, errno)), put_from(told(-1, errno)))
+    (
+        pull_from(call_result(-1, errno)),
+        put_from(call_result(-1, errno)),
+    )
 }
 
 #[test]

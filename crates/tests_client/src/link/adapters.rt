@@ -1,8 +1,8 @@
 //! What the adapters make of readers and writers.
 use portmap_link::{Both, Input, Output, Pull, Put, Reading, Writing};
 use portmap_testing::cases::is_so;
-use portmap_testing::streams::{Broken, Script, Told, scripted};
-use portmap_testing::tape::{Plan, SINGLE, Tape};
+use portmap_testing::streams::{Broken, CallOutcome, Script, scripted};
+use portmap_testing::tape::{DevicePlan, SINGLE, Tape};
 use std::alloc::Global;
 use std::io::ErrorKind;
 use std::test::Fail;
@@ -28,7 +28,7 @@ fn puts<W: Output>(output: &mut W, wants: &[Put]) -> bool {
     true
 }
 
-const FAILING: Plan = Plan {
+const FAILING: DevicePlan = DevicePlan {
     later: &[(0, 1), (2, 3)],
     fault: Some(5),
     ..SINGLE
@@ -75,12 +75,12 @@ fn a_slice_is_read_in_pieces_to_its_end(rt: HostRuntime) -> Result<(), Fail> {
 }
 
 // Two errors that pass, one that doesn't, and what is never asked for.
-const ERRORS: &[Told] = &[
-    Told::Error(ErrorKind::Interrupted),
-    Told::Error(ErrorKind::WouldBlock),
-    Told::Count(3),
-    Told::Error(ErrorKind::ConnectionReset),
-    Told::Count(3),
+const ERRORS: &[CallOutcome] = &[
+    CallOutcome::Error(ErrorKind::Interrupted),
+    CallOutcome::Error(ErrorKind::WouldBlock),
+    CallOutcome::Count(3),
+    CallOutcome::Error(ErrorKind::ConnectionReset),
+    CallOutcome::Count(3),
 ];
 
 const PULLS_OF_ERRORS: &[Pull] = &[
@@ -118,7 +118,7 @@ fn a_stream_that_has_failed_is_asked_no_more_in_either_direction(rt: HostRuntime
     assert!(rt; fails_both_ways(&mut both, PUTS_OF_ERRORS) && both.into_inner().asked == 4);
 }
 
-const NOTHING: &[Told] = &[Told::Count(0)];
+const NOTHING: &[CallOutcome] = &[CallOutcome::Count(0)];
 
 #[test]
 fn nothing_read_is_the_end_and_nothing_written_a_fault(rt: HostRuntime) {

@@ -137,21 +137,21 @@ fn no_action_stands_behind_another(rt: HostRuntime) -> Result<(), Fail> {
 }
 
 /// A fault, and how it ends the program.
-struct Told(WordFault, &'static str);
+struct FaultText(WordFault, &'static str);
 
-const TOLD: &[Told] = &[
-    Told(WordFault::Unknown(0), "2 err epmd: bad word 0|"),
-    Told(WordFault::MissingValue(1), "2 err epmd: bad word 1|"),
-    Told(WordFault::BadValue(12), "2 err epmd: bad word 12|"),
-    Told(WordFault::TwoCommands(3), "2 err epmd: bad word 3|"),
-    Told(
+const FAULT_TEXTS: &[FaultText] = &[
+    FaultText(WordFault::Unknown(0), "2 err epmd: bad word 0|"),
+    FaultText(WordFault::MissingValue(1), "2 err epmd: bad word 1|"),
+    FaultText(WordFault::BadValue(12), "2 err epmd: bad word 12|"),
+    FaultText(WordFault::TwoCommands(3), "2 err epmd: bad word 3|"),
+    FaultText(
         WordFault::BadEnvPort,
         "2 err epmd: bad port in environment|",
     ),
-    Told(WordFault::NoMemory, "3 err epmd: out of memory|"),
+    FaultText(WordFault::NoMemory, "3 err epmd: out of memory|"),
 ];
 
-impl Case for Told {
+impl Case for FaultText {
     fn holds(&self, alloc: Global) -> Result<bool, Fail> {
         let mut errors = Writing::new(Vec::new(alloc));
         let status = refuse(&mut errors, self.0);
@@ -163,5 +163,5 @@ impl Case for Told {
 
 #[test]
 fn each_fault_has_a_status_and_a_line(rt: HostRuntime) -> Result<(), Fail> {
-    all_hold(&rt, TOLD)
+    all_hold(&rt, FAULT_TEXTS)
 }

@@ -2,7 +2,7 @@ use Rattle.std.proofs.Common.{◌+◌, drop}
 use Rattle.portmap_link.specs.Adapters.{writing_inner}
 use Rattle.epmd.specs.Daemon.{served_lines}
 use Rattle.epmd.proofs.Pieces.{IsLeft}
-use Rattle.epmd.proofs.daemon.tell_served.Given as goal
+use Rattle.epmd.proofs.daemon.report_served.Given as goal
 
 abbrev pub invariant-loop-place : goal.invariant-loop-place
 invariant-loop-place g l =

@@ -3,18 +3,18 @@ use Rattle.std.proofs.lemmas.List.{at_drop_more, at_drop_all}
 use Rattle.portmap_link.specs.Adapters.{writing_inner}
 use Rattle.epmd.specs.Daemon.{served_line, served_lines}
 use Rattle.epmd.proofs.Pieces.{left_more, left_for_good, none_left}
-use Rattle.epmd.proofs.daemon.tell_served.Goals as goal
+use Rattle.epmd.proofs.daemon.report_served.Goals as goal
 
-pub returns-then-not-tell_worker : goal.returns-then-not-tell_worker
-returns-then-not-tell_worker g c =
+pub returns-then-not-report_worker : goal.returns-then-not-report_worker
+returns-then-not-report_worker g c =
     let counts = c.args.served.now in
     let i = c.loop-place.place in
     let more = at_drop_more (served_lines (i + 1)) counts i 0 c.loop-place-test.true in (
       false,
       left_for_good (served_lines 1 counts) (served_lines (i + 1) (drop i counts)) (served_line (i + 1) (get_or counts i 0)) (served_lines (i + 1 + 1) (drop (i + 1) counts))
-          (g.E.Write.contents (writing_inner c.args.errors.now)) (g.E.Write.contents (writing_inner c.loop-place.errors)) (g.E.Write.contents (writing_inner c.tell_worker.new.errors))
-          more c.loop-place.invariant c.if-not-tell_worker.ensures.taken,
-      λ whole. c.tell_worker.ensures.spent c.if-not-tell_worker.true,
+          (g.E.Write.contents (writing_inner c.args.errors.now)) (g.E.Write.contents (writing_inner c.loop-place.errors)) (g.E.Write.contents (writing_inner c.report_worker.new.errors))
+          more c.loop-place.invariant c.if-not-report_worker.ensures.taken,
+      λ whole. c.report_worker.ensures.spent c.if-not-report_worker.true,
     )
 
 pub loop-place-preserved : goal.loop-place-preserved
@@ -23,8 +23,8 @@ loop-place-preserved g c =
     let i = c.loop-place.place in
     let more = at_drop_more (served_lines (i + 1)) counts i 0 c.loop-place-test.true in
     left_more (served_lines 1 counts) (served_lines (i + 1) (drop i counts)) (served_line (i + 1) (get_or counts i 0)) (served_lines (i + 1 + 1) (drop (i + 1) counts))
-    (g.E.Write.contents (writing_inner c.args.errors.now)) (g.E.Write.contents (writing_inner c.loop-place.errors)) (g.E.Write.contents (writing_inner c.tell_worker.new.errors))
-    more c.loop-place.invariant c.if-not-tell_worker.ensures.taken
+    (g.E.Write.contents (writing_inner c.args.errors.now)) (g.E.Write.contents (writing_inner c.loop-place.errors)) (g.E.Write.contents (writing_inner c.report_worker.new.errors))
+    more c.loop-place.invariant c.if-not-report_worker.ensures.taken
 
 pub returns : goal.returns
 returns g c =
