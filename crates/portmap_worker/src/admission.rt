@@ -75,6 +75,13 @@ impl<S: Stream> Door<S> {
         !self.has_accepted || self.backlog > 0
     }
 
+    /// Whether connections are accepted: none is while another one waits for a place.
+    pub(crate) fn accepts(&self) -> bool
+        ensures { (result ≡ true) ↔ (self.now.newcomer ≡ None) }
+    {
+        self.newcomer.is_none()
+    }
+
     /// One was accepted. Whether so many waited that a further worker is to accept too.
     pub(crate) fn note_accepted(&mut self) -> bool
         ensures last { (result ≡ true) ↔ (self.old.backlog ≡ 1) }
@@ -140,7 +147,7 @@ impl<'a, L: Ledger, S: System, R: Host + Wait + Clock> SocketSource<'a, L, S, R>
             None => self.make_room(newcomer),
         };
         // Whoever else waits for a place wants it again within a millisecond.
-        if has_waited && self.door.newcomer.is_none() {
+        if has_waited && self.door.accepts() {
             self.shared.quota.want_none();
         }
         turn
@@ -210,7 +217,7 @@ impl<'a, L: Ledger, S: System, R: Host + Wait + Clock> SocketSource<'a, L, S, R>
     /// Gives up a connection, if a local peer waits for a place at another worker and one may be.
     pub(crate) fn make_way(&mut self) -> Option<Turn> {
         let (is_wanted, is_any) = self.shared.quota.wanted();
-        if !is_wanted || self.door.newcomer.is_some() {
+        if !is_wanted || !self.door.accepts() {
             return None;
         }
         let key = self.door.candidate(&self.ready, is_any, self.rounds.time)?;

@@ -65,7 +65,7 @@ pub use crate::limits::{EVENTS_MOST, FILE_BYTES_MOST, PULL_BYTES_MOST, numbers_a
 pub use crate::link::Link;
 pub use crate::news::Noted;
 pub use crate::peer::is_local_peer;
-pub use crate::queue::{Beginning, Part, RecordQueue};
+pub use crate::queue::{FileStart, Part, RecordQueue};
 pub use crate::recorder::{Recorder, recordings_are_fronts, recordings_are_records};
 pub use crate::recording::{RecordWriter, write_recording};
 pub use crate::refused::Refused;

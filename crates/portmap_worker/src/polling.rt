@@ -71,20 +71,20 @@ impl<L: Ledger, S: System, R: Host + Wait + Clock> SocketSource<'_, L, S, R> {
 
     /// Until when a poll may wait if there is nothing to do.
     fn until(&self) -> u64 {
-        if self.door.newcomer.is_some() || self.ready.resting() > 0 {
+        if !self.door.accepts() || self.ready.resting() > 0 {
             return self.rounds.time;
         }
         let is_idle = self.ready.is_empty() && self.tally.is_told();
         self.sockets.listeners.until(self.rounds.until(is_idle))
     }
 
-    /// For how many milliseconds the poll may wait: not at all while something is to be told, connections may wait at a listener, or this
-    /// epoch is not passed.
+    /// For how many milliseconds the poll may wait: not at all while something is to be told, this epoch is not passed, or connections
+    /// may wait at a listener, unless one waits for a place already: until it has one no other is accepted.
     fn timeout(&self, begun: Begun) -> u64
-        ensures { 0 < result → self.now.ready.queue ≡ [] }
+        ensures queue { 0 < result → self.now.ready.queue ≡ [] }
     {
         let is_behind = !begun.is_passed(self.state);
-        let is_waiting = self.sockets.listeners.is_waiting();
+        let is_waiting = self.door.accepts() && self.sockets.listeners.is_waiting();
         let is_busy = is_behind || self.ready.backlog() > 0 || is_waiting;
         poll_timeout(is_busy, self.rounds.time, self.until())
     }
