@@ -8,7 +8,7 @@ PREFIX = /usr/local
 OTHER = /usr/bin/epmd
 
 # The crates of tests that refuse memory.
-REFUSING = tests_book
+REFUSING = tests_book tests_daemon
 
 .PHONY: run epmd client install install-program install-client uninstall deb check-contrib quick attack test bench faults
 

@@ -21,7 +21,7 @@ use std::time::Duration;
 use std::{fs, thread};
 
 /// Two connections and two names at most, from place 0 and nothing known on: worker 1 has a node connect and register.
-const REGISTERS: [u8; 93] = [
+pub const REGISTERS: [u8; 93] = [
     0x45, 0x50, 0x4D, 0x53, 2, 0, 0x11, 0x11, 0, 0, 0, 2, 0, 0, 0, 2, //
     0, 0, 0, 0, 0, 0, 0, 0, 0, 0, 0, 0, 0, 0, 0, 0, 0, 0, 0, 0, 0, //
     0, 0, 0, 1, 1, 1, 0, 0, 0, 0, 0, 0, 0, 0, //

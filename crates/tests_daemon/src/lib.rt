@@ -28,4 +28,6 @@ mod polls;
 #[cfg(test)]
 mod recordings;
 #[cfg(test)]
+mod refusals;
+#[cfg(test)]
 mod workers;

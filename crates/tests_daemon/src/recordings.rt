@@ -28,7 +28,7 @@ const UNSTARTED_PORT: u16 = 14_423;
 const LOOK_UPS: u32 = 2000;
 
 /// The path by which the system opens a pipe once more.
-fn path_of(alloc: Global, pipe: &PipeWriter) -> Result<String, Fail> {
+pub fn path_of(alloc: Global, pipe: &PipeWriter) -> Result<String, Fail> {
     Ok(format!(in alloc; "/proc/self/fd/{}", pipe.as_raw_fd())?)
 }
 

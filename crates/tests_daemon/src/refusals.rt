@@ -1,0 +1,94 @@
+//! What is told of a recording where memory is refused to who takes the log out. Here memory is ample; `make faults` starts this test once
+//! for each request that it makes between two marks, and has that one refused.
+ghost use Rattle.std.specs.Prelude.{◌≡◌};
+
+use crate::clocks::Pushed;
+use crate::files::REGISTERS;
+use crate::recordings::path_of;
+use portmap_book::{Desk, PARTS};
+use portmap_testing::books::small_book;
+use portmap_testing::bytes::ALIVE_A;
+use portmap_testing::marks::{begin, end, was_refused};
+use portmap_worker::{Drain, Drained, Host, RecordQueue, Shared, Wake, write_recording};
+use std::alloc::Global;
+use std::fs::File;
+use std::io::{PipeReader, Read, pipe};
+use std::marker::Brand;
+use std::rt::Clock;
+use std::sync::Wait;
+use std::sync::ledger::{Blank, Ledger};
+use std::test::Fail;
+use std::time::Duration;
+
+/// Nobody waits.
+#[derive(Drop)]
+struct Nobody;
+
+impl Wake for Nobody {
+    fn wake(&self) {}
+}
+
+/// A node comes by worker 1 and registers.
+fn registers<L: Ledger, R: Wait>(rt: &R, alloc: Global, desk: &Desk<L>) -> Option<()> {
+    let mut seat = desk.seat(rt, 1)?;
+    let (_, conn) = desk.connect(rt, alloc, &mut seat, true).ok()?;
+    desk.piece(rt, alloc, &mut seat, &conn, ALIVE_A).ok()?;
+    Some(())
+}
+
+/// Whether the last turn says that the log is out, while memory may be refused. No worker serves.
+fn is_out<L: Ledger, R: Host<File = File> + Wait + Clock>(
+    rt: &R,
+    alloc: Global,
+    desk: &Desk<L>,
+    drain: &mut Drain<'_>,
+) -> bool {
+    let shared = Shared::new(rt, Vec::new(alloc), Nobody, 2);
+    begin(alloc);
+    let drained = drain.turn(rt, alloc, desk, &shared);
+    end(alloc);
+    drained == Drained::Done(true)
+}
+
+/// Whether it is told that all was recorded at this path.
+fn is_told_whole<L: Ledger, R: Host<File = File> + Wait + Clock>(
+    rt: &R,
+    alloc: Global,
+    blank: Blank,
+    path: &str,
+) -> Option<bool>
+    requires name { blank.name ≡ L.name }
+    requires parts { blank.parts ≡ L.parts }
+    requires enough { blank.parts ≡ PARTS }
+{
+    let desk: Desk<L> = Desk::new(blank, small_book(alloc)?);
+    let queue = RecordQueue::new(alloc);
+    let mut drain = Drain::begin(rt, alloc, &desk, Some(&queue)).ok()?;
+    registers(rt, alloc, &desk)?;
+    let is_out = is_out(rt, alloc, &desk, &mut drain);
+    queue.close(rt);
+    write_recording(rt, alloc, &queue, path, u64::MAX);
+    Some(is_out && queue.is_written(rt, Duration::ZERO))
+}
+
+/// Whether what was written to a pipe is all of the log.
+fn has_all(alloc: Global, mut pipe: PipeReader) -> Result<bool, Fail> {
+    let mut bytes = Vec::new(alloc);
+    pipe.read_to_end(&mut bytes)?;
+    Ok(bytes.as_slice() == REGISTERS.as_slice())
+}
+
+#[test]
+fn a_recording_that_lacks_entries_is_told_to_have_failed(rt: HostRuntime) -> Result<(), Fail> {
+    let alloc = rt.alloc();
+    let (reader, writer) = pipe(&rt)?;
+    let path = path_of(alloc, &writer)?;
+    let host = Pushed::new(rt, alloc)?;
+    let blank = Blank::new(PARTS);
+    let told = is_told_whole::<Brand, Pushed<HostRuntime>>(&host, alloc, blank, path.as_str());
+    drop(writer);
+    let has_all = has_all(alloc, reader)?;
+    assert_eq!(rt; told, Some(has_all));
+    assert!(rt; has_all || was_refused(alloc));
+    Ok(())
+}
