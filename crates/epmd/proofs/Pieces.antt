@@ -1,5 +1,6 @@
 -- A text that is said in pieces.
-use Rattle.std.proofs.Common.{◌≡◌, ℕ, ◌+◌, ◌<◌, List, [], ◌++◌, length, take, Bool, true, false, Option, Some, None, sym, ap, subst, ◌∙◌, append_assoc, arith}
+use Rattle.std.proofs.Common.{◌≡◌, ℕ, ◌+◌, ◌<◌, List, [], ◌++◌, length, take, Bool, true, false, Option, Some, None, sym, ap, subst, ◌∙◌}
+use Rattle.std.proofs.Common.{append_assoc, arith}
 use Rattle.std.proofs.Math.Seq.{take-append-add}
 use Rattle.std.proofs.lemmas.List.{append-nil, length-append, take-append-le}
 use Rattle.std.specs.Io.KnownBytes.{Appends}
@@ -19,7 +20,8 @@ appends_more (Some xs) (Some ys) (Some zs) first more e f = f ∙ ap (λ (l : Li
 
 -- ---- two pieces
 
-taken_more : (whole : Bool) (a b c : Option (List ℕ)) (first more : List ℕ) → IsTaken first true a b → IsTaken more whole b c → IsTaken (first ++ more) whole a c
+taken_more : (whole : Bool) (a b c : Option (List ℕ)) (first more : List ℕ) → IsTaken first true a b → IsTaken more whole b c
+    → IsTaken (first ++ more) whole a c
 taken_more true a b c first more e f = appends_more a b c first more e f
 taken_more false a b c first more e f =
     let lt : length first + f.0 < length (first ++ more) = omega (arith, length-append first more, f.1) in
@@ -39,13 +41,16 @@ pub record IsLeft (text rest : List ℕ) (old now : Option (List ℕ)) : Type 0 
 pub left_at_first : (text : List ℕ) (old : Option (List ℕ)) → IsLeft text text old old
 left_at_first text old = record { with_rest = λ whole new taken. taken }
 
-pub left_more : (text rest first more : List ℕ) (old now next : Option (List ℕ)) → rest ≡ first ++ more → IsLeft text rest old now → IsTaken first true now next → IsLeft text more old next
+pub left_more : (text rest first more : List ℕ) (old now next : Option (List ℕ)) → rest ≡ first ++ more → IsLeft text rest old now
+    → IsTaken first true now next → IsLeft text more old next
 left_more text rest first more old now next e left taken = record {
   with_rest = λ whole new rest_taken.
-      left.with_rest whole new (subst (λ (t : List ℕ). IsTaken t whole now new) (sym e) (taken_more whole now next new first more taken rest_taken));
+      left.with_rest whole new (subst (λ (t : List ℕ). IsTaken t whole now new) (sym e)
+      (taken_more whole now next new first more taken rest_taken));
 }
 
-pub left_for_good : (text rest first more : List ℕ) (old now next : Option (List ℕ)) → rest ≡ first ++ more → IsLeft text rest old now → IsTaken first false now next → IsTaken text false old next
+pub left_for_good : (text rest first more : List ℕ) (old now next : Option (List ℕ)) → rest ≡ first ++ more → IsLeft text rest old now
+    → IsTaken first false now next → IsTaken text false old next
 left_for_good text rest first more old now next e left taken =
     left.with_rest false next (subst (λ (t : List ℕ). IsTaken t false now next) (sym e) (taken_in_part now next first more taken))
 

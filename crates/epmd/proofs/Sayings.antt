@@ -1,12 +1,14 @@
 -- What words have said so far, one item more at a time.
-use Rattle.std.proofs.Common.{◌≡◌, ℕ, ◌+◌, ◌<◌, ◌≤◌, Bool, true, false, cond, List, [], ◌∷◌, ◌++◌, Option, Some, None, refl, sym, ap, subst, ◌∙◌, ◌||◌, append_assoc, arith, length, map, take, drop, get_or, ◌-◌}
+use Rattle.std.proofs.Common.{◌≡◌, ℕ, ◌+◌, ◌<◌, ◌≤◌, Bool, true, false, cond, List, [], ◌∷◌, ◌++◌, Option, Some, None, refl, sym, ap, subst}
+use Rattle.std.proofs.Common.{◌∙◌, ◌||◌, append_assoc, arith, length, map, take, drop, get_or, ◌-◌}
 use Rattle.std.specs.Option.{option_or}
 use Rattle.std.specs.Prelude.{option_map, is_some}
 use Rattle.std.specs.List.{list_any}
 use Rattle.std.proofs.lemmas.List.{append-nil, take_all}
 use Rattle.std.proofs.lemmas.List.Folds.{list_any-append}
 use Rattle.std.proofs.lemmas.List.Sums.{sum_by_push}
-use Rattle.epmd.specs.Words.{Asked, asked_in, Item, Act, Begins, Spells, last_by, is_action, action_of, port_of, addresses_of, timeout_of, workers_of, recording_of, is_relaxed, is_debug}
+use Rattle.epmd.specs.Words.{Asked, asked_in, Item, Act, Begins, Spells, last_by, is_action, action_of, port_of, addresses_of, timeout_of}
+use Rattle.epmd.specs.Words.{workers_of, recording_of, is_relaxed, is_debug}
 use Rattle.epmd.specs.Meaning.{Holds, Adds}
 use Rattle.epmd.specs.declared.plan.Plan.{Plan}
 
@@ -20,9 +22,11 @@ or_or : {X : Type 0} (a b c : Option X) → option_or (option_or a b) c ≡ opti
 or_or None b c = refl
 or_or (Some x) b c = refl
 
-last_by_push : {X : Type 0} (sets : Item → Option X) (items : List Item) (item : Item) → last_by sets (items ++ item ∷ []) ≡ option_or (sets item) (last_by sets items)
+last_by_push : {X : Type 0} (sets : Item → Option X) (items : List Item) (item : Item)
+    → last_by sets (items ++ item ∷ []) ≡ option_or (sets item) (last_by sets items)
 last_by_push sets [] item = or_none (sets item)
-last_by_push sets (x ∷ xs) item = ap (λ (o : _). option_or o (sets x)) (last_by_push sets xs item) ∙ or_or (sets item) (last_by sets xs) (sets x)
+last_by_push sets (x ∷ xs) item = ap (λ (o : _). option_or o (sets x)) (last_by_push sets xs item)
+    ∙ or_or (sets item) (last_by sets xs) (sets x)
 
 or_false : (b : Bool) → (b || false) ≡ b
 or_false true = refl
@@ -32,7 +36,8 @@ any_push : (test : Item → Bool) (items : List Item) (item : Item) → list_any
 any_push test items item = list_any-append test items (item ∷ []) ∙ ap (λ (b : Bool). list_any test items || b) (or_false (test item))
 
 -- an action comes where none was, and stays
-counted : (item : Item) (old new : Option Asked) → new ≡ option_or (action_of item) old → (is_action item ≡ true → is_some old ≡ false) → cond (is_some new) 1 0 ≡ cond (is_some old) 1 0 + cond (is_action item) 1 0
+counted : (item : Item) (old new : Option Asked) → new ≡ option_or (action_of item) old → (is_action item ≡ true → is_some old ≡ false)
+    → cond (is_some new) 1 0 ≡ cond (is_some old) 1 0 + cond (is_action item) 1 0
 counted (Act asked) old new e first =
     let none : is_some old ≡ false = first refl in
     let some : is_some new ≡ true = ap is_some e in
@@ -45,21 +50,27 @@ is_some_map : {X Y : Type 0} (f : X → Y) (o : Option X) → is_some (option_ma
 is_some_map f None = refl
 is_some_map f (Some x) = refl
 
-pub holds_more : (items : List Item) (item : Item) (old new : Plan) → Holds items old → Adds item old new → (is_action item ≡ true → is_some old.action ≡ false) → Holds (items ++ item ∷ []) new
+pub holds_more : (items : List Item) (item : Item) (old new : Plan) → Holds items old → Adds item old new
+    → (is_action item ≡ true → is_some old.action ≡ false) → Holds (items ++ item ∷ []) new
 holds_more items item old new h a first =
-    let k = counted item (option_map asked_in old.action) (option_map asked_in new.action) a.action (λ is. is_some_map asked_in old.action ∙ first is) in
-    let was : ◌≡◌ {A = ℕ} (cond (is_some (option_map asked_in old.action)) 1 0) (cond (is_some old.action) 1 0) = ap (λ (b : Bool). cond b 1 0) (is_some_map asked_in old.action) in
-    let is : ◌≡◌ {A = ℕ} (cond (is_some (option_map asked_in new.action)) 1 0) (cond (is_some new.action) 1 0) = ap (λ (b : Bool). cond b 1 0) (is_some_map asked_in new.action) in
+    let k = counted item (option_map asked_in old.action) (option_map asked_in new.action) a.action
+    (λ is. is_some_map asked_in old.action ∙ first is) in
+    let was : ◌≡◌ {A = ℕ} (cond (is_some (option_map asked_in old.action)) 1 0) (cond (is_some old.action) 1 0) =
+    ap (λ (b : Bool). cond b 1 0) (is_some_map asked_in old.action) in
+    let is : ◌≡◌ {A = ℕ} (cond (is_some (option_map asked_in new.action)) 1 0) (cond (is_some new.action) 1 0) =
+    ap (λ (b : Bool). cond b 1 0) (is_some_map asked_in new.action) in
     record {
       action = a.action ∙ ap (λ (o : Option Asked). option_or (action_of item) o) h.action ∙ sym (last_by_push action_of items item);
       actions = omega (arith, sum_by_push (λ (x : Item). cond (is_action x) 1 0) items item, h.actions, k, was, is);
       port = a.port ∙ ap (λ (o : Option ℕ). option_or (port_of item) o) h.port ∙ sym (last_by_push port_of items item);
-      addresses = a.addresses ∙ ap (λ (o : Option (List (List ℕ))). option_or (addresses_of item) o) h.addresses ∙ sym (last_by_push addresses_of items item);
+      addresses = a.addresses ∙ ap (λ (o : Option (List (List ℕ))). option_or (addresses_of item) o) h.addresses
+          ∙ sym (last_by_push addresses_of items item);
       timeout = a.timeout ∙ ap (λ (o : Option ℕ). option_or (timeout_of item) o) h.timeout ∙ sym (last_by_push timeout_of items item);
       workers = a.workers ∙ ap (λ (o : Option ℕ). option_or (workers_of item) o) h.workers ∙ sym (last_by_push workers_of items item);
       relaxed = a.relaxed ∙ ap (λ (b : Bool). b || is_relaxed item) h.relaxed ∙ sym (any_push is_relaxed items item);
       debug = a.debug ∙ ap (λ (b : Bool). b || is_debug item) h.debug ∙ sym (any_push is_debug items item);
-      recording = a.recording ∙ ap (λ (o : Option (List ℕ)). option_or (recording_of item) o) h.recording ∙ sym (last_by_push recording_of items item);
+      recording = a.recording ∙ ap (λ (o : Option (List ℕ)). option_or (recording_of item) o) h.recording
+          ∙ sym (last_by_push recording_of items item);
     }
 
 -- these words are said, and this rest is left
@@ -68,23 +79,27 @@ pub record Says (words rest : List (List ℕ)) (plan : Plan) : Type 0 where
   pub with_more : (more : List Item) → Spells rest more → Spells words (items ++ more)
   pub holds : Holds items plan
 
-pub says_more : (words rest after : List (List ℕ)) (item : Item) (old new : Plan) → Says words rest old → Begins item rest after → Adds item old new → (is_action item ≡ true → is_some old.action ≡ false) → Says words after new
+pub says_more : (words rest after : List (List ℕ)) (item : Item) (old new : Plan) → Says words rest old → Begins item rest after
+    → Adds item old new → (is_action item ≡ true → is_some old.action ≡ false) → Says words after new
 says_more words rest after item old new s begins a first = record {
   items = s.items ++ item ∷ [];
-  with_more = λ more spells. subst (Spells words) (sym (append_assoc s.items (item ∷ []) more)) (s.with_more (item ∷ more) (after, begins, spells));
+  with_more = λ more spells. subst (Spells words) (sym (append_assoc s.items (item ∷ []) more))
+      (s.with_more (item ∷ more) (after, begins, spells));
   holds = holds_more s.items item old new s.holds a first;
 }
 
 pub says_none : (words : List (List ℕ)) (plan : Plan) → Holds [] plan → Says words words plan
 says_none words plan h = record { items = []; with_more = λ more spells. spells; holds = h }
 
-pub says_all : {X : Type 0} (f : X → List ℕ) (words : List (List ℕ)) (rest : List X) (plan : Plan) → length rest < 1 → Says words (map f rest) plan → (items : List Item) × Spells words items × Holds items plan
+pub says_all : {X : Type 0} (f : X → List ℕ) (words : List (List ℕ)) (rest : List X) (plan : Plan) → length rest < 1
+    → Says words (map f rest) plan → (items : List Item) × Spells words items × Holds items plan
 says_all f words [] plan none s = (s.items, subst (Spells words) (append-nil s.items) (s.with_more [] refl), s.holds)
 says_all f words (x ∷ xs) plan none s = absurd (omega arith)
 
 -- ---- the words that are left
 
-pub in_front : {X : Type 0} (f : X → List ℕ) (xs : List X) (x : X) → 1 ≤ length xs → x ≡ get_or xs 0 x → f x ∷ map f (take (length xs - 1) (drop 1 xs)) ≡ map f xs
+pub in_front : {X : Type 0} (f : X → List ℕ) (xs : List X) (x : X) → 1 ≤ length xs → x ≡ get_or xs 0 x
+    → f x ∷ map f (take (length xs - 1) (drop 1 xs)) ≡ map f xs
 in_front f [] x some e = absurd (omega arith)
 in_front f (y ∷ ys) x some e =
     let whole = take_all (length (y ∷ ys) - 1) ys (omega arith) in

@@ -28,7 +28,8 @@ use Rattle.epmd.specs.declared.commands.Answer.{Answer}
 use Rattle.epmd.specs.declared.commands.Answer.TheVariants as answer
 use Rattle.epmd.specs.declared.commands.Page.{Page}
 use Rattle.epmd.specs.declared.words.Action.{Action}
-use Rattle.epmd.specs.declared.words.Action.TheVariants.{Serve, Names, Kill as AskKill, Stop as AskStop, Dump, Once, Check, Play, Local, Audit}
+use Rattle.epmd.specs.declared.words.Action.TheVariants.{Serve, Names, Kill as AskKill, Stop as AskStop, Dump, Once, Check, Play, Local}
+use Rattle.epmd.specs.declared.words.Action.TheVariants.{Audit}
 
 -- ---- what is asked
 
@@ -52,10 +53,14 @@ answered make (Err fault) = Err fault
 
 -- the action's request out and its answer in, by the stream before and after
 abbrev pub Asks : Action → StreamView → StreamView → Result Answer ClientFault → Type 0
-Asks Names old new ended = (called : Result (ℕ × Vec Line Global) ClientFault) × Calls request.Names SaysNames old new called × (ended ≡ answered answer.Names called)
-Asks AskKill old new ended = (called : Result Kill ClientFault) × Calls request.Kill SaysKill old new called × (ended ≡ answered answer.Kill called)
-Asks (AskStop name) old new ended = (called : Result Stop ClientFault) × Calls (request.Stop name) SaysStop old new called × (ended ≡ answered answer.Stop called)
-Asks Dump old new ended = (called : Result (ℕ × Vec ℕ Global) ClientFault) × Calls request.Dump SaysDump old new called × (ended ≡ answered answer.Dump called)
+Asks Names old new ended = (called : Result (ℕ × Vec Line Global) ClientFault) × Calls request.Names SaysNames old new called
+    × (ended ≡ answered answer.Names called)
+Asks AskKill old new ended = (called : Result Kill ClientFault) × Calls request.Kill SaysKill old new called
+    × (ended ≡ answered answer.Kill called)
+Asks (AskStop name) old new ended = (called : Result Stop ClientFault) × Calls (request.Stop name) SaysStop old new called
+    × (ended ≡ answered answer.Stop called)
+Asks Dump old new ended = (called : Result (ℕ × Vec ℕ Global) ClientFault) × Calls request.Dump SaysDump old new called
+    × (ended ≡ answered answer.Dump called)
 Asks action old new ended = ⊥
 
 -- ---- what is told
@@ -108,7 +113,8 @@ IsToldOf (Err fault) told = told ≡ Err (failure_of_client fault)
 -- ---- how it ends
 
 -- a text was written whole and passed on, or a front of it, as the output failed, of which errors are told
-pub record Prints (text : List ℕ) (told status : ℕ) (old new : Option (List ℕ)) (broken : Bool) (silent : Type 0) (fails : Failure → Type 0) : Type 0 where
+pub record Prints (text : List ℕ) (told status : ℕ) (old new : Option (List ℕ)) (broken : Bool) (silent : Type 0)
+    (fails : Failure → Type 0) : Type 0 where
   pub written : Result Unit OnceFault
   pub telling : Telling text old new written
   pub ends : EndsWith (λ _. told) failure_of_once status written broken (λ _. silent) fails
@@ -116,5 +122,6 @@ pub record Prints (text : List ℕ) (told status : ℕ) (old new : Option (List 
 -- by what is to be told: a page is printed, and then errors get a line only where the output failed; or they are told a failure,
 -- and the output is left alone
 abbrev pub Tells : Result Page Failure → ℕ → Option (List ℕ) → Option (List ℕ) → Bool → Type 0 → Type 0 → (Failure → Type 0) → Type 0
-Tells (Ok page) status old new broken untouched silent fails = Prints page.text.items page.status status old new broken silent fails × (status ≢ the.FAILED → silent)
+Tells (Ok page) status old new broken untouched silent fails = Prints page.text.items page.status status old new broken silent fails
+    × (status ≢ the.FAILED → silent)
 Tells (Err failure) status old new broken untouched silent fails = (status ≡ status_of failure) × untouched × fails failure

@@ -1,5 +1,6 @@
 -- What the daemon of a command is set to, and how its end is told. Profile.
-use Rattle.std.specs.Prelude.{◌≡◌, ℕ, ◌+◌, ◌==◌, List, [], ◌∷◌, ◌++◌, codes, slice_get, slice_index, if◌then◌else◌, ◌%◌, ◌/◌, ◌^◌, Bool, true, false, string_bytes, Option, Some, None, option_map, Result, Ok, Err}
+use Rattle.std.specs.Prelude.{◌≡◌, ℕ, ◌+◌, ◌==◌, List, [], ◌∷◌, ◌++◌, codes, slice_get, slice_index, if◌then◌else◌, ◌%◌, ◌/◌, ◌^◌, Bool}
+use Rattle.std.specs.Prelude.{true, false, string_bytes, Option, Some, None, option_map, Result, Ok, Err}
 use Rattle.std.specs.Duration.{as_nanos}
 use Rattle.std.specs.Fmt.{decimal}
 use Rattle.std.specs.List.{concat}
@@ -22,7 +23,12 @@ first_by (Some now) = as_nanos now / 1_000_000_000 % 2 ^ 32
 
 -- the port mapper of a command
 abbrev pub config_of : Command → Configuration
-config_of command = record { port = command.port; relaxed = command.relaxed; conn_max = actions.CONNECTIONS_MOST; known_max = actions.NAMES_MOST }
+config_of command = record {
+  port = command.port;
+  relaxed = command.relaxed;
+  conn_max = actions.CONNECTIONS_MOST;
+  known_max = actions.NAMES_MOST;
+}
 
 -- these are the settings of the command at this time
 pub record SetsAs (command : Command) (now : Option Duration) (settings : Settings) : Type 0 where
@@ -60,7 +66,8 @@ served_lines worker (count ∷ counts) = served_line worker count ++ served_line
 abbrev pub unheard_line : List ℕ → ℕ → List ℕ
 unheard_line address port =
     let number = λ (place : ℕ). decimal (slice_index address place) in
-    concat (the.UNHEARD.now ∷ number 0 ∷ codes "." ∷ number 1 ∷ codes "." ∷ number 2 ∷ codes "." ∷ number 3 ∷ codes ":" ∷ decimal port ∷ (10 ∷ []) ∷ [])
+    concat (the.UNHEARD.now ∷ number 0 ∷ codes "." ∷ number 1 ∷ codes "." ∷ number 2 ∷ codes "." ∷ number 3 ∷ codes ":" ∷ decimal port ∷
+    (10 ∷ []) ∷ [])
 
 -- the IPv6 address that goes with this one: that of every address of the host, else that of the host itself
 abbrev pub beside : List ℕ → List ℕ
@@ -72,7 +79,9 @@ unheard_beside address port = concat (the.UNHEARD.now ∷ beside address ∷ dec
 -- with debug output what each worker served; else why it did not serve
 abbrev pub text_of_end : Command → Result RunEnd RunFault → Option (List ℕ)
 text_of_end command (Ok end) = if command.debug then Some (served_lines 1 end.served.items) else None
-text_of_end command (Err (Listen place)) = option_map (λ address. unheard_line address command.port) (slice_get command.addresses.items place)
-text_of_end command (Err (ListenBeside place)) = option_map (λ address. unheard_beside address command.port) (slice_get command.addresses.items place)
+text_of_end command (Err (Listen place)) =
+    option_map (λ address. unheard_line address command.port) (slice_get command.addresses.items place)
+text_of_end command (Err (ListenBeside place)) =
+    option_map (λ address. unheard_beside address command.port) (slice_get command.addresses.items place)
 text_of_end command (Err Poll) = Some (line_of Polling)
 text_of_end command (Err NoMemory) = Some (line_of Memory)

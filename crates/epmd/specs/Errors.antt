@@ -16,4 +16,5 @@ IsSpent errors = (writing_broken errors ≡ true) ⊎ (PUTS_MOST ≤ length (wri
 
 -- this text was said and nothing else: all of it, or a front where no more was taken
 abbrev pub IsSaid : {E : Type 0} → (E → Option (List ℕ)) → List ℕ → Writing E → Writing E → Type 0
-IsSaid contents text old new = (whole : Bool) × IsTaken text whole (contents (writing_inner old)) (contents (writing_inner new)) × (whole ≡ false → IsSpent new)
+IsSaid contents text old new = (whole : Bool) × IsTaken text whole (contents (writing_inner old)) (contents (writing_inner new))
+    × (whole ≡ false → IsSpent new)

@@ -1,13 +1,15 @@
 -- The command that items and the environment make. Profile; epmd(1) has the environment's variables.
 use Rattle.std.specs.Option.{option_or}
-use Rattle.std.specs.Prelude.{◌≡◌, ℕ, ◌+◌, Bool, true, ◌<◌, ◌≤◌, List, [], ◌∷◌, ◌++◌, if◌then◌else◌, ◌||◌, string_bytes, Option, Some, None, option_map, is_some, count_by, unwrap_or}
+use Rattle.std.specs.Prelude.{◌≡◌, ℕ, ◌+◌, Bool, true, ◌<◌, ◌≤◌, List, [], ◌∷◌, ◌++◌, if◌then◌else◌, ◌||◌, string_bytes, Option, Some, None}
+use Rattle.std.specs.Prelude.{option_map, is_some, count_by, unwrap_or}
 use Rattle.std.specs.Fmt.{decimal}
 use Rattle.std.specs.List.{list_any}
 use Rattle.std.specs.declared.io.ErrorKind.{ErrorKind}
 use Rattle.std.specs.declared.io.ErrorKind.TheVariants.{OutOfMemory}
 use Rattle.epmd.specs.Numbers.{IsWithin, WritesWithin}
 use Rattle.epmd.specs.Addresses.{anywhere, AreListening}
-use Rattle.epmd.specs.Words.{Serve, Item, asked_in, action_of, port_of, addresses_of, timeout_of, workers_of, recording_of, is_relaxed, is_debug, is_action, last_by, Spells}
+use Rattle.epmd.specs.Words.{Serve, Item, asked_in, action_of, port_of, addresses_of, timeout_of, workers_of, recording_of, is_relaxed}
+use Rattle.epmd.specs.Words.{is_debug, is_action, last_by, Spells}
 use Rattle.epmd.specs.declared.actions.TheConstants as actions
 use Rattle.epmd.specs.declared.words.TheConstants as words
 use Rattle.epmd.specs.declared.words.WordFault.{WordFault}
@@ -35,7 +37,8 @@ pub record Holds (items : List Item) (plan : Plan) : Type 0 where
 pub record Adds (item : Item) (old new : Plan) : Type 0 where
   pub action : option_map asked_in new.action ≡ option_or (action_of item) (option_map asked_in old.action)
   pub port : new.port ≡ option_or (port_of item) old.port
-  pub addresses : option_map (λ addresses. addresses.items) new.addresses ≡ option_or (addresses_of item) (option_map (λ addresses. addresses.items) old.addresses)
+  pub addresses : option_map (λ addresses. addresses.items) new.addresses
+      ≡ option_or (addresses_of item) (option_map (λ addresses. addresses.items) old.addresses)
   pub timeout : new.timeout ≡ option_or (timeout_of item) old.timeout
   pub workers : new.workers ≡ option_or (workers_of item) old.workers
   pub relaxed : new.relaxed ≡ (old.relaxed || is_relaxed item)

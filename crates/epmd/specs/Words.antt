@@ -80,7 +80,8 @@ BeginsAction (Audit path) words rest = words ≡ codes "-audit" ∷ path ∷ res
 abbrev pub Begins : Item → List (List ℕ) → List (List ℕ) → Type 0
 Begins (Port number) words rest = (value : List ℕ) × (words ≡ codes "-port" ∷ value ∷ rest) × WritesWithin 1 65535 value number
 Begins (Addresses addresses) words rest = (value : List ℕ) × (words ≡ codes "-address" ∷ value ∷ rest) × ListensOn value addresses
-Begins (Timeout seconds) words rest = (value : List ℕ) × (words ≡ codes "-packet_timeout" ∷ value ∷ rest) × WritesWithin 1 86400 value seconds
+Begins (Timeout seconds) words rest = (value : List ℕ) × (words ≡ codes "-packet_timeout" ∷ value ∷ rest)
+    × WritesWithin 1 86400 value seconds
 Begins (Workers number) words rest = (value : List ℕ) × (words ≡ codes "-workers" ∷ value ∷ rest) × WritesWithin 1 64 value number
 Begins Relaxed words rest = words ≡ codes "-relaxed_command_check" ∷ rest
 Begins Debug words rest = (words ≡ codes "-d" ∷ rest) ⊎ (words ≡ codes "-debug" ∷ rest)

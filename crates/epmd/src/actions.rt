@@ -9,7 +9,9 @@ ghost use Rattle.portmap_link.specs.declared.single.OnceFault.{OnceFault};
 ghost use Rattle.portmap_record.specs.Playing.{local_record, IsRemoteRun, Plays, TellsFound};
 ghost use Rattle.portmap_record.specs.declared.verdict.Verdict.{Verdict};
 ghost use Rattle.portmap_record.specs.declared.playing.PlayFault.{PlayFault};
-ghost use Rattle.epmd.specs.Actions.{once_config, status_of, line_of, Fails, TellsVerdict, TellsErrors, Passes, EndsWith, failure_of_once, failure_of_play, status_of_fate, status_of_found, status_of_verdict, IsOfFile, IsSilent, IsToShow, Refuses, tells};
+ghost use Rattle.epmd.specs.Actions.{once_config, status_of, line_of, Fails, TellsVerdict, TellsErrors, Passes, EndsWith, failure_of_once};
+ghost use Rattle.epmd.specs.Actions.{failure_of_play, status_of_fate, status_of_found, status_of_verdict, IsOfFile, IsSilent, IsToShow};
+ghost use Rattle.epmd.specs.Actions.{Refuses, tells};
 
 use crate::errors::{say, say_number};
 use crate::words::Action;
@@ -211,7 +213,8 @@ pub fn do_once<R: Read, W: Write, E: Write>(
         × (let seen = streams R.remaining W.contents in
         Did once_config (seen input.old output.old) (seen input.new output.new) ended
         × MakesTurns TURNS (seen input.old output.old) (seen input.new output.new) ended (λ sent. Err (OnceFault.TooManyTurns sent)))
-        × EndsWith status_of_fate failure_of_once result ended (writing_broken output.new) (λ _. errors.new ≡ errors.old) (Fails E.contents errors.old errors.new) }
+        × EndsWith status_of_fate failure_of_once result ended (writing_broken output.new) (λ _. errors.new ≡ errors.old)
+        (Fails E.contents errors.old errors.new) }
 {
     match serve_once(alloc, input, output) {
         Ok(_) => end(output, errors, DONE),
@@ -260,7 +263,8 @@ fn do_shown<R: Read, W: Write, E: Write>(
         × (let seen = streams R.remaining W.contents in
         Plays (tells action.now) (Refuses action.now) (seen input.old output.old) (seen input.new output.new) ended
         × MakesTurns FILE_TURNS (seen input.old output.old) (seen input.new output.new) ended (λ sent. Err (PlayFault.TooManyTurns sent)))
-        × EndsWith status_of_verdict failure_of_play result ended (writing_broken output.new) (λ _. errors.new ≡ errors.old) (Fails E.contents errors.old errors.new) }
+        × EndsWith status_of_verdict failure_of_play result ended (writing_broken output.new) (λ _. errors.new ≡ errors.old)
+        (Fails E.contents errors.old errors.new) }
 {
     match show(alloc, action, input, output) {
         Ok(is_run) => end(output, errors, status_of_verdict(is_run)),
@@ -274,7 +278,8 @@ fn end_found<W: Write, E: Write>(
     errors: &mut Writing<E>,
     found: Verdict,
 ) -> u8
-    ensures passes { Passes (status_of_found found) result (writing_broken output.new) (TellsVerdict E.contents errors.old errors.new found) (Fails E.contents errors.old errors.new) }
+    ensures passes { Passes (status_of_found found) result (writing_broken output.new)
+        (TellsVerdict E.contents errors.old errors.new found) (Fails E.contents errors.old errors.new) }
     ensures silent { result ≡ DONE → errors.new ≡ errors.old }
     ensures held { Keeps (W.contents (writing_inner output.old)) (W.contents (writing_inner output.new)) }
     ensures puts { writing_puts output.new ≡ writing_puts output.old }
@@ -303,7 +308,8 @@ fn do_local<R: Read, W: Write, E: Write>(
         × (let seen = streams R.remaining W.contents in
         TellsFound local_record IsRemoteRun (seen input.old output.old) (seen input.new output.new) ended
         × MakesTurns FILE_TURNS (seen input.old output.old) (seen input.new output.new) ended (λ sent. Err (PlayFault.TooManyTurns sent)))
-        × EndsWith status_of_found failure_of_play result ended (writing_broken output.new) (TellsVerdict E.contents errors.old errors.new) (Fails E.contents errors.old errors.new) }
+        × EndsWith status_of_found failure_of_play result ended (writing_broken output.new) (TellsVerdict E.contents errors.old errors.new)
+        (Fails E.contents errors.old errors.new) }
 {
     match write_local(alloc, input, output, FILE_TURNS) {
         Ok(found) => end_found(output, errors, found),
@@ -314,8 +320,9 @@ fn do_local<R: Read, W: Write, E: Write>(
 /// Reads a recorded session from `input`, to its end, and writes to `output` what is found of it: for `Check` whether it is a
 /// run of the port mapper's machine, for `Play` every entry before that. For `Local` it writes the session without its remote
 /// peers where it is a run; where it is none, nothing, and `errors` gets the line that tells so. Status 0 for a run, 1 for
-/// none. Status 2 where the bytes are no record, or for `Local` one that begins with an open connection of a remote peer, status 3 where a device failed, `FILE_TURNS` pulls and puts were made and one
-/// more was due, the input has more bytes than a session may have, or memory ran out: `errors` then gets one line.
+/// none. Status 2 where the bytes are no record, or for `Local` one that begins with an open connection of a remote peer, status 3 where a
+/// device failed, `FILE_TURNS` pulls and puts were made and one more was due, the input has more bytes than a session may have, or memory
+/// ran out: `errors` then gets one line.
 ///
 /// The output is flushed at the end, as by `do_once`.
 pub fn do_file<R: Read, W: Write, E: Write>(
@@ -332,7 +339,8 @@ pub fn do_file<R: Read, W: Write, E: Write>(
         × (let seen = streams R.remaining W.contents in
         TellsFound (tells action.now) (Refuses action.now) (seen input.old output.old) (seen input.new output.new) ended
         × MakesTurns FILE_TURNS (seen input.old output.old) (seen input.new output.new) ended (λ sent. Err (PlayFault.TooManyTurns sent)))
-        × EndsWith status_of_found failure_of_play result ended (writing_broken output.new) (TellsErrors action.now E.contents errors.old errors.new) (Fails E.contents errors.old errors.new) }
+        × EndsWith status_of_found failure_of_play result ended (writing_broken output.new)
+        (TellsErrors action.now E.contents errors.old errors.new) (Fails E.contents errors.old errors.new) }
 {
     match action {
         Action::Check(_) | Action::Play(_) => do_shown(alloc, action, input, output, errors),

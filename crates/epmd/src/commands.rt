@@ -4,7 +4,8 @@ ghost use Rattle.portmap_link.specs.Adapters.{writing_inner, writing_broken};
 ghost use Rattle.portmap_client.specs.Exchange.{view};
 ghost use Rattle.portmap_client.specs.declared.fault.ClientFault.{ClientFault};
 ghost use Rattle.epmd.specs.Actions.{Fails};
-ghost use Rattle.epmd.specs.Commands.{IsOfClient, Asks, head_line, names_text, dump_text, kill_told, stop_told, answer_told, IsTold, IsToldOf, Prints, Tells};
+ghost use Rattle.epmd.specs.Commands.{IsOfClient, Asks, head_line, names_text, dump_text, kill_told, stop_told, answer_told, IsTold};
+ghost use Rattle.epmd.specs.Commands.{IsToldOf, Prints, Tells};
 ghost use Rattle.epmd.specs.declared.actions.Failure.{Failure};
 ghost use Rattle.epmd.specs.declared.commands.Answer.{Answer};
 ghost use Rattle.epmd.specs.declared.commands.Page.{Page};
@@ -184,7 +185,8 @@ pub fn print<W: Write, E: Write>(
     text: &[u8],
     status: u8,
 ) -> u8
-    ensures prints { Prints text.now status result (W.contents (writing_inner output.old)) (W.contents (writing_inner output.new)) (writing_broken output.new) (errors.new ≡ errors.old) (Fails E.contents errors.old errors.new) }
+    ensures prints { Prints text.now status result (W.contents (writing_inner output.old)) (W.contents (writing_inner output.new))
+        (writing_broken output.new) (errors.new ≡ errors.old) (Fails E.contents errors.old errors.new) }
     ensures silent { result ≢ FAILED → errors.new ≡ errors.old }
 {
     match write_reply(output, text, TURNS) {
@@ -214,7 +216,8 @@ pub fn do_client<S: Input + Output, W: Write, E: Write>(
         × (let seen = view S.left S.held S.pulls S.puts S.broken in
         Asks action.now (seen stream.old) (seen stream.new) ended)
         × IsToldOf ended told
-        × Tells told result (W.contents (writing_inner output.old)) (W.contents (writing_inner output.new)) (writing_broken output.new) (output.new ≡ output.old) (errors.new ≡ errors.old) (Fails E.contents errors.old errors.new) }
+        × Tells told result (W.contents (writing_inner output.old)) (W.contents (writing_inner output.new)) (writing_broken output.new)
+        (output.new ≡ output.old) (errors.new ≡ errors.old) (Fails E.contents errors.old errors.new) }
 {
     match learn(alloc, action, stream) {
         Ok(page) => print(output, errors, &page.text, page.status),

@@ -1,7 +1,8 @@
 //! The daemon: what it is set to, and how its end is told.
 ghost use Rattle.std.specs.Prelude.{◌≡◌, false, IfOk, IfSome, None};
 ghost use Rattle.portmap_link.specs.Adapters.{writing_inner};
-ghost use Rattle.epmd.specs.Daemon.{SetsAs, beside, first_by, status_of_end, served_line, served_lines, unheard_beside, unheard_line, text_of_end};
+ghost use Rattle.epmd.specs.Daemon.{SetsAs, beside, first_by, status_of_end, served_line, served_lines, unheard_beside, unheard_line};
+ghost use Rattle.epmd.specs.Daemon.{text_of_end};
 ghost use Rattle.epmd.specs.Errors.{IsTaken, IsSpent, IsSaid};
 
 use crate::actions::{CONNECTIONS_MOST, DONE, FAILED, Failure, NAMES_MOST, NOT_DONE, fail};
@@ -64,7 +65,8 @@ pub fn settings(
 
 /// Tells how many acts of the port mapper this worker made.
 fn report_worker<E: Write>(errors: &mut Writing<E>, worker: usize, count: u64) -> bool
-    ensures taken { IsTaken (served_line worker count) result (E.contents (writing_inner errors.old)) (E.contents (writing_inner errors.new)) }
+    ensures taken { IsTaken (served_line worker count) result (E.contents (writing_inner errors.old))
+        (E.contents (writing_inner errors.new)) }
     ensures spent { result ≡ false → IsSpent errors.new }
 {
     say_all(

@@ -25,7 +25,8 @@ pub fn say<E: Write>(errors: &mut Writing<E>, text: &[u8]) -> bool
 
 /// The same, of a text in pieces.
 pub fn say_all<E: Write>(errors: &mut Writing<E>, pieces: &[&[u8]]) -> bool
-    ensures taken { IsTaken (flat_map (λ piece. piece.now) pieces.now) result (E.contents (writing_inner errors.old)) (E.contents (writing_inner errors.new)) }
+    ensures taken { IsTaken (flat_map (λ piece. piece.now) pieces.now) result (E.contents (writing_inner errors.old))
+        (E.contents (writing_inner errors.new)) }
     ensures spent { result ≡ false → IsSpent errors.new }
 {
     for piece in pieces {
@@ -43,7 +44,8 @@ pub fn say_number<E: Write>(
     number: u64,
     behind: &[u8],
 ) -> bool
-    ensures taken { IsTaken (front.now ++ decimal number ++ behind.now) result (E.contents (writing_inner errors.old)) (E.contents (writing_inner errors.new)) }
+    ensures taken { IsTaken (front.now ++ decimal number ++ behind.now) result (E.contents (writing_inner errors.old))
+        (E.contents (writing_inner errors.new)) }
     ensures spent { result ≡ false → IsSpent errors.new }
 {
     let mut digits = Buffer::new();

@@ -96,7 +96,8 @@ fn read_name(alloc: Global, value: &str) -> Result<Option<Name>, NoMemory>
 
 /// What a word says with this value; none where it takes no such value.
 fn with_value(alloc: Global, asks: Valued, value: &str) -> Result<Option<Word>, NoMemory>
-    ensures spelled { IfOk result (λ read. IfSome read (λ said. (rest : List (List ℕ)) → Begins (item_in said) (name_of asks ∷ value.now ∷ rest) rest)) }
+    ensures spelled { IfOk result (λ read. IfSome read
+        (λ said. (rest : List (List ℕ)) → Begins (item_in said) (name_of asks ∷ value.now ∷ rest) rest)) }
     ensures action { IfOk result (λ read. IfSome read (λ said. is_action (item_in said) ≡ asks_action asks)) }
 {
     let text = value.as_bytes();
@@ -146,7 +147,8 @@ pub fn read_word<'a>(
     has_action: bool,
 ) -> Result<(Word, &'a [String]), WordFault>
     requires { place < 2 ^ 63 }
-    ensures spelled { IfOk result (λ read. Begins (item_in read.0) (string_bytes first.now ∷ map string_bytes behind.now) (map string_bytes read.1.now)) }
+    ensures spelled { IfOk result (λ read. Begins (item_in read.0) (string_bytes first.now ∷ map string_bytes behind.now)
+        (map string_bytes read.1.now)) }
     ensures fewer { IfOk result (λ read. length read.1.now ≤ length behind.now) }
     ensures one { IfOk result (λ read. is_action (item_in read.0) ≡ true → has_action ≡ false) }
     ensures fault { IfErr result (λ fault. IsFaultAt place (length behind.now) has_action fault) }

@@ -34,7 +34,8 @@ pub struct Plan {
 /// The port that this text of the environment says, else the usual one.
 fn usual_port(text: &Option<String>) -> Result<u16, WordFault>
     ensures found { IfOk result (λ port. IsPort None (option_map string_bytes text.now) port) }
-    ensures none { IfErr result (λ fault. (fault ≡ WordFault.BadEnvPort) × ((port : ℕ) → IsPort None (option_map string_bytes text.now) port → ⊥)) }
+    ensures none { IfErr result (λ fault. (fault ≡ WordFault.BadEnvPort)
+        × ((port : ℕ) → IsPort None (option_map string_bytes text.now) port → ⊥)) }
 {
     let Some(text) = text else {
         return Ok(PORT);

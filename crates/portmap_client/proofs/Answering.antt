@@ -9,14 +9,16 @@ use Rattle.portmap_client.specs.Fault.{of_reply}
 use Rattle.portmap_client.specs.declared.fault.GivenUp.TheVariants.{NoMemory}
 
 -- of that to a registration
-pub creation_fault : (read bytes : List ℕ) (f : ReplyFault) → bytes ≡ read → Err f ≡ alive_answer bytes → MatchResult (of_reply f) (λ a. SaysCreation read (Err a)) (λ g. g ≡ NoMemory)
+pub creation_fault : (read bytes : List ℕ) (f : ReplyFault) → bytes ≡ read → Err f ≡ alive_answer bytes
+    → MatchResult (of_reply f) (λ a. SaysCreation read (Err a)) (λ g. g ≡ NoMemory)
 creation_fault read bytes reply.Short same fault = ap alive_answer (sym same) ∙ sym fault
 creation_fault read bytes (reply.BadTag tag) same fault = ap alive_answer (sym same) ∙ sym fault
 creation_fault read bytes reply.Strange same fault = ap alive_answer (sym same) ∙ sym fault
 creation_fault read bytes reply.NoMemory same fault = refl
 
 -- of that to a look-up
-pub found_fault : (read bytes : List ℕ) (f : ReplyFault) → bytes ≡ read → GivesReply (Err f) (port2_answer bytes) → MatchResult (of_reply f) (λ a. SaysFound read (Err a)) (λ g. g ≡ NoMemory)
+pub found_fault : (read bytes : List ℕ) (f : ReplyFault) → bytes ≡ read → GivesReply (Err f) (port2_answer bytes)
+    → MatchResult (of_reply f) (λ a. SaysFound read (Err a)) (λ g. g ≡ NoMemory)
 found_fault read bytes reply.Short same gives = ap port2_answer (sym same) ∙ gives
 found_fault read bytes (reply.BadTag tag) same gives = ap port2_answer (sym same) ∙ gives
 found_fault read bytes reply.Strange same gives = ap port2_answer (sym same) ∙ gives

@@ -26,7 +26,8 @@ whole_front bytes old new whole = record {
 }
 
 -- all was written, by a call that is not given up in writing
-writes_all : {X : Type 0} (bytes : List ℕ) (old new : Option (List ℕ)) (result : Result X GivenUp) → result ≢ Err Write → Appends old new bytes → Writes bytes old new result
+writes_all : {X : Type 0} (bytes : List ℕ) (old new : Option (List ℕ)) (result : Result X GivenUp) → result ≢ Err Write
+    → Appends old new bytes → Writes bytes old new result
 writes_all bytes old new (Ok x) reads whole = whole
 writes_all bytes old new (Err Write) reads whole = absurd (reads refl)
 writes_all bytes old new (Err Read) reads whole = whole
@@ -37,7 +38,8 @@ never_write P (Ok x) reads = tt
 never_write P (Err f) reads = λ e. absurd (reads (ap Err e))
 
 -- Laters that were met before count
-waits_longer : {X : Type 0} (old mid new met : ℕ) (result : Result X GivenUp) → mid ≡ old + met → Waits mid (met + new) result → Waits old new result
+waits_longer : {X : Type 0} (old mid new met : ℕ) (result : Result X GivenUp) → mid ≡ old + met → Waits mid (met + new) result
+    → Waits old new result
 waits_longer old mid new met (Ok x) before waits = omega (arith, before, waits)
 waits_longer old mid new met (Err TooManyTurns) before waits = omega (arith, before, waits)
 waits_longer old mid new met (Err f) before waits = omega (arith, before, waits)
@@ -45,15 +47,18 @@ waits_longer old mid new met (Err f) before waits = omega (arith, before, waits)
 no_write : NoMemory ≡ Write → ⊥
 no_write e = cc
 
-keeps_reading : (awaited : Awaited) (a b c : Option (List ℕ)) (read : List ℕ) → Keeps a b → HasRead awaited b c read → HasRead awaited a c read
+keeps_reading : (awaited : Awaited) (a b c : Option (List ℕ)) (read : List ℕ) → Keeps a b → HasRead awaited b c read
+    → HasRead awaited a c read
 keeps_reading awaited a b c read keeps has_read = record {
   reads = Consumes-trans a b c [] read (Consumes-kept a a b [] (Consumes-nil a) keeps) has_read.reads;
   no_further = has_read.no_further;
 }
 
 -- the request was not written whole, so nothing was asked for
-pub not_asked : {X : Type 0} (bytes : List ℕ) (awaited : Awaited) (Says : List ℕ → X → Type 0) (old new : StreamView) (f : GivenUp) (result : Result X GivenUp) → IsErrAnd result (λ e. e ≡ f)
-    → WritesAt bytes old.held new.held f → WaitsAt (laters old.pulls old.puts) (laters new.pulls new.puts) f → (is_device_fault f ≡ true → new.broken ≡ true) → Keeps old.left new.left → new.pulls ≡ old.pulls
+pub not_asked : {X : Type 0} (bytes : List ℕ) (awaited : Awaited) (Says : List ℕ → X → Type 0) (old new : StreamView) (f : GivenUp)
+    (result : Result X GivenUp) → IsErrAnd result (λ e. e ≡ f)
+    → WritesAt bytes old.held new.held f → WaitsAt (laters old.pulls old.puts) (laters new.pulls new.puts) f
+    → (is_device_fault f ≡ true → new.broken ≡ true) → Keeps old.left new.left → new.pulls ≡ old.pulls
     → Exchanges bytes awaited Says old new result
 not_asked bytes awaited Says old new f (Ok x) failed asked waits broken keeps unread = absurd failed
 not_asked bytes awaited Says old new f (Err e) failed asked waits broken keeps unread =
@@ -62,7 +67,10 @@ not_asked bytes awaited Says old new f (Err e) failed asked waits broken keeps u
       unread = λ _. unread;
       answered = record {
         read = [];
-        has_read = record { reads = Consumes-kept old.left old.left new.left [] (Consumes-nil old.left) keeps; no_further = (reads_none awaited old.left).no_further };
+        has_read = record {
+          reads = Consumes-kept old.left old.left new.left [] (Consumes-nil old.left) keeps;
+          no_further = (reads_none awaited old.left).no_further;
+        };
         ended = λ ok. absurd (false≢true ok);
         says = tt;
       };
@@ -72,9 +80,13 @@ not_asked bytes awaited Says old new f (Err e) failed asked waits broken keeps u
     subst (λ (g : GivenUp). Exchanges bytes awaited Says old new (Err g)) (sym failed) whole
 
 -- the request was written whole, and its answer read so far
-pub heard : {X : Type 0} (bytes : List ℕ) (awaited : Awaited) (Says : List ℕ → X → Type 0) (old mid new : StreamView) (met : ℕ) (result : Result X GivenUp) → Appends old.held mid.held bytes → Keeps mid.held new.held
-    → result ≢ Err Write → Keeps old.left mid.left → mid.pulls ≡ old.pulls → Answers awaited Says mid.left new.left mid.pulls new.pulls result
-    → laters mid.pulls mid.puts ≡ laters old.pulls old.puts + met → Waits (laters mid.pulls mid.puts) (met + laters new.pulls new.puts) result → IfErr result (λ f. is_device_fault f ≡ true → new.broken ≡ true)
+pub heard : {X : Type 0} (bytes : List ℕ) (awaited : Awaited) (Says : List ℕ → X → Type 0) (old mid new : StreamView) (met : ℕ)
+    (result : Result X GivenUp) → Appends old.held mid.held bytes → Keeps mid.held new.held
+    → result ≢ Err Write → Keeps old.left mid.left → mid.pulls ≡ old.pulls
+    → Answers awaited Says mid.left new.left mid.pulls new.pulls result
+    → laters mid.pulls mid.puts ≡ laters old.pulls old.puts + met
+    → Waits (laters mid.pulls mid.puts) (met + laters new.pulls new.puts) result
+    → IfErr result (λ f. is_device_fault f ≡ true → new.broken ≡ true)
     → Exchanges bytes awaited Says old new result
 heard bytes awaited Says old mid new met result wrote held reads left pulls answered before waits broken = record {
   asked = writes_all bytes old.held new.held result reads (Appends-kept old.held mid.held new.held bytes wrote held);
@@ -91,31 +103,47 @@ heard bytes awaited Says old mid new met result wrote held reads left pulls answ
 
 -- ---- what a call makes of an exchange
 
-told_from : {X : Type 0} (result : Result X ClientFault) (s : Result AnswerFault GivenUp) → IsErrAnd result (λ e. split e ≡ s) → told_fault s ≡ told result
+told_from : {X : Type 0} (result : Result X ClientFault) (s : Result AnswerFault GivenUp) → IsErrAnd result (λ e. split e ≡ s)
+    → told_fault s ≡ told result
 told_from (Ok x) s failed = absurd failed
 told_from (Err e) s failed = sym (ap told_fault failed)
 
 -- the exchange was given up
-pub gave_up : {X Y : Type 0} {bytes sent : List ℕ} {awaited : Awaited} {SaysX : List ℕ → X → Type 0} {Says : List ℕ → Result Y AnswerFault → Type 0} {old new : StreamView} {f : GivenUp} (result : Result Y ClientFault)
-    → bytes ≡ sent → Exchanges bytes awaited SaysX old new (Err f) → IsErrAnd result (λ e. split e ≡ Err f) → Exchanges sent awaited Says old new (told result)
+pub gave_up : {X Y : Type 0} {bytes sent : List ℕ} {awaited : Awaited} {SaysX : List ℕ → X → Type 0}
+    {Says : List ℕ → Result Y AnswerFault → Type 0} {old new : StreamView} {f : GivenUp} (result : Result Y ClientFault)
+    → bytes ≡ sent → Exchanges bytes awaited SaysX old new (Err f) → IsErrAnd result (λ e. split e ≡ Err f)
+    → Exchanges sent awaited Says old new (told result)
 gave_up {X} {Y} {bytes} {sent} {awaited} {SaysX} {Says} {old} {new} {f} result same exchange failed =
     let given_up : Exchanges bytes awaited Says old new (Err f) = record {
       asked = exchange.asked;
       unread = exchange.unread;
-      answered = record { read = exchange.answered.read; has_read = exchange.answered.has_read; ended = λ ok. absurd (false≢true ok); says = tt };
+      answered = record {
+        read = exchange.answered.read;
+        has_read = exchange.answered.has_read;
+        ended = λ ok. absurd (false≢true ok);
+        says = tt;
+      };
       waits = exchange.waits;
       broken = exchange.broken;
     } in
-    subst (λ (bs : List ℕ). Exchanges bs awaited Says old new (told result)) same (subst (Exchanges bytes awaited Says old new) (told_from result (Err f) failed) given_up)
+    subst (λ (bs : List ℕ). Exchanges bs awaited Says old new (told result)) same
+    (subst (Exchanges bytes awaited Says old new) (told_from result (Err f) failed) given_up)
 
 -- its answer says so, or there was no memory to say it
-pub says : {X Y : Type 0} {bytes sent : List ℕ} {awaited : Awaited} {SaysX : List ℕ → X → Type 0} {Says : List ℕ → Y → Type 0} {old new : StreamView} {x : X} (y : Result Y GivenUp)
-    → bytes ≡ sent → Exchanges bytes awaited SaysX old new (Ok x) → ((read : List ℕ) → SaysX read x → MatchResult y (Says read) (λ f. f ≡ NoMemory)) → Exchanges sent awaited Says old new y
+pub says : {X Y : Type 0} {bytes sent : List ℕ} {awaited : Awaited} {SaysX : List ℕ → X → Type 0} {Says : List ℕ → Y → Type 0}
+    {old new : StreamView} {x : X} (y : Result Y GivenUp)
+    → bytes ≡ sent → Exchanges bytes awaited SaysX old new (Ok x)
+    → ((read : List ℕ) → SaysX read x → MatchResult y (Says read) (λ f. f ≡ NoMemory)) → Exchanges sent awaited Says old new y
 says {X} {Y} {bytes} {sent} {awaited} {SaysX} {Says} {old} {new} {x} (Ok y) same exchange tells =
     let told : Exchanges bytes awaited Says old new (Ok y) = record {
       asked = exchange.asked;
       unread = tt;
-      answered = record { read = exchange.answered.read; has_read = exchange.answered.has_read; ended = λ _. exchange.answered.ended refl; says = tells exchange.answered.read exchange.answered.says };
+      answered = record {
+        read = exchange.answered.read;
+        has_read = exchange.answered.has_read;
+        ended = λ _. exchange.answered.ended refl;
+        says = tells exchange.answered.read exchange.answered.says;
+      };
       waits = exchange.waits;
       broken = tt;
     } in
@@ -125,15 +153,26 @@ says {X} {Y} {bytes} {sent} {awaited} {SaysX} {Says} {old} {new} {x} (Err f) sam
     let forgot : Exchanges bytes awaited Says old new (Err NoMemory) = record {
       asked = whole_front bytes old.held new.held exchange.asked;
       unread = λ e. absurd (no_write e);
-      answered = record { read = exchange.answered.read; has_read = exchange.answered.has_read; ended = λ ok. absurd (false≢true ok); says = tt };
+      answered = record {
+        read = exchange.answered.read;
+        has_read = exchange.answered.has_read;
+        ended = λ ok. absurd (false≢true ok);
+        says = tt;
+      };
       waits = exchange.waits;
       broken = λ fails. absurd (false≢true fails);
     } in
-    subst (λ (bs : List ℕ). Exchanges bs awaited Says old new (Err f)) same (subst (λ (g : GivenUp). Exchanges bytes awaited Says old new (Err g)) memory forgot)
+    subst (λ (bs : List ℕ). Exchanges bs awaited Says old new (Err f)) same
+    (subst (λ (g : GivenUp). Exchanges bytes awaited Says old new (Err g)) memory forgot)
 
 -- the same, where the answer has a fault
-pub says_fault : {X Y : Type 0} {bytes sent : List ℕ} {awaited : Awaited} {SaysX : List ℕ → X → Type 0} {Says : List ℕ → Result Y AnswerFault → Type 0} {old new : StreamView} {x : X} (s : Result AnswerFault GivenUp) (result : Result Y ClientFault)
-    → bytes ≡ sent → Exchanges bytes awaited SaysX old new (Ok x) → IsErrAnd result (λ e. split e ≡ s) → ((read : List ℕ) → SaysX read x → MatchResult s (λ f. Says read (Err f)) (λ f. f ≡ NoMemory))
+pub says_fault : {X Y : Type 0} {bytes sent : List ℕ} {awaited : Awaited} {SaysX : List ℕ → X → Type 0}
+    {Says : List ℕ → Result Y AnswerFault → Type 0} {old new : StreamView} {x : X} (s : Result AnswerFault GivenUp)
+    (result : Result Y ClientFault)
+    → bytes ≡ sent → Exchanges bytes awaited SaysX old new (Ok x) → IsErrAnd result (λ e. split e ≡ s)
+    → ((read : List ℕ) → SaysX read x → MatchResult s (λ f. Says read (Err f)) (λ f. f ≡ NoMemory))
     → Exchanges sent awaited Says old new (told result)
-says_fault {Says = Says} (Ok f) result same exchange failed tells = subst (Exchanges _ _ Says _ _) (told_from result (Ok f) failed) (says (Ok (Err f)) same exchange tells)
-says_fault {Says = Says} (Err f) result same exchange failed tells = subst (Exchanges _ _ Says _ _) (told_from result (Err f) failed) (says (Err f) same exchange tells)
+says_fault {Says = Says} (Ok f) result same exchange failed tells =
+    subst (Exchanges _ _ Says _ _) (told_from result (Ok f) failed) (says (Ok (Err f)) same exchange tells)
+says_fault {Says = Says} (Err f) result same exchange failed tells =
+    subst (Exchanges _ _ Says _ _) (told_from result (Err f) failed) (says (Err f) same exchange tells)

@@ -6,5 +6,6 @@ use Rattle.portmap_link.specs.declared.device.Pull.{Pull}
 use Rattle.portmap_link.specs.Asking.{is_pull_later}
 
 -- a pull more
-pub pulled : (old new : List Pull) (pull : Pull) → new ≡ old ++ pull ∷ [] → count_by is_pull_later new ≡ count_by is_pull_later old + count_by is_pull_later (pull ∷ [])
+pub pulled : (old new : List Pull) (pull : Pull) → new ≡ old ++ pull ∷ []
+    → count_by is_pull_later new ≡ count_by is_pull_later old + count_by is_pull_later (pull ∷ [])
 pulled old new pull more = ap (count_by is_pull_later) more ∙ sum_by-append (λ (p : Pull). cond (is_pull_later p) 1 0) old (pull ∷ [])

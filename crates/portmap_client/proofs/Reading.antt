@@ -16,18 +16,22 @@ pub reads_none : (awaited : Awaited) (a : Option (List ℕ)) → HasRead awaited
 reads_none awaited a = record { reads = Consumes-nil a; no_further = λ n none. absurd (omega (arith, none)) }
 
 -- a front of what was read and of a piece more is unfinished
-front_unfinished : (awaited : Awaited) (read piece : List ℕ) (most n : ℕ) → ((k : ℕ) → k < length read → IsUnfinished awaited (take k read)) → length piece ≤ most
-    → ((more : List ℕ) → length more < most → IsUnfinished awaited (read ++ more)) → n < length (read ++ piece) → (n < length read) ⊎ (length read ≤ n) → IsUnfinished awaited (take n (read ++ piece))
+front_unfinished : (awaited : Awaited) (read piece : List ℕ) (most n : ℕ)
+    → ((k : ℕ) → k < length read → IsUnfinished awaited (take k read)) → length piece ≤ most
+    → ((more : List ℕ) → length more < most → IsUnfinished awaited (read ++ more)) → n < length (read ++ piece)
+    → (n < length read) ⊎ (length read ≤ n) → IsUnfinished awaited (take n (read ++ piece))
 front_unfinished awaited read piece most n before small missing within (inl less) =
     subst (IsUnfinished awaited) (sym (take-append-le n read piece (omega (arith, less)))) (before n less)
 front_unfinished awaited read piece most n before small missing within (inr more) =
     let k : ℕ = n - length read in
     let at : length read + k ≡ n = omega (arith, more) in
     let part : length (take k piece) < most = omega (arith, length-take k piece, length-append read piece, within, small, more) in
-    subst (λ (m : ℕ). IsUnfinished awaited (take m (read ++ piece))) at (subst (IsUnfinished awaited) (sym (take-append-add read piece k)) (missing (take k piece) part))
+    subst (λ (m : ℕ). IsUnfinished awaited (take m (read ++ piece))) at
+    (subst (IsUnfinished awaited) (sym (take-append-add read piece k)) (missing (take k piece) part))
 
 -- a piece more, of no more bytes than the answer has at least
-reads_on : (awaited : Awaited) (a b c : Option (List ℕ)) (read piece : List ℕ) (most : ℕ) → HasRead awaited a b read → Consumes b c piece → length piece ≤ most
+reads_on : (awaited : Awaited) (a b c : Option (List ℕ)) (read piece : List ℕ) (most : ℕ) → HasRead awaited a b read → Consumes b c piece
+    → length piece ≤ most
     → ((more : List ℕ) → length more < most → IsUnfinished awaited (read ++ more)) → HasRead awaited a c (read ++ piece)
 reads_on awaited a b c read piece most so_far one small missing = record {
   reads = Consumes-trans a b c read piece so_far.reads one;
@@ -35,13 +39,18 @@ reads_on awaited a b c read piece most so_far one small missing = record {
 }
 
 -- the front of a buffer that holds no more bytes than the answer has at least
-pub reads_front : (awaited : Awaited) (a b c : Option (List ℕ)) (read bytes buffer : List ℕ) (count most : ℕ) → HasRead awaited a b read → Consumes b c (take count buffer) → length buffer ≤ most
-    → bytes ≡ read → ((more : List ℕ) → length more < most → IsUnfinished awaited (bytes ++ more)) → HasRead awaited a c (read ++ take count buffer)
+pub reads_front : (awaited : Awaited) (a b c : Option (List ℕ)) (read bytes buffer : List ℕ) (count most : ℕ) → HasRead awaited a b read
+    → Consumes b c (take count buffer) → length buffer ≤ most
+    → bytes ≡ read → ((more : List ℕ) → length more < most → IsUnfinished awaited (bytes ++ more))
+    → HasRead awaited a c (read ++ take count buffer)
 reads_front awaited a b c read bytes buffer count most so_far one small same missing =
     let piece_small : length (take count buffer) ≤ most = omega (arith, length-take count buffer, small) in
-    reads_on awaited a b c read (take count buffer) most so_far one piece_small (subst (λ (bs : List ℕ). (more : List ℕ) → length more < most → IsUnfinished awaited (bs ++ more)) same missing)
+    reads_on awaited a b c read (take count buffer) most so_far one piece_small
+    (subst (λ (bs : List ℕ). (more : List ℕ) → length more < most → IsUnfinished awaited (bs ++ more)) same missing)
 
 -- a call that is given up says nothing of what was read
-pub stops : {X : Type 0} (awaited : Awaited) (Says : List ℕ → X → Type 0) (a b : Option (List ℕ)) (asked answered : List Pull) (read : List ℕ) (result : Result X GivenUp) → IsErr result → HasRead awaited a b read → Answers awaited Says a b asked answered result
+pub stops : {X : Type 0} (awaited : Awaited) (Says : List ℕ → X → Type 0) (a b : Option (List ℕ)) (asked answered : List Pull)
+    (read : List ℕ) (result : Result X GivenUp) → IsErr result → HasRead awaited a b read → Answers awaited Says a b asked answered result
 stops awaited Says a b asked answered read (Ok x) failed has_read = absurd (false≢true failed)
-stops awaited Says a b asked answered read (Err f) failed has_read = record { read = read; has_read = has_read; ended = λ ok. absurd (false≢true ok); says = tt }
+stops awaited Says a b asked answered read (Err f) failed has_read =
+    record { read = read; has_read = has_read; ended = λ ok. absurd (false≢true ok); says = tt }

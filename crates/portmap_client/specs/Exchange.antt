@@ -32,8 +32,10 @@ pub record StreamView : Type 0 where
   pub puts : List Put
   pub broken : Bool
 
-abbrev pub view : {S : Type 0} → (S → Option (List ℕ)) → (S → Option (List ℕ)) → (S → List Pull) → (S → List Put) → (S → Bool) → S → StreamView
-view left held pulls puts broken stream = record { left = left stream; held = held stream; pulls = pulls stream; puts = puts stream; broken = broken stream }
+abbrev pub view : {S : Type 0} → (S → Option (List ℕ)) → (S → Option (List ℕ)) → (S → List Pull) → (S → List Put) → (S → Bool) → S
+    → StreamView
+view left held pulls puts broken stream =
+    record { left = left stream; held = held stream; pulls = pulls stream; puts = puts stream; broken = broken stream }
 
 -- ---- what is written
 
@@ -84,7 +86,8 @@ pub record HasRead (awaited : Awaited) (old new : Option (List ℕ)) (read : Lis
 
 -- what was read for a call with this result, by the bytes that were left and the answers of the pulls before and after
 -- it. Unless it was given up, the answer was read whole or up to the end, and says so
-pub record Answers {X : Type 0} (awaited : Awaited) (Says : List ℕ → X → Type 0) (old new : Option (List ℕ)) (asked answered : List Pull) (result : Result X GivenUp) : Type 0 where
+pub record Answers {X : Type 0} (awaited : Awaited) (Says : List ℕ → X → Type 0) (old new : Option (List ℕ)) (asked answered : List Pull)
+    (result : Result X GivenUp) : Type 0 where
   pub read : List ℕ
   pub has_read : HasRead awaited old new read
   pub ended : IsOk result → IsUnfinished awaited read → IsEnded new asked answered
@@ -103,7 +106,8 @@ is_device_fault Read = true
 is_device_fault f = false
 
 -- these bytes out and such an answer in, and nothing is asked for before they are out
-pub record Exchanges {X : Type 0} (bytes : List ℕ) (awaited : Awaited) (Says : List ℕ → X → Type 0) (old new : StreamView) (result : Result X GivenUp) : Type 0 where
+pub record Exchanges {X : Type 0} (bytes : List ℕ) (awaited : Awaited) (Says : List ℕ → X → Type 0) (old new : StreamView)
+    (result : Result X GivenUp) : Type 0 where
   pub asked : Writes bytes old.held new.held result
   pub unread : IfErr result (λ f. f ≡ Write → new.pulls ≡ old.pulls)
   pub answered : Answers awaited Says old.left new.left old.pulls new.pulls result
@@ -111,5 +115,6 @@ pub record Exchanges {X : Type 0} (bytes : List ℕ) (awaited : Awaited) (Says :
   pub broken : IfErr result (λ f. is_device_fault f ≡ true → new.broken ≡ true)
 
 -- a request out and its answer in
-abbrev pub Calls : {X : Type 0} → Request → (List ℕ → Result X AnswerFault → Type 0) → StreamView → StreamView → Result X ClientFault → Type 0
+abbrev pub Calls : {X : Type 0} → Request → (List ℕ → Result X AnswerFault → Type 0) → StreamView → StreamView → Result X ClientFault
+    → Type 0
 Calls request Says old new result = Exchanges (sent request) (awaited_by request) Says old new (told result)

@@ -1,9 +1,11 @@
 -- A line of a list, and where the next one begins.
-use Rattle.std.proofs.Common.{◌≡◌, ℕ, suc, ◌+◌, ◌-◌, ◌<◌, ◌≤◌, List, [], ◌∷◌, ◌++◌, length, take, drop, None, Some, refl, sym, ap, subst, ◌∙◌, arith, append_assoc}
+use Rattle.std.proofs.Common.{◌≡◌, ℕ, suc, ◌+◌, ◌-◌, ◌<◌, ◌≤◌, List, [], ◌∷◌, ◌++◌, length, take, drop, None, Some, refl, sym, ap, subst}
+use Rattle.std.proofs.Common.{◌∙◌, arith, append_assoc}
 use Rattle.std.specs.Prelude.{codes, position, slice_index_or}
 use Rattle.std.proofs.Math.Seq.{take-append-add}
 use Rattle.std.proofs.lemmas.List.{length-append, length-take, take-append-drop, drop-take, drop-drop}
-use Rattle.portmap_wire.specs.ListReading.{HasNoNewline, HasNoReading, IsCut, IsList, IsListFault, IsStrange, Lists, ListsTo, ReadsLine, is_newline}
+use Rattle.portmap_wire.specs.ListReading.{HasNoNewline, HasNoReading, IsCut, IsList, IsListFault, IsStrange, Lists, ListsTo, ReadsLine}
+use Rattle.portmap_wire.specs.ListReading.{is_newline}
 use Rattle.portmap_wire.specs.declared.list.Line.{Line}
 use Rattle.portmap_wire.specs.declared.list_reading.ListFault.{ListFault}
 use Rattle.portmap_wire.specs.declared.list_reading.ListFault.TheVariants as fault
@@ -27,8 +29,10 @@ only_cut (x ∷ a) b (y ∷ c) plain e =
     let rest = only_cut a b c (λ k d lt. plain (suc k) d (omega arith)) cc in
     λ i. first i ∷ rest i
 
-first_reads : (text front : List ℕ) (line : Line) (lines : List Line) → ListsTo text (line ∷ lines) [] → IsOneLine text front → ReadsLine front line
-first_reads text front line lines l one = subst (λ (t : List ℕ). ReadsLine t line) (only_cut l.0 l.1 front one.front_is (sym l.2 ∙ one.text_is)) l.3
+first_reads : (text front : List ℕ) (line : Line) (lines : List Line) → ListsTo text (line ∷ lines) [] → IsOneLine text front
+    → ReadsLine front line
+first_reads text front line lines l one =
+    subst (λ (t : List ℕ). ReadsLine t line) (only_cut l.0 l.1 front one.front_is (sym l.2 ∙ one.text_is)) l.3
 
 behind_head : (list : List ℕ) (port : ℕ) (lines : List Line) (l : Lists list port lines) → ListsTo (drop 4 list) lines []
 behind_head list port lines l = subst (λ (t : List ℕ). ListsTo t lines []) (sym (ap (λ (t : List ℕ). drop 4 t) l.bytes_are)) l.lines_are
@@ -37,24 +41,30 @@ not_empty : (text front : List ℕ) → text ≡ [] → IsOneLine text front →
 not_empty text front e one = omega (arith, ap length e, ap length one.text_is, length-append front (10 ∷ []))
 
 -- the first line of a list is read
-pub reads_first : (list front : List ℕ) (port : ℕ) (lines : List Line) (line : Line) → Lists list port lines → 0 < length lines → line ≡ slice_index_or lines 0 line → IsOneLine (drop 4 list) front → ReadsLine front line
+pub reads_first : (list front : List ℕ) (port : ℕ) (lines : List Line) (line : Line) → Lists list port lines → 0 < length lines
+    → line ≡ slice_index_or lines 0 line → IsOneLine (drop 4 list) front → ReadsLine front line
 reads_first list front port [] line l some is one = absurd (omega (arith, some))
-reads_first list front port (m ∷ lines) line l some is one = subst (ReadsLine front) (sym is) (first_reads (drop 4 list) front m lines (behind_head list port (m ∷ lines) l) one)
+reads_first list front port (m ∷ lines) line l some is one =
+    subst (ReadsLine front) (sym is) (first_reads (drop 4 list) front m lines (behind_head list port (m ∷ lines) l) one)
 
-pub reads_some : (list front : List ℕ) (port : ℕ) (lines : List Line) → Lists list port lines → length lines ≡ 0 → IsOneLine (drop 4 list) front → ⊥
+pub reads_some : (list front : List ℕ) (port : ℕ) (lines : List Line) → Lists list port lines → length lines ≡ 0
+    → IsOneLine (drop 4 list) front → ⊥
 reads_some list front port [] l none one = not_empty (drop 4 list) front (behind_head list port [] l) one
 reads_some list front port (m ∷ lines) l none one = absurd (omega (arith, none))
 
 -- or why it isn't
-reads_list : (list front : List ℕ) (port : ℕ) (lines : List Line) → Lists list port lines → IsOneLine (drop 4 list) front → (line : Line) × ReadsLine front line
+reads_list : (list front : List ℕ) (port : ℕ) (lines : List Line) → Lists list port lines → IsOneLine (drop 4 list) front
+    → (line : Line) × ReadsLine front line
 reads_list list front port [] l one = absurd (not_empty (drop 4 list) front (behind_head list port [] l) one)
 reads_list list front port (m ∷ lines) l one = (m, first_reads (drop 4 list) front m lines (behind_head list port (m ∷ lines) l) one)
 
-pub reads_none : (list front : List ℕ) (f : ListFault) → 4 ≤ length list → IsListFault list f → (f ≡ fault.NoMemory → IsList list) → IsOneLine (drop 4 list) front → IsReadingFault front f
+pub reads_none : (list front : List ℕ) (f : ListFault) → 4 ≤ length list → IsListFault list f → (f ≡ fault.NoMemory → IsList list)
+    → IsOneLine (drop 4 list) front → IsReadingFault front f
 reads_none list front fault.Short long h memory one = absurd (omega (arith, long, h))
 reads_none list front (fault.StrangeLine at) long h memory one = λ line r.
     let text_is : h.text ≡ front ++ 10 ∷ [] = sym (ap (λ (t : List ℕ). drop 4 t) h.bytes_are) ∙ one.text_is in
-    let lists : Lists list h.port (line ∷ []) = record { port_is = h.port_is; text = h.text; bytes_are = h.bytes_are; lines_are = (front, [], text_is, r, refl) } in
+    let lists : Lists list h.port (line ∷ []) =
+    record { port_is = h.port_is; text = h.text; bytes_are = h.bytes_are; lines_are = (front, [], text_is, r, refl) } in
     let never : fault.StrangeLine at ≡ fault.NoMemory = (lists_once list h.port (line ∷ []) lists).faultless (fault.StrangeLine at) h in
     cc
 reads_none list front fault.NoMemory long h memory one = let l = memory refl in reads_list list front l.0 l.1 l.2 one
@@ -64,7 +74,8 @@ reads_none list front fault.NoMemory long h memory one = let l = memory refl in 
 assoc : (t n m p d z : List ℕ) → t ++ (n ++ m ++ p ++ d ++ z) ≡ t ++ n ++ m ++ (p ++ d ++ z)
 assoc t n m p d z =
     let inner : n ++ m ++ p ++ d ++ z ≡ n ++ (m ++ (p ++ d ++ z)) =
-    append_assoc (n ++ m ++ p) d z ∙ append_assoc (n ++ m) p (d ++ z) ∙ append_assoc n m (p ++ (d ++ z)) ∙ ap (λ (u : List ℕ). n ++ (m ++ u)) (sym (append_assoc p d z)) in
+    append_assoc (n ++ m ++ p) d z ∙ append_assoc (n ++ m) p (d ++ z) ∙ append_assoc n m (p ++ (d ++ z))
+    ∙ ap (λ (u : List ℕ). n ++ (m ++ u)) (sym (append_assoc p d z)) in
     ap (λ (u : List ℕ). t ++ u) inner ∙ sym (append_assoc t n (m ++ (p ++ d ++ z))) ∙ sym (append_assoc (t ++ n) m (p ++ d ++ z))
 
 module _ (bytes : List ℕ) (at size : ℕ) (found : Some size ≡ position is_newline (drop at bytes)) where
@@ -73,13 +84,19 @@ module _ (bytes : List ℕ) (at size : ℕ) (found : Some size ≡ position is_n
 
   -- its number of bytes
   pub size_is : length (take size (drop at bytes)) ≡ size
-  size_is = omega (arith, ap length cut.text_is, length-append (take size (drop at bytes)) (10 ∷ drop 1 (drop size (drop at bytes))), length-take size (drop at bytes))
+  size_is = omega (
+    arith,
+    ap length cut.text_is,
+    length-append (take size (drop at bytes)) (10 ∷ drop 1 (drop size (drop at bytes))),
+    length-take size (drop at bytes),
+  )
 
   one_more : take (size + 1) (drop at bytes) ≡ take size (drop at bytes) ++ 10 ∷ []
   one_more =
       let front = take size (drop at bytes) in
       let after = drop 1 (drop size (drop at bytes)) in
-      ap (λ (t : List ℕ). take (size + 1) t) cut.text_is ∙ ap (λ (n : ℕ). take (n + 1) (front ++ 10 ∷ after)) (sym size_is) ∙ take-append-add front (10 ∷ after) 1
+      ap (λ (t : List ℕ). take (size + 1) t) cut.text_is ∙ ap (λ (n : ℕ). take (n + 1) (front ++ 10 ∷ after)) (sym size_is)
+      ∙ take-append-add front (10 ∷ after) 1
 
   -- with four bytes in front of it, it is a list of one line
   pub window : 4 ≤ at → IsOneLine (drop 4 (take (at + size + 1 - (at - 4)) (drop (at - 4) bytes))) (take size (drop at bytes))
@@ -114,7 +131,8 @@ module _ (bytes : List ℕ) (at size : ℕ) (found : Some size ≡ position is_n
     unfolding head rest
     named =
         let after = 10 ∷ drop 1 (drop size (drop at bytes)) in
-        sym (take-append-drop at bytes) ∙ ap (λ (t : List ℕ). take at bytes ++ t) (cut.text_is ∙ ap (λ (t : List ℕ). t ++ after) reads.shape.text_is)
+        sym (take-append-drop at bytes) ∙ ap (λ (t : List ℕ). take at bytes ++ t)
+        (cut.text_is ∙ ap (λ (t : List ℕ). t ++ after) reads.shape.text_is)
         ∙ assoc (take at bytes) (codes "name ") line.name (codes " at port ") reads.shape.digits after
 
     named_in : text_in bytes name_of ≡ line.name
@@ -133,7 +151,8 @@ module _ (bytes : List ℕ) (at size : ℕ) (found : Some size ≡ position is_n
         )
 
     -- the line is the next one
-    pub next_line : IsNextLine bytes at (at + size + 1) (record { name = record { at = at + 5; size = length line.name }; port = line.port })
+    pub next_line : IsNextLine bytes at (at + size + 1)
+        (record { name = record { at = at + 5; size = length line.name }; port = line.port })
     unfolding name_of
     next_line = record {
       front = take size (drop at bytes);
@@ -147,7 +166,11 @@ module _ (bytes : List ℕ) (at size : ℕ) (found : Some size ≡ position is_n
 -- ---- why no line was read
 
 strange_fault : (text : List ℕ) → IsStrange text → IsLineFault text EPMD_STRANGE_LINE
-strange_fault text s = record { strange = λ _. s; memory = λ e. absurd (let other : EPMD_STRANGE_LINE ≡ EPMD_NO_MEMORY = e in cc); no_other = λ other. absurd (other refl) }
+strange_fault text s = record {
+  strange = λ _. s;
+  memory = λ e. absurd (let other : EPMD_STRANGE_LINE ≡ EPMD_NO_MEMORY = e in cc);
+  no_other = λ other. absurd (other refl);
+}
 
 pub uncut_fault : (text : List ℕ) → 0 < length text → None ≡ position is_newline text → IsLineFault text EPMD_STRANGE_LINE
 uncut_fault text some e = strange_fault text (strange_uncut text some (not_cut text e))
@@ -155,8 +178,13 @@ uncut_fault text some e = strange_fault text (strange_uncut text some (not_cut t
 cut_fault : (text front after : List ℕ) → IsCut text front after → HasNoReading front → IsLineFault text EPMD_STRANGE_LINE
 cut_fault text front after cut unread = strange_fault text (strange_cut text front after cut unread)
 
-pub line_fault : (text front after : List ℕ) (f : ListFault) → IsCut text front after → IsReadingFault front f → IsLineFault text (line_status f)
+pub line_fault : (text front after : List ℕ) (f : ListFault) → IsCut text front after → IsReadingFault front f
+    → IsLineFault text (line_status f)
 line_fault text front after fault.Short cut unread = cut_fault text front after cut unread
 line_fault text front after (fault.StrangeLine at) cut unread = cut_fault text front after cut unread
 line_fault text front after fault.NoMemory cut read =
-    record { strange = λ e. absurd (let other : EPMD_NO_MEMORY ≡ EPMD_STRANGE_LINE = e in cc); memory = λ _. (front, after, read.0, cut.text_is, read.1); no_other = λ _. refl }
+    record {
+      strange = λ e. absurd (let other : EPMD_NO_MEMORY ≡ EPMD_STRANGE_LINE = e in cc);
+      memory = λ _. (front, after, read.0, cut.text_is, read.1);
+      no_other = λ _. refl;
+    }

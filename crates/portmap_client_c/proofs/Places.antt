@@ -14,15 +14,18 @@ use Rattle.portmap_client_c.specs.declared.node.EpmdText.{EpmdText}
 pub lies : (head text tail : List ℕ) → take (length text) (drop (length head) (head ++ text ++ tail)) ≡ text
 lies head text tail =
     let past : drop (length head) (head ++ text ++ tail) ≡ text ++ tail =
-    drop-append-le (length head) (head ++ text) tail (omega (arith, length-append head text)) ∙ ap (λ (t : List ℕ). t ++ tail) (drop-append_seam head text) in
+    drop-append-le (length head) (head ++ text) tail (omega (arith, length-append head text))
+    ∙ ap (λ (t : List ℕ). t ++ tail) (drop-append_seam head text) in
     ap (take (length text)) past ∙ take-append_seam text tail
 
 -- the same of bytes that are so, at a place that is told
-pub lies_at : (bytes head text tail : List ℕ) (place : EpmdText) → bytes ≡ head ++ text ++ tail → place.at ≡ length head → place.size ≡ length text → text_in bytes place ≡ text
+pub lies_at : (bytes head text tail : List ℕ) (place : EpmdText) → bytes ≡ head ++ text ++ tail → place.at ≡ length head
+    → place.size ≡ length text → text_in bytes place ≡ text
 lies_at bytes head text tail place is at size =
     rw (is, at, size) (lies head text tail)
 
-within : (bytes head text tail : List ℕ) (place : EpmdText) → bytes ≡ head ++ text ++ tail → place.at ≡ length head → place.size ≡ length text → place.at + place.size ≤ length bytes
+within : (bytes head text tail : List ℕ) (place : EpmdText) → bytes ≡ head ++ text ++ tail → place.at ≡ length head
+    → place.size ≡ length text → place.at + place.size ≤ length bytes
 within bytes head text tail place is at size =
     omega (arith, ap length is, at, size, length-append (head ++ text) tail, length-append head text)
 
@@ -33,7 +36,8 @@ front g = PORT2_RESP ∷ 0 ∷ (be2 g.port ++ (g.kind ∷ g.proto ∷ []) ++ be2
 module _ (bytes : List ℕ) (g : Node) (found : EpmdFound) (is : IsFound bytes g) (places : PlacesIn 12 2 g found) where
   by_name : bytes ≡ front g ++ g.name ++ (be2 (length g.extra) ++ g.extra ++ is.more)
   unfolding front
-  by_name = is.text ∙ append_assoc (front g ++ g.name ++ be2 (length g.extra)) g.extra is.more ∙ append_assoc (front g ++ g.name) (be2 (length g.extra)) (g.extra ++ is.more)
+  by_name = is.text ∙ append_assoc (front g ++ g.name ++ be2 (length g.extra)) g.extra is.more
+      ∙ append_assoc (front g ++ g.name) (be2 (length g.extra)) (g.extra ++ is.more)
       ∙ ap (λ (t : List ℕ). front g ++ g.name ++ t) (sym (append_assoc (be2 (length g.extra)) g.extra is.more))
 
   by_extra : bytes ≡ (front g ++ g.name ++ be2 (length g.extra)) ++ g.extra ++ is.more
@@ -55,7 +59,8 @@ module _ (bytes : List ℕ) (g : Node) (found : EpmdFound) (is : IsFound bytes g
       let name = lies_at bytes (front g) g.name behind found.name by_name name_at places.name_size in
       let extra = lies_at bytes before g.extra is.more found.extra by_extra extra_at places.extra_size in
       record {
-        node = places.node ∙ ap (λ (t : List ℕ). node_of found.node t g.extra) (sym name) ∙ ap (λ (t : List ℕ). node_of found.node (text_in bytes found.name) t) (sym extra);
+        node = places.node ∙ ap (λ (t : List ℕ). node_of found.node t g.extra) (sym name)
+            ∙ ap (λ (t : List ℕ). node_of found.node (text_in bytes found.name) t) (sym extra);
         name = within bytes (front g) g.name behind found.name by_name name_at places.name_size;
         extra = within bytes before g.extra is.more found.extra by_extra extra_at places.extra_size;
       }

@@ -20,7 +20,8 @@ use Rattle.portmap_client_c.specs.Status.{client_status}
 use Rattle.portmap_client_c.specs.Writing.{Puts, PutsList}
 use Rattle.portmap_client_c.specs.declared.node.EpmdAlive.{EpmdAlive}
 use Rattle.portmap_client_c.specs.declared.node.EpmdFound.{EpmdFound}
-use Rattle.portmap_client_c.specs.declared.status.TheConstants.{EPMD_OK, EPMD_NOT_REGISTERED, EPMD_NO_EXIST, EPMD_NOT_ALLOWED, EPMD_NO_MEMORY}
+use Rattle.portmap_client_c.specs.declared.status.TheConstants.{EPMD_OK, EPMD_NOT_REGISTERED, EPMD_NO_EXIST, EPMD_NOT_ALLOWED}
+use Rattle.portmap_client_c.specs.declared.status.TheConstants.{EPMD_NO_MEMORY}
 
 -- the calls, by what they leave of a stream and what they answer
 abbrev pub Registers : Node → StreamView → StreamView → Result ℕ ClientFault → Type 0
@@ -42,7 +43,8 @@ abbrev pub Stops : List ℕ → StreamView → StreamView → Result Stop Client
 Stops name old new answer = Calls (request.Stop name) SaysStop old new answer
 
 -- such a call was made, and this is told of its answer
-pub record Asks {X : Type 0} (Called : StreamView → StreamView → Result X ClientFault → Type 0) (old new : StreamView) (Tells : Result X ClientFault → Type 0) : Type 0 where
+pub record Asks {X : Type 0} (Called : StreamView → StreamView → Result X ClientFault → Type 0) (old new : StreamView)
+    (Tells : Result X ClientFault → Type 0) : Type 0 where
   pub answer : Result X ClientFault
   pub called : Called old new answer
   pub tells : Tells answer
@@ -52,7 +54,8 @@ abbrev pub unasked : StreamView
 unasked = record { left = None; held = None; pulls = []; puts = []; broken = false }
 
 -- such a call was made over such a stream
-pub record AsksOnce {X : Type 0} (Called : StreamView → StreamView → Result X ClientFault → Type 0) (Tells : Result X ClientFault → Type 0) : Type 0 where
+pub record AsksOnce {X : Type 0} (Called : StreamView → StreamView → Result X ClientFault → Type 0)
+    (Tells : Result X ClientFault → Type 0) : Type 0 where
   pub after : StreamView
   pub asks : Asks Called unasked after Tells
 

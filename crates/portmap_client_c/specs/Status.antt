@@ -9,7 +9,8 @@ use Rattle.portmap_wire.specs.declared.list_reading.ListFault.TheVariants as lis
 use Rattle.portmap_client.specs.declared.fault.ClientFault.{ClientFault}
 use Rattle.portmap_client.specs.declared.fault.ClientFault.TheVariants as client
 use Rattle.portmap_client_c.specs.declared.status.TheConstants.{EPMD_REFUSED, EPMD_WRITE, EPMD_READ, EPMD_TOO_MANY_TURNS, EPMD_TOO_LONG}
-use Rattle.portmap_client_c.specs.declared.status.TheConstants.{EPMD_NAME_EMPTY, EPMD_NAME_TOO_LONG, EPMD_NAME_BAD_BYTE, EPMD_SHORT, EPMD_BAD_TAG}
+use Rattle.portmap_client_c.specs.declared.status.TheConstants.{EPMD_NAME_EMPTY, EPMD_NAME_TOO_LONG, EPMD_NAME_BAD_BYTE, EPMD_SHORT}
+use Rattle.portmap_client_c.specs.declared.status.TheConstants.{EPMD_BAD_TAG}
 use Rattle.portmap_client_c.specs.declared.status.TheConstants.{EPMD_STRANGE, EPMD_STRANGE_LINE, EPMD_NO_MEMORY}
 
 abbrev pub name_status : NameFault → ℤ

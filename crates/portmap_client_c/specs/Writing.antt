@@ -20,7 +20,15 @@ use Rattle.portmap_client_c.specs.declared.writing.Unmade.TheVariants.{Refused, 
 
 -- the node of these numbers and texts
 abbrev pub node_of : EpmdNode → List ℕ → List ℕ → Node
-node_of n name extra = record { port = n.port; kind = n.kind; proto = n.protocol; high = n.highest; low = n.lowest; name = name; extra = extra }
+node_of n name extra = record {
+  port = n.port;
+  kind = n.kind;
+  proto = n.protocol;
+  high = n.highest;
+  low = n.lowest;
+  name = name;
+  extra = extra;
+}
 
 -- what the name is of, or the status of why these bytes are no name
 abbrev pub with_name : {X : Type 0} → (List ℕ → Result X ℤ) → Result (List ℕ) NameFault → Result X ℤ

@@ -51,7 +51,13 @@ pub extern "C" fn epmd_read_alive(bytes: &[u8], alive: &mut EpmdAlive) -> i32
 
 /// The numbers of what is registered.
 pub(crate) fn numbers_of(reg: &Reg) -> EpmdNode
-    ensures { result ≡ record { port = reg.now.port; highest = reg.now.high; lowest = reg.now.low; kind = reg.now.kind; protocol = reg.now.proto } }
+    ensures { result ≡ record {
+      port = reg.now.port;
+      highest = reg.now.high;
+      lowest = reg.now.low;
+      kind = reg.now.kind;
+      protocol = reg.now.proto;
+    } }
 {
     EpmdNode {
         port: reg.port,

@@ -3,7 +3,8 @@ ghost use Rattle.std.specs.Prelude.{◌≡◌, ◌≢◌, ◌++◌, List, ℕ, �
 ghost use Rattle.portmap_wire.specs.RequestReading.{name_in};
 ghost use Rattle.portmap_client.specs.Exchange.{view};
 ghost use Rattle.portmap_client_c.specs.Calls.{Asks, Dumps, IfSaid, Kills, ListsNames, LooksUp, Registers, Stops};
-ghost use Rattle.portmap_client_c.specs.Calls.{TellsCreation, TellsDump, TellsLookup, TellsNames, TellsNode, alive_after, kill_status, stop_status};
+ghost use Rattle.portmap_client_c.specs.Calls.{TellsCreation, TellsDump, TellsLookup, TellsNames, TellsNode, alive_after, kill_status};
+ghost use Rattle.portmap_client_c.specs.Calls.{stop_status};
 ghost use Rattle.portmap_client_c.specs.Writing.{node_said, with_name};
 ghost use Rattle.portmap_client_c.specs.declared.status.TheConstants.{EPMD_NO_MEMORY};
 
@@ -89,7 +90,8 @@ pub(crate) fn lookup<S: Input + Output>(
 ) -> i32
     ensures told { let seen = view S.left S.held S.pulls S.puts S.broken in
         result ≢ EPMD_NO_MEMORY → IfSaid (with_name (λ n. Ok n) (name_in name.now))
-        (λ n. Asks (LooksUp n) (seen stream.old) (seen stream.new) (λ answer. TellsLookup answer texts.old texts.new found.old found.new result))
+        (λ n. Asks (LooksUp n) (seen stream.old) (seen stream.new)
+        (λ answer. TellsLookup answer texts.old texts.new found.old found.new result))
         (λ status. (result ≡ status) × (texts.new ≡ texts.old) × (found.new ≡ found.old)) }
     ensures memory { result ≡ EPMD_NO_MEMORY →
         IsOk (with_name (λ n. Ok n) (name_in name.now)) × (texts.new ≡ texts.old) × (found.new ≡ found.old) }

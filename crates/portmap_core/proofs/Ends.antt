@@ -19,7 +19,8 @@ use Rattle.portmap_core.specs.declared.connection.Stage.TheVariants.{Waiting, Ho
 use Rattle.portmap_core.specs.Config.{Configuration}
 use Rattle.portmap_core.specs.State.{State, empty_state}
 use Rattle.portmap_core.specs.Entry.{Closed, Connected, Faulted, Late, Piece}
-use Rattle.portmap_core.specs.Serving.{Served, ServesBody, ToldAt, awaits, closed, dump_served, alive_served, halts, if_local, kill_served, registers, replied, served, stop_served, stops}
+use Rattle.portmap_core.specs.Serving.{Served, ServesBody, ToldAt, awaits, closed, dump_served, alive_served, halts, if_local, kill_served}
+use Rattle.portmap_core.specs.Serving.{registers, replied, served, stop_served, stops}
 use Rattle.portmap_core.specs.Step.{Outcome, Told, halted_by, late_at}
 use Rattle.portmap_core.specs.Owned.{IsOwned, IsSlotFor, IsStageFor}
 use Rattle.portmap_core.specs.Laws.{EndsAreFinal, EndsLeaveNoName, HoldersOutlastTheirTime, KeepsLimits, RunsKeepLimits}
@@ -37,7 +38,8 @@ holders_outlast_their_time cfg s s' slot fate connection here holds step =
     let same : moves.connection ≡ connection = same_Some moves.connection connection (sym moves.is_open ∙ here) in
     let stage : moves.connection.stage ≡ Holding = ap (λ (x : Connection). x.stage) same ∙ holds in
     let told : ◌≡◌ {A = Outcome} (record { reply = []; fate = fate; state = s' }) (late_at s slot moves.connection Holding) =
-    subst (λ (st : Stage). ◌≡◌ {A = Outcome} (record { reply = []; fate = fate; state = s' }) (late_at s slot moves.connection st)) stage moves.told in
+    subst (λ (st : Stage). ◌≡◌ {A = Outcome} (record { reply = []; fate = fate; state = s' })
+    (late_at s slot moves.connection st)) stage moves.told in
     (ap (λ (o : Outcome). o.fate) told, ap (λ (o : Outcome). o.state) told)
 
 -- ---- where it ends
@@ -49,7 +51,8 @@ LeavesNone names o = halted_by o.fate false ≡ true → names.active ≡ []
 replies : (names : Names) (reply : List ℕ) → LeavesNone names (replied names reply)
 replies names reply ended = absurd cc
 
-registers_on : (known_max : ℕ) (names : Names) (slot : ℕ) (g : Node) (creation : ℕ) → LeavesNone names (registers known_max names slot g creation)
+registers_on : (known_max : ℕ) (names : Names) (slot : ℕ) (g : Node) (creation : ℕ)
+    → LeavesNone names (registers known_max names slot g creation)
 registers_on known_max names slot g creation ended = absurd cc
 
 stops_on : (names : Names) (owner : Option ℕ) → LeavesNone names (stops names owner)
@@ -64,31 +67,38 @@ none_left false relaxed may strict = sym strict ∙ may
 kills : (cfg : Configuration) (names : Names) → cfg.relaxed ≡ false → LeavesNone names (kill_served cfg names)
 kills cfg names strict =
     cond_both (length names.active == 0 || cfg.relaxed) (halts names) (replied names (codes "NO")) (LeavesNone names)
-    (λ may ended. nil_from_length names.active (eqb-true (length names.active) 0 (none_left (length names.active == 0) cfg.relaxed may strict)))
+    (λ may ended. nil_from_length names.active
+    (eqb-true (length names.active) 0 (none_left (length names.active == 0) cfg.relaxed may strict)))
     (λ _. replies names (codes "NO"))
 
 if_near : (local : Bool) (names : Names) (told : Served) → LeavesNone names told → LeavesNone names (if_local local names told)
 if_near local names told h = cond_both (not local) (closed names) told (LeavesNone names) (λ _. replies names []) (λ _. h)
 
-serves_on : (cfg : Configuration) (names : Names) (local : Bool) (slot : ℕ) (request : Request) (creation : ℕ) → cfg.relaxed ≡ false → LeavesNone names (served cfg names local slot request creation)
+serves_on : (cfg : Configuration) (names : Names) (local : Bool) (slot : ℕ) (request : Request) (creation : ℕ) → cfg.relaxed ≡ false
+    → LeavesNone names (served cfg names local slot request creation)
 serves_on cfg names local slot (Alive g) creation strict = if_near local names (alive_served cfg names slot g creation)
     (cond_both (is_active g.name names) _ _ (LeavesNone names) (λ _. replies names (alive_reply g.high 1 0)) (λ _.
-    cond_both (is_full_for cfg.known_max g.name names) _ _ (LeavesNone names) (λ _. replies names (alive_reply g.high 2 0)) (λ _. registers_on cfg.known_max names slot g creation)))
+    cond_both (is_full_for cfg.known_max g.name names) _ _ (LeavesNone names) (λ _. replies names (alive_reply g.high 2 0))
+    (λ _. registers_on cfg.known_max names slot g creation)))
 serves_on cfg names local slot (Port name) creation strict = λ ended. absurd cc
 serves_on cfg names local slot request.Names creation strict = λ ended. absurd cc
 serves_on cfg names local slot Dump creation strict = if_near local names (dump_served cfg names) (λ ended. absurd cc)
 serves_on cfg names local slot Kill creation strict = if_near local names (kill_served cfg names) (kills cfg names strict)
 serves_on cfg names local slot (Stop name) creation strict = if_near local names (stop_served cfg names name)
-    (cond_both (not cfg.relaxed) (closed names) (stops names (owner_of name names)) (LeavesNone names) (λ _. replies names []) (λ _. stops_on names (owner_of name names)))
+    (cond_both (not cfg.relaxed) (closed names) (stops names (owner_of name names)) (LeavesNone names) (λ _. replies names [])
+    (λ _. stops_on names (owner_of name names)))
 
 by_served : (names : Names) (o p : Served) → o ≡ p → LeavesNone names p → LeavesNone names o
 by_served names o p e h = subst (λ (x : Served). LeavesNone names x) (sym e) h
 
-body_on : (cfg : Configuration) (names : Names) (local : Bool) (slot : ℕ) (body : List ℕ) (o : Served) → cfg.relaxed ≡ false → ServesBody cfg names local slot body o → LeavesNone names o
-body_on cfg names local slot body o strict (inl p) = by_served names o _ p.serves.is (serves_on cfg names local slot p.request p.serves.creation strict)
+body_on : (cfg : Configuration) (names : Names) (local : Bool) (slot : ℕ) (body : List ℕ) (o : Served) → cfg.relaxed ≡ false
+    → ServesBody cfg names local slot body o → LeavesNone names o
+body_on cfg names local slot body o strict (inl p) =
+    by_served names o _ p.serves.is (serves_on cfg names local slot p.request p.serves.creation strict)
 body_on cfg names local slot body o strict (inr p) = by_served names o _ p.is (replies names [])
 
-sight_on : (cfg : Configuration) (names : Names) (local : Bool) (slot : ℕ) (received : List ℕ) (sight : Sight) (o : Served) → cfg.relaxed ≡ false → ToldAt cfg names local slot received sight o → LeavesNone names o
+sight_on : (cfg : Configuration) (names : Names) (local : Bool) (slot : ℕ) (received : List ℕ) (sight : Sight) (o : Served)
+    → cfg.relaxed ≡ false → ToldAt cfg names local slot received sight o → LeavesNone names o
 sight_on cfg names local slot received More o strict told = by_served names o (awaits names received) told (λ ended. absurd cc)
 sight_on cfg names local slot received Zero o strict told = by_served names o _ told (replies names [])
 sight_on cfg names local slot received (TooLarge n) o strict told = by_served names o _ told (replies names [])
@@ -98,12 +108,14 @@ sight_on cfg names local slot received (Whole body) o strict told = body_on cfg 
 runs_on : (s s' : State) → s.halted ≡ false → s'.halted ≡ s.halted → s'.halted ≡ true → s.names.active ≡ []
 runs_on s s' runs same ended = absurd (let both : false ≡ true = sym runs ∙ sym same ∙ ended in cc)
 
-told_on : (cfg : Configuration) (s : State) (slot : ℕ) (connection : Connection) (piece : List ℕ) (stage : Stage) (o : Outcome) → cfg.relaxed ≡ false → s.halted ≡ false → Told cfg s slot connection piece stage o → o.state.halted ≡ true → s.names.active ≡ []
+told_on : (cfg : Configuration) (s : State) (slot : ℕ) (connection : Connection) (piece : List ℕ) (stage : Stage) (o : Outcome)
+    → cfg.relaxed ≡ false → s.halted ≡ false → Told cfg s slot connection piece stage o → o.state.halted ≡ true → s.names.active ≡ []
 told_on cfg s slot connection piece (Waiting received) o strict runs told ended =
     let all : List ℕ = received ++ piece in
     sight_on cfg s.names connection.local slot all (first_request all) told.served strict told.told
     (ap (λ (b : Bool). halted_by told.served.fate b) (sym runs) ∙ sym (ap (λ (x : Outcome). x.state.halted) told.outcome) ∙ ended)
-told_on cfg s slot connection piece Holding o strict runs told ended = runs_on s o.state runs (ap (λ (x : Outcome). x.state.halted) told) ended
+told_on cfg s slot connection piece Holding o strict runs told ended =
+    runs_on s o.state runs (ap (λ (x : Outcome). x.state.halted) told) ended
 told_on cfg s slot connection piece Done o strict runs told ended = runs_on s o.state runs (ap (λ (x : Outcome). x.state.halted) told) ended
 
 late_on : (s : State) (slot : ℕ) (connection : Connection) (stage : Stage) → (late_at s slot connection stage).state.halted ≡ s.halted
@@ -112,18 +124,22 @@ late_on s slot connection Holding = refl
 late_on s slot connection Done = refl
 
 pub ends_leave_no_name : EndsLeaveNoName
-ends_leave_no_name cfg s s' (Connected local slot) strict step ended = runs_on s s' step.runs (ap (λ (x : State). x.halted) step.moves.after) ended
+ends_leave_no_name cfg s s' (Connected local slot) strict step ended =
+    runs_on s s' step.runs (ap (λ (x : State). x.halted) step.moves.after) ended
 ends_leave_no_name cfg s s' (Piece slot piece reply fate) strict step ended =
-    told_on cfg s slot step.moves.connection piece step.moves.connection.stage (record { reply = reply; fate = fate; state = s' }) strict step.runs step.moves.told ended
+    told_on cfg s slot step.moves.connection piece step.moves.connection.stage
+    (record { reply = reply; fate = fate; state = s' }) strict step.runs step.moves.told ended
 ends_leave_no_name cfg s s' (Closed slot) strict step ended = runs_on s s' step.runs (ap (λ (x : State). x.halted) step.moves.after) ended
 ends_leave_no_name cfg s s' (Faulted slot) strict step ended = runs_on s s' step.runs (ap (λ (x : State). x.halted) step.moves.after) ended
 ends_leave_no_name cfg s s' (Late slot fate) strict step ended =
-    runs_on s s' step.runs (ap (λ (x : Outcome). x.state.halted) step.moves.told ∙ late_on s slot step.moves.connection step.moves.connection.stage) ended
+    runs_on s s' step.runs (ap (λ (x : Outcome). x.state.halted) step.moves.told
+    ∙ late_on s slot step.moves.connection step.moves.connection.stage) ended
 
 -- ---- limits
 
 -- one that waits has sent no whole request
-waits_for_more : (b : Bool) (o : Option Connection) (connection : Connection) (received : List ℕ) → o ≡ Some connection → connection.stage ≡ Waiting received → IsSlotFor b o → first_request received ≡ More
+waits_for_more : (b : Bool) (o : Option Connection) (connection : Connection) (received : List ℕ) → o ≡ Some connection
+    → connection.stage ≡ Waiting received → IsSlotFor b o → first_request received ≡ More
 waits_for_more b o connection received e stage h =
     (subst (λ (x : Stage). IsStageFor b connection.local x) stage (subst (λ (y : Option Connection). IsSlotFor b y) e h)).1
 
@@ -131,7 +147,8 @@ keeps_limits : (cfg : Configuration) (s : State) → IsOwned cfg s → KeepsLimi
 keeps_limits cfg s owned = record {
   known = owned.names.few;
   few = owned.few;
-  waits = λ slot connection received here stage. waits_for_more (owns_name slot s.names) (map.get s.connections slot) connection received here stage (owned.slots slot);
+  waits = λ slot connection received here stage.
+      waits_for_more (owns_name slot s.names) (map.get s.connections slot) connection received here stage (owned.slots slot);
 }
 
 pub runs_keep_limits : RunsKeepLimits

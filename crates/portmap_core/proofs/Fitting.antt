@@ -1,5 +1,6 @@
 -- Names and open connections that go together, slot by slot and in lists.
-use Rattle.std.proofs.Common.{◌≡◌, ℕ, Bool, true, false, List, [], ◌∷◌, get_or, Option, Some, None, refl, sym, ap, subst, ◌∙◌, eq-eqb, eqb-true, inl, inr, IfSome}
+use Rattle.std.proofs.Common.{◌≡◌, ℕ, Bool, true, false, List, [], ◌∷◌, get_or, Option, Some, None, refl, sym, ap, subst, ◌∙◌, eq-eqb}
+use Rattle.std.proofs.Common.{eqb-true, inl, inr, IfSome}
 use Rattle.std.specs.Prelude.{All, IsSome}
 use Rattle.std.specs.FinMap as map
 use Rattle.std.specs.Ordering.{nat_cmp, eq_by_cmp}
@@ -18,7 +19,8 @@ use Rattle.portmap_core.proofs.HeldLaws.{found}
 use Rattle.portmap_core.proofs.Slots.{other_key, same_key}
 
 -- what holds of each holds of the one that is found at a slot
-found_has : (P : ℕ → Connection → Type 0) (q : ℕ) (held : List HeldValue) → All (λ h. P h.slot (connection_held h)) held → IfSome (map.find nat_cmp q (entries_held held)) (P q)
+found_has : (P : ℕ → Connection → Type 0) (q : ℕ) (held : List HeldValue) → All (λ h. P h.slot (connection_held h)) held
+    → IfSome (map.find nat_cmp q (entries_held held)) (P q)
 found_has P q [] each = tt
 found_has P q (x ∷ held) each = elim (cases_eq q x.slot) [
   | inl is ↦
@@ -27,7 +29,8 @@ found_has P q (x ∷ held) each = elim (cases_eq q x.slot) [
   | inr ne ↦ rw (other_key q x.slot ne) (found_has P q held (All-tail (λ h. P h.slot (connection_held h)) x held each))
 ]
 
-slot_by : (owns : Bool) (o : Option Connection) → IfSome o (λ connection. IsSlotFor owns (Some connection)) → (owns ≡ true → IsSome o) → IsSlotFor owns o
+slot_by : (owns : Bool) (o : Option Connection) → IfSome o (λ connection. IsSlotFor owns (Some connection)) → (owns ≡ true → IsSome o)
+    → IsSlotFor owns o
 slot_by owns (Some connection) has some = has
 slot_by true None has some = sym (some refl)
 slot_by false None has some = refl
@@ -43,7 +46,8 @@ abbrev AreSlotsFor : Names → ConnectionMap → Type 0
 AreSlotsFor names connections = (slot : ℕ) → IsSlotFor (owns_name slot names) (map.get connections slot)
 
 -- each slot is one for its connection exactly where each of the list is, and the owners are open
-module _ (names : Names) (connections : ConnectionMap) (held : List HeldValue) (entries : entries_held held ≡ map.entries connections) (are : AreHeld held) where
+module _ (names : Names) (connections : ConnectionMap) (held : List HeldValue) (entries : entries_held held ≡ map.entries connections)
+    (are : AreHeld held) where
   found_at : (slot : ℕ) → map.get connections slot ≡ map.find nat_cmp slot (entries_held held)
   found_at slot = map.get-entries connections slot ∙ ap (λ (es : List (ℕ × Connection)). map.find nat_cmp slot es) (sym entries)
 
@@ -62,4 +66,5 @@ module _ (names : Names) (connections : ConnectionMap) (held : List HeldValue) (
 pub owners_by : (names : Names) (connections : ConnectionMap) → AreSlotsFor names connections → AreOpen connections names.active
 owners_by names connections slots k d lt =
     let row = get_or names.active k d in
-    is_open (owns_name row.slot names) (map.get connections row.slot) (owns row.slot names ∙ list_any_at (has_slot row.slot) names.active k d lt (eq-eqb row.slot row.slot refl)) (slots row.slot)
+    is_open (owns_name row.slot names) (map.get connections row.slot)
+    (owns row.slot names ∙ list_any_at (has_slot row.slot) names.active k d lt (eq-eqb row.slot row.slot refl)) (slots row.slot)

@@ -1,5 +1,6 @@
 -- The lines of a list so far, with one more.
-use Rattle.std.proofs.Common.{◌≡◌, ℕ, ◌+◌, ◌<◌, List, [], ◌++◌, length, map, get_or, take, Some, None, refl, sym, ap, ◌∙◌, append_assoc, inl, inr, arith}
+use Rattle.std.proofs.Common.{◌≡◌, ℕ, ◌+◌, ◌<◌, List, [], ◌++◌, length, map, get_or, take, Some, None, refl, sym, ap, ◌∙◌, append_assoc}
+use Rattle.std.proofs.Common.{inl, inr, arith}
 use Rattle.std.specs.Prelude.{slice_get}
 use Rattle.std.specs.List.{flat_map}
 use Rattle.std.proofs.lemmas.Grind.{flat_map-append}
@@ -7,16 +8,20 @@ use Rattle.std.proofs.lemmas.List.{append-nil, map_more}
 use Rattle.std.proofs.lemmas.List.Concat.{flat_map-cons}
 use Rattle.std.proofs.lemmas.Option.{slice_get_cases, slice_get_within, get_or_from_slice_get}
 
-pub one_more : {X L : Type 0} (line : L → List ℕ) (f : X → L) (xs : List X) (i : ℕ) (x : X) → slice_get xs i ≡ Some x → flat_map line (map f (take (i + 1) xs)) ≡ flat_map line (map f (take i xs)) ++ line (f x)
+pub one_more : {X L : Type 0} (line : L → List ℕ) (f : X → L) (xs : List X) (i : ℕ) (x : X) → slice_get xs i ≡ Some x
+    → flat_map line (map f (take (i + 1) xs)) ≡ flat_map line (map f (take i xs)) ++ line (f x)
 one_more line f xs i x e =
     let lt : i < length xs = slice_get_within xs i x e in
     let here : get_or xs i x ≡ x = get_or_from_slice_get xs i x x e in
     rw (map_more f xs i x lt, here, flat_map-append line, flat_map-cons line (f x) [], append-nil (line (f x))) refl
 
-pub with_line : {X L : Type 0} (line : L → List ℕ) (f : X → L) (xs : List X) (i : ℕ) (x : X) (base reply after : List ℕ) → slice_get xs i ≡ Some x
-    → reply ≡ base ++ flat_map line (map f (take i xs)) → after ≡ reply ++ line (f x) → after ≡ base ++ flat_map line (map f (take (i + 1) xs))
+pub with_line : {X L : Type 0} (line : L → List ℕ) (f : X → L) (xs : List X) (i : ℕ) (x : X) (base reply after : List ℕ)
+    → slice_get xs i ≡ Some x
+    → reply ≡ base ++ flat_map line (map f (take i xs)) → after ≡ reply ++ line (f x)
+    → after ≡ base ++ flat_map line (map f (take (i + 1) xs))
 with_line line f xs i x base reply after e so_far is =
-    is ∙ ap (λ (r : List ℕ). r ++ line (f x)) so_far ∙ append_assoc base (flat_map line (map f (take i xs))) (line (f x)) ∙ ap (λ (r : List ℕ). base ++ r) (sym (one_more line f xs i x e))
+    is ∙ ap (λ (r : List ℕ). r ++ line (f x)) so_far ∙ append_assoc base (flat_map line (map f (take i xs))) (line (f x))
+    ∙ ap (λ (r : List ℕ). base ++ r) (sym (one_more line f xs i x e))
 
 -- where a list goes on, something stands
 pub not_past : {X : Type 0} (xs : List X) (i : ℕ) → i < length xs → slice_get xs i ≡ None → ⊥

@@ -12,12 +12,17 @@ room_known true true retired x y e = refl
 room_known true false retired x y e = ap (λ (b : Bool). cond (not b) x y) e
 room_known false active retired x y e = refl
 
-room_new : {X : Type 0} (many active retired : Bool) (x y : X) → active ≡ false → retired ≡ false → cond (many && not (active || retired)) x y ≡ cond many x y
+room_new : {X : Type 0} (many active retired : Bool) (x y : X) → active ≡ false → retired ≡ false
+    → cond (many && not (active || retired)) x y ≡ cond many x y
 room_new true active retired x y e f = (λ i. cond (not (e i || f i)) x y)
 room_new false active retired x y e f = refl
 
 pub enters : (known_max : ℕ) (names : Names) (row : Row) → is_active row.reg.name names ≡ false
-    → record { active = names.active ++ row ∷ []; retired = left_by (position (had_name row.reg.name) names.retired) (nat_le known_max (known_len names)) names.retired } ≡ registered row.reg row.creation row.slot (with_room known_max row.reg.name names)
+    → record {
+      active = names.active ++ row ∷ [];
+      retired = left_by (position (had_name row.reg.name) names.retired) (nat_le known_max (known_len names)) names.retired;
+    }
+    ≡ registered row.reg row.creation row.slot (with_room known_max row.reg.name names)
 enters known_max names row inactive = by (position had names.retired) refl
   where
     had : RetiredName → Bool
@@ -32,17 +37,22 @@ enters known_max names row inactive = by (position had names.retired) refl
     enter : Names → Names
     enter = registered row.reg row.creation row.slot
 
-    new : (b : Bool) → position had names.retired ≡ None → entered (left_by None b names.retired) ≡ enter (cond b (without_oldest names) names)
-    new true e = ap (λ (o : Option ℕ). entered (without_at o (drop 1 names.retired))) (sym (no_place had (drop 1 names.retired) (none_behind had 1 names.retired (none_at had names.retired (ap is_some e)))))
+    new : (b : Bool) → position had names.retired ≡ None
+        → entered (left_by None b names.retired) ≡ enter (cond b (without_oldest names) names)
+    new true e = ap (λ (o : Option ℕ). entered (without_at o (drop 1 names.retired)))
+        (sym (no_place had (drop 1 names.retired) (none_behind had 1 names.retired (none_at had names.retired (ap is_some e)))))
     new false e = ap (λ (o : Option ℕ). entered (without_at o names.retired)) (sym e)
 
     known : (at : ℕ) → position had names.retired ≡ Some at → (b : Bool) → is_some (find had names.retired) ≡ b → b ≡ true
     known at e true f = refl
     known at e false f = let never : None ≡ Some at = sym (no_place had names.retired (none_found had names.retired f)) ∙ e in absurd cc
 
-    by : (o : Option ℕ) → position had names.retired ≡ o → entered (left_by o many names.retired) ≡ enter (with_room known_max row.reg.name names)
+    by : (o : Option ℕ) → position had names.retired ≡ o
+        → entered (left_by o many names.retired) ≡ enter (with_room known_max row.reg.name names)
     by (Some at) e =
-        ap (λ (o : Option ℕ). entered (without_at o names.retired)) (sym e) ∙ ap enter (sym (room_known many (is_active row.reg.name names) _ (without_oldest names) names (known at e (is_some (find had names.retired)) refl)))
+        ap (λ (o : Option ℕ). entered (without_at o names.retired)) (sym e)
+        ∙ ap enter (sym (room_known many (is_active row.reg.name names) _ (without_oldest names) names
+        (known at e (is_some (find had names.retired)) refl)))
     by None e =
         let unknown = ap is_some (finds_none had names.retired (none_at had names.retired (ap is_some e))) in
         new many e ∙ ap enter (sym (room_new many (is_active row.reg.name names) _ (without_oldest names) names inactive unknown))

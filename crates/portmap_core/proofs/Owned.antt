@@ -1,5 +1,6 @@
 -- Each step keeps that every active name belongs to exactly one open connection, which holds it.
-use Rattle.std.proofs.Common.{◌≡◌, ◌≢◌, ℕ, ◌+◌, ◌-◌, ◌<◌, ◌≤◌, Bool, true, false, cond, List, [], ◌++◌, length, Option, Some, None, refl, sym, ap, subst, ◌∙◌, arith, inl, inr}
+use Rattle.std.proofs.Common.{◌≡◌, ◌≢◌, ℕ, ◌+◌, ◌-◌, ◌<◌, ◌≤◌, Bool, true, false, cond, List, [], ◌++◌, length, Option, Some, None, refl}
+use Rattle.std.proofs.Common.{sym, ap, subst, ◌∙◌, arith, inl, inr}
 use Rattle.std.specs.Prelude.{is_some, not, ◌==◌, ◌||◌, position}
 use Rattle.std.specs.FinMap as map
 use Rattle.std.specs.Cmp.{nat_cmp_total}
@@ -33,11 +34,14 @@ slot_as : (a b : Bool) (o p : Option Connection) → a ≡ b → o ≡ p → IsS
 slot_as a b o p e f h = subst (λ (x : Bool). IsSlotFor x o) (sym e) (subst (λ (y : Option Connection). IsSlotFor b y) (sym f) h)
 
 -- a connection that waits or is done owns no name
-free_at : (b : Bool) (o : Option Connection) (connection : Connection) → o ≡ Some connection → IsSlotFor b o → IsStageFor b connection.local connection.stage
+free_at : (b : Bool) (o : Option Connection) (connection : Connection) → o ≡ Some connection → IsSlotFor b o
+    → IsStageFor b connection.local connection.stage
 free_at b o connection e h = subst (λ (y : Option Connection). IsSlotFor b y) e h
 
-pub waiting_free : (b : Bool) (o : Option Connection) (connection : Connection) (received : List ℕ) → o ≡ Some connection → connection.stage ≡ Waiting received → IsSlotFor b o → b ≡ false
-waiting_free b o connection received e stage h = (subst (λ (x : Stage). IsStageFor b connection.local x) stage (free_at b o connection e h)).0
+pub waiting_free : (b : Bool) (o : Option Connection) (connection : Connection) (received : List ℕ) → o ≡ Some connection
+    → connection.stage ≡ Waiting received → IsSlotFor b o → b ≡ false
+waiting_free b o connection received e stage h =
+    (subst (λ (x : Stage). IsStageFor b connection.local x) stage (free_at b o connection e h)).0
 
 none_free : (b : Bool) (o : Option Connection) → o ≡ None → IsSlotFor b o → b ≡ false
 none_free b o e h = subst (λ (y : Option Connection). IsSlotFor b y) e h
@@ -48,41 +52,57 @@ abbrev AreSlotsFor : rows.Names → ConnectionMap → Type 0
 AreSlotsFor names connections = (q : ℕ) → IsSlotFor (owns_name q names) (map.get connections q)
 
 -- a connection is written, and no other slot gets or loses a name
-slots_with : (names after : rows.Names) (connections : ConnectionMap) (slot : ℕ) (connection : Connection) → ((q : ℕ) → q ≢ slot → owns_name q after ≡ owns_name q names) → AreSlotsFor names connections → IsSlotFor (owns_name slot after) (Some connection)
+slots_with : (names after : rows.Names) (connections : ConnectionMap) (slot : ℕ) (connection : Connection)
+    → ((q : ℕ) → q ≢ slot → owns_name q after ≡ owns_name q names) → AreSlotsFor names connections
+    → IsSlotFor (owns_name slot after) (Some connection)
     → AreSlotsFor after (map.insert connections slot connection)
 slots_with names after connections slot connection others all here = λ q. elim (cases_eq q slot) [
-  | inl e ↦ slot_as (owns_name q after) (owns_name slot after) (map.get (map.insert connections slot connection) q) (Some connection) (ap (λ (x : ℕ). owns_name x after) e) (put_same connections slot q connection e) here
-  | inr ne ↦ slot_as (owns_name q after) (owns_name q names) (map.get (map.insert connections slot connection) q) (map.get connections q) (others q ne) (put_other connections slot q connection ne) (all q)
+  | inl e ↦ slot_as (owns_name q after) (owns_name slot after) (map.get (map.insert connections slot connection) q) (Some connection)
+      (ap (λ (x : ℕ). owns_name x after) e) (put_same connections slot q connection e) here
+  | inr ne ↦ slot_as (owns_name q after) (owns_name q names) (map.get (map.insert connections slot connection) q) (map.get connections q)
+      (others q ne) (put_other connections slot q connection ne) (all q)
 ]
 
 -- a connection goes
-slots_without : (names after : rows.Names) (connections : ConnectionMap) (slot : ℕ) → ((q : ℕ) → q ≢ slot → owns_name q after ≡ owns_name q names) → AreSlotsFor names connections → owns_name slot after ≡ false → AreSlotsFor after (map.remove connections slot)
+slots_without : (names after : rows.Names) (connections : ConnectionMap) (slot : ℕ)
+    → ((q : ℕ) → q ≢ slot → owns_name q after ≡ owns_name q names) → AreSlotsFor names connections → owns_name slot after ≡ false
+    → AreSlotsFor after (map.remove connections slot)
 slots_without names after connections slot others all here = λ q. elim (cases_eq q slot) [
-  | inl e ↦ slot_as (owns_name q after) false (map.get (map.remove connections slot) q) None (ap (λ (x : ℕ). owns_name x after) e ∙ here) (cut_same connections slot q e) refl
-  | inr ne ↦ slot_as (owns_name q after) (owns_name q names) (map.get (map.remove connections slot) q) (map.get connections q) (others q ne) (cut_other connections slot q ne) (all q)
+  | inl e ↦ slot_as (owns_name q after) false (map.get (map.remove connections slot) q) None (ap (λ (x : ℕ). owns_name x after) e ∙ here)
+      (cut_same connections slot q e) refl
+  | inr ne ↦ slot_as (owns_name q after) (owns_name q names) (map.get (map.remove connections slot) q) (map.get connections q)
+      (others q ne) (cut_other connections slot q ne) (all q)
 ]
 
 -- a name is taken from a connection that was not open
-slots_closed : (names after : rows.Names) (connections : ConnectionMap) (slot : ℕ) → ((q : ℕ) → q ≢ slot → owns_name q after ≡ owns_name q names) → AreSlotsFor names connections → owns_name slot after ≡ false → map.get connections slot ≡ None → AreSlotsFor after connections
+slots_closed : (names after : rows.Names) (connections : ConnectionMap) (slot : ℕ)
+    → ((q : ℕ) → q ≢ slot → owns_name q after ≡ owns_name q names) → AreSlotsFor names connections → owns_name slot after ≡ false
+    → map.get connections slot ≡ None → AreSlotsFor after connections
 slots_closed names after connections slot others all here closed = λ q. elim (cases_eq q slot) [
-  | inl e ↦ slot_as (owns_name q after) false (map.get connections q) None (ap (λ (x : ℕ). owns_name x after) e ∙ here) (ap (λ (x : ℕ). map.get connections x) e ∙ closed) refl
+  | inl e ↦ slot_as (owns_name q after) false (map.get connections q) None (ap (λ (x : ℕ). owns_name x after) e ∙ here)
+      (ap (λ (x : ℕ). map.get connections x) e ∙ closed) refl
   | inr ne ↦ slot_as (owns_name q after) (owns_name q names) (map.get connections q) (map.get connections q) (others q ne) refl (all q)
 ]
 
 -- ---- how many are open
 
-len_open : (connections : ConnectionMap) (slot : ℕ) (connection here : Connection) → map.get connections slot ≡ Some here → map.len (map.insert connections slot connection) ≡ map.len connections
-len_open connections slot connection here e = map.len-insert nat_cmp_total connections slot connection ∙ ap (λ (o : Option Connection). cond (is_some o) (map.len connections) (map.len connections + 1)) e
+len_open : (connections : ConnectionMap) (slot : ℕ) (connection here : Connection) → map.get connections slot ≡ Some here
+    → map.len (map.insert connections slot connection) ≡ map.len connections
+len_open connections slot connection here e = map.len-insert nat_cmp_total connections slot connection
+    ∙ ap (λ (o : Option Connection). cond (is_some o) (map.len connections) (map.len connections + 1)) e
 
-pub len_fresh : (connections : ConnectionMap) (slot : ℕ) (connection : Connection) → map.get connections slot ≡ None → map.len (map.insert connections slot connection) ≡ map.len connections + 1
-len_fresh connections slot connection e = map.len-insert nat_cmp_total connections slot connection ∙ ap (λ (o : Option Connection). cond (is_some o) (map.len connections) (map.len connections + 1)) e
+pub len_fresh : (connections : ConnectionMap) (slot : ℕ) (connection : Connection) → map.get connections slot ≡ None
+    → map.len (map.insert connections slot connection) ≡ map.len connections + 1
+len_fresh connections slot connection e = map.len-insert nat_cmp_total connections slot connection
+    ∙ ap (λ (o : Option Connection). cond (is_some o) (map.len connections) (map.len connections + 1)) e
 
 fewer : (b : Bool) (n : ℕ) → cond b (n - 1) n ≤ n
 fewer true n = omega arith
 fewer false n = omega arith
 
 pub len_less : (connections : ConnectionMap) (slot : ℕ) → map.len (map.remove connections slot) ≤ map.len connections
-len_less connections slot = rw (map.len-remove nat_cmp_total connections slot) (fewer (map.contains_key connections slot) (map.len connections))
+len_less connections slot = rw (map.len-remove nat_cmp_total connections slot)
+    (fewer (map.contains_key connections slot) (map.len connections))
 
 -- ---- states
 
@@ -100,34 +120,44 @@ not_false true e = refl
 not_false false e = absurd cc
 
 -- a name's registration ends, wherever its connection is
-ended_slots : (names : rows.Names) (connections : ConnectionMap) (owner : ℕ) (o : Option Connection) → map.get connections owner ≡ o → AreSlotsFor names connections → owns_name owner (retired_of owner names) ≡ false → ((q : ℕ) → q ≢ owner → owns_name q (retired_of owner names) ≡ owns_name q names)
+ended_slots : (names : rows.Names) (connections : ConnectionMap) (owner : ℕ) (o : Option Connection) → map.get connections owner ≡ o
+    → AreSlotsFor names connections → owns_name owner (retired_of owner names) ≡ false
+    → ((q : ℕ) → q ≢ owner → owns_name q (retired_of owner names) ≡ owns_name q names)
     → AreSlotsFor (retired_of owner names) (ended_at owner o connections)
 ended_slots names connections owner None e all free others = slots_closed names (retired_of owner names) connections owner others all free e
-ended_slots names connections owner (Some connection) e all free others = slots_with names (retired_of owner names) connections owner (at_stage connection Done) others all free
+ended_slots names connections owner (Some connection) e all free others =
+    slots_with names (retired_of owner names) connections owner (at_stage connection Done) others all free
 
-pub ended_len : (connections : ConnectionMap) (owner : ℕ) (o : Option Connection) → map.get connections owner ≡ o → map.len (ended_at owner o connections) ≡ map.len connections
+pub ended_len : (connections : ConnectionMap) (owner : ℕ) (o : Option Connection) → map.get connections owner ≡ o
+    → map.len (ended_at owner o connections) ≡ map.len connections
 ended_len connections owner None e = refl
 ended_len connections owner (Some connection) e = len_open connections owner (at_stage connection Done) connection e
 
 -- a connection that is open, and owns no name
-module _ (cfg : Configuration) (s : State) (slot : ℕ) (connection : Connection) (owned : IsOwned cfg s) (here : map.get s.connections slot ≡ Some connection) (free : owns_name slot s.names ≡ false) where
+module _ (cfg : Configuration) (s : State) (slot : ℕ) (connection : Connection) (owned : IsOwned cfg s)
+    (here : map.get s.connections slot ≡ Some connection) (free : owns_name slot s.names ≡ false) where
   -- it stays without one, at any other stage that fits
-  stays_owned : (stage : Stage) (halted : Bool) → IsStageFor false connection.local stage → IsOwned cfg (state_of s.names (map.insert s.connections slot (at_stage connection stage)) halted)
+  stays_owned : (stage : Stage) (halted : Bool) → IsStageFor false connection.local stage
+      → IsOwned cfg (state_of s.names (map.insert s.connections slot (at_stage connection stage)) halted)
   stays_owned stage halted fits = record {
     names = owned.names;
     few = rw (len_open s.connections slot (at_stage connection stage) connection here) owned.few;
-    slots = slots_with s.names s.names s.connections slot (at_stage connection stage) (λ q other. refl) owned.slots (slot_as (owns_name slot s.names) false (Some (at_stage connection stage)) (Some (at_stage connection stage)) free refl fits);
+    slots = slots_with s.names s.names s.connections slot (at_stage connection stage) (λ q other. refl) owned.slots
+        (slot_as (owns_name slot s.names) false (Some (at_stage connection stage)) (Some (at_stage connection stage)) free refl fits);
   }
 
   closed_owned : IsOwned cfg (settled s slot connection (closed s.names))
   closed_owned = stays_owned Done s.halted refl
 
-  register_owned : (g : Node) (creation : ℕ) → connection.local ≡ true → is_active g.name s.names ≡ false → is_full_for cfg.known_max g.name s.names ≡ false → MayTake s.names (Alive g) creation
+  register_owned : (g : Node) (creation : ℕ) → connection.local ≡ true → is_active g.name s.names ≡ false
+      → is_full_for cfg.known_max g.name s.names ≡ false → MayTake s.names (Alive g) creation
       → IsOwned cfg (settled s slot connection (registers cfg.known_max s.names slot g creation))
   register_owned g creation local inactive fits legal = let room = with_room cfg.known_max g.name s.names in record {
     names = kept_registers cfg.known_max creation slot s.names g owned.names inactive fits free legal;
     few = rw (len_open s.connections slot (at_stage connection Holding) connection here) owned.few;
-    slots = slots_with s.names (registered g creation slot room) s.connections slot (at_stage connection Holding) (λ q other. owns_registered_other q g creation slot room other ∙ owns_in_room cfg.known_max g.name q s.names) owned.slots (owns_registered g creation slot room, local);
+    slots = slots_with s.names (registered g creation slot room) s.connections slot (at_stage connection Holding)
+        (λ q other. owns_registered_other q g creation slot room other ∙ owns_in_room cfg.known_max g.name q s.names) owned.slots
+        (owns_registered g creation slot room, local);
   }
 
   stop_owned : (o : Option ℕ) → IsOwned cfg (settled s slot connection (stops s.names o))
@@ -142,8 +172,13 @@ module _ (cfg : Configuration) (s : State) (slot : ℕ) (connection : Connection
       let open_then = ended_open s.connections owner slot (map.get s.connections owner) connection refl here in
       record {
         names = kept_retired cfg.known_max s.names (position (λ row. row.slot == owner) s.names.active) owned.names;
-        few = rw (len_open (ended owner s.connections) slot (at_stage connection Done) open_then.0 open_then.1, ended_len s.connections owner (map.get s.connections owner) refl) owned.few;
-        slots = slots_with (retired_of owner s.names) (retired_of owner s.names) (ended owner s.connections) slot (at_stage connection Done) (λ q other. refl) (ended_slots s.names s.connections owner (map.get s.connections owner) refl owned.slots gone others) still;
+        few = rw (
+          len_open (ended owner s.connections) slot (at_stage connection Done) open_then.0 open_then.1,
+          ended_len s.connections owner (map.get s.connections owner) refl,
+        ) owned.few;
+        slots = slots_with (retired_of owner s.names) (retired_of owner s.names) (ended owner s.connections) slot
+            (at_stage connection Done) (λ q other. refl)
+            (ended_slots s.names s.connections owner (map.get s.connections owner) refl owned.slots gone others) still;
       }
 
   -- what is told keeps it, where a connection that is to hold its name may take its creation
@@ -154,31 +189,39 @@ module _ (cfg : Configuration) (s : State) (slot : ℕ) (connection : Connection
   keeps_by P true x y f g = f refl
   keeps_by P false x y f g = g refl
 
-  local_owned : (P : Type 0) (told : Served) → (connection.local ≡ true → KeepsBy P told) → KeepsBy P (if_local connection.local s.names told)
-  local_owned P told f = keeps_by P (not connection.local) (closed s.names) told (λ _ _. closed_owned) (λ near. f (not_false connection.local near))
+  local_owned : (P : Type 0) (told : Served) → (connection.local ≡ true → KeepsBy P told)
+      → KeepsBy P (if_local connection.local s.names told)
+  local_owned P told f = keeps_by P (not connection.local) (closed s.names) told (λ _ _. closed_owned)
+      (λ near. f (not_false connection.local near))
 
-  served_owned : (request : Request) (creation : ℕ) → KeepsBy (MayTake s.names request creation) (served cfg s.names connection.local slot request creation)
+  served_owned : (request : Request) (creation : ℕ)
+      → KeepsBy (MayTake s.names request creation) (served cfg s.names connection.local slot request creation)
   served_owned request.Names creation = λ _. closed_owned
   served_owned (Port name) creation = λ _. closed_owned
   served_owned Dump creation = local_owned _ _ (λ _ _. closed_owned)
-  served_owned Kill creation = local_owned _ _ (λ _. keeps_by _ (length s.names.active == 0 || cfg.relaxed) _ _ (λ _ _. stays_owned Done true refl) (λ _ _. closed_owned))
-  served_owned (Stop name) creation = local_owned _ _ (λ _. keeps_by _ (not cfg.relaxed) _ _ (λ _ _. closed_owned) (λ _ _. stop_owned (owner_of name s.names)))
+  served_owned Kill creation = local_owned _ _
+      (λ _. keeps_by _ (length s.names.active == 0 || cfg.relaxed) _ _ (λ _ _. stays_owned Done true refl) (λ _ _. closed_owned))
+  served_owned (Stop name) creation = local_owned _ _
+      (λ _. keeps_by _ (not cfg.relaxed) _ _ (λ _ _. closed_owned) (λ _ _. stop_owned (owner_of name s.names)))
   served_owned (Alive g) creation = local_owned _ _ (λ local.
       keeps_by _ (is_active g.name s.names) _ _ (λ _ _. closed_owned) (λ inactive.
-      keeps_by _ (is_full_for cfg.known_max g.name s.names) _ _ (λ _ _. closed_owned) (λ room legal. register_owned g creation local inactive room (legal refl))))
+      keeps_by _ (is_full_for cfg.known_max g.name s.names) _ _ (λ _ _. closed_owned)
+      (λ room legal. register_owned g creation local inactive room (legal refl))))
 
   -- ---- what a piece does
 
   by_served : (o p : Served) → o ≡ p → IsOwned cfg (settled s slot connection p) → IsOwned cfg (settled s slot connection o)
   by_served o p e kept = subst (λ (x : Served). IsOwned cfg (settled s slot connection x)) (sym e) kept
 
-  body_owned : (body : List ℕ) (o : Served) → ServesBody cfg s.names connection.local slot body o → IsOwned cfg (settled s slot connection o)
+  body_owned : (body : List ℕ) (o : Served) → ServesBody cfg s.names connection.local slot body o
+      → IsOwned cfg (settled s slot connection o)
   body_owned body o (inl p) =
       let serves = p.serves in
       by_served o _ serves.is (served_owned p.request serves.creation (λ h. serves.legal (ap (λ (x : Served). x.stage) serves.is ∙ h)))
   body_owned body o (inr p) = by_served o _ p.is (closed_owned)
 
-  sight_owned : (received : List ℕ) (sight : Sight) (o : Served) → first_request received ≡ sight → ToldAt cfg s.names connection.local slot received sight o → IsOwned cfg (settled s slot connection o)
+  sight_owned : (received : List ℕ) (sight : Sight) (o : Served) → first_request received ≡ sight
+      → ToldAt cfg s.names connection.local slot received sight o → IsOwned cfg (settled s slot connection o)
   sight_owned received More o is told = by_served o _ told (stays_owned (Waiting received) s.halted (refl, is))
   sight_owned received Zero o is told = by_served o _ told (closed_owned)
   sight_owned received (TooLarge n) o is told = by_served o _ told (closed_owned)
@@ -188,18 +231,25 @@ by_outcome : (cfg : Configuration) (o p : Outcome) → o ≡ p → IsOwned cfg p
 by_outcome cfg o p e owned = subst (λ (x : Outcome). IsOwned cfg x.state) (sym e) owned
 
 -- a connection that waits owns no name
-waiting_owns_none : (cfg : Configuration) (s : State) (slot : ℕ) (connection : Connection) (received : List ℕ) → IsOwned cfg s → map.get s.connections slot ≡ Some connection → connection.stage ≡ Waiting received → owns_name slot s.names ≡ false
-waiting_owns_none cfg s slot connection received owned here stage = waiting_free (owns_name slot s.names) (map.get s.connections slot) connection received here stage (owned.slots slot)
+waiting_owns_none : (cfg : Configuration) (s : State) (slot : ℕ) (connection : Connection) (received : List ℕ) → IsOwned cfg s
+    → map.get s.connections slot ≡ Some connection → connection.stage ≡ Waiting received → owns_name slot s.names ≡ false
+waiting_owns_none cfg s slot connection received owned here stage =
+    waiting_free (owns_name slot s.names) (map.get s.connections slot) connection received here stage (owned.slots slot)
 
-told_owned : (cfg : Configuration) (s : State) (slot : ℕ) (connection : Connection) (piece : List ℕ) (stage : Stage) (o : Outcome) → IsOwned cfg s → map.get s.connections slot ≡ Some connection → connection.stage ≡ stage → Told cfg s slot connection piece stage o → IsOwned cfg o.state
+told_owned : (cfg : Configuration) (s : State) (slot : ℕ) (connection : Connection) (piece : List ℕ) (stage : Stage) (o : Outcome)
+    → IsOwned cfg s → map.get s.connections slot ≡ Some connection → connection.stage ≡ stage → Told cfg s slot connection piece stage o
+    → IsOwned cfg o.state
 told_owned cfg s slot connection piece (Waiting received) o owned here stage told =
     let all : List ℕ = received ++ piece in
-    by_outcome cfg o _ told.outcome (sight_owned cfg s slot connection owned here (waiting_owns_none cfg s slot connection received owned here stage) all (first_request all) told.served refl told.told)
+    by_outcome cfg o _ told.outcome (sight_owned cfg s slot connection owned here
+    (waiting_owns_none cfg s slot connection received owned here stage) all (first_request all) told.served refl told.told)
 told_owned cfg s slot connection piece Holding o owned here stage told = by_outcome cfg o _ told owned
 told_owned cfg s slot connection piece Done o owned here stage told = by_outcome cfg o _ told owned
 
-late_owned : (cfg : Configuration) (s : State) (slot : ℕ) (connection : Connection) (stage : Stage) → IsOwned cfg s → map.get s.connections slot ≡ Some connection → connection.stage ≡ stage → IsOwned cfg (late_at s slot connection stage).state
-late_owned cfg s slot connection (Waiting received) owned here stage = closed_owned cfg s slot connection owned here (waiting_owns_none cfg s slot connection received owned here stage)
+late_owned : (cfg : Configuration) (s : State) (slot : ℕ) (connection : Connection) (stage : Stage) → IsOwned cfg s
+    → map.get s.connections slot ≡ Some connection → connection.stage ≡ stage → IsOwned cfg (late_at s slot connection stage).state
+late_owned cfg s slot connection (Waiting received) owned here stage =
+    closed_owned cfg s slot connection owned here (waiting_owns_none cfg s slot connection received owned here stage)
 late_owned cfg s slot connection Holding owned here stage = owned
 late_owned cfg s slot connection Done owned here stage = owned
 
@@ -209,12 +259,14 @@ open_owned : (cfg : Configuration) (s s' : State) (local : Bool) (slot : ℕ) �
 unfolding first_request
 open_owned cfg s s' local slot owned opens =
     let connection : Connection = record { local = local; stage = Waiting [] } in
-    let fresh : map.len (map.insert s.connections slot connection) ≡ map.len s.connections + 1 = len_fresh s.connections slot connection opens.free in
+    let fresh : map.len (map.insert s.connections slot connection) ≡ map.len s.connections + 1 =
+    len_fresh s.connections slot connection opens.free in
     let room : map.len s.connections < cfg.conn_max = opens.room in
     subst (λ (x : State). IsOwned cfg x) (sym opens.after) (record {
       names = owned.names;
       few = omega arith;
-      slots = slots_with s.names s.names s.connections slot connection (λ q other. refl) owned.slots (none_free (owns_name slot s.names) (map.get s.connections slot) opens.free (owned.slots slot), refl);
+      slots = slots_with s.names s.names s.connections slot connection (λ q other. refl) owned.slots
+          (none_free (owns_name slot s.names) (map.get s.connections slot) opens.free (owned.slots slot), refl);
     })
 
 leave_owned : (cfg : Configuration) (s s' : State) (slot : ℕ) → IsOwned cfg s → Leaves s slot s' → IsOwned cfg s'
@@ -223,14 +275,17 @@ leave_owned cfg s s' slot owned leaves =
     subst (λ (x : State). IsOwned cfg x) (sym leaves.after) (record {
       names = kept_retired cfg.known_max s.names (position (λ row. row.slot == slot) s.names.active) owned.names;
       few = omega (arith, len_less s.connections slot);
-      slots = slots_without s.names (retired_of slot s.names) s.connections slot (λ q ne. owns_retired_other q slot s.names owned.names.owners ne) owned.slots (owns_retired slot s.names owned.names.owners);
+      slots = slots_without s.names (retired_of slot s.names) s.connections slot
+          (λ q ne. owns_retired_other q slot s.names owned.names.owners ne) owned.slots (owns_retired slot s.names owned.names.owners);
     })
 
 pub steps_keep : StepsKeepOwned
 steps_keep cfg s s' (Connected local slot) owned step = open_owned cfg s s' local slot owned step.moves
 steps_keep cfg s s' (Piece slot piece reply fate) owned step =
-    told_owned cfg s slot step.moves.connection piece step.moves.connection.stage (record { reply = reply; fate = fate; state = s' }) owned step.moves.is_open refl step.moves.told
+    told_owned cfg s slot step.moves.connection piece step.moves.connection.stage
+    (record { reply = reply; fate = fate; state = s' }) owned step.moves.is_open refl step.moves.told
 steps_keep cfg s s' (Closed slot) owned step = leave_owned cfg s s' slot owned step.moves
 steps_keep cfg s s' (Faulted slot) owned step = leave_owned cfg s s' slot owned step.moves
 steps_keep cfg s s' (Late slot fate) owned step =
-    by_outcome cfg (record { reply = []; fate = fate; state = s' }) _ step.moves.told (late_owned cfg s slot step.moves.connection step.moves.connection.stage owned step.moves.is_open refl)
+    by_outcome cfg (record { reply = []; fate = fate; state = s' }) _ step.moves.told
+    (late_owned cfg s slot step.moves.connection step.moves.connection.stage owned step.moves.is_open refl)

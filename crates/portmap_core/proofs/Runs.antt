@@ -1,5 +1,6 @@
 -- Names after a run and after a malformed request, and what is seen of a request that was written.
-use Rattle.std.proofs.Common.{◌≡◌, ℕ, ◌+◌, ◌*◌, ◌/◌, ◌%◌, ◌<◌, ◌≤◌, Bool, true, false, List, [], ◌∷◌, ◌++◌, length, take, Option, Some, None, refl, sym, ap, subst, ◌∙◌, arith, inl, inr, length-append, ltb, eqb}
+use Rattle.std.proofs.Common.{◌≡◌, ℕ, ◌+◌, ◌*◌, ◌/◌, ◌%◌, ◌<◌, ◌≤◌, Bool, true, false, List, [], ◌∷◌, ◌++◌, length, take, Option, Some}
+use Rattle.std.proofs.Common.{None, refl, sym, ap, subst, ◌∙◌, arith, inl, inr, length-append, ltb, eqb}
 use Rattle.std.specs.FinMap as map
 use Rattle.std.proofs.Math.Seq.{take-append_seam}
 use Rattle.std.proofs.lemmas.Bool.{le-ltb, ne_eqb}
@@ -30,12 +31,14 @@ use Rattle.portmap_core.proofs.Owned.{owned_empty, steps_keep}
 -- ---- names after a run
 
 -- a run behind a run
-pub runs_join : (cfg : Configuration) (es fs : List Entry) (s mid s' : State) → Run cfg s es mid → Run cfg mid fs s' → Run cfg s (es ++ fs) s'
+pub runs_join : (cfg : Configuration) (es fs : List Entry) (s mid s' : State) → Run cfg s es mid → Run cfg mid fs s'
+    → Run cfg s (es ++ fs) s'
 runs_join cfg [] fs s mid s' run more = subst (λ (x : State). Run cfg x fs s') run more
 runs_join cfg (e ∷ es) fs s mid s' run more = (run.0, run.1, runs_join cfg es fs run.0 mid s' run.2 more)
 
 -- one step behind it
-pub run_more : (cfg : Configuration) (es : List Entry) (e : Entry) (s mid s' : State) → Run cfg s es mid → Step cfg mid e s' → Run cfg s (es ++ e ∷ []) s'
+pub run_more : (cfg : Configuration) (es : List Entry) (e : Entry) (s mid s' : State) → Run cfg s es mid → Step cfg mid e s'
+    → Run cfg s (es ++ e ∷ []) s'
 run_more cfg es e s mid s' run step = runs_join cfg es (e ∷ []) s mid s' run (s', step, refl)
 
 pub run_owned : (cfg : Configuration) (es : List Entry) (s s' : State) → IsOwned cfg s → Run cfg s es s' → IsOwned cfg s'
@@ -52,13 +55,20 @@ local_of b local (Waiting received) e h = absurd (let other : b ≡ false = h.0 
 local_of b local Holding e h = h.1
 local_of b local Done e h = absurd (let other : b ≡ false = h in cc)
 
-holder : (b : Bool) (o : Option Connection) → b ≡ true → IsSlotFor b o → (connection : Connection) × (o ≡ Some connection) × (connection.stage ≡ Holding) × (connection.local ≡ true)
+holder : (b : Bool) (o : Option Connection) → b ≡ true → IsSlotFor b o
+    → (connection : Connection) × (o ≡ Some connection) × (connection.stage ≡ Holding) × (connection.local ≡ true)
 holder b None e h = absurd (let other : b ≡ false = h in cc)
-holder b (Some connection) e h = (connection, refl, holding b connection.local connection.stage e h, local_of b connection.local connection.stage e h)
+holder b (Some connection) e h = (
+  connection,
+  refl,
+  holding b connection.local connection.stage e h,
+  local_of b connection.local connection.stage e h,
+)
 
 belongs : (cfg : Configuration) (s : State) → IsOwned cfg s → NamesBelong s
 belongs cfg s owned = record {
-  held = λ name row found. holder (owns_name row.slot s.names) (map.get s.connections row.slot) (owner_owns name s.names row found) (owned.slots row.slot);
+  held = λ name row found. holder (owns_name row.slot s.names) (map.get s.connections row.slot) (owner_owns name s.names row found)
+      (owned.slots row.slot);
   once = λ i j d below within. apart_from_distinct same_name (known_names s.names) i j d owned.names.distinct below within;
   alone = λ i j d below within. apart_from_distinct ◌==◌ (owners s.names) i j d owned.names.owners below within;
 }
@@ -68,11 +78,13 @@ names_belong cfg es s is run = belongs cfg s (run_owned cfg es _ s (owned_empty 
 
 -- ---- names after a malformed request
 
-refused_names : (cfg : Configuration) (names : Names) (local : Bool) (slot : ℕ) (body : List ℕ) (o : Served) → IsMalformed body → ServesBody cfg names local slot body o → o.names ≡ names
+refused_names : (cfg : Configuration) (names : Names) (local : Bool) (slot : ℕ) (body : List ℕ) (o : Served) → IsMalformed body
+    → ServesBody cfg names local slot body o → o.names ≡ names
 refused_names cfg names local slot body o malformed (inl a) = absurd (malformed a.request a.spells)
 refused_names cfg names local slot body o malformed (inr r) = ap (λ (x : Served). x.names) r.is
 
-bad_names : (cfg : Configuration) (names : Names) (local : Bool) (slot : ℕ) (received : List ℕ) (sight : Sight) (o : Served) → IsBad sight → ToldAt cfg names local slot received sight o → o.names ≡ names
+bad_names : (cfg : Configuration) (names : Names) (local : Bool) (slot : ℕ) (received : List ℕ) (sight : Sight) (o : Served) → IsBad sight
+    → ToldAt cfg names local slot received sight o → o.names ≡ names
 bad_names cfg names local slot received More o bad told = absurd bad
 bad_names cfg names local slot received Zero o bad told = ap (λ (x : Served). x.names) told
 bad_names cfg names local slot received (TooLarge n) o bad told = ap (λ (x : Served). x.names) told
@@ -83,9 +95,12 @@ malformed_keeps cfg s s' slot connection received piece reply fate here stage ba
     let both : Some says.connection ≡ Some connection = sym says.is_open ∙ here in
     let one : says.connection ≡ connection = cc in
     let o : Outcome = record { reply = reply; fate = fate; state = s' } in
-    let told : Told cfg s slot connection piece connection.stage o = subst (λ (c : Connection). Told cfg s slot c piece c.stage o) one says.told in
-    let waited : Settles cfg s slot connection (received ++ piece) o = subst (λ (x : Stage). Told cfg s slot connection piece x o) stage told in
-    ap (λ (x : Outcome). x.state.names) waited.outcome ∙ bad_names cfg s.names connection.local slot (received ++ piece) (first_request (received ++ piece)) waited.served bad waited.told
+    let told : Told cfg s slot connection piece connection.stage o =
+    subst (λ (c : Connection). Told cfg s slot c piece c.stage o) one says.told in
+    let waited : Settles cfg s slot connection (received ++ piece) o =
+    subst (λ (x : Stage). Told cfg s slot connection piece x o) stage told in
+    ap (λ (x : Outcome). x.state.names) waited.outcome
+    ∙ bad_names cfg s.names connection.local slot (received ++ piece) (first_request (received ++ piece)) waited.served bad waited.told
 
 -- ---- a request that was written
 
@@ -101,14 +116,16 @@ body_len Kill is = (omega arith, omega arith)
 body_len (Stop name) is = (omega arith, omega (arith, is.short))
 
 -- a body behind its length
-whole_behind : (body more : List ℕ) (n : ℕ) → n ≡ length body → 0 < length body → length body ≤ BODY_MOST → sight_behind n (body ++ more) ≡ Whole body
+whole_behind : (body more : List ℕ) (n : ℕ) → n ≡ length body → 0 < length body → length body ≤ BODY_MOST
+    → sight_behind n (body ++ more) ≡ Whole body
 whole_behind body more n e some small =
     let t1 : eqb n 0 ≡ false = ne_eqb _ _ (omega arith) in
     let t2 : ltb BODY_MOST n ≡ false = le-ltb _ _ (omega arith) in
     let t3 : ltb (length (body ++ more)) n ≡ false = le-ltb _ _ (omega (arith, length-append body more)) in
     rw (t1, t2, t3) (ap (λ (k : ℕ). Whole (take k (body ++ more))) e ∙ ap Whole (take-append_seam body more))
 
-seen_whole : (body more : List ℕ) → 0 < length body → length body ≤ BODY_MOST → first_request (be2 (length body) ++ body ++ more) ≡ Whole body
+seen_whole : (body more : List ℕ) → 0 < length body → length body ≤ BODY_MOST
+    → first_request (be2 (length body) ++ body ++ more) ≡ Whole body
 unfolding first_request
 seen_whole body more some small =
     let n : ℕ = length body in

@@ -21,7 +21,8 @@ use Rattle.portmap_core.specs.declared.serve.Change.TheVariants.{Nothing}
 use Rattle.portmap_core.specs.Config.{Configuration}
 use Rattle.portmap_core.specs.Held.{stage_held}
 use Rattle.portmap_core.specs.Serving.{MayTake, Served, Serves, ServesBody, ToldAt, alive_served, awaits, registers, replied, served}
-use Rattle.portmap_core.specs.Telling.{AnswersAll, IsAllTold, IsChosen, MayChange, MayRegister, Tells, TellsAll, names_after, served_by, shown_creation, stopped_by}
+use Rattle.portmap_core.specs.Telling.{AnswersAll, IsAllTold, IsChosen, MayChange, MayRegister, Tells, TellsAll, names_after, served_by}
+use Rattle.portmap_core.specs.Telling.{shown_creation, stopped_by}
 use Rattle.portmap_core.specs.declared.asked.Asked.{Asked}
 use Rattle.portmap_core.specs.declared.serve.Response.{Response}
 use Rattle.portmap_core.proofs.Determined.{shows}
@@ -35,7 +36,8 @@ second false x y e = refl
 abbrev stands : Bool → Bool → Option ℕ → Standing
 stands taken full last = if taken then how.Active else if full then how.NoRoom else how.Free last
 
-is_free : (taken full : Bool) (last free : Option ℕ) → stands taken full last ≡ how.Free free → (taken ≡ false) × (full ≡ false) × (free ≡ last)
+is_free : (taken full : Bool) (last free : Option ℕ) → stands taken full last ≡ how.Free free
+    → (taken ≡ false) × (full ≡ false) × (free ≡ last)
 is_free true full last free e = absurd cc
 is_free false true last free e = absurd cc
 is_free false false last free e = (refl, refl, let same : free ≡ last = cc in same)
@@ -43,26 +45,33 @@ is_free false false last free e = (refl, refl, let same : free ≡ last = cc in 
 -- ---- a request
 
 -- it is told so whatever creation it would have
-pub all_alike : (cfg : Configuration) (names : Names) (local : Bool) (slot : ℕ) (request : Request) (wanted : Option ℕ) (o : Served) → ((creation : ℕ) → o ≡ served cfg names local slot request creation) → (o.stage ≡ Holding → MayTake names request 0)
+pub all_alike : (cfg : Configuration) (names : Names) (local : Bool) (slot : ℕ) (request : Request) (wanted : Option ℕ) (o : Served)
+    → ((creation : ℕ) → o ≡ served cfg names local slot request creation) → (o.stage ≡ Holding → MayTake names request 0)
     → IsAllTold (Serves cfg names local slot request) wanted o
 all_alike cfg names local slot request wanted o is legal = record {
   told = record { creation = 0; legal = legal; is = is 0 };
   only = λ other p e. p.is ∙ sym (is p.creation);
 }
 
-pub tells_alike : {E : Type 0} (asked : Asked) (local : Bool) (request : Request) (o : Served) (result : Result Response E) → ((slot creation : ℕ) → o ≡ served asked.config asked.table.now.names local slot request creation) → MayTake asked.table.now.names request 0
+pub tells_alike : {E : Type 0} (asked : Asked) (local : Bool) (request : Request) (o : Served) (result : Result Response E)
+    → ((slot creation : ℕ) → o ≡ served asked.config asked.table.now.names local slot request creation)
+    → MayTake asked.table.now.names request 0
     → IfOk result (λ told. Tells asked told o) → AnswersAll asked result (λ cfg names slot. Serves cfg names local slot request)
 tells_alike asked local request o result is legal =
     let cfg = asked.config in
     let names = asked.table.now.names in
-    IfOk-weaker result (λ told. Tells asked told o) (λ told. (bytes : List ℕ) → TellsAll (λ slot. Serves cfg names local slot request) asked bytes told) (λ told h bytes. record {
-      all = λ slot. all_alike cfg names local slot request asked.wanted (served_by cfg names slot bytes told) (λ creation. h.is slot bytes ∙ is slot creation) (λ _. legal);
+    IfOk-weaker result (λ told. Tells asked told o)
+    (λ told. (bytes : List ℕ) → TellsAll (λ slot. Serves cfg names local slot request) asked bytes told) (λ told h bytes. record {
+      all = λ slot. all_alike cfg names local slot request asked.wanted (served_by cfg names slot bytes told)
+          (λ creation. h.is slot bytes ∙ is slot creation) (λ _. legal);
       may = h.may;
       chosen = h.chosen;
     })
 
 -- where it is local, as one that is
-pub near : {E : Type 0} (asked : Asked) (request : Request) (result : Result Response E) → asked.local ≡ true → AnswersAll asked result (λ cfg names slot. Serves cfg names true slot request) → AnswersAll asked result (λ cfg names slot. Serves cfg names asked.local slot request)
+pub near : {E : Type 0} (asked : Asked) (request : Request) (result : Result Response E) → asked.local ≡ true
+    → AnswersAll asked result (λ cfg names slot. Serves cfg names true slot request)
+    → AnswersAll asked result (λ cfg names slot. Serves cfg names asked.local slot request)
 near asked request result e h = subst (λ (l : Bool). AnswersAll asked result (λ cfg names slot. Serves cfg names l slot request)) (sym e) h
 
 -- a registration for which there is no room
@@ -71,70 +80,106 @@ is_full true full last e = absurd cc
 is_full false true last e = (refl, refl)
 is_full false false last e = absurd cc
 
-pub refused : (asked : Asked) (g : Node) (told : Response) → standing asked.config.known_max g.name asked.table.now.names ≡ how.NoRoom → told.reply.items ≡ alive_reply g.high 2 0 → told.fate ≡ Close → told.phase ≡ phase.Done → told.change ≡ Nothing
+pub refused : (asked : Asked) (g : Node) (told : Response) → standing asked.config.known_max g.name asked.table.now.names ≡ how.NoRoom
+    → told.reply.items ≡ alive_reply g.high 2 0 → told.fate ≡ Close → told.phase ≡ phase.Done → told.change ≡ Nothing
     → (bytes : List ℕ) → TellsAll (λ slot. Serves asked.config asked.table.now.names true slot (Alive g)) asked bytes told
 refused asked g told e text fate phase change bytes =
     let cfg = asked.config in
     let names = asked.table.now.names in
     let full = is_full (is_active g.name names) (is_full_for cfg.known_max g.name names) (remembered g.name names) e in
     let said : (slot : ℕ) → served_by cfg names slot bytes told ≡ replied names (alive_reply g.high 2 0) =
-    λ slot i. record { reply = text i; fate = fate i; stage = stage_held (phase i) bytes; names = names_after cfg.known_max slot (change i) names; stopped = stopped_by (change i) } in
+    λ slot i. record {
+      reply = text i;
+      fate = fate i;
+      stage = stage_held (phase i) bytes;
+      names = names_after cfg.known_max slot (change i) names;
+      stopped = stopped_by (change i);
+    } in
     let is : (slot creation : ℕ) → alive_served cfg names slot g creation ≡ replied names (alive_reply g.high 2 0) =
-    λ slot creation. second (is_active g.name names) _ _ full.0 ∙ ap (λ (b : Bool). cond b (replied names (alive_reply g.high 2 0)) (registers cfg.known_max names slot g creation)) full.1 in
+    λ slot creation. second (is_active g.name names) _ _ full.0
+    ∙ ap (λ (b : Bool). cond b (replied names (alive_reply g.high 2 0)) (registers cfg.known_max names slot g creation)) full.1 in
     record {
-      all = λ slot. all_alike cfg names true slot (Alive g) asked.wanted (served_by cfg names slot bytes told) (λ creation. said slot ∙ sym (is slot creation)) (λ h. let both : Done ≡ Holding = sym (ap (λ (o : Served). o.stage) (said slot)) ∙ h in absurd cc);
+      all = λ slot. all_alike cfg names true slot (Alive g) asked.wanted (served_by cfg names slot bytes told)
+          (λ creation. said slot ∙ sym (is slot creation))
+          (λ h. let both : Done ≡ Holding = sym (ap (λ (o : Served). o.stage) (said slot)) ∙ h in absurd cc);
       may = subst (MayChange cfg.known_max names) (sym change) tt;
       chosen = subst (IsChosen cfg.port asked.table.now asked.wanted told.reply.items) (sym change) tt;
     }
 
 -- a registration of a name that is free
-pub may_register : (known_max : ℕ) (names : Names) (g : Node) (last : Option ℕ) (creation : ℕ) → standing known_max g.name names ≡ how.Free last → IsLegalCreation g.high last creation → MayRegister known_max names g creation
+pub may_register : (known_max : ℕ) (names : Names) (g : Node) (last : Option ℕ) (creation : ℕ)
+    → standing known_max g.name names ≡ how.Free last → IsLegalCreation g.high last creation → MayRegister known_max names g creation
 may_register known_max names g last creation stands legal =
     let free = is_free (is_active g.name names) (is_full_for known_max g.name names) (remembered g.name names) last stands in
     record { active = free.0; room = free.1; legal = subst (λ (o : Option ℕ). IsLegalCreation g.high o creation) free.2 legal }
 
-pub is_chosen : (known_max : ℕ) (names : Names) (g : Node) (wanted last : Option ℕ) (counter creation : ℕ) → standing known_max g.name names ≡ how.Free last → (wanted ≡ None → creation ≡ choice counter g.high last) → wanted ≡ None → creation ≡ choice counter g.high (remembered g.name names)
+pub is_chosen : (known_max : ℕ) (names : Names) (g : Node) (wanted last : Option ℕ) (counter creation : ℕ)
+    → standing known_max g.name names ≡ how.Free last → (wanted ≡ None → creation ≡ choice counter g.high last) → wanted ≡ None
+    → creation ≡ choice counter g.high (remembered g.name names)
 is_chosen known_max names g wanted last counter creation stands chosen none =
-    chosen none ∙ ap (choice counter g.high) (is_free (is_active g.name names) (is_full_for known_max g.name names) (remembered g.name names) last stands).2
+    chosen none ∙ ap (choice counter g.high)
+    (is_free (is_active g.name names) (is_full_for known_max g.name names) (remembered g.name names) last stands).2
 
-pub all_free : (cfg : Configuration) (names : Names) (slot : ℕ) (g : Node) (wanted last : Option ℕ) (creation : ℕ) (reply : List ℕ) → standing cfg.known_max g.name names ≡ how.Free last → MayRegister cfg.known_max names g creation
+pub all_free : (cfg : Configuration) (names : Names) (slot : ℕ) (g : Node) (wanted last : Option ℕ) (creation : ℕ) (reply : List ℕ)
+    → standing cfg.known_max g.name names ≡ how.Free last → MayRegister cfg.known_max names g creation
     → ((other : ℕ) → wanted ≡ Some other → IsLegalCreation g.high last other → other ≡ creation) → reply ≡ alive_reply g.high 0 creation
-    → IsAllTold (Serves cfg names true slot (Alive g)) wanted (record { reply = reply; fate = Stay; stage = Holding; names = registered g creation slot (with_room cfg.known_max g.name names); stopped = None })
+    → IsAllTold (Serves cfg names true slot (Alive g)) wanted
+    (record {
+      reply = reply;
+      fate = Stay;
+      stage = Holding;
+      names = registered g creation slot (with_room cfg.known_max g.name names);
+      stopped = None;
+    })
 all_free cfg names slot g wanted last creation reply stands may picked said =
     let free = is_free (is_active g.name names) (is_full_for cfg.known_max g.name names) (remembered g.name names) last stands in
-    let to : (c : ℕ) → alive_served cfg names slot g c ≡ registers cfg.known_max names slot g c = λ c. second (is_active g.name names) _ _ may.active ∙ second (is_full_for cfg.known_max g.name names) _ _ may.room in
+    let to : (c : ℕ) → alive_served cfg names slot g c ≡ registers cfg.known_max names slot g c = λ c.
+    second (is_active g.name names) _ _ may.active ∙ second (is_full_for cfg.known_max g.name names) _ _ may.room in
     rw said (record {
       told = record { creation = creation; legal = λ h. may.legal; is = sym (to creation) };
       only = λ other p e.
           let told = p.is ∙ to p.creation in
           let legal : IsLegalCreation g.high (remembered g.name names) p.creation = p.legal (ap (λ (w : Served). w.stage) told) in
           let shown = sym e ∙ ap (λ (w : Served). shown_creation w.reply) told ∙ shows g.high p.creation legal.range in
-          told ∙ ap (registers cfg.known_max names slot g) (picked p.creation shown (subst (λ (w : Option ℕ). IsLegalCreation g.high w p.creation) (sym free.2) legal));
+          told ∙ ap (registers cfg.known_max names slot g)
+          (picked p.creation shown (subst (λ (w : Option ℕ). IsLegalCreation g.high w p.creation) (sym free.2) legal));
     })
 
 -- ---- a body
 
-pub all_spelled : (cfg : Configuration) (names : Names) (local : Bool) (slot : ℕ) (body : List ℕ) (request : Request) (wanted : Option ℕ) (o : Served) → Spells body request → IsAllTold (Serves cfg names local slot request) wanted o → IsAllTold (ServesBody cfg names local slot body) wanted o
+pub all_spelled : (cfg : Configuration) (names : Names) (local : Bool) (slot : ℕ) (body : List ℕ) (request : Request) (wanted : Option ℕ)
+    (o : Served) → Spells body request → IsAllTold (Serves cfg names local slot request) wanted o
+    → IsAllTold (ServesBody cfg names local slot body) wanted o
 all_spelled cfg names local slot body request wanted o spells all = record {
   told = inl (record { request = request; spells = spells; serves = all.told });
   only = λ other p e. elim p [
-    | inl q ↦ all.only other (subst (λ (r : Request). Serves cfg names local slot r other) (one_request body q.request request q.spells spells) q.serves) e
+    | inl q ↦ all.only other (subst (λ (r : Request). Serves cfg names local slot r other)
+        (one_request body q.request request q.spells spells) q.serves) e
     | inr q ↦ absurd (q.malformed request spells)
   ];
 }
 
 pub tells_spelled : {E : Type 0} (asked : Asked) (body : List ℕ) (request : Request) (result : Result Response E) → Spells body request
-    → AnswersAll asked result (λ cfg names slot. Serves cfg names asked.local slot request) → AnswersAll asked result (λ cfg names slot. ServesBody cfg names asked.local slot body)
+    → AnswersAll asked result (λ cfg names slot. Serves cfg names asked.local slot request)
+    → AnswersAll asked result (λ cfg names slot. ServesBody cfg names asked.local slot body)
 tells_spelled asked body request result spells =
     let cfg = asked.config in
     let names = asked.table.now.names in
-    IfOk-weaker result (λ told. (bytes : List ℕ) → TellsAll (λ slot. Serves cfg names asked.local slot request) asked bytes told) (λ told. (bytes : List ℕ) → TellsAll (λ slot. ServesBody cfg names asked.local slot body) asked bytes told)
-    (λ told h bytes. record { all = λ slot. all_spelled cfg names asked.local slot body request asked.wanted (served_by cfg names slot bytes told) spells ((h bytes).all slot); may = (h bytes).may; chosen = (h bytes).chosen })
+    IfOk-weaker result (λ told. (bytes : List ℕ) → TellsAll (λ slot. Serves cfg names asked.local slot request) asked bytes told)
+    (λ told. (bytes : List ℕ) → TellsAll (λ slot. ServesBody cfg names asked.local slot body) asked bytes told)
+    (λ told h bytes. record {
+      all = λ slot.
+          all_spelled cfg names asked.local slot body request asked.wanted (served_by cfg names slot bytes told) spells ((h bytes).all slot);
+      may = (h bytes).may;
+      chosen = (h bytes).chosen;
+    })
 
 -- ---- all that was sent
 
-pub tells_whole : {E : Type 0} (asked : Asked) (received body : List ℕ) (sight : Sight) (result : Result Response E) → Some body ≡ body_in sight
-    → AnswersAll asked result (λ cfg names slot. ServesBody cfg names asked.local slot body) → IfOk result (λ told. TellsAll (λ slot. ToldAt asked.config asked.table.now.names asked.local slot received sight) asked received told)
+pub tells_whole : {E : Type 0} (asked : Asked) (received body : List ℕ) (sight : Sight) (result : Result Response E)
+    → Some body ≡ body_in sight
+    → AnswersAll asked result (λ cfg names slot. ServesBody cfg names asked.local slot body)
+    → IfOk result (λ told. TellsAll (λ slot. ToldAt asked.config asked.table.now.names asked.local slot received sight) asked received told)
 tells_whole asked received body More result is = absurd cc
 tells_whole asked received body Zero result is = absurd cc
 tells_whole asked received body (TooLarge n) result is = absurd cc
@@ -142,24 +187,32 @@ tells_whole asked received body (Whole whole) result is =
     let one : body ≡ whole = cc in
     let cfg = asked.config in
     let names = asked.table.now.names in
-    IfOk-weaker result (λ told. (bytes : List ℕ) → TellsAll (λ slot. ServesBody cfg names asked.local slot body) asked bytes told) (λ told. TellsAll (λ slot. ToldAt cfg names asked.local slot received (Whole whole)) asked received told)
+    IfOk-weaker result (λ told. (bytes : List ℕ) → TellsAll (λ slot. ServesBody cfg names asked.local slot body) asked bytes told)
+    (λ told. TellsAll (λ slot. ToldAt cfg names asked.local slot received (Whole whole)) asked received told)
     (λ told h. subst (λ (b : List ℕ). TellsAll (λ slot. ServesBody cfg names asked.local slot b) asked received told) one (h received))
 
 -- what a feed keeps of it tells as much
-told_kept : (cfg : Configuration) (names : Names) (local : Bool) (slot : ℕ) (feed all : List ℕ) (sight : Sight) (o : Served) → (sight ≡ More → feed ≡ all) → ToldAt cfg names local slot feed sight o → ToldAt cfg names local slot all sight o
+told_kept : (cfg : Configuration) (names : Names) (local : Bool) (slot : ℕ) (feed all : List ℕ) (sight : Sight) (o : Served)
+    → (sight ≡ More → feed ≡ all) → ToldAt cfg names local slot feed sight o → ToldAt cfg names local slot all sight o
 told_kept cfg names local slot feed all More o same p = p ∙ ap (awaits names) (same refl)
 told_kept cfg names local slot feed all Zero o same p = p
 told_kept cfg names local slot feed all (TooLarge n) o same p = p
 told_kept cfg names local slot feed all (Whole body) o same p = p
 
-pub told_all : (cfg : Configuration) (names : Names) (local : Bool) (slot : ℕ) (feed all : List ℕ) (o : Served) → first_request feed ≡ first_request all → (first_request all ≡ More → feed ≡ all) → ToldAt cfg names local slot feed (first_request feed) o → ToldAt cfg names local slot all (first_request all) o
-told_all cfg names local slot feed all o sight same p = told_kept cfg names local slot feed all (first_request all) o same (subst (λ (x : Sight). ToldAt cfg names local slot feed x o) sight p)
+pub told_all : (cfg : Configuration) (names : Names) (local : Bool) (slot : ℕ) (feed all : List ℕ) (o : Served)
+    → first_request feed ≡ first_request all → (first_request all ≡ More → feed ≡ all)
+    → ToldAt cfg names local slot feed (first_request feed) o → ToldAt cfg names local slot all (first_request all) o
+told_all cfg names local slot feed all o sight same p =
+    told_kept cfg names local slot feed all (first_request all) o same (subst (λ (x : Sight). ToldAt cfg names local slot feed x o) sight p)
 
-pub all_kept : (cfg : Configuration) (names : Names) (near local : Bool) (slot : ℕ) (feed all : List ℕ) (wanted : Option ℕ) (o : Served) → near ≡ local → feed ≡ kept all → IsAllTold (ToldAt cfg names near slot feed (first_request feed)) wanted o → IsAllTold (ToldAt cfg names local slot all (first_request all)) wanted o
+pub all_kept : (cfg : Configuration) (names : Names) (near local : Bool) (slot : ℕ) (feed all : List ℕ) (wanted : Option ℕ) (o : Served)
+    → near ≡ local → feed ≡ kept all → IsAllTold (ToldAt cfg names near slot feed (first_request feed)) wanted o
+    → IsAllTold (ToldAt cfg names local slot all (first_request all)) wanted o
 all_kept cfg names near local slot feed all wanted o alike is told =
     let sight : first_request feed ≡ first_request all = ap first_request is ∙ first_request-kept all in
     let same = λ (more : first_request all ≡ More). is ∙ kept_more all more in
-    let here = subst (λ (sight : Sight). IsAllTold (ToldAt cfg names local slot feed sight) wanted o) sight (subst (λ (l : Bool). IsAllTold (ToldAt cfg names l slot feed (first_request feed)) wanted o) alike told) in
+    let here = subst (λ (sight : Sight). IsAllTold (ToldAt cfg names local slot feed sight) wanted o) sight
+    (subst (λ (l : Bool). IsAllTold (ToldAt cfg names l slot feed (first_request feed)) wanted o) alike told) in
     record {
       told = told_kept cfg names local slot feed all (first_request all) o same here.told;
       only = λ other p e. here.only other (told_kept cfg names local slot all feed (first_request all) other (λ more. sym (same more)) p) e;

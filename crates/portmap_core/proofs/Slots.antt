@@ -1,5 +1,6 @@
 -- Slots as a finite map.
-use Rattle.std.proofs.Common.{◌≡◌, ◌≢◌, ℕ, suc, zero, ◌+◌, ◌<◌, cond, true, false, List, [], ◌∷◌, length, get_or, Option, Some, None, refl, sym, ap, ◌∙◌, arith}
+use Rattle.std.proofs.Common.{◌≡◌, ◌≢◌, ℕ, suc, zero, ◌+◌, ◌<◌, cond, true, false, List, [], ◌∷◌, length, get_or, Option, Some, None, refl}
+use Rattle.std.proofs.Common.{sym, ap, ◌∙◌, arith}
 use Rattle.std.specs.Prelude.{count_by, is_some, option_map}
 use Rattle.std.specs.Ordering.{nat_cmp, eq_by_cmp, is_eq}
 use Rattle.std.specs.declared.cmp.Ordering.TheVariants.{Equal}
@@ -53,32 +54,40 @@ pub cut_other : (m : ConnectionMap) (k q : ℕ) → q ≢ k → map.get (map.rem
 cut_other m k q ne = grind (arith, nat_tests, map.get-remove nat_cmp_total m k q)
 
 -- a slot of a slab is written, and one is freed
-pub connections_put : (old new : Slab Connection) (k : ℕ) (connection : Connection) → Updates old new k (Some connection) → connections_of new.slots ≡ map.insert (connections_of old.slots) k connection
-connections_put old new k connection updates = same _ _ (λ q. grind (arith, nat_tests, map.gets, get-connections, updates.changed, updates.others q))
+pub connections_put : (old new : Slab Connection) (k : ℕ) (connection : Connection) → Updates old new k (Some connection)
+    → connections_of new.slots ≡ map.insert (connections_of old.slots) k connection
+connections_put old new k connection updates =
+    same _ _ (λ q. grind (arith, nat_tests, map.gets, get-connections, updates.changed, updates.others q))
 
-pub connections_cut : (old new : Slab Connection) (k : ℕ) → Updates old new k None → connections_of new.slots ≡ map.remove (connections_of old.slots) k
+pub connections_cut : (old new : Slab Connection) (k : ℕ) → Updates old new k None
+    → connections_of new.slots ≡ map.remove (connections_of old.slots) k
 connections_cut old new k updates = same _ _ (λ q. grind (arith, nat_tests, map.gets, get-connections, updates.changed, updates.others q))
 
 -- a slot is written through a reference
-pub connections-with_value : (s : Slab Connection) (k : ℕ) (connection : Connection) → ContainsKey s k → connections_of (with_value s k connection).slots ≡ map.insert (connections_of s.slots) k connection
+pub connections-with_value : (s : Slab Connection) (k : ℕ) (connection : Connection) → ContainsKey s k
+    → connections_of (with_value s k connection).slots ≡ map.insert (connections_of s.slots) k connection
 connections-with_value s k connection here = connections_put s _ k connection (Updates-with_value s k connection here)
 
 -- entries rise from slot to slot
-put_first : (j k : ℕ) (connection : Connection) (slots : List (Option Connection)) → j < k → map.put nat_cmp j connection (entries_from k slots) ≡ (j, connection) ∷ entries_from k slots
+put_first : (j k : ℕ) (connection : Connection) (slots : List (Option Connection)) → j < k
+    → map.put nat_cmp j connection (entries_from k slots) ≡ (j, connection) ∷ entries_from k slots
 put_first j k connection [] lt = refl
 put_first j k connection (None ∷ slots) lt = put_first j (k + 1) connection slots (omega arith)
 put_first j k connection (Some other ∷ slots) lt = grind (arith, nat_tests)
 
 pub none_open : ◌≡◌ {A = ConnectionMap} (map.from_sorted []) map.empty
-none_open = let none : ConnectionMap = map.from_sorted [] in map.empty_of_len none (map.len-entries none ∙ ap length (map.entries-from_sorted nat_cmp [] tt))
+none_open = let none : ConnectionMap = map.from_sorted [] in
+    map.empty_of_len none (map.len-entries none ∙ ap length (map.entries-from_sorted nat_cmp [] tt))
 
 -- so they are the map's own
-pub entries-connections : (j : ℕ) (slots : List (Option Connection)) → map.entries {R = nat_cmp} (map.from_entries (entries_from j slots)) ≡ entries_from j slots
+pub entries-connections : (j : ℕ) (slots : List (Option Connection))
+    → map.entries {R = nat_cmp} (map.from_entries (entries_from j slots)) ≡ entries_from j slots
 entries-connections j [] = ap map.entries (sym none_open) ∙ map.entries-from_sorted nat_cmp [] tt
 entries-connections j (None ∷ slots) = entries-connections (j + 1) slots
 entries-connections j (Some connection ∷ slots) =
     map.entries-insert nat_cmp_total (map.from_entries (entries_from (j + 1) slots)) j connection
-    ∙ ap (λ (es : List (ℕ × Connection)). map.put nat_cmp j connection es) (entries-connections (j + 1) slots) ∙ put_first j (j + 1) connection slots (omega arith)
+    ∙ ap (λ (es : List (ℕ × Connection)). map.put nat_cmp j connection es) (entries-connections (j + 1) slots)
+    ∙ put_first j (j + 1) connection slots (omega arith)
 
 -- how many slots are taken
 pub len-connections : (slots : List (Option Connection)) → map.len (connections_of slots) ≡ count_by is_some slots
@@ -99,7 +108,9 @@ insert_back m k a is = same _ _ (λ q. grind (arith, nat_tests, map.gets, is))
 pub get_inserted : (m : ConnectionMap) (k : ℕ) (a : Connection) → map.get (map.insert m k a) k ≡ Some a
 get_inserted m k a = put_same m k k a refl
 
-got_ended : (owner q : ℕ) (m : ConnectionMap) (o : Option Connection) → map.get m owner ≡ o → map.get (ended_at owner o m) q ≡ cond (eq_by_cmp nat_cmp q owner) (option_map (λ connection. at_stage connection Done) o) (map.get m q)
+got_ended : (owner q : ℕ) (m : ConnectionMap) (o : Option Connection) → map.get m owner ≡ o
+    → map.get (ended_at owner o m) q ≡ cond (eq_by_cmp nat_cmp q owner) (option_map (λ connection. at_stage connection Done) o)
+    (map.get m q)
 got_ended owner q m None e = grind (arith, nat_tests, e)
 got_ended owner q m (Some connection) e = map.get-insert nat_cmp_total m owner (at_stage connection Done) q
 
@@ -107,12 +118,24 @@ got_ended owner q m (Some connection) e = map.get-insert nat_cmp_total m owner (
 abbrev pub StaysOpen : ConnectionMap → ℕ → Connection → Type 0
 StaysOpen connections slot connection = (found : Connection) × (map.get connections slot ≡ Some found) × (found.local ≡ connection.local)
 
-pub ended_open : (connections : ConnectionMap) (owner slot : ℕ) (o : Option Connection) (connection : Connection) → map.get connections owner ≡ o → map.get connections slot ≡ Some connection → StaysOpen (ended_at owner o connections) slot connection
+pub ended_open : (connections : ConnectionMap) (owner slot : ℕ) (o : Option Connection) (connection : Connection)
+    → map.get connections owner ≡ o → map.get connections slot ≡ Some connection → StaysOpen (ended_at owner o connections) slot connection
 ended_open connections owner slot o connection e here =
-    let got = got_ended owner slot connections o e in
-    (cond (eq_by_cmp nat_cmp slot owner) (at_stage connection Done) connection, grind (arith, nat_tests, got, e, here), grind (arith, nat_tests))
+    let got = got_ended owner slot connections o e in (
+      cond (eq_by_cmp nat_cmp slot owner) (at_stage connection Done) connection,
+      grind (arith, nat_tests, got, e, here),
+      grind (arith, nat_tests),
+    )
 
 -- what was written at a slot before another one is stopped does not matter
-pub stopped_alike : (m : ConnectionMap) (stopped : Option ℕ) (slot : ℕ) (a b c : Connection) → map.insert (stopped_in stopped (map.insert m slot a)) slot c ≡ map.insert (stopped_in stopped (map.insert m slot b)) slot c
+pub stopped_alike : (m : ConnectionMap) (stopped : Option ℕ) (slot : ℕ) (a b c : Connection)
+    → map.insert (stopped_in stopped (map.insert m slot a)) slot c ≡ map.insert (stopped_in stopped (map.insert m slot b)) slot c
 stopped_alike m None slot a b c = same _ _ (λ q. grind (arith, nat_tests, map.gets))
-stopped_alike m (Some owner) slot a b c = same _ _ (λ q. grind (arith, nat_tests, map.gets, got_ended owner q (map.insert m slot a) _ refl, got_ended owner q (map.insert m slot b) _ refl))
+stopped_alike m (Some owner) slot a b c =
+    same _ _ (λ q. grind (
+      arith,
+      nat_tests,
+      map.gets,
+      got_ended owner q (map.insert m slot a) _ refl,
+      got_ended owner q (map.insert m slot b) _ refl,
+    ))

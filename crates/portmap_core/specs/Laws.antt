@@ -1,5 +1,6 @@
 -- Laws of the machine, each proved on a public function.
-use Rattle.std.specs.Prelude.{◌≡◌, ◌≢◌, ℕ, ◌<◌, ◌≤◌, ◌==◌, true, false, List, [], ◌++◌, length, map as list_map, slice_index_or, Some, None, ◌⊎◌}
+use Rattle.std.specs.Prelude.{◌≡◌, ◌≢◌, ℕ, ◌<◌, ◌≤◌, ◌==◌, true, false, List, [], ◌++◌, length, map as list_map, slice_index_or, Some, None}
+use Rattle.std.specs.Prelude.{◌⊎◌}
 use Rattle.std.specs.FinMap as map
 use Rattle.portmap_feed.specs.Stream.{Sight, More, Zero, TooLarge, Whole, first_request}
 use Rattle.portmap_wire.specs.List.{names_line}
@@ -40,15 +41,20 @@ owners names = list_map (λ row. row.slot) names.active
 -- each active name belongs to exactly one open connection
 pub record NamesBelong (s : State) : Type 0 where
   -- its slot is open, and holds it
-  pub held : (name : List ℕ) (row : Row) → active_row name s.names ≡ Some row → (connection : Connection) × (map.get s.connections row.slot ≡ Some connection) × (connection.stage ≡ Holding) × (connection.local ≡ true)
+  pub held : (name : List ℕ) (row : Row) → active_row name s.names ≡ Some row
+      → (connection : Connection) × (map.get s.connections row.slot ≡ Some connection) × (connection.stage ≡ Holding)
+      × (connection.local ≡ true)
   -- no name is known twice, so it has one slot alone
-  pub once : (i j : ℕ) (d : List ℕ) → i < j → j < length (known_names s.names) → same_name (slice_index_or (known_names s.names) i d) (slice_index_or (known_names s.names) j d) ≡ false
+  pub once : (i j : ℕ) (d : List ℕ) → i < j → j < length (known_names s.names)
+      → same_name (slice_index_or (known_names s.names) i d) (slice_index_or (known_names s.names) j d) ≡ false
   -- and no slot has two names
-  pub alone : (i j d : ℕ) → i < j → j < length (owners s.names) → (slice_index_or (owners s.names) i d == slice_index_or (owners s.names) j d) ≡ false
+  pub alone : (i j d : ℕ) → i < j → j < length (owners s.names)
+      → (slice_index_or (owners s.names) i d == slice_index_or (owners s.names) j d) ≡ false
 
 -- so it is after any run
 abbrev pub NamesBelongToConnections : Type 0
-NamesBelongToConnections = (cfg : Configuration) (es : List Entry) (s : State) → IsConfiguration cfg → Run cfg empty_state es s → NamesBelong s
+NamesBelongToConnections = (cfg : Configuration) (es : List Entry) (s : State) → IsConfiguration cfg → Run cfg empty_state es s
+    → NamesBelong s
 
 -- what was received amounts to a malformed request: a length that none has, or a body that spells none
 abbrev pub IsBad : Sight → Type 0
@@ -60,7 +66,8 @@ IsBad (Whole body) = IsMalformed body
 -- a malformed request changes no name
 abbrev pub MalformedChangesNoName : Type 0
 MalformedChangesNoName =
-    (cfg : Configuration) (s s' : State) (slot : ℕ) (connection : Connection) (received piece reply : List ℕ) (fate : Fate) → map.get s.connections slot ≡ Some connection → connection.stage ≡ Waiting received
+    (cfg : Configuration) (s s' : State) (slot : ℕ) (connection : Connection) (received piece reply : List ℕ) (fate : Fate)
+    → map.get s.connections slot ≡ Some connection → connection.stage ≡ Waiting received
     → IsBad (first_request (received ++ piece)) → Says cfg s slot piece reply fate s' → s'.names ≡ s.names
 
 -- nothing happens once the port mapper has ended
@@ -70,18 +77,21 @@ EndsAreFinal = (cfg : Configuration) (s s' : State) (e : Entry) → s.halted ≡
 -- a connection that holds its name outlasts its time: it stays, and nothing changes
 abbrev pub HoldersOutlastTheirTime : Type 0
 HoldersOutlastTheirTime =
-    (cfg : Configuration) (s s' : State) (slot : ℕ) (fate : Fate) (connection : Connection) → map.get s.connections slot ≡ Some connection → connection.stage ≡ Holding → Step cfg s (Late slot fate) s'
+    (cfg : Configuration) (s s' : State) (slot : ℕ) (fate : Fate) (connection : Connection) → map.get s.connections slot ≡ Some connection
+    → connection.stage ≡ Holding → Step cfg s (Late slot fate) s'
     → (fate ≡ Stay) × (s' ≡ s)
 
 -- unless its checks are relaxed, the port mapper ends only where no name is active
 abbrev pub EndsLeaveNoName : Type 0
-EndsLeaveNoName = (cfg : Configuration) (s s' : State) (e : Entry) → cfg.relaxed ≡ false → Step cfg s e s' → s'.halted ≡ true → s.names.active ≡ []
+EndsLeaveNoName = (cfg : Configuration) (s s' : State) (e : Entry) → cfg.relaxed ≡ false → Step cfg s e s' → s'.halted ≡ true
+    → s.names.active ≡ []
 
 -- no more names are known and no more connections are open than may be, and one that waits has sent no whole request
 pub record KeepsLimits (cfg : Configuration) (s : State) : Type 0 where
   pub known : known_len s.names ≤ cfg.known_max
   pub few : map.len s.connections ≤ cfg.conn_max
-  pub waits : (slot : ℕ) (connection : Connection) (received : List ℕ) → map.get s.connections slot ≡ Some connection → connection.stage ≡ Waiting received → first_request received ≡ More
+  pub waits : (slot : ℕ) (connection : Connection) (received : List ℕ) → map.get s.connections slot ≡ Some connection
+      → connection.stage ≡ Waiting received → first_request received ≡ More
 
 -- so it is after any run
 abbrev pub RunsKeepLimits : Type 0
@@ -90,11 +100,13 @@ RunsKeepLimits = (cfg : Configuration) (es : List Entry) (s : State) → Run cfg
 -- a name that becomes active gets another creation than the one that was remembered for it
 abbrev pub TakenCreationsAreNew : Type 0
 TakenCreationsAreNew =
-    (cfg : Configuration) (s s' : State) (e : Entry) (name : List ℕ) (row : Row) (last : ℕ) → Step cfg s e s' → active_row name s.names ≡ None → active_row name s'.names ≡ Some row
+    (cfg : Configuration) (s s' : State) (e : Entry) (name : List ℕ) (row : Row) (last : ℕ) → Step cfg s e s'
+    → active_row name s.names ≡ None → active_row name s'.names ≡ Some row
     → remembered name s.names ≡ Some last → row.creation ≢ last
 
 -- a piece on a connection that waits, by which what it has sent amounts to this body
-pub record Completes (cfg : Configuration) (s : State) (slot : ℕ) (connection : Connection) (body reply : List ℕ) (s' : State) : Type 0 where
+pub record Completes (cfg : Configuration) (s : State) (slot : ℕ) (connection : Connection) (body reply : List ℕ)
+    (s' : State) : Type 0 where
   pub received : List ℕ
   pub piece : List ℕ
   pub fate : Fate
@@ -106,13 +118,15 @@ pub record Completes (cfg : Configuration) (s : State) (slot : ℕ) (connection 
 -- whoever asks for an active name is told all that it was registered with
 abbrev pub ActiveNamesAreFound : Type 0
 ActiveNamesAreFound =
-    (cfg : Configuration) (s s' : State) (slot : ℕ) (connection : Connection) (body reply name : List ℕ) (row : Row) → Completes cfg s slot connection body reply s' → Spells body (request.Port name) → active_row name s.names ≡ Some row
+    (cfg : Configuration) (s s' : State) (slot : ℕ) (connection : Connection) (body reply name : List ℕ) (row : Row)
+    → Completes cfg s slot connection body reply s' → Spells body (request.Port name) → active_row name s.names ≡ Some row
     → reply ≡ port2_reply (Some row.reg)
 
 -- and it has its line in the list of names
 abbrev pub ActiveNamesAreListed : Type 0
 ActiveNamesAreListed =
-    (cfg : Configuration) (s s' : State) (slot : ℕ) (connection : Connection) (body reply name : List ℕ) (row : Row) → Completes cfg s slot connection body reply s' → Spells body request.Names → active_row name s.names ≡ Some row
+    (cfg : Configuration) (s s' : State) (slot : ℕ) (connection : Connection) (body reply name : List ℕ) (row : Row)
+    → Completes cfg s slot connection body reply s' → Spells body request.Names → active_row name s.names ≡ Some row
     → (before : List ℕ) × (after : List ℕ) × (reply ≡ before ++ names_line (names_line_of row) ++ after)
 
 -- what any host may ask: where a name is, and which there are
@@ -127,5 +141,7 @@ IsLook (request.Stop name) = ⊥
 -- peers of other hosts are told nothing else
 abbrev pub OthersAreToldNothing : Type 0
 OthersAreToldNothing =
-    (cfg : Configuration) (s s' : State) (slot : ℕ) (connection : Connection) (piece reply : List ℕ) (fate : Fate) → map.get s.connections slot ≡ Some connection → connection.local ≡ false → Says cfg s slot piece reply fate s'
-    → (reply ≡ []) ⊎ ((received : List ℕ) × (body : List ℕ) × (request : Request) × (connection.stage ≡ Waiting received) × (first_request (received ++ piece) ≡ Whole body) × Spells body request × IsLook request)
+    (cfg : Configuration) (s s' : State) (slot : ℕ) (connection : Connection) (piece reply : List ℕ) (fate : Fate)
+    → map.get s.connections slot ≡ Some connection → connection.local ≡ false → Says cfg s slot piece reply fate s'
+    → (reply ≡ []) ⊎ ((received : List ℕ) × (body : List ℕ) × (request : Request) × (connection.stage ≡ Waiting received)
+    × (first_request (received ++ piece) ≡ Whole body) × Spells body request × IsLook request)

@@ -2,7 +2,8 @@
 -- connection that asks, and on nothing else. ERTS User's Guide, EPMD Protocol, for the requests and their replies; epmd(1)
 -- for what other hosts may ask and for relaxed checks. A close in answer to a malformed request, and silence towards other
 -- hosts: profile. The cases stand in the order of the table of docs/PROTOCOL.md.
-use Rattle.std.specs.Prelude.{◌≡◌, ℕ, Bool, not, ◌||◌, List, [], ◌++◌, map as list_map, length, ◌==◌, Option, Some, None, option_map, codes, ◌⊎◌, if◌then◌else◌}
+use Rattle.std.specs.Prelude.{◌≡◌, ℕ, Bool, not, ◌||◌, List, [], ◌++◌, map as list_map, length, ◌==◌, Option, Some, None, option_map, codes}
+use Rattle.std.specs.Prelude.{◌⊎◌, if◌then◌else◌}
 use Rattle.portmap_feed.specs.Stream.{Sight, More, Zero, TooLarge, Whole}
 use Rattle.portmap_wire.specs.Node.{Node}
 use Rattle.portmap_wire.specs.Request.{Spells, IsMalformed}
@@ -88,7 +89,13 @@ kill_served cfg names = if length names.active == 0 || cfg.relaxed then halts na
 
 -- a name's registration ends, and its owner is done
 abbrev pub stops : rows.Names → Option ℕ → Served
-stops names (Some owner) = record { reply = codes "STOPPED"; fate = Close; stage = Done; names = rows.retired_of owner names; stopped = Some owner }
+stops names (Some owner) = record {
+  reply = codes "STOPPED";
+  fate = Close;
+  stage = Done;
+  names = rows.retired_of owner names;
+  stopped = Some owner;
+}
 stops names None = replied names (codes "NOEXIST")
 
 abbrev pub stop_served : Configuration → rows.Names → List ℕ → Served
@@ -96,10 +103,17 @@ stop_served cfg names name = if not cfg.relaxed then closed names else stops nam
 
 -- ---- ALIVE2
 
--- the name becomes active, and the connection holds it; where as many names are known as may be, the one retired longest is forgotten for a new one
+-- the name becomes active, and the connection holds it; where as many names are known as may be, the one retired longest is forgotten for a
+-- new one
 abbrev pub registers : ℕ → rows.Names → ℕ → Node → ℕ → Served
 registers known_max names slot g creation =
-    record { reply = alive_reply g.high 0 creation; fate = Stay; stage = Holding; names = rows.registered g creation slot (rows.with_room known_max g.name names); stopped = None }
+    record {
+      reply = alive_reply g.high 0 creation;
+      fate = Stay;
+      stage = Holding;
+      names = rows.registered g creation slot (rows.with_room known_max g.name names);
+      stopped = None;
+    }
 
 abbrev pub alive_served : Configuration → rows.Names → ℕ → Node → ℕ → Served
 alive_served cfg names slot g creation =

@@ -46,11 +46,13 @@ phase_at s slot = phase_of_connection (map.get s.connections slot)
 -- what is known of names, as codes by which values are told apart
 abbrev pub retired_code : Coded RetiredName
 retired_code =
-    code_by (List ℕ × (ℕ × ℕ)) (coded× (coded_list coded_ℕ) (coded× coded_ℕ coded_ℕ)) (λ old. (old.name, (old.port, old.creation))) (λ p. record { name = p.0; port = p.1.0; creation = p.1.1 }) (λ _. refl)
+    code_by (List ℕ × (ℕ × ℕ)) (coded× (coded_list coded_ℕ) (coded× coded_ℕ coded_ℕ)) (λ old. (old.name, (old.port, old.creation)))
+    (λ p. record { name = p.0; port = p.1.0; creation = p.1.1 }) (λ _. refl)
 
 abbrev pub names_code : Coded Row → Coded Names
 names_code row =
-    code_by (List Row × List RetiredName) (coded× (coded_list row) (coded_list retired_code)) (λ names. (names.active, names.retired)) (λ p. record { active = p.0; retired = p.1 }) (λ _. refl)
+    code_by (List Row × List RetiredName) (coded× (coded_list row) (coded_list retired_code)) (λ names. (names.active, names.retired))
+    (λ p. record { active = p.0; retired = p.1 }) (λ _. refl)
 
 abbrev pub state_code : Coded Names → Coded Connection → Coded State
 state_code names connection =
@@ -64,6 +66,7 @@ pub record Machine : Type 0 where
 
 abbrev pub machine_code : Coded Configuration → Coded Names → Coded Connection → Coded Machine
 machine_code config names connection =
-    code_by (Configuration × (Names × (ConnectionMap × Bool))) (coded× config (coded× names (coded× (map.code coded_ℕ connection) coded_bool)))
+    code_by (Configuration × (Names × (ConnectionMap × Bool)))
+    (coded× config (coded× names (coded× (map.code coded_ℕ connection) coded_bool)))
     (λ m. (m.config, (m.state.names, (m.state.connections, m.state.halted))))
     (λ p. record { config = p.0; state = record { names = p.1.0; connections = p.1.1.0; halted = p.1.1.1 } }) (λ _. refl)

@@ -78,7 +78,8 @@ pub record Tells (asked : Asked) (told : Response) (o : Served) : Type 0 where
 -- what was told is so, but for the stage of the connection that asked, which sent these bytes in all, and of which these are kept
 pub record IsSettled (m m' : Machine) (local : Bool) (slot : ℕ) (all bytes : List ℕ) (said : Said) (next : Phase) : Type 0 where
   pub stopped : Option ℕ
-  pub told : ToldAt m.config m.state.names local slot all (first_request all) (record { reply = said.reply.items; fate = said.fate; stage = stage_held next bytes; names = m'.state.names; stopped = stopped })
+  pub told : ToldAt m.config m.state.names local slot all (first_request all)
+      (record { reply = said.reply.items; fate = said.fate; stage = stage_held next bytes; names = m'.state.names; stopped = stopped })
   pub again : said.again.items ≡ said.reply.items
   pub config : m'.config ≡ m.config
   pub connections : m'.state.connections ≡ stopped_in stopped m.state.connections

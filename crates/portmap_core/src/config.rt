@@ -42,7 +42,8 @@ impl Model for Config {
 
     ghost view = { λ c. record { port = c.port; relaxed = c.relaxed; conn_max = c.conn_max; known_max = c.known_max } };
 
-    ghost invariant = { λ c. IsConfiguration (record { port = c.port; relaxed = c.relaxed; conn_max = c.conn_max; known_max = c.known_max }) };
+    ghost invariant = { λ c. IsConfiguration
+        (record { port = c.port; relaxed = c.relaxed; conn_max = c.conn_max; known_max = c.known_max }) };
 
     ghost inverse = { λ v. record { port = v.port; relaxed = v.relaxed; conn_max = v.conn_max; known_max = v.known_max } };
 }

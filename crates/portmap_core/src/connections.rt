@@ -102,7 +102,8 @@ impl Connections {
 
     /// Puts another stage at a slot, where it is open.
     pub(crate) fn put(&mut self, slot: u64, stage: Stage)
-        ensures open { (connection : Connection) → map.get self.old slot ≡ Some connection → self.new ≡ map.insert self.old slot (at_stage connection stage) }
+        ensures open { (connection : Connection) → map.get self.old slot ≡ Some connection
+            → self.new ≡ map.insert self.old slot (at_stage connection stage) }
         ensures free { map.get self.old slot ≡ None → self.new ≡ self.old }
     {
         if let Some(connection) = self.open.get_mut(slot as usize) {

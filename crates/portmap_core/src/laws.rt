@@ -1,5 +1,7 @@
 //! What always holds of the machine, as laws of its definitions.
-ghost use Rattle.portmap_core.specs.Laws.{ActiveNamesAreFound, ActiveNamesAreListed, EndsAreFinal, EndsLeaveNoName, EntriesDetermine, HoldersOutlastTheirTime, MalformedChangesNoName, NamesBelongToConnections, OthersAreToldNothing, RunsKeepLimits, StepsKeepOwned, TakenCreationsAreNew, WrittenIsWhole};
+ghost use Rattle.portmap_core.specs.Laws.{ActiveNamesAreFound, ActiveNamesAreListed, EndsAreFinal, EndsLeaveNoName, EntriesDetermine};
+ghost use Rattle.portmap_core.specs.Laws.{HoldersOutlastTheirTime, MalformedChangesNoName, NamesBelongToConnections, OthersAreToldNothing};
+ghost use Rattle.portmap_core.specs.Laws.{RunsKeepLimits, StepsKeepOwned, TakenCreationsAreNew, WrittenIsWhole};
 
 /// The first request of what was written, whatever follows it, is the request written.
 pub fn written_is_whole()

@@ -44,7 +44,8 @@ fn retired_place(names: &[Old], name: &Name) -> Option<usize>
 fn leave(active: &mut Vec<Row>, retired: &mut Vec<Old>, at: usize)
     requires place { at < vec_len active.old }
     requires room { vec_len retired.old < vec_capacity retired.old }
-    ensures { retired_at (Some at) (record { active = active.old.items; retired = retired.old.items }) ≡ record { active = active.new.items; retired = retired.new.items } }
+    ensures { retired_at (Some at) (record { active = active.old.items; retired = retired.old.items })
+        ≡ record { active = active.new.items; retired = retired.new.items } }
 {
     let row = active.remove(at);
     retired.push_reserved(Old::of(row));

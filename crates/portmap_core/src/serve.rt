@@ -8,7 +8,8 @@ ghost use Rattle.portmap_table.specs.Rows.{owns_name, standing};
 ghost use Rattle.portmap_core.specs.declared.connection.Phase.TheVariants.{Done};
 ghost use Rattle.portmap_core.specs.declared.event.Fate.TheVariants.{Close};
 ghost use Rattle.portmap_core.specs.declared.serve.Change.TheVariants.{Nothing};
-ghost use Rattle.portmap_core.specs.Serving.{Serves, ServesBody, ToldAt, dump_lines, dump_served, kill_served, list_of, names_served, port_served, stop_served};
+ghost use Rattle.portmap_core.specs.Serving.{Serves, ServesBody, ToldAt, dump_lines, dump_served, kill_served, list_of, names_served};
+ghost use Rattle.portmap_core.specs.Serving.{port_served, stop_served};
 ghost use Rattle.portmap_core.specs.Telling.{Answers, AnswersAll, MayChange, TellsAll, names_after, stopped_by};
 
 use crate::asked::Asked;
@@ -268,7 +269,9 @@ impl Asked<'_> {
     /// What is told by what was sent in all, and what is seen of that. Nothing is changed yet.
     pub(crate) fn tell(&self, alloc: Global, feed: &Feed, seen: Seen) -> Result<Response, NoMemory>
         requires { seen ≡ seen_of (first_request feed.now) }
-        ensures { IfOk result (λ told. TellsAll (λ slot. ToldAt self.now.config self.now.table.now.names self.now.local slot feed.now (first_request feed.now)) self.now feed.now told) }
+        ensures { IfOk result (λ told. TellsAll
+            (λ slot. ToldAt self.now.config self.now.table.now.names self.now.local slot feed.now
+            (first_request feed.now)) self.now feed.now told) }
     {
         match seen {
             Seen::More => Ok(Response {

@@ -224,7 +224,8 @@ impl System for MioSystem {
 /// The IP address in an address of the system, if it is of a family that has one.
 fn ip_in(address: &[u8; _SS_SIZE]) -> Option<IpAddr>
     ensures ipv4 { take 2 address.now ≡ 2 ∷ 0 ∷ [] → IfSome result (λ ip. IsV4And ip (λ ip. ipv4_octets ip ≡ take 4 (drop 4 address.now))) }
-    ensures ipv6 { take 2 address.now ≡ 10 ∷ 0 ∷ [] → IfSome result (λ ip. IsV6And ip (λ ip. ipv6_segments ip ≡ segments_of (take 16 (drop 8 address.now)))) }
+    ensures ipv6 { take 2 address.now ≡ 10 ∷ 0 ∷ []
+        → IfSome result (λ ip. IsV6And ip (λ ip. ipv6_segments ip ≡ segments_of (take 16 (drop 8 address.now)))) }
     ensures other { IfNone result ((take 2 address.now ≢ 2 ∷ 0 ∷ []) × (take 2 address.now ≢ 10 ∷ 0 ∷ [])) }
 {
     let family = i32::from(u16::from_ne_bytes([address[0], address[1]]));

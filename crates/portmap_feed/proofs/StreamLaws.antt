@@ -1,5 +1,6 @@
 -- What is seen of a stream, and what is kept of it, depend on the joined bytes alone.
-use Rattle.std.proofs.Common.{◌≡◌, ◌≢◌, ℕ, suc, zero, ◌+◌, ◌-◌, ◌*◌, ◌≤◌, true, false, ltb, eqb, min, List, [], ◌∷◌, ◌++◌, length, take, refl, sym, ap, ◌∙◌, arith, inl, inr}
+use Rattle.std.proofs.Common.{◌≡◌, ◌≢◌, ℕ, suc, zero, ◌+◌, ◌-◌, ◌*◌, ◌≤◌, true, false, ltb, eqb, min, List, [], ◌∷◌, ◌++◌, length, take}
+use Rattle.std.proofs.Common.{refl, sym, ap, ◌∙◌, arith, inl, inr}
 use Rattle.std.proofs.Math.Seq.{take-append-add}
 use Rattle.std.proofs.lemmas.Bool.{le-ltb, lt-ltb, cases_lt, cases_eq, ne_eqb, eq-eqb}
 use Rattle.std.proofs.lemmas.List.{append-nil, length-take, take_all, take-take, take_min}
@@ -76,12 +77,14 @@ room_decided (high ∷ low ∷ behind) piece decided =
     omega (arith, awaited_decided (high * 256 + low) behind decided)
 
 -- held bytes and what fits behind them of a piece are what is kept of both
-pub kept-append : (held piece : List ℕ) (wanted : ℕ) → kept held ≡ held → wanted ≡ min (room (held ++ piece) - length held) (length piece) → held ++ take wanted piece ≡ kept (held ++ piece)
+pub kept-append : (held piece : List ℕ) (wanted : ℕ) → kept held ≡ held → wanted ≡ min (room (held ++ piece) - length held) (length piece)
+    → held ++ take wanted piece ≡ kept (held ++ piece)
 kept-append held piece wanted own is =
     let left : ℕ = room (held ++ piece) - length held in
     let split : length held + left ≡ room (held ++ piece) = omega (arith, length-kept held piece own) in
     let of_piece : take wanted piece ≡ take left piece = ap (λ (n : ℕ). take n piece) is ∙ take_min left piece in
-    ap (λ (bytes : List ℕ). held ++ bytes) of_piece ∙ sym (take-append-add held piece left) ∙ ap (λ (n : ℕ). take n (held ++ piece)) split ∙ take-room (held ++ piece)
+    ap (λ (bytes : List ℕ). held ++ bytes) of_piece ∙ sym (take-append-add held piece left) ∙ ap (λ (n : ℕ). take n (held ++ piece)) split
+    ∙ take-room (held ++ piece)
 
 -- ---- what is kept shows the same
 
@@ -112,7 +115,8 @@ sight_behind-take : (n : ℕ) (behind : List ℕ) → sight_behind n (take (awai
 sight_behind-take n behind =
     elim (cases_lt BODY_MOST n) [
       | inl large ↦ let test : ltb BODY_MOST n ≡ true = lt-ltb _ _ large in rw test refl
-      | inr legal ↦ let test : ltb BODY_MOST n ≡ false = le-ltb _ _ legal in rw (test, ltb-length_take n behind, take-take n n behind (omega arith)) refl
+      | inr legal ↦ let test : ltb BODY_MOST n ≡ false = le-ltb _ _ legal in
+          rw (test, ltb-length_take n behind, take-take n n behind (omega arith)) refl
     ]
 
 -- the bytes kept show what all the bytes show
@@ -154,8 +158,10 @@ all_awaited n behind more =
             | inr enough ↦
                 let waits : ltb (length behind) n ≡ false = le-ltb _ _ enough in
                 elim (cases_eq n 0) [
-                  | inl none ↦ let test_zero : eqb n 0 ≡ true = eq-eqb _ _ none in let other : Zero ≡ More = rw test_zero at more in absurd cc
-                  | inr some ↦ let test_zero : eqb n 0 ≡ false = ne_eqb _ _ some in let other : Whole (take n behind) ≡ More = rw (test_zero, test, waits) at more in absurd cc
+                  | inl none ↦ let test_zero : eqb n 0 ≡ true = eq-eqb _ _ none in let other : Zero ≡ More = rw test_zero at more in
+                      absurd cc
+                  | inr some ↦ let test_zero : eqb n 0 ≡ false = ne_eqb _ _ some in let other : Whole (take n behind) ≡ More =
+                      rw (test_zero, test, waits) at more in absurd cc
                 ]
           ]
     ]
@@ -187,4 +193,5 @@ kept-take (suc (suc n)) [] own = refl
 kept-take (suc (suc n)) (high ∷ []) own = refl
 kept-take (suc (suc n)) (high ∷ low ∷ behind) own =
     let most : ℕ = awaited (high * 256 + low) in
-    ap (λ (bytes : List ℕ). high ∷ low ∷ bytes) (take_all most (take n behind) (omega (arith, length-take n behind, length-take most behind, ap length own)))
+    ap (λ (bytes : List ℕ). high ∷ low ∷ bytes)
+    (take_all most (take n behind) (omega (arith, length-take n behind, length-take most behind, ap length own)))

@@ -9,7 +9,9 @@ use Rattle.portmap_link.specs.declared.device.Pull.TheVariants.{Piece}
 use Rattle.portmap_link.specs.declared.single.TheConstants.{PULL_MOST}
 
 -- what the last piece decided
-pub just_read : (read piece : List ℕ) (asked earlier answered : List Pull) → first_request read ≡ More → length piece ≤ PULL_MOST → GoesOn IsAskedAgain asked earlier → answered ≡ earlier ++ Piece (length piece) ∷ [] → first_request (read ++ piece) ≢ More → IsJustRead (read ++ piece) asked answered
+pub just_read : (read piece : List ℕ) (asked earlier answered : List Pull) → first_request read ≡ More → length piece ≤ PULL_MOST
+    → GoesOn IsAskedAgain asked earlier → answered ≡ earlier ++ Piece (length piece) ∷ [] → first_request (read ++ piece) ≢ More
+    → IsJustRead (read ++ piece) asked answered
 just_read read piece asked earlier answered more small goes_on told decided =
     let whole = length-append read piece in
     let front : length (read ++ piece) - length piece ≡ length read = omega (arith, whole) in
@@ -21,5 +23,6 @@ just_read read piece asked earlier answered more small goes_on told decided =
       goes_on = goes_on;
       told = told;
       within = omega (arith, whole);
-      before = ap (λ (n : ℕ). first_request (take n (read ++ piece))) front ∙ ap first_request (take_at read piece (length read) refl) ∙ more;
+      before = ap (λ (n : ℕ). first_request (take n (read ++ piece))) front ∙ ap first_request (take_at read piece (length read) refl)
+          ∙ more;
     }

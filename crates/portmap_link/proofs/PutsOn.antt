@@ -24,18 +24,22 @@ pub record HasPut (limit : Limit) (size : ℕ) (old new : List Put) (count later
   pub answers : new ≡ old ++ added
   pub met : count_by is_put_later added ≡ laters
 
-puts_more : (limit : Limit) (size : ℕ) (added : List Put) (left : Limit) (rest : ℕ) (answer : Put) → PutsOn limit size added left rest → IsDue left rest
+puts_more : (limit : Limit) (size : ℕ) (added : List Put) (left : Limit) (rest : ℕ) (answer : Put) → PutsOn limit size added left rest
+    → IsDue left rest
     → PutsSome rest answer
     → PutsOn limit size (added ++ answer ∷ []) (left_after left answer) (rest - bytes_put answer)
 puts_more limit size [] left rest answer on due some =
-    subst (λ (at : Limit × ℕ). IsDue at.0 at.1 × PutsSome at.1 answer × ((left_after at.0 answer ≡ left_after left answer) × (at.1 - bytes_put answer ≡ rest - bytes_put answer)))
+    subst (λ (at : Limit × ℕ). IsDue at.0 at.1 × PutsSome at.1 answer
+    × ((left_after at.0 answer ≡ left_after left answer) × (at.1 - bytes_put answer ≡ rest - bytes_put answer)))
     (sym (λ i. (on.0 i, on.1 i))) (due, some, (refl, refl))
-puts_more limit size (first ∷ added) left rest answer on due some = (on.0, on.1, puts_more (left_after limit first) (size - bytes_put first) added left rest answer on.2 due some)
+puts_more limit size (first ∷ added) left rest answer on due some =
+    (on.0, on.1, puts_more (left_after limit first) (size - bytes_put first) added left rest answer on.2 due some)
 
 both_laters : (xs ys : List Put) → count_by is_put_later (xs ++ ys) ≡ count_by is_put_later xs + count_by is_put_later ys
 both_laters xs ys = sum_by-append (λ (p : Put). cond (is_put_later p) 1 0) xs ys
 
-later_first : (answer : Put) (answers : List Put) → count_by is_put_later (answer ∷ answers) ≡ cond (is_put_later answer) 1 0 + count_by is_put_later answers
+later_first : (answer : Put) (answers : List Put)
+    → count_by is_put_later (answer ∷ answers) ≡ cond (is_put_later answer) 1 0 + count_by is_put_later answers
 later_first answer answers = sum_by-cons (λ (p : Put). cond (is_put_later p) 1 0) answer answers
 
 -- no put adds to what is left of a limit
@@ -61,13 +65,15 @@ most_after (Laters n) size PutFault due some = absurd some
 -- with a put more
 pub has_put_more : {limit : Limit} {size : ℕ} {old mid new : List Put} {count laters : ℕ} {left : Limit} (count' laters' : ℕ) (answer : Put)
     → HasPut limit size old mid count laters left → IsDue left (size - count)
-    → PutsSome (size - count) answer → new ≡ mid ++ answer ∷ [] → count' ≡ count + bytes_put answer → laters' ≡ laters + count_by is_put_later (answer ∷ [])
+    → PutsSome (size - count) answer → new ≡ mid ++ answer ∷ [] → count' ≡ count + bytes_put answer
+    → laters' ≡ laters + count_by is_put_later (answer ∷ [])
     → HasPut limit size old new count' laters' (left_after left answer)
 has_put_more {limit} {size} {old} {mid} {new} {count} {laters} {left} count' laters' answer so_far due some more counts mets = record {
   added = so_far.added ++ answer ∷ [];
   puts_on =
       let rest : size - count - bytes_put answer ≡ size - count' = omega (arith, counts) in
-      subst (PutsOn limit size (so_far.added ++ answer ∷ []) (left_after left answer)) rest (puts_more limit size so_far.added left (size - count) answer so_far.puts_on due some);
+      subst (PutsOn limit size (so_far.added ++ answer ∷ []) (left_after left answer)) rest
+      (puts_more limit size so_far.added left (size - count) answer so_far.puts_on due some);
   answers = more ∙ ap (λ (t : List Put). t ++ answer ∷ []) so_far.answers ∙ append_assoc old so_far.added (answer ∷ []);
   met = let one = both_laters so_far.added (answer ∷ []) in omega (arith, one, so_far.met, mets);
 }
@@ -75,14 +81,16 @@ has_put_more {limit} {size} {old} {mid} {new} {count} {laters} {left} count' lat
 -- ---- what puts under a limit were
 
 -- the output was asked again after each
-pub puts_again : (limit : Limit) (size : ℕ) (added : List Put) (left : Limit) (rest : ℕ) → PutsOn limit size added left rest → AllByRecursion IsPutAgain added
+pub puts_again : (limit : Limit) (size : ℕ) (added : List Put) (left : Limit) (rest : ℕ) → PutsOn limit size added left rest
+    → AllByRecursion IsPutAgain added
 puts_again limit size [] left rest on = tt
 puts_again limit size (Wrote n ∷ added) left rest on = (tt, puts_again (left_after limit (Wrote n)) (size - n) added left rest on.2)
 puts_again limit size (PutLater ∷ added) left rest on = (tt, puts_again (left_after limit PutLater) (size - 0) added left rest on.2)
 puts_again limit size (PutFault ∷ added) left rest on = absurd on.1
 
 -- each counts where puts are counted
-pub puts_count : (n size : ℕ) (added : List Put) (left : Limit) (rest : ℕ) → PutsOn (Puts n) size added left rest → length added + left_in left ≡ n
+pub puts_count : (n size : ℕ) (added : List Put) (left : Limit) (rest : ℕ) → PutsOn (Puts n) size added left rest
+    → length added + left_in left ≡ n
 puts_count n size [] left rest on = let same = ap left_in on.0 in omega (arith, same)
 puts_count n size (answer ∷ added) left rest on =
     let more = puts_count (n - 1) (size - bytes_put answer) added left rest on.2 in
@@ -92,16 +100,21 @@ puts_count n size (answer ∷ added) left rest on =
 pub laters_count : (n size : ℕ) (added : List Put) (left : Limit) (rest : ℕ) → PutsOn (Laters n) size added left rest
     → count_by is_put_later added + left_in left ≡ n
 laters_count n size [] left rest on = let same = ap left_in on.0 in omega (arith, same)
-laters_count n size (Wrote m ∷ added) left rest on = let more = laters_count n (size - m) added left rest on.2 in omega (arith, more, later_first (Wrote m) added)
-laters_count n size (PutLater ∷ added) left rest on = let more = laters_count (n - 1) (size - 0) added left rest on.2 in omega (arith, more, on.0.1, later_first PutLater added)
+laters_count n size (Wrote m ∷ added) left rest on = let more = laters_count n (size - m) added left rest on.2 in
+    omega (arith, more, later_first (Wrote m) added)
+laters_count n size (PutLater ∷ added) left rest on = let more = laters_count (n - 1) (size - 0) added left rest on.2 in
+    omega (arith, more, on.0.1, later_first PutLater added)
 laters_count n size (PutFault ∷ added) left rest on = absurd on.1
 
 -- once all is written no Later reaches the limit
-pub laters_few : (n size : ℕ) (added : List Put) (left : Limit) (rest : ℕ) → 0 < n → PutsOn (Laters n) size added left rest → rest ≡ 0 → 0 < left_in left
+pub laters_few : (n size : ℕ) (added : List Put) (left : Limit) (rest : ℕ) → 0 < n → PutsOn (Laters n) size added left rest → rest ≡ 0
+    → 0 < left_in left
 laters_few n size [] left rest some on none = let same = ap left_in on.0 in omega (arith, same, some)
 laters_few n size (Wrote m ∷ added) left rest some on none = laters_few n (size - m) added left rest some on.2 none
-laters_few n size (PutLater ∷ []) left rest some on none = absurd (let all : size ≡ 0 = omega (arith, on.2.1, none) in omega (arith, all, on.0.0))
-laters_few n size (PutLater ∷ answer ∷ added) left rest some on none = laters_few (n - 1) (size - 0) (answer ∷ added) left rest on.2.0.1 on.2 none
+laters_few n size (PutLater ∷ []) left rest some on none =
+    absurd (let all : size ≡ 0 = omega (arith, on.2.1, none) in omega (arith, all, on.0.0))
+laters_few n size (PutLater ∷ answer ∷ added) left rest some on none =
+    laters_few (n - 1) (size - 0) (answer ∷ added) left rest on.2.0.1 on.2 none
 laters_few n size (PutFault ∷ added) left rest some on none = absurd on.1
 
 -- the puts before the last one, which was a Later
@@ -113,7 +126,8 @@ pub record BeforeLater (n size : ℕ) (added : List Put) (rest : ℕ) : Type 0 w
   pub few : count_by is_put_later before + 1 ≡ n
 
 -- a limit of Laters is reached at one
-pub laters_end : (n size : ℕ) (added : List Put) (left : Limit) (rest : ℕ) → 0 < n → PutsOn (Laters n) size added left rest → left_in left ≡ 0
+pub laters_end : (n size : ℕ) (added : List Put) (left : Limit) (rest : ℕ) → 0 < n → PutsOn (Laters n) size added left rest
+    → left_in left ≡ 0
     → BeforeLater n size added rest
 laters_end n size [] left rest some on none = absurd (let same = ap left_in on.0 in omega (arith, same, some, none))
 laters_end n size (Wrote m ∷ added) left rest some on none =
@@ -153,7 +167,8 @@ record OnlyWrote (size : ℕ) (added : List Put) (rest : ℕ) : Type 0 where
   all : added ≡ map Wrote counts
   total : sum counts + rest ≡ size
 
-only_wrote : (limit : Limit) (size : ℕ) (added : List Put) (left : Limit) (rest : ℕ) → PutsOn limit size added left rest → count_by is_put_later added ≡ 0
+only_wrote : (limit : Limit) (size : ℕ) (added : List Put) (left : Limit) (rest : ℕ) → PutsOn limit size added left rest
+    → count_by is_put_later added ≡ 0
     → OnlyWrote size added rest
 only_wrote limit size [] left rest on none = record { counts = []; all = refl; total = omega (arith, on.1) }
 only_wrote limit size (Wrote m ∷ added) left rest on none =
@@ -162,7 +177,8 @@ only_wrote limit size (Wrote m ∷ added) left rest on none =
     record {
       counts = m ∷ more.counts;
       all = ap (λ (t : List Put). Wrote m ∷ t) more.all;
-      total = let sums : sum (m ∷ more.counts) ≡ m + sum more.counts = sum_by-cons (λ (x : ℕ). x) m more.counts in omega (arith, sums, more.total, on.1.1);
+      total = let sums : sum (m ∷ more.counts) ≡ m + sum more.counts = sum_by-cons (λ (x : ℕ). x) m more.counts in
+          omega (arith, sums, more.total, on.1.1);
     }
 only_wrote limit size (PutLater ∷ added) left rest on none = absurd (let first = later_first PutLater added in omega (arith, first, none))
 only_wrote limit size (PutFault ∷ added) left rest on none = absurd on.1
@@ -176,12 +192,14 @@ sends_then {old = old} flush within wrote answers = record {
 }
 
 -- the Later behind the other puts is the last one
-ends_later : (old new added before : List Put) → new ≡ old ++ added ++ [] → added ≡ before ++ PutLater ∷ [] → new ≡ old ++ before ++ PutLater ∷ []
+ends_later : (old new added before : List Put) → new ≡ old ++ added ++ [] → added ≡ before ++ PutLater ∷ []
+    → new ≡ old ++ before ++ PutLater ∷ []
 ends_later old new added before answers last =
     answers ∙ append-nil (old ++ added) ∙ ap (λ (t : List Put). old ++ t) last ∙ sym (append_assoc old before (PutLater ∷ []))
 
 -- a sending that ends at the first Later
-pub sends_once : {size : ℕ} {old new : List Put} {count laters : ℕ} (flush : Flush) → count ≤ size → SendsOn (Laters 1) size old new count laters flush
+pub sends_once : {size : ℕ} {old new : List Put} {count laters : ℕ} (flush : Flush) → count ≤ size
+    → SendsOn (Laters 1) size old new count laters flush
     → Sends old new count flush
 sends_once {size} {old} {count = count} Empty within on =
     let few = laters_few 1 size on.added on.left (size - count) (omega arith) on.puts_on on.ends in
@@ -190,9 +208,11 @@ sends_once {size} {old} {count = count} Empty within on =
 sends_once {size} {old} {new} {count} Later within on =
     let last = laters_end 1 size on.added on.left (size - count) (omega arith) on.puts_on on.ends.1 in
     let none : count_by is_put_later last.before ≡ 0 = omega (arith, last.few) in
-    sends_then Later within (only_wrote (Laters 1) size last.before last.left (size - count) last.puts_on none) (ends_later old new on.added last.before on.answers last.last)
+    sends_then Later within (only_wrote (Laters 1) size last.before last.left (size - count) last.puts_on none)
+    (ends_later old new on.added last.before on.answers last.last)
 sends_once {size} {old} {count = count} Fault within on =
-    let none : count_by is_put_later on.added ≡ 0 = omega (arith, laters_count 1 size on.added on.left (size - count) on.puts_on, on.ends.1) in
+    let none : count_by is_put_later on.added ≡ 0 =
+    omega (arith, laters_count 1 size on.added on.left (size - count) on.puts_on, on.ends.1) in
     sends_then Fault within (only_wrote (Laters 1) size on.added on.left (size - count) on.puts_on none) on.answers
 
 -- ---- what a sending was
@@ -207,10 +227,12 @@ sends_whole Fault within on = (λ e. cc, λ e. absurd (omega (arith, e, on.ends.
 -- where some was not written, something is left
 pub sends_part : {limit : Limit} {size : ℕ} {old new : List Put} {count laters : ℕ} (flush : Flush) → count ≤ size
     → SendsOn limit size old new count laters flush → flush ≢ Empty → count < size
-sends_part {size = size} {count = count} flush within on part = let some : count ≢ size = λ e. part ((sends_whole flush within on).1 e) in omega (arith, some, within)
+sends_part {size = size} {count = count} flush within on part = let some : count ≢ size = λ e. part ((sends_whole flush within on).1 e) in
+    omega (arith, some, within)
 
 -- all turns were made where it was given up
-pub sends_all_turns : {n size : ℕ} {old new : List Put} {count laters : ℕ} → SendsOn (Puts n) size old new count laters Later → length new ≡ length old + n
+pub sends_all_turns : {n size : ℕ} {old new : List Put} {count laters : ℕ} → SendsOn (Puts n) size old new count laters Later
+    → length new ≡ length old + n
 sends_all_turns {n} {size} {old} {count = count} on =
     let made = ap length (on.answers ∙ append-nil (old ++ on.added)) in
     omega (arith, made, length-append old on.added, puts_count n size on.added on.left (size - count) on.puts_on, on.ends.1)
@@ -232,10 +254,18 @@ no_later Later = refl
 no_later Fault = refl
 
 -- as many were met as are told
-pub sends_laters : {limit : Limit} {size : ℕ} {old new : List Put} {count laters : ℕ} {flush : Flush} → SendsOn limit size old new count laters flush
+pub sends_laters : {limit : Limit} {size : ℕ} {old new : List Put} {count laters : ℕ} {flush : Flush}
+    → SendsOn limit size old new count laters flush
     → count_by is_put_later new ≡ count_by is_put_later old + laters
 sends_laters {old = old} {flush = flush} on =
-    omega (arith, ap (count_by is_put_later) on.answers, both_laters (old ++ on.added) (fault_of flush), both_laters old on.added, no_later flush, on.met)
+    omega (
+      arith,
+      ap (count_by is_put_later) on.answers,
+      both_laters (old ++ on.added) (fault_of flush),
+      both_laters old on.added,
+      no_later flush,
+      on.met,
+    )
 
 -- how many they are where so many end a sending
 abbrev pub LatersAt : ℕ → ℕ → Flush → Type 0
@@ -243,13 +273,16 @@ LatersAt n laters Empty = laters < n
 LatersAt n laters Later = laters ≡ n
 LatersAt n laters Fault = laters < n
 
-pub sends_laters_at : {n size : ℕ} {old new : List Put} {count laters : ℕ} (flush : Flush) → 0 < n → SendsOn (Laters n) size old new count laters flush
+pub sends_laters_at : {n size : ℕ} {old new : List Put} {count laters : ℕ} (flush : Flush) → 0 < n
+    → SendsOn (Laters n) size old new count laters flush
     → LatersAt n laters flush
 sends_laters_at {n} {size} {count = count} Empty some on =
     let few = laters_few n size on.added on.left (size - count) some on.puts_on on.ends in
     omega (arith, laters_count n size on.added on.left (size - count) on.puts_on, few, on.met)
-sends_laters_at {n} {size} {count = count} Later some on = omega (arith, laters_count n size on.added on.left (size - count) on.puts_on, on.ends.1, on.met)
-sends_laters_at {n} {size} {count = count} Fault some on = omega (arith, laters_count n size on.added on.left (size - count) on.puts_on, on.ends.1, on.met)
+sends_laters_at {n} {size} {count = count} Later some on =
+    omega (arith, laters_count n size on.added on.left (size - count) on.puts_on, on.ends.1, on.met)
+sends_laters_at {n} {size} {count = count} Fault some on =
+    omega (arith, laters_count n size on.added on.left (size - count) on.puts_on, on.ends.1, on.met)
 
 -- the puts before the one that ended a sending, if one did: fewer than so many of them were Laters
 pub record SendsEnd (n : ℕ) (old new : List Put) (flush : Flush) : Type 0 where
@@ -259,7 +292,8 @@ pub record SendsEnd (n : ℕ) (old new : List Put) (flush : Flush) : Type 0 wher
   pub told : new ≡ before ++ ending_of flush
 
 -- all puts but a failed one
-before_fault : {n size : ℕ} {old new : List Put} {count laters : ℕ} (flush : Flush) → SendsOn (Laters n) size old new count laters flush → laters < n
+before_fault : {n size : ℕ} {old new : List Put} {count laters : ℕ} (flush : Flush) → SendsOn (Laters n) size old new count laters flush
+    → laters < n
     → fault_of flush ≡ ending_of flush → SendsEnd n old new flush
 before_fault {n} {size} {old} {count = count} flush on few same = record {
   before = old ++ on.added;
@@ -268,7 +302,8 @@ before_fault {n} {size} {old} {count = count} flush on few same = record {
   told = on.answers ∙ ap (λ (t : List Put). old ++ on.added ++ t) same;
 }
 
-pub sends_end : {n size : ℕ} {old new : List Put} {count laters : ℕ} (flush : Flush) → 0 < n → SendsOn (Laters n) size old new count laters flush
+pub sends_end : {n size : ℕ} {old new : List Put} {count laters : ℕ} (flush : Flush) → 0 < n
+    → SendsOn (Laters n) size old new count laters flush
     → SendsEnd n old new flush
 sends_end Empty some on = before_fault Empty on (sends_laters_at Empty some on) refl
 sends_end Fault some on = before_fault Fault on (sends_laters_at Fault some on) refl
@@ -276,7 +311,11 @@ sends_end {n} {size} {old} {new} {count} Later some on =
     let last = laters_end n size on.added on.left (size - count) some on.puts_on on.ends.1 in
     record {
       before = old ++ last.before;
-      goes_on = record { added = last.before; grows = refl; again = puts_again (Laters n) size last.before last.left (size - count) last.puts_on };
+      goes_on = record {
+        added = last.before;
+        grows = refl;
+        again = puts_again (Laters n) size last.before last.left (size - count) last.puts_on;
+      };
       few = omega (arith, both_laters old last.before, last.few);
       told = ends_later old new on.added last.before on.answers last.last;
     }

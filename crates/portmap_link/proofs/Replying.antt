@@ -8,16 +8,20 @@ use Rattle.portmap_link.specs.declared.single.OnceFault.TheVariants.{ReadFault, 
 use Rattle.portmap_link.specs.Asking.{Devices, GoesOn, IsPutAgain}
 use Rattle.portmap_link.specs.Once.{IsHeard, RepliesInPart, Telling, Did}
 
-in_part : (cfg : Configuration) (old new : Devices) (reply : List ℕ) (fate : Fate) (sent : ℕ) → IsHeard cfg old.left new.left old.pulls new.pulls reply fate → sent < length reply → Appends old.held new.held (take sent reply) → RepliesInPart cfg old new sent
+in_part : (cfg : Configuration) (old new : Devices) (reply : List ℕ) (fate : Fate) (sent : ℕ)
+    → IsHeard cfg old.left new.left old.pulls new.pulls reply fate → sent < length reply → Appends old.held new.held (take sent reply)
+    → RepliesInPart cfg old new sent
 in_part cfg old new reply fate sent heard rest writes = record {
   fate = fate;
   replies = record { read = heard.read; reply = reply; reads = heard.reads; just = heard.just; hears = heard.hears; writes = writes };
   rest = rest;
 }
 
-pub did_part : (cfg : Configuration) (old new : Devices) (reply : List ℕ) (fate : Fate) (fault : OnceFault) → IsHeard cfg old.left new.left old.pulls new.pulls reply fate → Telling reply old.held new.held (Err fault)
+pub did_part : (cfg : Configuration) (old new : Devices) (reply : List ℕ) (fate : Fate) (fault : OnceFault)
+    → IsHeard cfg old.left new.left old.pulls new.pulls reply fate → Telling reply old.held new.held (Err fault)
     → ((sent : ℕ) → fault ≡ TooManyTurns sent → GoesOn IsPutAgain old.puts new.puts) → Did cfg old new (Err fault)
 did_part cfg old new reply fate ReadFault heard told due = absurd told
 did_part cfg old new reply fate NoMemory heard told due = absurd told
 did_part cfg old new reply fate (WriteFault sent) heard told due = in_part cfg old new reply fate sent heard told.0 told.1
-did_part cfg old new reply fate (TooManyTurns sent) heard told due = inl (in_part cfg old new reply fate sent heard told.0 told.1, due sent refl)
+did_part cfg old new reply fate (TooManyTurns sent) heard told due =
+    inl (in_part cfg old new reply fate sent heard told.0 told.1, due sent refl)

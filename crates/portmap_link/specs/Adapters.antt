@@ -71,4 +71,5 @@ both_broken b = b.failed
 
 -- what contracts see of a reader and a writer together
 abbrev pub streams : {R W : Type 0} → (R → Option (List ℕ)) → (W → Option (List ℕ)) → Reading R → Writing W → Devices
-streams remaining contents input output = record { left = remaining input.inner; held = contents output.inner; pulls = input.pulls; puts = output.puts }
+streams remaining contents input output =
+    record { left = remaining input.inner; held = contents output.inner; pulls = input.pulls; puts = output.puts }

@@ -64,7 +64,8 @@ Did cfg old new (Ok fate) = Replies cfg old new (λ reply. reply) fate ⊎ Ends 
 Did cfg old new (Err ReadFault) = ReadsOnly old new
 Did cfg old new (Err NoMemory) = WritesNothing old new
 Did cfg old new (Err (WriteFault sent)) = RepliesInPart cfg old new sent
-Did cfg old new (Err (TooManyTurns sent)) = (RepliesInPart cfg old new sent × GoesOn IsPutAgain old.puts new.puts) ⊎ ((sent ≡ 0) × ReadsOnly old new × GoesOn IsAskedAgain old.pulls new.pulls)
+Did cfg old new (Err (TooManyTurns sent)) = (RepliesInPart cfg old new sent × GoesOn IsPutAgain old.puts new.puts)
+    ⊎ ((sent ≡ 0) × ReadsOnly old new × GoesOn IsAskedAgain old.pulls new.pulls)
 
 -- ---- the two halves
 
@@ -88,7 +89,8 @@ pub record Awaits (old new : Option (List ℕ)) : Type 0 where
   pub more : first_request read ≡ More
 
 -- a request was read, and is told so
-pub record IsHeard (cfg : Configuration) (old new : Option (List ℕ)) (asked answered : List Pull) (reply : List ℕ) (fate : Fate) : Type 0 where
+pub record IsHeard (cfg : Configuration) (old new : Option (List ℕ)) (asked answered : List Pull) (reply : List ℕ)
+    (fate : Fate) : Type 0 where
   pub read : List ℕ
   pub reads : Consumes old new read
   pub just : IsJustRead read asked answered

@@ -1,5 +1,6 @@
 //! Bytes that wait to be written.
-ghost use Rattle.std.specs.Prelude.{◌≡◌, ℕ, ◌+◌, ◌-◌, ◌≤◌, ◌||◌, ◌↔◌, List, [], ◌++◌, length, take, drop, vec_len, vec_capacity, IfOk, OnOk, OnErr};
+ghost use Rattle.std.specs.Prelude.{◌≡◌, ℕ, ◌+◌, ◌-◌, ◌≤◌, ◌||◌, ◌↔◌, List, [], ◌++◌, length, take, drop, vec_len, vec_capacity, IfOk};
+ghost use Rattle.std.specs.Prelude.{OnOk, OnErr};
 ghost use Rattle.std.specs.Io.KnownBytes.{Keeps, Appends};
 ghost use Rattle.portmap_link.specs.Flush.{flush_is_fault, Sends, Moves};
 
@@ -100,7 +101,8 @@ impl Outbox {
     pub fn write<W: Output>(&mut self, output: &mut W, bytes: &[u8]) -> Result<Flush, NoMemory>
         ensures written { OnOk result (Moves (W.held output.old) (W.held output.new) (self.old ++ bytes.now) self.new) }
         ensures empty { IfOk result (λ flush. (flush ≡ Flush.Empty) ↔ (self.new ≡ [])) }
-        ensures answers { IfOk result (λ flush. Sends (W.puts output.old) (W.puts output.new) (length (self.old ++ bytes.now) - length self.new) flush) }
+        ensures answers { IfOk result (λ flush.
+            Sends (W.puts output.old) (W.puts output.new) (length (self.old ++ bytes.now) - length self.new) flush) }
         ensures calls { length (W.puts output.new) ≤ length (W.puts output.old) + length (self.old ++ bytes.now) + 1 }
         ensures broken { IfOk result (λ flush. W.broken output.new ≡ (flush_is_fault flush || W.broken output.old)) }
         ensures left { Keeps (W.left output.old) (W.left output.new) }

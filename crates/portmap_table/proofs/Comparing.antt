@@ -20,17 +20,45 @@ names_decide a b = slice_eq-Decides unsigned_Decides a b (same_name a b) refl
 
 regs_decide : (a b : Node) → Decides (wire.are_same a b) (a ≡ b)
 regs_decide a b =
-    let d = both _ _ (unsigned_Decides a.port b.port) (both _ _ (unsigned_Decides a.kind b.kind) (both _ _ (unsigned_Decides a.proto b.proto) (both _ _ (unsigned_Decides a.high b.high) (both _ _ (unsigned_Decides a.low b.low) (both _ _ (names_decide a.name b.name) (names_decide a.extra b.extra)))))) in (
-      λ t. let is = d.0 t in λ i. record { port = is.0 i; kind = is.1.0 i; proto = is.1.1.0 i; high = is.1.1.1.0 i; low = is.1.1.1.1.0 i; name = is.1.1.1.1.1.0 i; extra = is.1.1.1.1.1.1 i },
-      λ e. d.1 (ap (λ (n : Node). n.port) e, (ap (λ (n : Node). n.kind) e, (ap (λ (n : Node). n.proto) e, (ap (λ (n : Node). n.high) e, (ap (λ (n : Node). n.low) e, (ap (λ (n : Node). n.name) e, ap (λ (n : Node). n.extra) e)))))),
+    let d = both _ _ (unsigned_Decides a.port b.port)
+    (both _ _ (unsigned_Decides a.kind b.kind)
+    (both _ _ (unsigned_Decides a.proto b.proto)
+    (both _ _ (unsigned_Decides a.high b.high)
+    (both _ _ (unsigned_Decides a.low b.low) (both _ _ (names_decide a.name b.name) (names_decide a.extra b.extra)))))) in (
+      λ t. let is = d.0 t in λ i. record {
+        port = is.0 i;
+        kind = is.1.0 i;
+        proto = is.1.1.0 i;
+        high = is.1.1.1.0 i;
+        low = is.1.1.1.1.0 i;
+        name = is.1.1.1.1.1.0 i;
+        extra = is.1.1.1.1.1.1 i;
+      },
+      λ e. d.1 (
+        ap (λ (n : Node). n.port) e,
+        (
+          ap (λ (n : Node). n.kind) e,
+          (
+            ap (λ (n : Node). n.proto) e,
+            (
+              ap (λ (n : Node). n.high) e,
+              (ap (λ (n : Node). n.low) e, (ap (λ (n : Node). n.name) e, ap (λ (n : Node). n.extra) e)),
+            ),
+          ),
+        ),
+      ),
     )
 
 pub rows_decide : (a b : Row) → Decides (row_eq.ghosts.eq a b) (a ≡ b)
 rows_decide a b =
-    let d = both _ _ (regs_decide a.reg b.reg) (both _ _ (unsigned_Decides a.creation b.creation) (unsigned_Decides a.slot b.slot)) in
-    (λ t. let is = d.0 t in λ i. record { reg = is.0 i; creation = is.1.0 i; slot = is.1.1 i }, λ e. d.1 (ap (λ (r : Row). r.reg) e, (ap (λ (r : Row). r.creation) e, ap (λ (r : Row). r.slot) e)))
+    let d = both _ _ (regs_decide a.reg b.reg) (both _ _ (unsigned_Decides a.creation b.creation) (unsigned_Decides a.slot b.slot)) in (
+      λ t. let is = d.0 t in λ i. record { reg = is.0 i; creation = is.1.0 i; slot = is.1.1 i },
+      λ e. d.1 (ap (λ (r : Row). r.reg) e, (ap (λ (r : Row). r.creation) e, ap (λ (r : Row). r.slot) e)),
+    )
 
 pub olds_decide : (a b : RetiredName) → Decides (old_eq.ghosts.eq a b) (a ≡ b)
 olds_decide a b =
-    let d = both _ _ (names_decide a.name b.name) (both _ _ (unsigned_Decides a.port b.port) (unsigned_Decides a.creation b.creation)) in
-    (λ t. let is = d.0 t in λ i. record { name = is.0 i; port = is.1.0 i; creation = is.1.1 i }, λ e. d.1 (ap (λ (o : RetiredName). o.name) e, (ap (λ (o : RetiredName). o.port) e, ap (λ (o : RetiredName). o.creation) e)))
+    let d = both _ _ (names_decide a.name b.name) (both _ _ (unsigned_Decides a.port b.port) (unsigned_Decides a.creation b.creation)) in (
+      λ t. let is = d.0 t in λ i. record { name = is.0 i; port = is.1.0 i; creation = is.1.1 i },
+      λ e. d.1 (ap (λ (o : RetiredName). o.name) e, (ap (λ (o : RetiredName). o.port) e, ap (λ (o : RetiredName). o.creation) e)),
+    )

@@ -1,5 +1,6 @@
 -- What a search finds in a list to which an element is added, or from which one is removed.
-use Rattle.std.proofs.Common.{◌≡◌, ℕ, suc, zero, Bool, true, false, cond, List, [], ◌∷◌, ◌++◌, ◌+◌, length, map, take, Option, Some, None, refl, sym, ap, ◌∙◌, ltb, arith, ◌<◌, get_or, append_assoc, add-one}
+use Rattle.std.proofs.Common.{◌≡◌, ℕ, suc, zero, Bool, true, false, cond, List, [], ◌∷◌, ◌++◌, ◌+◌, length, map, take, Option, Some, None}
+use Rattle.std.proofs.Common.{refl, sym, ap, ◌∙◌, ltb, arith, ◌<◌, get_or, append_assoc, add-one}
 use Rattle.std.specs.Prelude.{find, position, remove, is_some, slice_get, nat_lt}
 use Rattle.std.specs.List.{AllByRecursion, position_or_len, IsDistinct}
 use Rattle.std.specs.Option.{option_or}
@@ -9,7 +10,8 @@ use Rattle.std.proofs.lemmas.List.Folds.{find_at, find-append}
 use Rattle.std.proofs.lemmas.Option.{get_or_from_slice_get, slice_get_within}
 use Rattle.std.proofs.Math.Seq.{take-suc}
 use Rattle.std.specs.List.Sorted.{IsPermutation}
-use Rattle.std.proofs.lemmas.List.Sorted.{IsPermutation-refl, IsPermutation-sym, IsPermutation-trans, IsPermutation-map, IsPermutation-middle, IsPermutation-remove, IsPermutation-pop_more, IsPermutation-append_comm}
+use Rattle.std.proofs.lemmas.List.Sorted.{IsPermutation-refl, IsPermutation-sym, IsPermutation-trans, IsPermutation-map}
+use Rattle.std.proofs.lemmas.List.Sorted.{IsPermutation-middle, IsPermutation-remove, IsPermutation-pop_more, IsPermutation-append_comm}
 use Rattle.std.proofs.lemmas.Map.Keys.{IsDistinct-IsPermutation, IsDistinct-tail}
 use Rattle.portmap_table.proofs.First.{NonePass}
 
@@ -31,7 +33,8 @@ pub find-push_other : {X : Type 0} (p : X → Bool) (xs : List X) (x : X) → p 
 find-push_other p xs x fails = rw (find-append p xs (x ∷ []), fails) (or_none (find p xs))
 
 -- nor is an element missed that fails
-pub find-remove : {X : Type 0} (p : X → Bool) (xs : List X) (at : ℕ) (x : X) → slice_get xs at ≡ Some x → p x ≡ false → find p (remove xs at) ≡ find p xs
+pub find-remove : {X : Type 0} (p : X → Bool) (xs : List X) (at : ℕ) (x : X) → slice_get xs at ≡ Some x → p x ≡ false
+    → find p (remove xs at) ≡ find p xs
 find-remove p [] at x e fails = absurd cc
 find-remove p (y ∷ ys) zero x e fails =
     let same : y ≡ x = cc in
@@ -39,7 +42,8 @@ find-remove p (y ∷ ys) zero x e fails =
 find-remove p (y ∷ ys) (suc at) x e fails = ap (cond (p y) (Some y)) (find-remove p ys at x e fails)
 
 -- the place of what is found
-pub position-find : {X : Type 0} (p : X → Bool) (xs : List X) (x : X) → find p xs ≡ Some x → (position p xs ≡ Some (position_or_len p xs)) × (slice_get xs (position_or_len p xs) ≡ Some x)
+pub position-find : {X : Type 0} (p : X → Bool) (xs : List X) (x : X) → find p xs ≡ Some x
+    → (position p xs ≡ Some (position_or_len p xs)) × (slice_get xs (position_or_len p xs) ≡ Some x)
 position-find p xs x e =
     let at = position_or_len p xs in
     let there : slice_get xs at ≡ Some x = sym (find_at p xs) ∙ e in
@@ -51,21 +55,25 @@ parts P [] ys p = (tt, p)
 parts P (x ∷ xs) ys p = let rest = parts P xs ys p.1 in ((p.0, rest.0), rest.1)
 
 pub take_read : {X : Type 0} (xs : List X) (i : ℕ) (x : X) → slice_get xs i ≡ Some x → take (i + 1) xs ≡ take i xs ++ x ∷ []
-take_read xs i x e = ap (λ n. take n xs) (add-one i) ∙ take-suc xs i x (slice_get_within xs i x e) ∙ ap (λ y. take i xs ++ y ∷ []) (get_or_from_slice_get xs i x x e)
+take_read xs i x e = ap (λ n. take n xs) (add-one i) ∙ take-suc xs i x (slice_get_within xs i x e)
+    ∙ ap (λ y. take i xs ++ y ∷ []) (get_or_from_slice_get xs i x x e)
 
 -- two lists that agree before this place, and at it, agree up to and with it
-pub same_through : {X : Type 0} (xs ys : List X) (i : ℕ) (x : X) → take i xs ≡ take i ys → slice_get xs i ≡ Some x → slice_get ys i ≡ Some x → take (i + 1) xs ≡ take (i + 1) ys
+pub same_through : {X : Type 0} (xs ys : List X) (i : ℕ) (x : X) → take i xs ≡ take i ys → slice_get xs i ≡ Some x
+    → slice_get ys i ≡ Some x → take (i + 1) xs ≡ take (i + 1) ys
 same_through xs ys i x same one other = take_read xs i x one ∙ ap (λ l. l ++ x ∷ []) same ∙ sym (take_read ys i x other)
 
 -- ---- keys that differ, when one is added and when one changes its place
 
 -- a key that the others differ from is that of none
-pub keys_pass_not : {X K : Type 0} {same : K → K → Bool} → IsEquivalence same → (key : X → K) (k : K) (xs : List X) → AllByRecursion (λ y. same k y ≡ false) (map key xs) → NonePass (λ x. same (key x) k) xs
+pub keys_pass_not : {X K : Type 0} {same : K → K → Bool} → IsEquivalence same → (key : X → K) (k : K) (xs : List X)
+    → AllByRecursion (λ y. same k y ≡ false) (map key xs) → NonePass (λ x. same (key x) k) xs
 keys_pass_not laws key k [] differ = tt
 keys_pass_not laws key k (x ∷ xs) differ = (laws.symm (key x) k ∙ differ.0, keys_pass_not laws key k xs differ.1)
 
 -- a key that none of the elements has
-pub key_is_new : {X K : Type 0} {same : K → K → Bool} → IsEquivalence same → (key : X → K) (k : K) (xs : List X) → NonePass (λ x. same (key x) k) xs → AllByRecursion (λ y. same k y ≡ false) (map key xs)
+pub key_is_new : {X K : Type 0} {same : K → K → Bool} → IsEquivalence same → (key : X → K) (k : K) (xs : List X)
+    → NonePass (λ x. same (key x) k) xs → AllByRecursion (λ y. same k y ≡ false) (map key xs)
 key_is_new laws key k [] none = tt
 key_is_new laws key k (x ∷ xs) none = (laws.symm k (key x) ∙ none.0, key_is_new laws key k xs none.1)
 
@@ -74,27 +82,39 @@ both_parts P [] ys px py = py
 both_parts P (x ∷ xs) ys px py = (px.0, both_parts P xs ys px.1 py)
 
 -- a new key, between two parts
-pub distinct_with : {K : Type 0} {same : K → K → Bool} → IsEquivalence same → (k : K) (xs ys : List K) → AllByRecursion (λ y. same k y ≡ false) xs → AllByRecursion (λ y. same k y ≡ false) ys → IsDistinct same (xs ++ ys) → IsDistinct same ((xs ++ k ∷ []) ++ ys)
+pub distinct_with : {K : Type 0} {same : K → K → Bool} → IsEquivalence same → (k : K) (xs ys : List K)
+    → AllByRecursion (λ y. same k y ≡ false) xs → AllByRecursion (λ y. same k y ≡ false) ys → IsDistinct same (xs ++ ys)
+    → IsDistinct same ((xs ++ k ∷ []) ++ ys)
 unfolding IsDistinct
 distinct_with {K} {same} laws k xs ys px py d =
-    rw append_assoc (IsDistinct-IsPermutation same laws.symm (k ∷ (xs ++ ys)) (xs ++ k ∷ ys) (IsPermutation-sym (xs ++ k ∷ ys) (k ∷ (xs ++ ys)) (IsPermutation-middle xs k ys)) (both_parts (λ y. same k y ≡ false) xs ys px py, d))
+    rw append_assoc (IsDistinct-IsPermutation same laws.symm (k ∷ (xs ++ ys)) (xs ++ k ∷ ys)
+    (IsPermutation-sym (xs ++ k ∷ ys) (k ∷ (xs ++ ys)) (IsPermutation-middle xs k ys))
+    (both_parts (λ y. same k y ≡ false) xs ys px py, d))
 
 -- a key of the second part goes to the end of the first
-pub distinct_forward : {K : Type 0} {same : K → K → Bool} → IsEquivalence same → (k : K) (xs ys rest : List K) → IsPermutation ys (k ∷ rest) → IsDistinct same (xs ++ ys) → IsDistinct same ((xs ++ k ∷ []) ++ rest)
+pub distinct_forward : {K : Type 0} {same : K → K → Bool} → IsEquivalence same → (k : K) (xs ys rest : List K)
+    → IsPermutation ys (k ∷ rest) → IsDistinct same (xs ++ ys) → IsDistinct same ((xs ++ k ∷ []) ++ rest)
 distinct_forward {K} {same} laws k xs ys rest moved d =
-    IsDistinct-IsPermutation same laws.symm (xs ++ ys) ((xs ++ k ∷ []) ++ rest) (IsPermutation-pop_more (xs ++ ys) xs ys rest k (IsPermutation-refl (xs ++ ys)) moved) d
+    IsDistinct-IsPermutation same laws.symm (xs ++ ys) ((xs ++ k ∷ []) ++ rest)
+    (IsPermutation-pop_more (xs ++ ys) xs ys rest k (IsPermutation-refl (xs ++ ys)) moved) d
 
 -- a key of the first part goes to the end of the second
-pub distinct_back : {K : Type 0} {same : K → K → Bool} → IsEquivalence same → (k : K) (xs ys rest : List K) → IsPermutation xs (k ∷ rest) → IsDistinct same (xs ++ ys) → IsDistinct same (rest ++ (ys ++ k ∷ []))
+pub distinct_back : {K : Type 0} {same : K → K → Bool} → IsEquivalence same → (k : K) (xs ys rest : List K) → IsPermutation xs (k ∷ rest)
+    → IsDistinct same (xs ++ ys) → IsDistinct same (rest ++ (ys ++ k ∷ []))
 distinct_back {K} {same} laws k xs ys rest moved d =
-    let first : IsPermutation (xs ++ ys) ((ys ++ k ∷ []) ++ rest) = IsPermutation-pop_more (xs ++ ys) ys xs rest k (IsPermutation-append_comm xs ys) moved in
-    IsDistinct-IsPermutation same laws.symm (xs ++ ys) (rest ++ (ys ++ k ∷ [])) (IsPermutation-trans (xs ++ ys) ((ys ++ k ∷ []) ++ rest) (rest ++ (ys ++ k ∷ [])) first (IsPermutation-append_comm (ys ++ k ∷ []) rest)) d
+    let first : IsPermutation (xs ++ ys) ((ys ++ k ∷ []) ++ rest) =
+    IsPermutation-pop_more (xs ++ ys) ys xs rest k (IsPermutation-append_comm xs ys) moved in
+    IsDistinct-IsPermutation same laws.symm (xs ++ ys) (rest ++ (ys ++ k ∷ []))
+    (IsPermutation-trans (xs ++ ys) ((ys ++ k ∷ []) ++ rest) (rest ++ (ys ++ k ∷ [])) first
+    (IsPermutation-append_comm (ys ++ k ∷ []) rest)) d
 
 -- a key is gone
-pub distinct_without : {K : Type 0} {same : K → K → Bool} → IsEquivalence same → (k : K) (xs rest : List K) → IsPermutation xs (k ∷ rest) → IsDistinct same xs → IsDistinct same rest
+pub distinct_without : {K : Type 0} {same : K → K → Bool} → IsEquivalence same → (k : K) (xs rest : List K) → IsPermutation xs (k ∷ rest)
+    → IsDistinct same xs → IsDistinct same rest
 distinct_without {K} {same} laws k xs rest moved d =
     IsDistinct-tail same k rest (IsDistinct-IsPermutation same laws.symm xs (k ∷ rest) moved d)
 
 -- the keys of a list from which one element is removed
-pub keys_moved : {X K : Type 0} (key : X → K) (xs : List X) (at : ℕ) (x : X) → at < length xs → x ≡ get_or xs at x → IsPermutation (map key xs) (key x ∷ map key (remove xs at))
+pub keys_moved : {X K : Type 0} (key : X → K) (xs : List X) (at : ℕ) (x : X) → at < length xs → x ≡ get_or xs at x
+    → IsPermutation (map key xs) (key x ∷ map key (remove xs at))
 keys_moved key xs at x lt e = IsPermutation-map key xs (x ∷ remove xs at) (IsPermutation-remove xs at x lt e)

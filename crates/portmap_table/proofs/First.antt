@@ -1,5 +1,6 @@
 -- The first element that passes a test, in a list and in its parts.
-use Rattle.std.proofs.Common.{◌≡◌, ℕ, zero, suc, ◌+◌, ◌<◌, Bool, true, false, not, cond, List, [], ◌∷◌, length, map, drop, ◌⊎◌, Some, None, refl, sym, ap, ◌∙◌, subst, arith, inl, inr}
+use Rattle.std.proofs.Common.{◌≡◌, ℕ, zero, suc, ◌+◌, ◌<◌, Bool, true, false, not, cond, List, [], ◌∷◌, length, map, drop, ◌⊎◌, Some, None}
+use Rattle.std.proofs.Common.{refl, sym, ap, ◌∙◌, subst, arith, inl, inr}
 use Rattle.std.specs.Prelude.{find, is_some, position, nat_lt, slice_get}
 use Rattle.std.specs.List.{AllByRecursion, list_any, position_or_len}
 use Rattle.std.proofs.lemmas.Bool.{lt-ltb, le-ltb}
@@ -36,13 +37,16 @@ module _ {X : Type 0} (p : X → Bool) where
 
   pub first_place : (xs : List X) (at : ℕ) → IsFirst xs at → position p xs ≡ Some at
   first_place xs at f =
-      ap (λ (n : ℕ). cond (nat_lt n (length xs)) (Some n) None) (len_first xs at f) ∙ ap (λ (b : Bool). cond b (Some at) None) (lt-ltb at (length xs) (within xs at f))
+      ap (λ (n : ℕ). cond (nat_lt n (length xs)) (Some n) None) (len_first xs at f)
+      ∙ ap (λ (b : Bool). cond b (Some at) None) (lt-ltb at (length xs) (within xs at f))
 
   pub no_place : (xs : List X) → NonePass xs → position p xs ≡ None
   no_place xs none =
-      ap (λ (n : ℕ). cond (nat_lt n (length xs)) (Some n) None) (len_none xs none) ∙ ap (λ (b : Bool). cond b (Some (length xs)) None) (le-ltb (length xs) (length xs) (omega arith))
+      ap (λ (n : ℕ). cond (nat_lt n (length xs)) (Some n) None) (len_none xs none)
+      ∙ ap (λ (b : Bool). cond b (Some (length xs)) None) (le-ltb (length xs) (length xs) (omega arith))
 
-  either_with : (x : X) (xs : List X) (b : Bool) → p x ≡ b → NonePass xs ⊎ ((at : ℕ) × IsFirst xs at) → NonePass (x ∷ xs) ⊎ ((at : ℕ) × IsFirst (x ∷ xs) at)
+  either_with : (x : X) (xs : List X) (b : Bool) → p x ≡ b → NonePass xs ⊎ ((at : ℕ) × IsFirst xs at)
+      → NonePass (x ∷ xs) ⊎ ((at : ℕ) × IsFirst (x ∷ xs) at)
   either_with x xs true e rest = inr (0, e)
   either_with x xs false e (inl none) = inl (e, none)
   either_with x xs false e (inr f) = inr (suc f.0, (e, f.1))
@@ -83,7 +87,8 @@ module _ {X : Type 0} (p : X → Bool) where
   none_found [] e = tt
   none_found (x ∷ xs) e = by (p x) refl e (none_found xs)
     where
-      by : (b : Bool) → p x ≡ b → is_some (cond b (Some x) (find p xs)) ≡ false → (is_some (find p xs) ≡ false → NonePass xs) → NonePass (x ∷ xs)
+      by : (b : Bool) → p x ≡ b → is_some (cond b (Some x) (find p xs)) ≡ false → (is_some (find p xs) ≡ false → NonePass xs)
+          → NonePass (x ∷ xs)
       by true t none rest = absurd cc
       by false t none rest = (t, rest none)
 

@@ -1,5 +1,6 @@
 -- Names at places: what is found by name and by slot, and what a registration and a retirement leave.
-use Rattle.std.proofs.Common.{◌≡◌, ◌≢◌, ℕ, ◌+◌, Bool, true, false, not, List, [], ◌∷◌, ◌++◌, length, map, Option, Some, None, refl, sym, ap, ◌∙◌, subst, arith, inl, inr, true≢false}
+use Rattle.std.proofs.Common.{◌≡◌, ◌≢◌, ℕ, ◌+◌, Bool, true, false, not, List, [], ◌∷◌, ◌++◌, length, map, Option, Some, None, refl, sym, ap}
+use Rattle.std.proofs.Common.{◌∙◌, subst, arith, inl, inr, true≢false}
 use Rattle.std.specs.Prelude.{◌&&◌, ◌||◌, if◌then◌else◌, nat_le, drop, find, position, remove, slice_get, is_some, option_map}
 use Rattle.std.specs.Cmp.Lexicographic.{same_text}
 use Rattle.std.proofs.lemmas.Bool.{cases_eq, eq-eqb, eqb-true, false_from_ne_true, or_parts}
@@ -12,13 +13,19 @@ use Rattle.portmap_table.specs.declared.row.Row.{Row}
 use Rattle.portmap_table.specs.declared.entries.Kept.{Kept}
 use Rattle.portmap_table.specs.declared.entries.Kept.TheVariants.{Active, Retired}
 use Rattle.portmap_table.specs.declared.standing.Standing.{Standing}
-use Rattle.portmap_table.specs.Rows.{Names, RetiredName, active_row, and_retired, is_active, is_known, known_len, old_name, owns_name, registered, retired_at, retired_last, retired_of, retired_row, same_name, standing, with_room, without_at}
-use Rattle.portmap_table.specs.Places.{AreInPlace, AreNamed, AreOwners, Entry, HasEach, IsActiveAt, IsNew, IsRetiredAt, Puts, TakesPlace, StandsAs, StandsOnce, active_entry, active_in, names_at, old_at, old_in, retired_entry, retired_in, row_at, row_in}
-use Rattle.portmap_table.proofs.First.{IsFirst, NonePass, finds_none, first_found, first_place, no_place, none_behind, none_found, none_read}
+use Rattle.portmap_table.specs.Rows.{Names, RetiredName, active_row, and_retired, is_active, is_known, known_len, old_name, owns_name}
+use Rattle.portmap_table.specs.Rows.{registered, retired_at, retired_last, retired_of, retired_row, same_name, standing, with_room}
+use Rattle.portmap_table.specs.Rows.{without_at}
+use Rattle.portmap_table.specs.Places.{AreInPlace, AreNamed, AreOwners, Entry, HasEach, IsActiveAt, IsNew, IsRetiredAt, Puts, TakesPlace}
+use Rattle.portmap_table.specs.Places.{StandsAs, StandsOnce, active_entry, active_in, names_at, old_at, old_in, retired_entry, retired_in}
+use Rattle.portmap_table.specs.Places.{row_at, row_in}
+use Rattle.portmap_table.proofs.First.{IsFirst, NonePass, finds_none, first_found, first_place, no_place, none_behind, none_found}
+use Rattle.portmap_table.proofs.First.{none_read}
 use Rattle.portmap_table.proofs.Kept.{had_name}
 use Rattle.portmap_table.proofs.NameLaws.{active_names_stay, known_names_cost_none, oldest_makes_room, room_costs_none}
 use Rattle.portmap_table.proofs.Owners.{has_slot}
-use Rattle.portmap_table.proofs.Places.{each_pushed, each_removed, each_same, is_first_place, left_others, map_read, none_pass, is_it, puts_last, stands_as}
+use Rattle.portmap_table.proofs.Places.{each_pushed, each_removed, each_same, is_first_place, left_others, map_read, none_pass, is_it}
+use Rattle.portmap_table.proofs.Places.{puts_last, stands_as}
 use Rattle.portmap_table.specs.declared.standing.Standing.TheVariants as how
 
 -- ---- what stands at a place: an active name or a retired one
@@ -39,7 +46,9 @@ same_itself name other e = ap (λ (n : List ℕ). same_name n name) e ∙ nat_li
 
 -- not both
 never_both : (entries : List Entry) (place : ℕ) → IsActiveAt entries place → IsRetiredAt entries place → ⊥
-never_both entries place active retired = two_kinds active.0 retired.0.port retired.0.creation (ap (λ (e : Entry). e.1) (is_it (slice_get entries place) (active_entry active.0) (retired_entry retired.0) active.1 retired.1))
+never_both entries place active retired =
+    two_kinds active.0 retired.0.port retired.0.creation
+    (ap (λ (e : Entry). e.1) (is_it (slice_get entries place) (active_entry active.0) (retired_entry retired.0) active.1 retired.1))
   where
     two_kinds : (row : Row) (port creation : ℕ) → Active row ≡ Retired port creation → ⊥
     two_kinds row port creation e = absurd cc
@@ -58,36 +67,50 @@ module _ {X : Type 0} (k : Kind X) where
   there entries place x e = ap k.value e ∙ k.value_is x
 
   -- it stands in the list of those of its kind
-  read : (entries : List Entry) (places : List ℕ) (i place : ℕ) (x : X) → slice_get places i ≡ Some place → slice_get entries place ≡ Some (k.entry_of x) → slice_get (map (value_at entries) places) i ≡ Some x
-  read entries places i place x at e = slice_get-map (value_at entries) places i ∙ ap (option_map (value_at entries)) at ∙ ap Some (there entries place x e)
+  read : (entries : List Entry) (places : List ℕ) (i place : ℕ) (x : X) → slice_get places i ≡ Some place
+      → slice_get entries place ≡ Some (k.entry_of x) → slice_get (map (value_at entries) places) i ≡ Some x
+  read entries places i place x at e = slice_get-map (value_at entries) places i ∙ ap (option_map (value_at entries)) at
+      ∙ ap Some (there entries place x e)
 
   module _ (name : List ℕ) (entries : List Entry) {places : List ℕ} (each : HasEach (IsAt entries) places) where
-    its_place : (q : ℕ) → IsAt entries q → is_named name (value_at entries q) ≡ true → (kept : Kept) × (slice_get entries q ≡ Some (name, kept))
+    its_place : (q : ℕ) → IsAt entries q → is_named name (value_at entries q) ≡ true
+        → (kept : Kept) × (slice_get entries q ≡ Some (name, kept))
     its_place q is passes =
         let entry = k.entry_of is.0 in
         let same : entry.0 ≡ name = same_text entry.0 name (sym (sym (ap (is_named name) (there entries q is.0 is.1)) ∙ passes)) in
         (entry.1, is.1 ∙ ap (λ (n : List ℕ). Some (n, entry.1)) same)
 
-    named_first : (i place : ℕ) (x : X) → slice_get places i ≡ Some place → slice_get entries place ≡ Some (k.entry_of x) → (k.entry_of x).0 ≡ name → StandsOnce name entries place → IsFirst (is_named name) (map (value_at entries) places) i
+    named_first : (i place : ℕ) (x : X) → slice_get places i ≡ Some place → slice_get entries place ≡ Some (k.entry_of x)
+        → (k.entry_of x).0 ≡ name → StandsOnce name entries place → IsFirst (is_named name) (map (value_at entries) places) i
     named_first i place x at e named once =
-        is_first_place (value_at entries) (is_named name) places i place at (ap (is_named name) (there entries place x e) ∙ same_itself name (k.entry_of x).0 named)
+        is_first_place (value_at entries) (is_named name) places i place at
+        (ap (is_named name) (there entries place x e) ∙ same_itself name (k.entry_of x).0 named)
         (λ j q r passes. let kept = its_place q (each.sound j q r) passes in each.once j i place (r ∙ ap Some (once q kept.0 kept.1)) at)
 
-    finds : (place : ℕ) (x : X) → slice_get entries place ≡ Some (k.entry_of x) → (k.entry_of x).0 ≡ name → StandsOnce name entries place → find (is_named name) (map (value_at entries) places) ≡ Some x
+    finds : (place : ℕ) (x : X) → slice_get entries place ≡ Some (k.entry_of x) → (k.entry_of x).0 ≡ name → StandsOnce name entries place
+        → find (is_named name) (map (value_at entries) places) ≡ Some x
     finds place x e named once =
         let at = each.whole place (x, e) in
-        first_found (is_named name) (map (value_at entries) places) at.0 x (named_first at.0 place x at.1 e named once) (read entries places at.0 place x at.1 e)
+        first_found (is_named name) (map (value_at entries) places) at.0 x (named_first at.0 place x at.1 e named once)
+        (read entries places at.0 place x at.1 e)
 
-    named_nowhere : ((q : ℕ) → IsAt entries q → (kept : Kept) → slice_get entries q ≡ Some (name, kept) → ⊥) → NonePass (is_named name) (map (value_at entries) places)
+    named_nowhere : ((q : ℕ) → IsAt entries q → (kept : Kept) → slice_get entries q ≡ Some (name, kept) → ⊥)
+        → NonePass (is_named name) (map (value_at entries) places)
     named_nowhere none =
-        none_pass (value_at entries) (is_named name) places (λ j q r. false_from_ne_true (is_named name (value_at entries q)) (λ passes. let kept = its_place q (each.sound j q r) passes in none q (each.sound j q r) kept.0 kept.1))
+        none_pass (value_at entries) (is_named name) places
+        (λ j q r. false_from_ne_true (is_named name (value_at entries q))
+        (λ passes. let kept = its_place q (each.sound j q r) passes in none q (each.sound j q r) kept.0 kept.1))
 
-    not_there : is_some (find (is_named name) (map (value_at entries) places)) ≡ false → (place : ℕ) (x : X) → slice_get entries place ≡ Some (k.entry_of x) → (k.entry_of x).0 ≡ name → ⊥
+    not_there : is_some (find (is_named name) (map (value_at entries) places)) ≡ false → (place : ℕ) (x : X)
+        → slice_get entries place ≡ Some (k.entry_of x) → (k.entry_of x).0 ≡ name → ⊥
     not_there none place x e named =
         let at = each.whole place (x, e) in
-        true≢false (sym (same_itself name (k.entry_of x).0 named) ∙ none_read (is_named name) (map (value_at entries) places) at.0 x (none_found (is_named name) (map (value_at entries) places) none) (read entries places at.0 place x at.1 e))
+        true≢false (sym (same_itself name (k.entry_of x).0 named)
+        ∙ none_read (is_named name) (map (value_at entries) places) at.0 x
+        (none_found (is_named name) (map (value_at entries) places) none) (read entries places at.0 place x at.1 e))
 
-    finds_not : ((q : ℕ) → IsAt entries q → (kept : Kept) → slice_get entries q ≡ Some (name, kept) → ⊥) → find (is_named name) (map (value_at entries) places) ≡ None
+    finds_not : ((q : ℕ) → IsAt entries q → (kept : Kept) → slice_get entries q ≡ Some (name, kept) → ⊥)
+        → find (is_named name) (map (value_at entries) places) ≡ None
     finds_not none = finds_none (is_named name) (map (value_at entries) places) (named_nowhere none)
 
   -- ---- an entry is put
@@ -97,49 +120,58 @@ module _ {X : Type 0} (k : Kind X) where
     each : HasEach (IsAt entries) places
     values_are : map (value_at entries) places ≡ values
 
-  module _ {entries new : List Entry} {place : ℕ} {entry : Entry} (puts : Puts entries new place entry) {places : List ℕ} (each : HasEach (IsAt entries) places) where
+  module _ {entries new : List Entry} {place : ℕ} {entry : Entry} (puts : Puts entries new place entry) {places : List ℕ}
+      (each : HasEach (IsAt entries) places) where
     stays : (q : ℕ) → q ≢ place → IsAt entries q → IsAt new q
     stays q other is = (is.0, puts.others q other ∙ is.1)
 
     was : (q : ℕ) → q ≢ place → IsAt new q → IsAt entries q
     was q other is = (is.0, sym (puts.others q other) ∙ is.1)
 
-    same_values : (left : List ℕ) → ((i q : ℕ) → slice_get left i ≡ Some q → q ≢ place) → map (value_at new) left ≡ map (value_at entries) left
+    same_values : (left : List ℕ) → ((i q : ℕ) → slice_get left i ≡ Some q → q ≢ place)
+        → map (value_at new) left ≡ map (value_at entries) left
     same_values left others = map_read (value_at new) (value_at entries) left (λ i q e. ap k.value (puts.others q (others i q e)))
 
     others_there : (IsAt entries place → ⊥) → (i q : ℕ) → slice_get places i ≡ Some q → q ≢ place
     others_there free i q e same = free (subst (IsAt entries) same (each.sound i q e))
 
     -- one of this kind, where none was
-    one_more : (x : X) → entry ≡ k.entry_of x → (IsAt entries place → ⊥) → Stand new (places ++ place ∷ []) (map (value_at entries) places ++ x ∷ [])
+    one_more : (x : X) → entry ≡ k.entry_of x → (IsAt entries place → ⊥)
+        → Stand new (places ++ place ∷ []) (map (value_at entries) places ++ x ∷ [])
     one_more x is free =
         let e = puts.there ∙ ap Some is in
         record {
           each = each_pushed places place each free (x, e) stays was;
-          values_are = map-append (value_at new) places (place ∷ []) ∙ (λ i. same_values places (others_there free) i ++ there new place x e i ∷ []);
+          values_are = map-append (value_at new) places (place ∷ [])
+              ∙ (λ i. same_values places (others_there free) i ++ there new place x e i ∷ []);
         }
 
     -- another one in its place
-    one_less : (i : ℕ) → slice_get places i ≡ Some place → (IsAt new place → ⊥) → Stand new (remove places i) (remove (map (value_at entries) places) i)
+    one_less : (i : ℕ) → slice_get places i ≡ Some place → (IsAt new place → ⊥)
+        → Stand new (remove places i) (remove (map (value_at entries) places) i)
     one_less i at gone = record {
       each = each_removed places i place each at gone stays was;
-      values_are = same_values (remove places i) (left_others places i place each at gone stays was) ∙ map-remove (value_at entries) places i;
+      values_are = same_values (remove places i) (left_others places i place each at gone stays was)
+          ∙ map-remove (value_at entries) places i;
     }
 
     -- another one, where none was
     no_more : (IsAt entries place → ⊥) → (IsAt new place → ⊥) → Stand new places (map (value_at entries) places)
     no_more free gone = record {
-      each = each_same places each (λ q is. stays q (λ same. free (subst (IsAt entries) same is)) is) (λ q is. was q (λ same. gone (subst (IsAt new) same is)) is);
+      each = each_same places each (λ q is. stays q (λ same. free (subst (IsAt entries) same is)) is)
+          (λ q is. was q (λ same. gone (subst (IsAt new) same is)) is);
       values_are = same_values places (others_there free);
     }
 
 -- ---- what is found by a name
 
 -- a name that is looked up
-pub stands_once : (name : List ℕ) (entries : List Entry) (found : Option ℕ) (place : ℕ) → found ≡ Some place → ((q : ℕ) (kept : Kept) → slice_get entries q ≡ Some (name, kept) → found ≡ Some q) → StandsOnce name entries place
+pub stands_once : (name : List ℕ) (entries : List Entry) (found : Option ℕ) (place : ℕ) → found ≡ Some place
+    → ((q : ℕ) (kept : Kept) → slice_get entries q ≡ Some (name, kept) → found ≡ Some q) → StandsOnce name entries place
 stands_once name entries found place e only q kept there = let both : Some q ≡ Some place = sym (only q kept there) ∙ e in cc
 
-pub stands_nowhere : (name : List ℕ) (entries : List Entry) (found : Option ℕ) → found ≡ None → ((q : ℕ) (kept : Kept) → slice_get entries q ≡ Some (name, kept) → found ≡ Some q) → IsNew name entries
+pub stands_nowhere : (name : List ℕ) (entries : List Entry) (found : Option ℕ) → found ≡ None
+    → ((q : ℕ) (kept : Kept) → slice_get entries q ≡ Some (name, kept) → found ≡ Some q) → IsNew name entries
 stands_nowhere name entries found e only q kept there = none-some q (sym e ∙ only q kept there)
 
 -- how it stands
@@ -153,24 +185,34 @@ abbrev pub how_kept : Option RetiredName → Standing
 how_kept None = how.Active
 how_kept (Some old) = how.Free (Some old.creation)
 
-how_retired : (over : Bool) (old : RetiredName) → (if over && not (false || true) then how.NoRoom else how.Free (Some old.creation)) ≡ how.Free (Some old.creation)
+how_retired : (over : Bool) (old : RetiredName)
+    → (if over && not (false || true) then how.NoRoom else how.Free (Some old.creation)) ≡ how.Free (Some old.creation)
 how_retired true old = refl
 how_retired false old = refl
 
-how_new : (over : Bool) → (if over && not (false || false) then how.NoRoom else how.Free None) ≡ (if over then how.NoRoom else how.Free None)
+how_new : (over : Bool) → (if over && not (false || false) then how.NoRoom else how.Free None)
+    ≡ (if over then how.NoRoom else how.Free None)
 how_new true = refl
 how_new false = refl
 
-module _ {entries : List Entry} {active retired : List ℕ} {owner : ℕ → Option ℕ} (placed : AreInPlace entries active retired owner) (name : List ℕ) where
+module _ {entries : List Entry} {active retired : List ℕ} {owner : ℕ → Option ℕ} (placed : AreInPlace entries active retired owner)
+    (name : List ℕ) where
   -- what is found is what is kept where the name stands
-  pub found_active : (place : ℕ) → StandsAs name entries place → StandsOnce name entries place → active_row name (names_at entries active retired) ≡ active_in (slice_get entries place)
-  found_active place (inl row) once = finds actives name entries placed.active_places place row.0 row.1 row.2 once ∙ sym (ap active_in row.1)
+  pub found_active : (place : ℕ) → StandsAs name entries place → StandsOnce name entries place
+      → active_row name (names_at entries active retired) ≡ active_in (slice_get entries place)
+  found_active place (inl row) once = finds actives name entries placed.active_places place row.0 row.1 row.2 once
+      ∙ sym (ap active_in row.1)
   found_active place (inr old) once =
-      finds_not actives name entries placed.active_places (λ q is kept e. never_both entries place (subst (IsActiveAt entries) (once q kept e) is) (old.0, old.1)) ∙ sym (ap active_in old.1)
+      finds_not actives name entries placed.active_places
+      (λ q is kept e. never_both entries place (subst (IsActiveAt entries) (once q kept e) is) (old.0, old.1))
+      ∙ sym (ap active_in old.1)
 
-  found_old : (place : ℕ) → StandsAs name entries place → StandsOnce name entries place → retired_row name (names_at entries active retired) ≡ retired_in (slice_get entries place)
+  found_old : (place : ℕ) → StandsAs name entries place → StandsOnce name entries place
+      → retired_row name (names_at entries active retired) ≡ retired_in (slice_get entries place)
   found_old place (inl row) once =
-      finds_not olds name entries placed.retired_places (λ q is kept e. never_both entries place (row.0, row.1) (subst (IsRetiredAt entries) (once q kept e) is)) ∙ sym (ap retired_in row.1)
+      finds_not olds name entries placed.retired_places
+      (λ q is kept e. never_both entries place (row.0, row.1) (subst (IsRetiredAt entries) (once q kept e) is))
+      ∙ sym (ap retired_in row.1)
   found_old place (inr old) once = finds olds name entries placed.retired_places place old.0 old.1 old.2 once ∙ sym (ap retired_in old.1)
 
   pub no_active : IsNew name entries → active_row name (names_at entries active retired) ≡ None
@@ -182,50 +224,62 @@ module _ {entries : List Entry} {active retired : List ℕ} {owner : ℕ → Opt
   unknown : IsNew name entries → is_known name (names_at entries active retired) ≡ false
   unknown fresh = λ i. is_some (no_active fresh i) || is_some (finds_none (had_name name) (map (old_at entries) retired) (no_old fresh) i)
 
-  pub stands_kept : (known_max place : ℕ) → StandsAs name entries place → StandsOnce name entries place → standing known_max name (names_at entries active retired) ≡ how_kept (retired_in (slice_get entries place))
-  stands_kept known_max place stands once = (λ i. how_found known_max (length (map (row_at entries) active)) (found_active place stands once i) (found_old place stands once i)) ∙ by stands
+  pub stands_kept : (known_max place : ℕ) → StandsAs name entries place → StandsOnce name entries place
+      → standing known_max name (names_at entries active retired) ≡ how_kept (retired_in (slice_get entries place))
+  stands_kept known_max place stands once =
+      (λ i. how_found known_max (length (map (row_at entries) active)) (found_active place stands once i) (found_old place stands once i))
+      ∙ by stands
     where
-      by : StandsAs name entries place → how_found known_max (length (map (row_at entries) active)) (active_in (slice_get entries place)) (retired_in (slice_get entries place)) ≡ how_kept (retired_in (slice_get entries place))
+      by : StandsAs name entries place → how_found known_max (length (map (row_at entries) active)) (active_in (slice_get entries place))
+          (retired_in (slice_get entries place)) ≡ how_kept (retired_in (slice_get entries place))
       by (inl row) = rw row.1 refl
       by (inr old) = rw old.1 (how_retired (nat_le known_max (length (map (row_at entries) active))) old.0)
 
-  pub stands_new : (known_max : ℕ) (over : Bool) → IsNew name entries → nat_le known_max (length active) ≡ over → standing known_max name (names_at entries active retired) ≡ (if over then how.NoRoom else how.Free None)
+  pub stands_new : (known_max : ℕ) (over : Bool) → IsNew name entries → nat_le known_max (length active) ≡ over
+      → standing known_max name (names_at entries active retired) ≡ (if over then how.NoRoom else how.Free None)
   stands_new known_max over fresh e =
-      (λ i. how_found known_max (length-map active (row_at entries) i) (no_active fresh i) (finds_none (had_name name) (map (old_at entries) retired) (no_old fresh) i))
+      (λ i. how_found known_max (length-map active (row_at entries) i) (no_active fresh i)
+      (finds_none (had_name name) (map (old_at entries) retired) (no_old fresh) i))
       ∙ ap (λ (b : Bool). if b && not (false || false) then how.NoRoom else how.Free None) e
       ∙ how_new over
 
   -- a name that is not active stands at no active place
-  pub inactive_there : is_active name (names_at entries active retired) ≡ false → (place : ℕ) (row : Row) → slice_get entries place ≡ Some (active_entry row) → row.reg.name ≡ name → ⊥
+  pub inactive_there : is_active name (names_at entries active retired) ≡ false → (place : ℕ) (row : Row)
+      → slice_get entries place ≡ Some (active_entry row) → row.reg.name ≡ name → ⊥
   inactive_there inactive place row e named = not_there actives name entries placed.active_places inactive place row e named
 
   -- and one that is not known at none
   pub unknown_there : is_known name (names_at entries active retired) ≡ false → AreNamed entries → IsNew name entries
   unknown_there not_known named place kept e = elim (stands_as name entries place kept named e) [
     | inl row ↦ inactive_there (or_parts _ _ not_known).0 place row.0 row.1 row.2
-    | inr old ↦ not_there olds name entries placed.retired_places (or_parts (is_active name (names_at entries active retired)) _ not_known).1 place old.0 old.1 old.2
+    | inr old ↦ not_there olds name entries placed.retired_places
+        (or_parts (is_active name (names_at entries active retired)) _ not_known).1 place old.0 old.1 old.2
   ]
 
 -- ---- what is found by a slot
 
-module _ {entries : List Entry} {active retired : List ℕ} {owner : ℕ → Option ℕ} (placed : AreInPlace entries active retired owner) (slot : ℕ) where
+module _ {entries : List Entry} {active retired : List ℕ} {owner : ℕ → Option ℕ} (placed : AreInPlace entries active retired owner)
+    (slot : ℕ) where
   of_slot : (j q : ℕ) → slice_get active j ≡ Some q → has_slot slot (row_at entries q) ≡ true → owner slot ≡ Some q
   of_slot j q e passes =
       let is = placed.active_places.sound j q e in
       let mine : is.0.slot ≡ slot = eqb-true is.0.slot slot (sym (ap (has_slot slot) (there actives entries q is.0 is.1)) ∙ passes) in
       sym (ap owner mine) ∙ placed.owners.active q is.0 is.1
 
-  pub slot_place : (place i : ℕ) → owner slot ≡ Some place → slice_get active i ≡ Some place → position (has_slot slot) (map (row_at entries) active) ≡ Some i
+  pub slot_place : (place i : ℕ) → owner slot ≡ Some place → slice_get active i ≡ Some place
+      → position (has_slot slot) (map (row_at entries) active) ≡ Some i
   slot_place place i owned at =
       let row = placed.owners.slots slot place owned in
       first_place (has_slot slot) (map (row_at entries) active) i
-      (is_first_place (row_at entries) (has_slot slot) active i place at (ap (has_slot slot) (there actives entries place row.0 row.1) ∙ eq-eqb row.0.slot slot row.2)
+      (is_first_place (row_at entries) (has_slot slot) active i place at
+      (ap (has_slot slot) (there actives entries place row.0 row.1) ∙ eq-eqb row.0.slot slot row.2)
       (λ j q e passes. placed.active_places.once j i place (e ∙ sym (of_slot j q e passes) ∙ owned) at))
 
   no_slot_place : owner slot ≡ None → position (has_slot slot) (map (row_at entries) active) ≡ None
   no_slot_place none =
       no_place (has_slot slot) (map (row_at entries) active)
-      (none_pass (row_at entries) (has_slot slot) active (λ j q e. false_from_ne_true (has_slot slot (row_at entries q)) (λ passes. none-some q (sym none ∙ of_slot j q e passes))))
+      (none_pass (row_at entries) (has_slot slot) active
+      (λ j q e. false_from_ne_true (has_slot slot (row_at entries q)) (λ passes. none-some q (sym none ∙ of_slot j q e passes))))
 
   pub owns_placed : owns_name slot (names_at entries active retired) ≡ is_some (owner slot)
   owns_placed = by (owner slot) refl
@@ -246,16 +300,19 @@ same_slot : (r row : Row) → Active r ≡ Active row → r.slot ≡ row.slot
 same_slot r row e = let same : r ≡ row = cc in ap (λ (x : Row). x.slot) same
 
 -- an active name comes
-owners_more : (entries new : List Entry) (at : ℕ) (row : Row) (owner owner' : ℕ → Option ℕ) → Puts entries new at (active_entry row) → (IsActiveAt entries at → ⊥) → AreOwners entries owner → owner row.slot ≡ None
+owners_more : (entries new : List Entry) (at : ℕ) (row : Row) (owner owner' : ℕ → Option ℕ) → Puts entries new at (active_entry row)
+    → (IsActiveAt entries at → ⊥) → AreOwners entries owner → owner row.slot ≡ None
     → owner' row.slot ≡ Some at → ((q : ℕ) → q ≢ row.slot → owner' q ≡ owner q) → AreOwners new owner'
 owners_more entries new at row owner owner' puts free owners none there others = record {
   active = λ place r e. elim (cases_eq place at) [
     | inl same ↦
-        let both : active_entry r ≡ active_entry row = is_it (slice_get new at) (active_entry r) (active_entry row) (ap (slice_get new) (sym same) ∙ e) puts.there in
+        let both : active_entry r ≡ active_entry row =
+        is_it (slice_get new at) (active_entry r) (active_entry row) (ap (slice_get new) (sym same) ∙ e) puts.there in
         ap owner' (same_slot r row (ap (λ (x : Entry). x.1) both)) ∙ there ∙ ap Some (sym same)
     | inr other ↦
         let before : slice_get entries place ≡ Some (active_entry r) = sym (puts.others place other) ∙ e in
-        others r.slot (λ mine. none-some place (sym none ∙ sym (ap owner mine) ∙ owners.active place r before)) ∙ owners.active place r before
+        others r.slot (λ mine. none-some place (sym none ∙ sym (ap owner mine) ∙ owners.active place r before))
+        ∙ owners.active place r before
   ];
   slots = λ slot place e. elim (cases_eq slot row.slot) [
     | inl mine ↦
@@ -269,8 +326,10 @@ owners_more entries new at row owner owner' puts free owners none there others =
 }
 
 -- none of the active names is that of this place any more
-owners_less : (entries new : List Entry) (at : ℕ) (old : RetiredName) (owner owner' : ℕ → Option ℕ) → Puts entries new at (retired_entry old) → AreOwners entries owner
-    → ((q place : ℕ) → place ≢ at → owner q ≡ Some place → owner' q ≡ Some place) → ((q place : ℕ) → owner' q ≡ Some place → (place ≢ at) × (owner q ≡ Some place)) → AreOwners new owner'
+owners_less : (entries new : List Entry) (at : ℕ) (old : RetiredName) (owner owner' : ℕ → Option ℕ)
+    → Puts entries new at (retired_entry old) → AreOwners entries owner
+    → ((q place : ℕ) → place ≢ at → owner q ≡ Some place → owner' q ≡ Some place)
+    → ((q place : ℕ) → owner' q ≡ Some place → (place ≢ at) × (owner q ≡ Some place)) → AreOwners new owner'
 owners_less entries new at old owner owner' puts owners stay were = record {
   active = λ place r e. elim (cases_eq place at) [
     | inl same ↦ absurd (never_both new at (r, ap (slice_get new) (sym same) ∙ e) (old, puts.there))
@@ -284,8 +343,10 @@ owners_less entries new at old owner owner' puts owners stay were = record {
 
 -- ---- a name retires, whole
 
-module _ {entries new : List Entry} {active retired : List ℕ} {owner : ℕ → Option ℕ} (owner' : ℕ → Option ℕ) (slot place i : ℕ) (placed : AreInPlace entries active retired owner) (owned : owner slot ≡ Some place)
-    (puts : (row : Row) → slice_get entries place ≡ Some (active_entry row) → Puts entries new place (retired_entry (old_name row))) (len : length new ≡ length entries) (at : slice_get active i ≡ Some place)
+module _ {entries new : List Entry} {active retired : List ℕ} {owner : ℕ → Option ℕ} (owner' : ℕ → Option ℕ) (slot place i : ℕ)
+    (placed : AreInPlace entries active retired owner) (owned : owner slot ≡ Some place)
+    (puts : (row : Row) → slice_get entries place ≡ Some (active_entry row) → Puts entries new place (retired_entry (old_name row)))
+    (len : length new ≡ length entries) (at : slice_get active i ≡ Some place)
     (none : owner' slot ≡ None) (others : (q : ℕ) → q ≢ slot → owner' q ≡ owner q) where
   abbrev mine : (row : Row) × (slice_get entries place ≡ Some (active_entry row)) × (row.slot ≡ slot)
   mine = placed.owners.slots slot place owned
@@ -302,7 +363,9 @@ module _ {entries new : List Entry} {active retired : List ℕ} {owner : ℕ →
   pub retires_names : names_at new (remove active i) (retired ++ place ∷ []) ≡ retired_of slot (names_at entries active retired)
   retires_names =
       (λ j. record { active = rows_left.values_are j; retired = olds_left.values_are j })
-      ∙ sym (ap (λ (o : Option ℕ). retired_at o (names_at entries active retired)) (slot_place placed slot place i owned at) ∙ ap (λ (o : Option Row). retired_last i o (names_at entries active retired)) (read actives entries active i place mine.0 at mine.1))
+      ∙ sym (ap (λ (o : Option ℕ). retired_at o (names_at entries active retired)) (slot_place placed slot place i owned at)
+      ∙ ap (λ (o : Option Row). retired_last i o (names_at entries active retired))
+      (read actives entries active i place mine.0 at mine.1))
 
   same_place : (q there : ℕ) → owner q ≡ Some there → q ≡ slot → there ≡ place
   same_place q there e same = let both : Some there ≡ Some place = sym e ∙ ap owner same ∙ owned in cc
@@ -311,20 +374,32 @@ module _ {entries new : List Entry} {active retired : List ℕ} {owner : ℕ →
   retires_places = record {
     active_places = rows_left.each;
     retired_places = olds_left.each;
-    owners = owners_less entries new place (old_name mine.0) owner owner' changed placed.owners (λ q there other e. others q (λ same. other (same_place q there e same)) ∙ e)
+    owners = owners_less entries new place (old_name mine.0) owner owner' changed placed.owners
+        (λ q there other e. others q (λ same. other (same_place q there e same)) ∙ e)
         (λ q there e. elim (cases_eq q slot) [
           | inl same ↦ absurd (none-some there (sym none ∙ sym (ap owner' same) ∙ e))
           | inr other ↦
               let before : owner q ≡ Some there = sym (others q other) ∙ e in
-              let row = placed.owners.slots q there before in
-              (λ same. other (sym row.2 ∙ same_slot row.0 mine.0 (ap (λ (x : Entry). x.1) (is_it (slice_get entries place) (active_entry row.0) (active_entry mine.0) (ap (slice_get entries) (sym same) ∙ row.1) mine.1)) ∙ mine.2), before)
+              let row = placed.owners.slots q there before in (
+                λ same. other (sym row.2 ∙ same_slot row.0 mine.0
+                    (ap (λ (x : Entry). x.1) (is_it (slice_get entries place) (active_entry row.0) (active_entry mine.0)
+                    (ap (slice_get entries) (sym same) ∙ row.1) mine.1)) ∙ mine.2),
+                before,
+              )
         ]);
-    count = omega (arith, length-remove active i (slice_get_within active i place at), length-append retired (place ∷ []), len, placed.count);
+    count = omega (
+      arith,
+      length-remove active i (slice_get_within active i place at),
+      length-append retired (place ∷ []),
+      len,
+      placed.count,
+    );
   }
 
 -- ---- a retired name comes behind the others
 
-module _ {entries : List Entry} {active retired : List ℕ} {owner : ℕ → Option ℕ} (placed : AreInPlace entries active retired owner) (old : RetiredName) where
+module _ {entries : List Entry} {active retired : List ℕ} {owner : ℕ → Option ℕ} (placed : AreInPlace entries active retired owner)
+    (old : RetiredName) where
   abbrev last : ℕ
   last = length entries
 
@@ -335,10 +410,12 @@ module _ {entries : List Entry} {active retired : List ℕ} {owner : ℕ → Opt
   past entry place e same = absurd (omega (arith, same, slice_get_within entries place entry e))
 
   rows_stay : Stand actives longer active (map (row_at entries) active)
-  rows_stay = no_more actives (puts_last entries (retired_entry old)) placed.active_places (λ is. past (active_entry is.0) last is.1 refl) (λ is. never_both longer last is (old, (puts_last entries (retired_entry old)).there))
+  rows_stay = no_more actives (puts_last entries (retired_entry old)) placed.active_places (λ is. past (active_entry is.0) last is.1 refl)
+      (λ is. never_both longer last is (old, (puts_last entries (retired_entry old)).there))
 
   olds_more : Stand olds longer (retired ++ last ∷ []) (map (old_at entries) retired ++ old ∷ [])
-  olds_more = one_more olds (puts_last entries (retired_entry old)) placed.retired_places old refl (λ is. past (retired_entry is.0) last is.1 refl)
+  olds_more = one_more olds (puts_last entries (retired_entry old)) placed.retired_places old refl
+      (λ is. past (retired_entry is.0) last is.1 refl)
 
   pub appended_names : names_at longer active (retired ++ last ∷ []) ≡ and_retired (names_at entries active retired) old
   appended_names = λ i. record { active = rows_stay.values_are i; retired = olds_more.values_are i }
@@ -347,7 +424,8 @@ module _ {entries : List Entry} {active retired : List ℕ} {owner : ℕ → Opt
   appended_places = record {
     active_places = rows_stay.each;
     retired_places = olds_more.each;
-    owners = owners_less entries longer last old owner owner (puts_last entries (retired_entry old)) placed.owners (λ q place other e. e) (λ q place e. let row = placed.owners.slots q place e in (past (active_entry row.0) place row.1, e));
+    owners = owners_less entries longer last old owner owner (puts_last entries (retired_entry old)) placed.owners (λ q place other e. e)
+        (λ q place e. let row = placed.owners.slots q place e in (past (active_entry row.0) place row.1, e));
     count = omega (arith, length-append retired (last ∷ []), length-append entries (retired_entry old ∷ []), placed.count);
   }
 
@@ -357,7 +435,8 @@ no_first : (xs : List RetiredName) → remove xs 0 ≡ drop 1 xs
 no_first [] = refl
 no_first (x ∷ xs) = refl
 
-module _ {entries new : List Entry} {active retired left : List ℕ} {owner : ℕ → Option ℕ} {known_max place : ℕ} {row : Row} (placed : AreInPlace entries active retired owner) (settles : TakesPlace known_max row entries new retired left place)
+module _ {entries new : List Entry} {active retired left : List ℕ} {owner : ℕ → Option ℕ} {known_max place : ℕ} {row : Row}
+    (placed : AreInPlace entries active retired owner) (settles : TakesPlace known_max row entries new retired left place)
     (inactive : is_active row.reg.name (names_at entries active retired) ≡ false) where
   abbrev names : Names
   names = names_at entries active retired
@@ -384,10 +463,13 @@ module _ {entries new : List Entry} {active retired left : List ℕ} {owner : �
   rows_with = one_more actives settles.puts placed.active_places row refl free
 
   -- the retired ones, once the name is none of them
-  taken : (o : Option ℕ) (xs : List RetiredName) → roomy.retired ≡ xs → position (had_name row.reg.name) xs ≡ o → without_at o xs ≡ without_at (position (had_name row.reg.name) roomy.retired) roomy.retired
-  taken o xs is at = sym (ap (λ (ys : List RetiredName). without_at (position (had_name row.reg.name) ys) ys) is ∙ ap (λ (p : Option ℕ). without_at p xs) at)
+  taken : (o : Option ℕ) (xs : List RetiredName) → roomy.retired ≡ xs → position (had_name row.reg.name) xs ≡ o
+      → without_at o xs ≡ without_at (position (had_name row.reg.name) roomy.retired) roomy.retired
+  taken o xs is at = sym (ap (λ (ys : List RetiredName). without_at (position (had_name row.reg.name) ys) ys) is
+      ∙ ap (λ (p : Option ℕ). without_at p xs) at)
 
-  stand_left : {places : List ℕ} {values values' : List RetiredName} → left ≡ places → Stand olds new places values → values ≡ values' → Stand olds new left values'
+  stand_left : {places : List ℕ} {values values' : List RetiredName} → left ≡ places → Stand olds new places values → values ≡ values'
+      → Stand olds new left values'
   stand_left is stand same = rw (is, ← same) stand
 
   olds_with : Stand olds new left (without_at (position (had_name row.reg.name) roomy.retired) roomy.retired)
@@ -396,24 +478,38 @@ module _ {entries new : List Entry} {active retired left : List ℕ} {owner : �
       elim settles.how [
         | inl r ↦
             let i = r.out.0 in
-            let at = first_place (had_name row.reg.name) xs i (named_first olds row.reg.name entries placed.retired_places i place r.known.0 r.out.1 r.known.1 r.known.2 r.once) in
-            let known : is_known row.reg.name names ≡ true = λ j. inactive j || is_some (finds olds row.reg.name entries placed.retired_places place r.known.0 r.known.1 r.known.2 r.once j) in
-            stand_left r.out.2 (one_less olds settles.puts placed.retired_places i r.out.1 gone) (taken (Some i) xs (ap (λ (n : Names). n.retired) (known_names_cost_none known_max names row.reg.name known)) at)
+            let at = first_place (had_name row.reg.name) xs i
+            (named_first olds row.reg.name entries placed.retired_places i place r.known.0 r.out.1 r.known.1 r.known.2 r.once) in
+            let known : is_known row.reg.name names ≡ true = λ j.
+            inactive j || is_some
+            (finds olds row.reg.name entries placed.retired_places place r.known.0 r.known.1 r.known.2 r.once j) in
+            stand_left r.out.2 (one_less olds settles.puts placed.retired_places i r.out.1 gone)
+            (taken (Some i) xs (ap (λ (n : Names). n.retired) (known_names_cost_none known_max names row.reg.name known)) at)
         | inr f ↦ elim f [
           | inl a ↦
-              stand_left a.same (no_more olds settles.puts placed.retired_places (λ is. absurd (omega (arith, a.last, slice_get_within entries place (retired_entry is.0) is.1))) gone)
-              (taken None xs (ap (λ (n : Names). n.retired) (room_costs_none known_max names row.reg.name (omega (arith, a.few, len_names)))) (no_place (had_name row.reg.name) xs (no_old placed row.reg.name a.fresh)))
+              stand_left a.same (no_more olds settles.puts placed.retired_places
+              (λ is. absurd (omega (arith, a.last, slice_get_within entries place (retired_entry is.0) is.1))) gone)
+              (taken None xs (ap (λ (n : Names). n.retired)
+              (room_costs_none known_max names row.reg.name (omega (arith, a.few, len_names))))
+              (no_place (had_name row.reg.name) xs (no_old placed row.reg.name a.fresh)))
           | inr p ↦
               stand_left p.out (one_less olds settles.puts placed.retired_places 0 p.oldest gone)
-              (no_first xs ∙ taken None (drop 1 xs) (oldest_makes_room known_max names row.reg.name (omega (arith, p.many, len_names)) (unknown placed row.reg.name p.fresh))
-              (no_place (had_name row.reg.name) (drop 1 xs) (none_behind (had_name row.reg.name) 1 xs (no_old placed row.reg.name p.fresh))))
+              (no_first xs ∙ taken None (drop 1 xs) (oldest_makes_room known_max names row.reg.name (omega (arith, p.many, len_names))
+              (unknown placed row.reg.name p.fresh))
+              (no_place (had_name row.reg.name) (drop 1 xs)
+              (none_behind (had_name row.reg.name) 1 xs (no_old placed row.reg.name p.fresh))))
         ]
       ]
 
   pub settled_names : names_at new (active ++ place ∷ []) left ≡ registered row.reg row.creation row.slot roomy
-  settled_names = λ i. record { active = (rows_with.values_are ∙ ap (λ (rows : List Row). rows ++ row ∷ []) (sym (active_names_stay known_max names row.reg.name))) i; retired = olds_with.values_are i }
+  settled_names = λ i. record {
+    active = (rows_with.values_are
+        ∙ ap (λ (rows : List Row). rows ++ row ∷ []) (sym (active_names_stay known_max names row.reg.name))) i;
+    retired = olds_with.values_are i;
+  }
 
-  pub settled_places : (owner' : ℕ → Option ℕ) → owner row.slot ≡ None → owner' row.slot ≡ Some place → ((q : ℕ) → q ≢ row.slot → owner' q ≡ owner q) → AreInPlace new (active ++ place ∷ []) left owner'
+  pub settled_places : (owner' : ℕ → Option ℕ) → owner row.slot ≡ None → owner' row.slot ≡ Some place
+      → ((q : ℕ) → q ≢ row.slot → owner' q ≡ owner q) → AreInPlace new (active ++ place ∷ []) left owner'
   settled_places owner' none there others = record {
     active_places = rows_with.each;
     retired_places = olds_with.each;

@@ -1,5 +1,6 @@
 -- What always holds of a table's names holds after a registration and after a retirement.
-use Rattle.std.proofs.Common.{◌≡◌, ℕ, ◌+◌, ◌<◌, ◌≤◌, ◌^◌, Bool, true, false, not, List, [], ◌∷◌, ◌++◌, length, map, get_or, Option, Some, None, refl, sym, ap, suc, arith}
+use Rattle.std.proofs.Common.{◌≡◌, ℕ, ◌+◌, ◌<◌, ◌≤◌, ◌^◌, Bool, true, false, not, List, [], ◌∷◌, ◌++◌, length, map, get_or, Option, Some}
+use Rattle.std.proofs.Common.{None, refl, sym, ap, suc, arith}
 use Rattle.std.specs.Prelude.{drop, position, remove, is_some, slice_get, nat_le, All, MatchBool, ◌==◌, ◌&&◌, ◌||◌, if◌then◌else◌}
 use Rattle.std.specs.List.{IsDistinct}
 use Rattle.std.specs.Cmp.Lexicographic.{same_text}
@@ -16,7 +17,9 @@ use Rattle.portmap_wire.specs.Reply.{is_short}
 use Rattle.portmap_table.specs.declared.creation.TheConstants.{SHORT_MOST, COUNTER_LEAST}
 use Rattle.portmap_table.specs.declared.row.Row.{Row}
 use Rattle.portmap_table.specs.Creation.{IsCreationFor, IsLegalCreation}
-use Rattle.portmap_table.specs.Rows.{name_of, slot_of, is_full_for, is_known, RetiredName, Names, AreKept, same_name, is_active, known_len, owns_name, remembered, retired_row, without_at, without_oldest, with_room, registered, old_name, retired_last, retired_at}
+use Rattle.portmap_table.specs.Rows.{name_of, slot_of, is_full_for, is_known, RetiredName, Names, AreKept, same_name, is_active, known_len}
+use Rattle.portmap_table.specs.Rows.{owns_name, remembered, retired_row, without_at, without_oldest, with_room, registered, old_name}
+use Rattle.portmap_table.specs.Rows.{retired_last, retired_at}
 use Rattle.portmap_table.proofs.First.{NonePass, none_at, none_found, finds_none}
 use Rattle.portmap_table.proofs.Finding.{key_is_new, distinct_with, distinct_forward, distinct_back, distinct_without, keys_moved}
 
@@ -55,21 +58,33 @@ kept_empty known_max = record {
 -- ---- a name registers
 
 -- a table that is not full for a name that it does not know has room
-has_room : (known_max known : ℕ) (taken old : Bool) → (nat_le known_max known && not (taken || old)) ≡ false → taken ≡ false → old ≡ false → known < known_max
+has_room : (known_max known : ℕ) (taken old : Bool) → (nat_le known_max known && not (taken || old)) ≡ false → taken ≡ false → old ≡ false
+    → known < known_max
 has_room known_max known taken old e t o = grind (arith, nat_tests)
 
-new_owner : (rows : List Row) (row : Row) (slot : ℕ) → IsDistinct ◌==◌ (map slot_of rows) → is_some (position (λ row. row.slot == slot) rows) ≡ false → row.slot ≡ slot → IsDistinct ◌==◌ (map slot_of (rows ++ row ∷ []))
+new_owner : (rows : List Row) (row : Row) (slot : ℕ) → IsDistinct ◌==◌ (map slot_of rows)
+    → is_some (position (λ row. row.slot == slot) rows) ≡ false → row.slot ≡ slot → IsDistinct ◌==◌ (map slot_of (rows ++ row ∷ []))
 new_owner rows row slot d free e =
-    let keys = distinct_with nat_eq_equiv slot (map slot_of rows) [] (key_is_new nat_eq_equiv slot_of slot rows (none_at (λ row. row.slot == slot) rows free)) tt (rw append-nil d) in
+    let keys = distinct_with nat_eq_equiv slot (map slot_of rows) []
+    (key_is_new nat_eq_equiv slot_of slot rows (none_at (λ row. row.slot == slot) rows free)) tt (rw append-nil d) in
     rw (map-append slot_of rows (row ∷ []), e) (rw append-nil at keys)
 
-kept_with : (known_max c slot : ℕ) (names : Names) (g : Node) (o : Option ℕ) → AreKept known_max names → is_active g.name names ≡ false → (is_some (retired_row g.name names) ≡ false → known_len names < known_max) → owns_name slot names ≡ false → IsCreationFor g.high c → position (had_name g.name) names.retired ≡ o → AreKept known_max (record { active = names.active ++ record { reg = g; creation = c; slot = slot } ∷ []; retired = without_at o names.retired })
+kept_with : (known_max c slot : ℕ) (names : Names) (g : Node) (o : Option ℕ) → AreKept known_max names → is_active g.name names ≡ false
+    → (is_some (retired_row g.name names) ≡ false → known_len names < known_max) → owns_name slot names ≡ false → IsCreationFor g.high c
+    → position (had_name g.name) names.retired ≡ o
+    → AreKept known_max (record {
+      active = names.active ++ record { reg = g; creation = c; slot = slot } ∷ [];
+      retired = without_at o names.retired;
+    })
 kept_with known_max c slot names g None k inactive room free legal none =
     let row : Row = record { reg = g; creation = c; slot = slot } in
     let past : NonePass (had_name g.name) names.retired = none_at (had_name g.name) names.retired (ap is_some none) in
     let few : known_len names < known_max = room (ap is_some (finds_none (had_name g.name) names.retired past)) in
     record {
-      distinct = rw (map-append name_of names.active (row ∷ [])) (distinct_with nat_list_eq_equiv g.name (map name_of names.active) (map old_name_of names.retired) (key_is_new nat_list_eq_equiv name_of g.name names.active (none_found (has_name g.name) names.active inactive)) (key_is_new nat_list_eq_equiv old_name_of g.name names.retired past) k.distinct);
+      distinct = rw (map-append name_of names.active (row ∷ []))
+          (distinct_with nat_list_eq_equiv g.name (map name_of names.active) (map old_name_of names.retired)
+          (key_is_new nat_list_eq_equiv name_of g.name names.active (none_found (has_name g.name) names.active inactive))
+          (key_is_new nat_list_eq_equiv old_name_of g.name names.retired past) k.distinct);
       few = omega (arith, length-append names.active (row ∷ []));
       owners = new_owner names.active row slot k.owners free refl;
       active_creations = All-push IsRowKept names.active row k.active_creations legal;
@@ -84,7 +99,9 @@ kept_with known_max c slot names g (Some at) k inactive room free legal found =
     let same : old.name ≡ g.name = same_text old.name g.name (sym place.1) in
     let moved = keys_moved old_name_of names.retired at old lt (get_or_default names.retired at d old lt) in
     record {
-      distinct = rw (map-append name_of names.active (row ∷ []), ← same) (distinct_forward nat_list_eq_equiv old.name (map name_of names.active) (map old_name_of names.retired) (map old_name_of (remove names.retired at)) moved k.distinct);
+      distinct = rw (map-append name_of names.active (row ∷ []), ← same)
+          (distinct_forward nat_list_eq_equiv old.name (map name_of names.active) (map old_name_of names.retired)
+          (map old_name_of (remove names.retired at)) moved k.distinct);
       few = omega (arith, length-append names.active (row ∷ []), length-remove names.retired at lt, k.few);
       owners = new_owner names.active row slot k.owners free refl;
       active_creations = All-push IsRowKept names.active row k.active_creations legal;
@@ -93,10 +110,12 @@ kept_with known_max c slot names g (Some at) k inactive room free legal found =
 
 -- ---- the oldest is forgotten
 
-oldest_out : (active : List (List ℕ)) (olds : List RetiredName) → IsDistinct same_name (active ++ map old_name_of olds) → IsDistinct same_name (active ++ map old_name_of (drop 1 olds))
+oldest_out : (active : List (List ℕ)) (olds : List RetiredName) → IsDistinct same_name (active ++ map old_name_of olds)
+    → IsDistinct same_name (active ++ map old_name_of (drop 1 olds))
 oldest_out active [] d = d
 oldest_out active (old ∷ olds) d =
-    distinct_without nat_list_eq_equiv old.name (active ++ old.name ∷ map old_name_of olds) (active ++ map old_name_of olds) (IsPermutation-middle active old.name (map old_name_of olds)) d
+    distinct_without nat_list_eq_equiv old.name (active ++ old.name ∷ map old_name_of olds) (active ++ map old_name_of olds)
+    (IsPermutation-middle active old.name (map old_name_of olds)) d
 
 kept_without : (known_max : ℕ) (names : Names) → AreKept known_max names → AreKept known_max (without_oldest names)
 kept_without known_max names k = record {
@@ -108,42 +127,56 @@ kept_without known_max names k = record {
 }
 
 -- what always holds of names does so after a registration
-pub kept_enters : (known_max c slot : ℕ) (names : Names) (g : Node) → AreKept known_max names → is_active g.name names ≡ false → is_full_for known_max g.name names ≡ false → owns_name slot names ≡ false
+pub kept_enters : (known_max c slot : ℕ) (names : Names) (g : Node) → AreKept known_max names → is_active g.name names ≡ false
+    → is_full_for known_max g.name names ≡ false → owns_name slot names ≡ false
     → IsCreationFor g.high c → AreKept known_max (registered g c slot (with_room known_max g.name names))
-kept_enters known_max c slot names g k inactive room free range = by (nat_le known_max (known_len names) && not (is_known g.name names)) refl
+kept_enters known_max c slot names g k inactive room free range =
+    by (nat_le known_max (known_len names) && not (is_known g.name names)) refl
   where
-    less : (active known : ℕ) (is : Bool) → (nat_le known_max known && not is) ≡ true → (nat_le known_max active && not is) ≡ false → active < known_max
+    less : (active known : ℕ) (is : Bool) → (nat_le known_max known && not is) ≡ true → (nat_le known_max active && not is) ≡ false
+        → active < known_max
     less active known is over fits = grind (arith, nat_tests)
 
-    by : (b : Bool) → (nat_le known_max (known_len names) && not (is_known g.name names)) ≡ b → AreKept known_max (registered g c slot (if b then without_oldest names else names))
+    by : (b : Bool) → (nat_le known_max (known_len names) && not (is_known g.name names)) ≡ b
+        → AreKept known_max (registered g c slot (if b then without_oldest names else names))
     by true e =
         let few = less (length names.active) (known_len names) (is_known g.name names) e room in
-        kept_with known_max c slot (without_oldest names) g (position (had_name g.name) (drop 1 names.retired)) (kept_without known_max names k) inactive (λ unknown. omega (arith, few, k.few, length-drop 1 names.retired)) free range refl
+        kept_with known_max c slot (without_oldest names) g (position (had_name g.name) (drop 1 names.retired))
+        (kept_without known_max names k) inactive (λ unknown. omega (arith, few, k.few, length-drop 1 names.retired)) free range refl
     by false e =
-        kept_with known_max c slot names g (position (had_name g.name) names.retired) k inactive (λ unknown. has_room known_max (known_len names) (is_active g.name names) (is_some (retired_row g.name names)) e inactive unknown) free range refl
+        kept_with known_max c slot names g (position (had_name g.name) names.retired) k inactive
+        (λ unknown. has_room known_max (known_len names) (is_active g.name names)
+        (is_some (retired_row g.name names)) e inactive unknown) free range refl
 
-pub kept_registers : (known_max c slot : ℕ) (names : Names) (g : Node) → AreKept known_max names → is_active g.name names ≡ false → is_full_for known_max g.name names ≡ false → owns_name slot names ≡ false
+pub kept_registers : (known_max c slot : ℕ) (names : Names) (g : Node) → AreKept known_max names → is_active g.name names ≡ false
+    → is_full_for known_max g.name names ≡ false → owns_name slot names ≡ false
     → IsLegalCreation g.high (remembered g.name names) c → AreKept known_max (registered g c slot (with_room known_max g.name names))
 kept_registers known_max c slot names g k inactive room free legal = kept_enters known_max c slot names g k inactive room free legal.range
 
 -- ---- a name retires
 
-retired_range : (short : Bool) (c : ℕ) → MatchBool short ((1 ≤ c) × (c ≤ SHORT_MOST)) ((COUNTER_LEAST ≤ c) × (c < 2 ^ 32)) → (1 ≤ c) × (c < 2 ^ 32)
+retired_range : (short : Bool) (c : ℕ) → MatchBool short ((1 ≤ c) × (c ≤ SHORT_MOST)) ((COUNTER_LEAST ≤ c) × (c < 2 ^ 32))
+    → (1 ≤ c) × (c < 2 ^ 32)
 retired_range true c h = (h.0, omega arith)
 retired_range false c h = (omega arith, h.1)
 
-kept_last : (known_max : ℕ) (names : Names) (at : ℕ) (o : Option Row) → slice_get names.active at ≡ o → AreKept known_max names → AreKept known_max (retired_last at o names)
+kept_last : (known_max : ℕ) (names : Names) (at : ℕ) (o : Option Row) → slice_get names.active at ≡ o → AreKept known_max names
+    → AreKept known_max (retired_last at o names)
 kept_last known_max names at None e k = k
 kept_last known_max names at (Some row) e k =
     let lt : at < length names.active = slice_get_within names.active at row e in
     let here : row ≡ get_or names.active at row = sym (get_or_from_slice_get names.active at row row e) in
     let legal : IsRowKept row = rw (get_or_from_slice_get names.active at row row e) at (k.active_creations at row lt) in
     record {
-      distinct = rw (map-append old_name_of names.retired (old_name row ∷ [])) (distinct_back nat_list_eq_equiv row.reg.name (map name_of names.active) (map old_name_of names.retired) (map name_of (remove names.active at)) (keys_moved name_of names.active at row lt here) k.distinct);
+      distinct = rw (map-append old_name_of names.retired (old_name row ∷ []))
+          (distinct_back nat_list_eq_equiv row.reg.name (map name_of names.active) (map old_name_of names.retired)
+          (map name_of (remove names.active at)) (keys_moved name_of names.active at row lt here) k.distinct);
       few = omega (arith, length-append names.retired (old_name row ∷ []), length-remove names.active at lt, k.few);
-      owners = distinct_without nat_eq_equiv row.slot (map slot_of names.active) (map slot_of (remove names.active at)) (keys_moved slot_of names.active at row lt here) k.owners;
+      owners = distinct_without nat_eq_equiv row.slot (map slot_of names.active) (map slot_of (remove names.active at))
+          (keys_moved slot_of names.active at row lt here) k.owners;
       active_creations = All-remove IsRowKept names.active at k.active_creations;
-      retired_creations = All-push IsOldKept names.retired (old_name row) k.retired_creations (retired_range (is_short row.reg.high) row.creation legal);
+      retired_creations = All-push IsOldKept names.retired (old_name row) k.retired_creations
+          (retired_range (is_short row.reg.high) row.creation legal);
     }
 
 pub kept_retired : (known_max : ℕ) (names : Names) (o : Option ℕ) → AreKept known_max names → AreKept known_max (retired_at o names)

@@ -1,5 +1,6 @@
 -- What a registration and a retirement do to each name.
-use Rattle.std.proofs.Common.{◌≡◌, ◌<◌, ◌≤◌, ℕ, Bool, true, false, not, List, [], ◌∷◌, ◌++◌, length, map, take, get_or, arith, Option, Some, None, refl, sym, ap, ◌∙◌, zero, suc, ◌^◌, append_assoc}
+use Rattle.std.proofs.Common.{◌≡◌, ◌<◌, ◌≤◌, ℕ, Bool, true, false, not, List, [], ◌∷◌, ◌++◌, length, map, take, get_or, arith, Option, Some}
+use Rattle.std.proofs.Common.{None, refl, sym, ap, ◌∙◌, zero, suc, ◌^◌, append_assoc}
 use Rattle.std.specs.Prelude.{◌&&◌, if◌then◌else◌, nat_le, find, position, remove, is_some, slice_get, ◌==◌, option_map, ◌||◌}
 use Rattle.std.specs.List.{AllByRecursion, IsDistinct, position_or_len}
 use Rattle.std.specs.List.Sorted.{IsPermutation}
@@ -12,9 +13,15 @@ use Rattle.std.proofs.lemmas.List.Sorted.{IsPermutation-append_left}
 use Rattle.std.proofs.lemmas.Map.Keys.{IsDistinct-IsPermutation, IsDistinct-head}
 use Rattle.std.proofs.lemmas.Option.{slice_get_within, slice_get-get_or, get_or_from_slice_get}
 use Rattle.portmap_table.specs.declared.row.Row.{Row}
-use Rattle.portmap_table.specs.Rows.{known_names, name_of, RetiredName, Names, same_name, is_active, active_row, retired_row, without_at, old_name, retired_of, retired_at, retired_last, is_known, known_len, without_oldest, AreKept, and_retired, owns_name, registered, slot_of, with_room}
-use Rattle.portmap_table.specs.Laws.{row_of, ActiveNamesStay, KnownNamesCostNone, LastCreationsAreRemembered, NoneIsRefusedForRetiredNames, ReturningNamesGetAnother, OldestMakesRoom, RegisteredNamesAreActive, NamesOutliveConnections, OthersStayAtRegistration, OthersStayAtRetirement, RegisteredNamesStandLast, RetiredNamesStandLast, RetiredNamesStay, RoomCostsNone}
-use Rattle.portmap_table.proofs.Finding.{keys_moved, is_none, find-push, find-push_other, find-remove, keys_pass_not, parts, position-find, both_parts, distinct_with, key_is_new}
+use Rattle.portmap_table.specs.Rows.{known_names, name_of, RetiredName, Names, same_name, is_active, active_row, retired_row, without_at}
+use Rattle.portmap_table.specs.Rows.{old_name, retired_of, retired_at, retired_last, is_known, known_len, without_oldest, AreKept}
+use Rattle.portmap_table.specs.Rows.{and_retired, owns_name, registered, slot_of, with_room}
+use Rattle.portmap_table.specs.Laws.{row_of, ActiveNamesStay, KnownNamesCostNone, LastCreationsAreRemembered, NoneIsRefusedForRetiredNames}
+use Rattle.portmap_table.specs.Laws.{ReturningNamesGetAnother, OldestMakesRoom, RegisteredNamesAreActive, NamesOutliveConnections}
+use Rattle.portmap_table.specs.Laws.{OthersStayAtRegistration, OthersStayAtRetirement, RegisteredNamesStandLast, RetiredNamesStandLast}
+use Rattle.portmap_table.specs.Laws.{RetiredNamesStay, RoomCostsNone}
+use Rattle.portmap_table.proofs.Finding.{keys_moved, is_none, find-push, find-push_other, find-remove, keys_pass_not, parts, position-find}
+use Rattle.portmap_table.proofs.Finding.{both_parts, distinct_with, key_is_new}
 use Rattle.portmap_table.proofs.Kept.{has_name, had_name, old_name_of}
 use Rattle.std.specs.Cmp.{IsEquivalence}
 use Rattle.std.proofs.lemmas.List.Elements.{All-push}
@@ -24,13 +31,17 @@ use Rattle.std.proofs.lemmas.Bool.{or_parts}
 
 pub registered_names_are_active : RegisteredNamesAreActive
 registered_names_are_active names reg creation slot inactive =
-    find-push (has_name reg.name) names.active (record { reg = reg; creation = creation; slot = slot }) (is_none (find (has_name reg.name) names.active) inactive) (nat_list_eq_equiv.refl reg.name)
+    find-push (has_name reg.name) names.active (record { reg = reg; creation = creation; slot = slot })
+    (is_none (find (has_name reg.name) names.active) inactive) (nat_list_eq_equiv.refl reg.name)
 
 -- a name that differs from each that is known
-pub none_known : (name : List ℕ) (names : Names) → AllByRecursion (λ y. same_name name y ≡ false) (known_names names) → (find (has_name name) names.active ≡ None) × (find (had_name name) names.retired ≡ None)
+pub none_known : (name : List ℕ) (names : Names) → AllByRecursion (λ y. same_name name y ≡ false) (known_names names)
+    → (find (has_name name) names.active ≡ None) × (find (had_name name) names.retired ≡ None)
 none_known name names differ =
-    let two = parts (λ y. same_name name y ≡ false) (map name_of names.active) (map old_name_of names.retired) differ in
-    (finds_none (has_name name) names.active (keys_pass_not nat_list_eq_equiv name_of name names.active two.0), finds_none (had_name name) names.retired (keys_pass_not nat_list_eq_equiv old_name_of name names.retired two.1))
+    let two = parts (λ y. same_name name y ≡ false) (map name_of names.active) (map old_name_of names.retired) differ in (
+      finds_none (has_name name) names.active (keys_pass_not nat_list_eq_equiv name_of name names.active two.0),
+      finds_none (had_name name) names.retired (keys_pass_not nat_list_eq_equiv old_name_of name names.retired two.1),
+    )
 
 -- ---- the row that retires
 
@@ -57,16 +68,23 @@ names_outlive_connections known_max names slot row k e =
     let n = row.reg.name in
     let gone = map name_of (remove names.active left.at) in
     let old = map old_name_of names.retired in
-    let moved : IsPermutation (map name_of names.active) (n ∷ gone) = keys_moved name_of names.active left.at row lt (sym (get_or_from_slice_get names.active left.at row row left.there)) in
-    let distinct : IsDistinct same_name (n ∷ (gone ++ old)) = IsDistinct-IsPermutation same_name nat_list_eq_equiv.symm (map name_of names.active ++ old) (n ∷ (gone ++ old)) (IsPermutation-append_left old (map name_of names.active) (n ∷ gone) moved) k.distinct in
+    let moved : IsPermutation (map name_of names.active) (n ∷ gone) =
+    keys_moved name_of names.active left.at row lt (sym (get_or_from_slice_get names.active left.at row row left.there)) in
+    let distinct : IsDistinct same_name (n ∷ (gone ++ old)) =
+    IsDistinct-IsPermutation same_name nat_list_eq_equiv.symm (map name_of names.active ++ old) (n ∷ (gone ++ old))
+    (IsPermutation-append_left old (map name_of names.active) (n ∷ gone) moved) k.distinct in
     let differ : AllByRecursion (λ y. same_name n y ≡ false) (gone ++ old) = IsDistinct-head same_name n (gone ++ old) distinct in
-    let none = none_known n (record { active = remove names.active left.at; retired = names.retired }) differ in
-    (ap (is_active n) left.after ∙ ap is_some none.0, ap (retired_row n) left.after ∙ find-push (had_name n) names.retired (old_name row) none.1 (nat_list_eq_equiv.refl n))
+    let none = none_known n (record { active = remove names.active left.at; retired = names.retired }) differ in (
+      ap (is_active n) left.after ∙ ap is_some none.0,
+      ap (retired_row n) left.after
+          ∙ find-push (had_name n) names.retired (old_name row) none.1 (nat_list_eq_equiv.refl n),
+    )
 
 -- ---- the others
 
 -- a retired name that is removed is not another one
-others_without : (olds : List RetiredName) (name other : List ℕ) (o : Option ℕ) → position (had_name name) olds ≡ o → same_name name other ≡ false → find (had_name other) (without_at o olds) ≡ find (had_name other) olds
+others_without : (olds : List RetiredName) (name other : List ℕ) (o : Option ℕ) → position (had_name name) olds ≡ o
+    → same_name name other ≡ false → find (had_name other) (without_at o olds) ≡ find (had_name other) olds
 others_without olds name other None e differs = refl
 others_without olds name other (Some at) e differs =
     let d : RetiredName = record { name = []; port = 0; creation = 0 } in
@@ -93,7 +111,8 @@ others_stay_at_retirement names slot row other e differs =
 pub retired_names_stand_last : RetiredNamesStandLast
 retired_names_stand_last names slot row e = ap (λ (left : Names). left.retired) (leaves names slot row e).after
 
-retired_last_stands_last : (names : Names) (at : ℕ) (o : Option Row) → take (length names.retired) (retired_last at o names).retired ≡ names.retired
+retired_last_stands_last : (names : Names) (at : ℕ) (o : Option Row)
+    → take (length names.retired) (retired_last at o names).retired ≡ names.retired
 retired_last_stands_last names at None = take_all (length names.retired) names.retired (omega arith)
 retired_last_stands_last names at (Some row) = take_at names.retired (old_name row ∷ []) (length names.retired) refl
 
@@ -117,7 +136,8 @@ room_by : (b c : Bool) (names : Names) → b ≡ c → (if b then without_oldest
 room_by b c names e = ap (λ (d : Bool). if d then without_oldest names else names) e
 
 pub known_names_cost_none : KnownNamesCostNone
-known_names_cost_none known_max names name e = room_by _ false names (cost_none (nat_le known_max (known_len names)) (is_known name names) e)
+known_names_cost_none known_max names name e =
+    room_by _ false names (cost_none (nat_le known_max (known_len names)) (is_known name names) e)
   where
     cost_none : (over known : Bool) → known ≡ true → (over && not known) ≡ false
     cost_none over known e = grind (arith, nat_tests)
@@ -132,7 +152,8 @@ pub room_costs_none : RoomCostsNone
 room_costs_none known_max names name lt = room_by _ false names (few_known known_max (known_len names) (is_known name names) lt)
 
 pub oldest_makes_room : OldestMakesRoom
-oldest_makes_room known_max names name le e = ap (λ (after : Names). after.retired) (room_by _ true names (many_known known_max (known_len names) (is_known name names) le e))
+oldest_makes_room known_max names name le e =
+    ap (λ (after : Names). after.retired) (room_by _ true names (many_known known_max (known_len names) (is_known name names) le e))
 
 pub ruleset forgetting = (active_names_stay, known_names_cost_none, room_costs_none, oldest_makes_room)
 
@@ -158,58 +179,78 @@ unfolding IsDistinct
 distinct_second same [] ys d = d
 distinct_second same (x ∷ xs) ys d = distinct_second same xs ys d.1
 
-part_read : {X K : Type 0} (P : K → Type 0) (key : X → K) (xs : List X) (ys : List K) (i : ℕ) (x : X) → AllByRecursion P (map key xs ++ ys) → slice_get xs i ≡ Some x → P (key x)
+part_read : {X K : Type 0} (P : K → Type 0) (key : X → K) (xs : List X) (ys : List K) (i : ℕ) (x : X) → AllByRecursion P (map key xs ++ ys)
+    → slice_get xs i ≡ Some x → P (key x)
 part_read P key [] ys i x all e = absurd cc
 part_read P key (y ∷ xs) ys zero x all e = rw (let same : x ≡ y = cc in same) all.0
 part_read P key (y ∷ xs) ys (suc i) x all e = part_read P key xs ys i x all.1 e
 
 -- and from those of a second part
-differs_before : {X K : Type 0} {same : K → K → Bool} → IsEquivalence same → (key : X → K) (xs : List X) (ys : List K) (i : ℕ) (x : X) → IsDistinct same (map key xs ++ ys) → slice_get xs i ≡ Some x
+differs_before : {X K : Type 0} {same : K → K → Bool} → IsEquivalence same → (key : X → K) (xs : List X) (ys : List K) (i : ℕ) (x : X)
+    → IsDistinct same (map key xs ++ ys) → slice_get xs i ≡ Some x
     → AllByRecursion (λ y. same (key x) y ≡ false) (map key (take i xs) ++ ys)
 unfolding IsDistinct
 differs_before laws key [] ys i x d e = absurd cc
-differs_before {X} {K} {same} laws key (z ∷ xs) ys zero x d e = (parts (λ y. same (key x) y ≡ false) (map key xs) ys (rw (let is : x ≡ z = cc in is) d.0)).1
+differs_before {X} {K} {same} laws key (z ∷ xs) ys zero x d e =
+    (parts (λ y. same (key x) y ≡ false) (map key xs) ys (rw (let is : x ≡ z = cc in is) d.0)).1
 differs_before {X} {K} {same} laws key (z ∷ xs) ys (suc i) x d e =
     (laws.symm (key x) (key z) ∙ part_read (λ y. same (key z) y ≡ false) key xs ys i x d.0 e, differs_before laws key xs ys i x d.1 e)
 
 -- ---- a name that is known twice, and a slot that owns two
 
-is_unknown : (name : List ℕ) (names : Names) → AllByRecursion (λ y. same_name name y ≡ false) (known_names names) → is_known name names ≡ false
+is_unknown : (name : List ℕ) (names : Names) → AllByRecursion (λ y. same_name name y ≡ false) (known_names names)
+    → is_known name names ≡ false
 is_unknown name names differ = let none = none_known name names differ in λ i. is_some (none.0 i) || is_some (none.1 i)
 
 module _ {known_max : ℕ} {names : Names} (k : AreKept known_max names) (i : ℕ) where
-  pub new_active : (row : Row) → slice_get names.active i ≡ Some row → is_known row.reg.name (record { active = take i names.active; retired = names.retired }) ≡ false
-  new_active row e = is_unknown row.reg.name (record { active = take i names.active; retired = names.retired }) (differs_before nat_list_eq_equiv name_of names.active (map old_name_of names.retired) i row k.distinct e)
+  pub new_active : (row : Row) → slice_get names.active i ≡ Some row
+      → is_known row.reg.name (record { active = take i names.active; retired = names.retired }) ≡ false
+  new_active row e = is_unknown row.reg.name (record { active = take i names.active; retired = names.retired })
+      (differs_before nat_list_eq_equiv name_of names.active (map old_name_of names.retired) i row k.distinct e)
 
-  pub new_owner : (row : Row) → slice_get names.active i ≡ Some row → owns_name row.slot (record { active = take i names.active; retired = names.retired }) ≡ false
+  pub new_owner : (row : Row) → slice_get names.active i ≡ Some row
+      → owns_name row.slot (record { active = take i names.active; retired = names.retired }) ≡ false
   new_owner row e =
-      ap is_some (no_place (has_slot row.slot) (take i names.active) (keys_pass_not nat_eq_equiv slot_of row.slot (take i names.active) (rw append-nil at (differs_before nat_eq_equiv slot_of names.active [] i row (rw append-nil k.owners) e))))
+      ap is_some (no_place (has_slot row.slot) (take i names.active)
+      (keys_pass_not nat_eq_equiv slot_of row.slot (take i names.active)
+      (rw append-nil at (differs_before nat_eq_equiv slot_of names.active [] i row (rw append-nil k.owners) e))))
 
-  pub new_retired : (old : RetiredName) → slice_get names.retired i ≡ Some old → is_known old.name (record { active = []; retired = take i names.retired }) ≡ false
+  pub new_retired : (old : RetiredName) → slice_get names.retired i ≡ Some old
+      → is_known old.name (record { active = []; retired = take i names.retired }) ≡ false
   new_retired old e =
-      is_unknown old.name (record { active = []; retired = take i names.retired }) (rw append-nil at (differs_before nat_list_eq_equiv old_name_of names.retired [] i old (rw append-nil (distinct_second same_name (map name_of names.active) (map old_name_of names.retired) k.distinct)) e))
+      is_unknown old.name (record { active = []; retired = take i names.retired })
+      (rw append-nil at (differs_before nat_list_eq_equiv old_name_of names.retired [] i old
+      (rw append-nil (distinct_second same_name (map name_of names.active) (map old_name_of names.retired) k.distinct)) e))
 
 -- ---- one more
 
 module _ (known_max : ℕ) (names : Names) (lt : known_len names < known_max) where
   -- an active one
-  pub admitted : (row : Row) → is_known row.reg.name names ≡ false → registered row.reg row.creation row.slot (with_room known_max row.reg.name names) ≡ record { active = names.active ++ row ∷ []; retired = names.retired }
+  pub admitted : (row : Row) → is_known row.reg.name names ≡ false
+      → registered row.reg row.creation row.slot (with_room known_max row.reg.name names)
+      ≡ record { active = names.active ++ row ∷ []; retired = names.retired }
   admitted row unknown =
       ap (registered row.reg row.creation row.slot) (room_costs_none known_max names row.reg.name lt)
-      ∙ ap (λ (at : Option ℕ). record { active = names.active ++ row ∷ []; retired = without_at at names.retired }) (no_place (had_name row.reg.name) names.retired (none_found (had_name row.reg.name) names.retired (or_parts (is_active row.reg.name names) _ unknown).1))
+      ∙ ap (λ (at : Option ℕ). record { active = names.active ++ row ∷ []; retired = without_at at names.retired })
+      (no_place (had_name row.reg.name) names.retired
+      (none_found (had_name row.reg.name) names.retired (or_parts (is_active row.reg.name names) _ unknown).1))
 
-  key_differs : (name : List ℕ) → is_known name names ≡ false → AllByRecursion (λ y. same_name name y ≡ false) (map name_of names.active ++ map old_name_of names.retired)
+  key_differs : (name : List ℕ) → is_known name names ≡ false
+      → AllByRecursion (λ y. same_name name y ≡ false) (map name_of names.active ++ map old_name_of names.retired)
   key_differs name unknown =
       let two = or_parts (is_active name names) _ unknown in
-      both_parts (λ y. same_name name y ≡ false) (map name_of names.active) (map old_name_of names.retired) (key_is_new nat_list_eq_equiv name_of name names.active (none_found (has_name name) names.active two.0))
+      both_parts (λ y. same_name name y ≡ false) (map name_of names.active) (map old_name_of names.retired)
+      (key_is_new nat_list_eq_equiv name_of name names.active (none_found (has_name name) names.active two.0))
       (key_is_new nat_list_eq_equiv old_name_of name names.retired (none_found (had_name name) names.retired two.1))
 
   -- a retired one
-  pub kept_appended : (old : RetiredName) → AreKept known_max names → is_known old.name names ≡ false → (1 ≤ old.creation) × (old.creation < 2 ^ 32) → AreKept known_max (and_retired names old)
+  pub kept_appended : (old : RetiredName) → AreKept known_max names → is_known old.name names ≡ false
+      → (1 ≤ old.creation) × (old.creation < 2 ^ 32) → AreKept known_max (and_retired names old)
   kept_appended old k unknown range = record {
     distinct =
         let all = map name_of names.active ++ map old_name_of names.retired in
-        let keys : IsDistinct same_name ((all ++ old.name ∷ []) ++ []) = distinct_with nat_list_eq_equiv old.name all [] (key_differs old.name unknown) tt (rw append-nil k.distinct) in
+        let keys : IsDistinct same_name ((all ++ old.name ∷ []) ++ []) =
+        distinct_with nat_list_eq_equiv old.name all [] (key_differs old.name unknown) tt (rw append-nil k.distinct) in
         rw (map-append old_name_of names.retired (old ∷ []), ← append_assoc) (rw append-nil at keys);
     few = omega (arith, lt, length-append names.retired (old ∷ []));
     owners = k.owners;

@@ -1,5 +1,6 @@
 -- Which slots own a name after a registration and after a retirement.
-use Rattle.std.proofs.Common.{◌≡◌, ◌≢◌, ℕ, zero, suc, ◌+◌, ◌<◌, Bool, true, false, not, cond, List, [], ◌∷◌, length, map, get_or, Option, Some, None, refl, sym, ap, ◌∙◌, arith, inl, inr}
+use Rattle.std.proofs.Common.{◌≡◌, ◌≢◌, ℕ, zero, suc, ◌+◌, ◌<◌, Bool, true, false, not, cond, List, [], ◌∷◌, length, map, get_or, Option}
+use Rattle.std.proofs.Common.{Some, None, refl, sym, ap, ◌∙◌, arith, inl, inr}
 use Rattle.std.specs.Prelude.{find, position, remove, is_some, slice_get, nat_le, nat_lt, ◌==◌, ◌&&◌, ◌||◌, if◌then◌else◌}
 use Rattle.std.specs.List.{IsDistinct, AllByRecursion, list_any, position_or_len}
 use Rattle.std.proofs.lemmas.Bool.{cases_lt, lt-ltb, le-ltb, eq-eqb, eqb-true, ne_eqb}
@@ -12,7 +13,8 @@ use Rattle.std.proofs.lemmas.Map.Keys.{IsDistinct-IsPermutation, IsDistinct-head
 use Rattle.std.proofs.lemmas.Option.{none-some, slice_get-get_or, slice_get_within, get_or_from_slice_get}
 use Rattle.portmap_wire.specs.Node.{Node}
 use Rattle.portmap_table.specs.declared.row.Row.{Row}
-use Rattle.portmap_table.specs.Rows.{Names, active_row, is_known, known_len, owns_name, registered, retired_last, retired_at, retired_of, same_name, slot_of, with_room, without_oldest}
+use Rattle.portmap_table.specs.Rows.{Names, active_row, is_known, known_len, owns_name, registered, retired_last, retired_at, retired_of}
+use Rattle.portmap_table.specs.Rows.{same_name, slot_of, with_room, without_oldest}
 use Rattle.portmap_table.specs.Places.{no_row}
 use Rattle.portmap_table.proofs.First.{any_none, any_place}
 use Rattle.portmap_table.proofs.Finding.{keys_moved, keys_pass_not}
@@ -31,42 +33,53 @@ owner_owns name names row e =
     let i = position_or_len (λ (row : Row). same_name row.reg.name name) names.active in
     let there : slice_get names.active i ≡ Some row = sym (find_at (λ (row : Row). same_name row.reg.name name) names.active) ∙ e in
     owns row.slot names
-    ∙ list_any_at (has_slot row.slot) names.active i row (slice_get_within names.active i row there) (ap (has_slot row.slot) (get_or_from_slice_get names.active i row row there) ∙ eq-eqb row.slot row.slot refl)
+    ∙ list_any_at (has_slot row.slot) names.active i row (slice_get_within names.active i row there)
+    (ap (has_slot row.slot) (get_or_from_slice_get names.active i row row there) ∙ eq-eqb row.slot row.slot refl)
 
 -- ---- a name registers
 
-registered_owns : (q : ℕ) (g : Node) (creation slot : ℕ) (names : Names) → owns_name q (registered g creation slot names) ≡ (owns_name q names || (slot == q || false))
+registered_owns : (q : ℕ) (g : Node) (creation slot : ℕ) (names : Names)
+    → owns_name q (registered g creation slot names) ≡ (owns_name q names || (slot == q || false))
 registered_owns q g creation slot names =
     let row : Row = record { reg = g; creation = creation; slot = slot } in
-    owns q (registered g creation slot names) ∙ list_any-append (has_slot q) names.active (row ∷ []) ∙ ap (λ (b : Bool). b || (slot == q || false)) (sym (owns q names))
+    owns q (registered g creation slot names) ∙ list_any-append (has_slot q) names.active (row ∷ [])
+    ∙ ap (λ (b : Bool). b || (slot == q || false)) (sym (owns q names))
 
 -- the slot owns a name then
 pub owns_registered : (g : Node) (creation slot : ℕ) (names : Names) → owns_name slot (registered g creation slot names) ≡ true
-owns_registered g creation slot names = registered_owns slot g creation slot names ∙ ap (λ (b : Bool). owns_name slot names || (b || false)) (eq-eqb slot slot refl) ∙ or-true (owns_name slot names)
+owns_registered g creation slot names = registered_owns slot g creation slot names
+    ∙ ap (λ (b : Bool). owns_name slot names || (b || false)) (eq-eqb slot slot refl) ∙ or-true (owns_name slot names)
 
 -- and no other slot does that did not before
-pub owns_registered_other : (q : ℕ) (g : Node) (creation slot : ℕ) (names : Names) → q ≢ slot → owns_name q (registered g creation slot names) ≡ owns_name q names
+pub owns_registered_other : (q : ℕ) (g : Node) (creation slot : ℕ) (names : Names) → q ≢ slot
+    → owns_name q (registered g creation slot names) ≡ owns_name q names
 owns_registered_other q g creation slot names other =
     let differs : slot ≢ q = λ e. other (sym e) in
-    registered_owns q g creation slot names ∙ ap (λ (b : Bool). owns_name q names || (b || false)) (ne_eqb slot q differs) ∙ or-false (owns_name q names)
+    registered_owns q g creation slot names ∙ ap (λ (b : Bool). owns_name q names || (b || false)) (ne_eqb slot q differs)
+    ∙ or-false (owns_name q names)
 
 -- room for a name is made at the cost of no owner
 owns_by : (b : Bool) (q : ℕ) (names : Names) → owns_name q (if b then without_oldest names else names) ≡ owns_name q names
 owns_by true q names = refl
 owns_by false q names = refl
 
-pub owns_in_room : (known_max : ℕ) (name : List ℕ) (q : ℕ) (names : Names) → owns_name q (with_room known_max name names) ≡ owns_name q names
+pub owns_in_room : (known_max : ℕ) (name : List ℕ) (q : ℕ) (names : Names)
+    → owns_name q (with_room known_max name names) ≡ owns_name q names
 owns_in_room known_max name q names = owns_by (nat_le known_max (known_len names) && not (is_known name names)) q names
 
 -- ---- a name retires
 
-gone : (rows : List Row) (at : ℕ) (row : Row) → at < length rows → row ≡ get_or rows at row → IsDistinct ◌==◌ (map slot_of rows) → list_any (has_slot row.slot) (remove rows at) ≡ false
+gone : (rows : List Row) (at : ℕ) (row : Row) → at < length rows → row ≡ get_or rows at row → IsDistinct ◌==◌ (map slot_of rows)
+    → list_any (has_slot row.slot) (remove rows at) ≡ false
 gone rows at row lt here d =
-    let first = IsDistinct-IsPermutation ◌==◌ nat_eq_equiv.symm (map slot_of rows) (row.slot ∷ map slot_of (remove rows at)) (keys_moved slot_of rows at row lt here) d in
-    any_none (has_slot row.slot) (remove rows at) (keys_pass_not nat_eq_equiv slot_of row.slot (remove rows at) (IsDistinct-head ◌==◌ row.slot (map slot_of (remove rows at)) first))
+    let first = IsDistinct-IsPermutation ◌==◌ nat_eq_equiv.symm (map slot_of rows) (row.slot ∷ map slot_of (remove rows at))
+    (keys_moved slot_of rows at row lt here) d in
+    any_none (has_slot row.slot) (remove rows at)
+    (keys_pass_not nat_eq_equiv slot_of row.slot (remove rows at) (IsDistinct-head ◌==◌ row.slot (map slot_of (remove rows at)) first))
 
 -- by the place of the slot's row, and the row there
-last_owns : (slot : ℕ) (names : Names) (at : ℕ) (o : Option Row) → slice_get names.active at ≡ o → position (has_slot slot) names.active ≡ Some at → IsDistinct ◌==◌ (map slot_of names.active)
+last_owns : (slot : ℕ) (names : Names) (at : ℕ) (o : Option Row) → slice_get names.active at ≡ o
+    → position (has_slot slot) names.active ≡ Some at → IsDistinct ◌==◌ (map slot_of names.active)
     → (owns_name slot (retired_last at o names) ≡ false) × ((q : ℕ) → q ≢ slot → owns_name q (retired_last at o names) ≡ owns_name q names)
 last_owns slot names at None e found d =
     let row : Row = no_row in
@@ -74,15 +87,19 @@ last_owns slot names at None e found d =
 last_owns slot names at (Some row) e found d =
     let lt : at < length names.active = slice_get_within names.active at row e in
     let here : row ≡ get_or names.active at row = sym (get_or_from_slice_get names.active at row row e) in
-    let is : row.slot ≡ slot = eqb-true row.slot slot (ap (has_slot slot) here ∙ (position-Some (has_slot slot) names.active at row found).1) in
+    let is : row.slot ≡ slot = eqb-true row.slot slot
+    (ap (has_slot slot) here ∙ (position-Some (has_slot slot) names.active at row found).1) in
     let after : Names = retired_last at (Some row) names in (
       owns slot after ∙ rw is at (gone names.active at row lt here d),
       λ q other.
           let differs : row.slot ≢ q = λ same. other (sym same ∙ is) in
-          owns q after ∙ sym (owns q names ∙ list_any-IsPermutation (has_slot q) names.active (row ∷ remove names.active at) (IsPermutation-remove names.active at row lt here) ∙ ap (λ (b : Bool). b || list_any (has_slot q) (remove names.active at)) (ne_eqb row.slot q differs)),
+          owns q after ∙ sym (owns q names ∙ list_any-IsPermutation (has_slot q) names.active (row ∷ remove names.active at)
+          (IsPermutation-remove names.active at row lt here)
+          ∙ ap (λ (b : Bool). b || list_any (has_slot q) (remove names.active at)) (ne_eqb row.slot q differs)),
     )
 
-retired_owns : (slot : ℕ) (names : Names) (o : Option ℕ) → position (has_slot slot) names.active ≡ o → IsDistinct ◌==◌ (map slot_of names.active)
+retired_owns : (slot : ℕ) (names : Names) (o : Option ℕ) → position (has_slot slot) names.active ≡ o
+    → IsDistinct ◌==◌ (map slot_of names.active)
     → (owns_name slot (retired_at o names) ≡ false) × ((q : ℕ) → q ≢ slot → owns_name q (retired_at o names) ≡ owns_name q names)
 retired_owns slot names None found d = (ap is_some found, λ q other. refl)
 retired_owns slot names (Some at) found d = last_owns slot names at (slice_get names.active at) refl found d
@@ -92,5 +109,6 @@ pub owns_retired : (slot : ℕ) (names : Names) → IsDistinct ◌==◌ (map slo
 owns_retired slot names d = (retired_owns slot names (position (has_slot slot) names.active) refl d).0
 
 -- and each other slot owns what it owned
-pub owns_retired_other : (q slot : ℕ) (names : Names) → IsDistinct ◌==◌ (map slot_of names.active) → q ≢ slot → owns_name q (retired_of slot names) ≡ owns_name q names
+pub owns_retired_other : (q slot : ℕ) (names : Names) → IsDistinct ◌==◌ (map slot_of names.active) → q ≢ slot
+    → owns_name q (retired_of slot names) ≡ owns_name q names
 owns_retired_other q slot names d other = (retired_owns slot names (position (has_slot slot) names.active) refl d).1 q other

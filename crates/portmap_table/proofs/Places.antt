@@ -1,5 +1,6 @@
 -- Entries at places: what is read there after one is written, added, or takes the place of another.
-use Rattle.std.proofs.Common.{◌≡◌, ◌≢◌, ℕ, zero, suc, ◌-◌, ◌<◌, Bool, true, false, List, [], ◌∷◌, ◌++◌, length, map, take, get_or, Option, Some, None, refl, sym, ap, ◌∙◌, subst, arith, inl, inr, ◌⊎◌}
+use Rattle.std.proofs.Common.{◌≡◌, ◌≢◌, ℕ, zero, suc, ◌-◌, ◌<◌, Bool, true, false, List, [], ◌∷◌, ◌++◌, length, map, take, get_or, Option}
+use Rattle.std.proofs.Common.{Some, None, refl, sym, ap, ◌∙◌, subst, arith, inl, inr, ◌⊎◌}
 use Rattle.std.specs.Prelude.{is_some, option_map, position, slice_get, slice_set, slice_index_or, swap_remove, remove}
 use Rattle.std.specs.List.{AllByRecursion, IsDistinct}
 use Rattle.std.specs.Cmp.Lexicographic.{same_text}
@@ -33,7 +34,8 @@ push_others (y ∷ xs) x zero other = refl
 push_others (y ∷ xs) x (suc i) other = push_others xs x i (λ e. other (ap suc e))
 
 set_there : {X : Type 0} (xs : List X) (at : ℕ) (x : X) → at < length xs → slice_get (slice_set xs at x) at ≡ Some x
-set_there xs at x lt = slice_get-get_or (slice_set xs at x) at x (omega (arith, lt, length-set xs at x)) ∙ ap Some (get_or-set_same xs at x x lt)
+set_there xs at x lt = slice_get-get_or (slice_set xs at x) at x (omega (arith, lt, length-set xs at x))
+    ∙ ap Some (get_or-set_same xs at x x lt)
 
 set_others : {X : Type 0} (xs : List X) (at : ℕ) (x : X) (i : ℕ) → i ≢ at → slice_get (slice_set xs at x) i ≡ slice_get xs i
 set_others [] at x i other = refl
@@ -46,7 +48,8 @@ set_others (y ∷ xs) (suc at) x (suc i) other = set_others xs at x i (λ e. oth
 swap_remove_push : {X : Type 0} (xs : List X) (x d : X) (at : ℕ) → at < length xs → swap_remove (xs ++ x ∷ []) at d ≡ slice_set xs at x
 swap_remove_push xs x d at lt =
     let last : length (xs ++ x ∷ []) - 1 ≡ length xs = omega (arith, length-append xs (x ∷ [])) in
-    rw (last, get_or-append_seam xs x [] d, set-append_left xs (x ∷ []) at x lt) (take_at (slice_set xs at x) (x ∷ []) (length xs) (length-set xs at x))
+    rw (last, get_or-append_seam xs x [] d, set-append_left xs (x ∷ []) at x lt)
+    (take_at (slice_set xs at x) (x ∷ []) (length xs) (length-set xs at x))
 
 -- ---- entries
 
@@ -55,25 +58,31 @@ pub puts_last : (entries : List Entry) (entry : Entry) → Puts entries (entries
 puts_last entries entry = record { there = push_there entries entry; others = push_others entries entry }
 
 -- one that takes the place of another
-pub puts_swapped : (entries : List Entry) (entry d : Entry) (at : ℕ) → at < length entries → Puts entries (swap_remove (entries ++ entry ∷ []) at d) at entry
+pub puts_swapped : (entries : List Entry) (entry d : Entry) (at : ℕ) → at < length entries
+    → Puts entries (swap_remove (entries ++ entry ∷ []) at d) at entry
 puts_swapped entries entry d at lt =
-    subst (λ (new : List Entry). Puts entries new at entry) (sym (swap_remove_push entries entry d at lt)) (record { there = set_there entries at entry lt; others = set_others entries at entry })
+    subst (λ (new : List Entry). Puts entries new at entry) (sym (swap_remove_push entries entry d at lt))
+    (record { there = set_there entries at entry lt; others = set_others entries at entry })
 
 -- one of the same name
-written_there : (entries : List Entry) (at : ℕ) (name : List ℕ) (was kept : Kept) → slice_get entries at ≡ Some (name, was) → slice_get (set_value_at entries at kept) at ≡ Some (name, kept)
+written_there : (entries : List Entry) (at : ℕ) (name : List ℕ) (was kept : Kept) → slice_get entries at ≡ Some (name, was)
+    → slice_get (set_value_at entries at kept) at ≡ Some (name, kept)
 written_there [] at name was kept e = absurd cc
 written_there (x ∷ entries) zero name was kept e = let same : x ≡ (name, was) = cc in ap (λ (y : Entry). Some (y.0, kept)) same
 written_there (x ∷ entries) (suc at) name was kept e = written_there entries at name was kept e
 
-written_others : (entries : List Entry) (at : ℕ) (kept : Kept) (place : ℕ) → place ≢ at → slice_get (set_value_at entries at kept) place ≡ slice_get entries place
+written_others : (entries : List Entry) (at : ℕ) (kept : Kept) (place : ℕ) → place ≢ at
+    → slice_get (set_value_at entries at kept) place ≡ slice_get entries place
 written_others [] at kept place other = refl
 written_others (x ∷ entries) zero kept zero other = absurd (other refl)
 written_others (x ∷ entries) zero kept (suc place) other = refl
 written_others (x ∷ entries) (suc at) kept zero other = refl
 written_others (x ∷ entries) (suc at) kept (suc place) other = written_others entries at kept place (λ e. other (ap suc e))
 
-pub puts_written : (entries : List Entry) (at : ℕ) (name : List ℕ) (was kept : Kept) → slice_get entries at ≡ Some (name, was) → Puts entries (set_value_at entries at kept) at (name, kept)
-puts_written entries at name was kept e = record { there = written_there entries at name was kept e; others = written_others entries at kept }
+pub puts_written : (entries : List Entry) (at : ℕ) (name : List ℕ) (was kept : Kept) → slice_get entries at ≡ Some (name, was)
+    → Puts entries (set_value_at entries at kept) at (name, kept)
+puts_written entries at name was kept e =
+    record { there = written_there entries at name was kept e; others = written_others entries at kept }
 
 -- ---- names
 
@@ -87,55 +96,70 @@ named_after old new at entry puts named all place other e = elim (cases_eq place
 ]
 
 pub named_before : (entries : List Entry) (entry : Entry) → AreNamed (entries ++ entry ∷ []) → AreNamed entries
-named_before entries entry all place other e = all place other (push_others entries entry place (λ same. absurd (omega (arith, same, slice_get_within entries place other e))) ∙ e)
+named_before entries entry all place other e =
+    all place other (push_others entries entry place (λ same. absurd (omega (arith, same, slice_get_within entries place other e))) ∙ e)
 
 -- ---- the place of a name
 
 abbrev pub key_of : Entry → List ℕ
 key_of entry = entry.0
 
-pub place_read : (name : List ℕ) (entries : List Entry) (at : ℕ) → position (same_name name) (map key_of entries) ≡ Some at → (kept : Kept) × (slice_get entries at ≡ Some (name, kept))
+pub place_read : (name : List ℕ) (entries : List Entry) (at : ℕ) → position (same_name name) (map key_of entries) ≡ Some at
+    → (kept : Kept) × (slice_get entries at ≡ Some (name, kept))
 place_read name entries at e =
     let d : Entry = (name, Retired 0 0) in
     let found = position-Some (same_name name) (map key_of entries) at name e in
     let lt : at < length entries = omega (arith, found.0, length-map entries key_of) in
     let entry = get_or entries at d in
-    let same : name ≡ entry.0 = same_text name entry.0 (sym (sym (ap (same_name name) (get_or-map key_of entries at d name lt)) ∙ found.1)) in
+    let same : name ≡ entry.0 = same_text name entry.0
+    (sym (sym (ap (same_name name) (get_or-map key_of entries at d name lt)) ∙ found.1)) in
     (entry.1, slice_get-get_or entries at d lt ∙ ap (λ (n : List ℕ). Some (n, entry.1)) (sym same))
 
-pub read_place : (name : List ℕ) (entries : List Entry) (at : ℕ) (kept : Kept) → IsDistinct same_name (map key_of entries) → slice_get entries at ≡ Some (name, kept) → position (same_name name) (map key_of entries) ≡ Some at
-read_place name entries at kept d e = index-first (same_name name) entries at (own_first same_name nat_list_eq_equiv entries at name kept d e)
+pub read_place : (name : List ℕ) (entries : List Entry) (at : ℕ) (kept : Kept) → IsDistinct same_name (map key_of entries)
+    → slice_get entries at ≡ Some (name, kept) → position (same_name name) (map key_of entries) ≡ Some at
+read_place name entries at kept d e = index-first (same_name name) entries at
+    (own_first same_name nat_list_eq_equiv entries at name kept d e)
 
 pub new_found : (name : List ℕ) (entries : List Entry) → IsNew name entries → lookup (same_name name) entries ≡ None
-new_found name entries none = is_none (lookup (same_name name) entries) (sym (some_index (same_name name) entries) ∙ ap is_some (by (position (same_name name) (map key_of entries)) refl))
+new_found name entries none = is_none (lookup (same_name name) entries)
+    (sym (some_index (same_name name) entries) ∙ ap is_some (by (position (same_name name) (map key_of entries)) refl))
   where
     by : (place : Option ℕ) → position (same_name name) (map key_of entries) ≡ place → position (same_name name) (map key_of entries) ≡ None
     by None e = e
     by (Some place) e = let read = place_read name entries place e in absurd (none place read.0 read.1)
 
 -- what is kept at a place
-pub read_kept : (entries : List Entry) (i : ℕ) (entry : Entry) → slice_get entries i ≡ Some entry → slice_get (map (λ (e : Entry). e.1) entries) i ≡ Some (entry.1)
+pub read_kept : (entries : List Entry) (i : ℕ) (entry : Entry) → slice_get entries i ≡ Some entry
+    → slice_get (map (λ (e : Entry). e.1) entries) i ≡ Some (entry.1)
 read_kept entries i entry e = slice_get-map (λ (e : Entry). e.1) entries i ∙ ap (option_map (λ (e : Entry). e.1)) e
 
 -- an entry is that of an active name or of a retired one
-pub stands_as : (name : List ℕ) (entries : List Entry) (place : ℕ) (kept : Kept) → AreNamed entries → slice_get entries place ≡ Some (name, kept) → StandsAs name entries place
+pub stands_as : (name : List ℕ) (entries : List Entry) (place : ℕ) (kept : Kept) → AreNamed entries
+    → slice_get entries place ≡ Some (name, kept) → StandsAs name entries place
 stands_as name entries place (Active row) named e =
     let same : name ≡ row.reg.name = named place (name, Active row) e in
     inl (row, e ∙ ap (λ (n : List ℕ). Some (n, Active row)) same, sym same)
 stands_as name entries place (Retired port creation) named e = inr (record { name = name; port = port; creation = creation }, e, refl)
 
-pub kept_there : (name : List ℕ) (entries : List Entry) (place : ℕ) → StandsAs name entries place → (kept : Kept) × (slice_get entries place ≡ Some (name, kept))
+pub kept_there : (name : List ℕ) (entries : List Entry) (place : ℕ) → StandsAs name entries place
+    → (kept : Kept) × (slice_get entries place ≡ Some (name, kept))
 kept_there name entries place (inl row) = (Active row.0, row.1 ∙ ap (λ (n : List ℕ). Some (n, Active row.0)) row.2)
-kept_there name entries place (inr old) = (Retired old.0.port old.0.creation, old.1 ∙ ap (λ (n : List ℕ). Some (n, Retired old.0.port old.0.creation)) old.2)
+kept_there name entries place (inr old) =
+    (Retired old.0.port old.0.creation, old.1 ∙ ap (λ (n : List ℕ). Some (n, Retired old.0.port old.0.creation)) old.2)
 
 -- ---- lists that have each place of a kind once: one is added
 
 module _ {Is Is' : ℕ → Type 0} (places : List ℕ) (place : ℕ) (each : HasEach Is places) (fresh : Is place → ⊥) (there : Is' place)
     (stay : (q : ℕ) → q ≢ place → Is q → Is' q) (were : (q : ℕ) → q ≢ place → Is' q → Is q) where
   -- the place that is read is the new one, at the end, or one of before
-  read_pushed : (i q : ℕ) → slice_get (places ++ place ∷ []) i ≡ Some q → ((i ≡ length places) × (q ≡ place)) ⊎ ((slice_get places i ≡ Some q) × (q ≢ place))
+  read_pushed : (i q : ℕ) → slice_get (places ++ place ∷ []) i ≡ Some q
+      → ((i ≡ length places) × (q ≡ place)) ⊎ ((slice_get places i ≡ Some q) × (q ≢ place))
   read_pushed i q e = elim (cases_eq i (length places)) [
-    | inl same ↦ inl (same, is_it (slice_get (places ++ place ∷ []) i) q place e (ap (slice_get (places ++ place ∷ [])) same ∙ push_there places place))
+    | inl same ↦ inl (
+      same,
+      is_it (slice_get (places ++ place ∷ []) i) q place e
+          (ap (slice_get (places ++ place ∷ [])) same ∙ push_there places place),
+    )
     | inr other ↦
         let before : slice_get places i ≡ Some q = sym (push_others places place i other) ∙ e in
         inr (before, λ same. fresh (subst Is same (each.sound i q before)))
@@ -144,7 +168,8 @@ module _ {Is Is' : ℕ → Type 0} (places : List ℕ) (place : ℕ) (each : Has
   once_pushed : (i j q : ℕ) → slice_get (places ++ place ∷ []) i ≡ Some q → slice_get (places ++ place ∷ []) j ≡ Some q → i ≡ j
   once_pushed i j q one two = by (read_pushed i q one) (read_pushed j q two)
     where
-      by : ((i ≡ length places) × (q ≡ place)) ⊎ ((slice_get places i ≡ Some q) × (q ≢ place)) → ((j ≡ length places) × (q ≡ place)) ⊎ ((slice_get places j ≡ Some q) × (q ≢ place)) → i ≡ j
+      by : ((i ≡ length places) × (q ≡ place)) ⊎ ((slice_get places i ≡ Some q) × (q ≢ place))
+          → ((j ≡ length places) × (q ≡ place)) ⊎ ((slice_get places j ≡ Some q) × (q ≢ place)) → i ≡ j
       by (inl a) (inl b) = a.0 ∙ sym b.0
       by (inl a) (inr b) = absurd (b.1 a.1)
       by (inr a) (inl b) = absurd (a.1 b.1)
@@ -203,7 +228,8 @@ unskip zero (suc j) other = (j, refl)
 unskip (suc k) zero other = (zero, refl)
 unskip (suc k) (suc j) other = let before = unskip k j (λ e. other (ap suc e)) in (suc before.0, ap suc before.1)
 
-module _ {Is Is' : ℕ → Type 0} (places : List ℕ) (k place : ℕ) (each : HasEach Is places) (at : slice_get places k ≡ Some place) (gone : Is' place → ⊥)
+module _ {Is Is' : ℕ → Type 0} (places : List ℕ) (k place : ℕ) (each : HasEach Is places) (at : slice_get places k ≡ Some place)
+    (gone : Is' place → ⊥)
     (stay : (q : ℕ) → q ≢ place → Is q → Is' q) (were : (q : ℕ) → q ≢ place → Is' q → Is q) where
   other_left : (i q : ℕ) → slice_get (remove places k) i ≡ Some q → q ≢ place
   other_left i q e same = skips k i (each.once (skip k i) k place (sym (read_removed places k i) ∙ e ∙ ap Some same) at)
@@ -214,9 +240,11 @@ module _ {Is Is' : ℕ → Type 0} (places : List ℕ) (k place : ℕ) (each : H
     whole = λ q is.
         let other : q ≢ place = λ same. gone (subst Is' same is) in
         let before = each.whole q (were q other is) in
-        let left = unskip k before.0 (λ same. other (is_it (slice_get places before.0) q place before.1 (ap (slice_get places) same ∙ at))) in
+        let left = unskip k before.0 (λ same. other
+        (is_it (slice_get places before.0) q place before.1 (ap (slice_get places) same ∙ at))) in
         (left.0, read_removed places k left.0 ∙ ap (slice_get places) left.1 ∙ before.1);
-    once = λ i j q one two. skip_once k i j (each.once (skip k i) (skip k j) q (sym (read_removed places k i) ∙ one) (sym (read_removed places k j) ∙ two));
+    once = λ i j q one two. skip_once k i j
+        (each.once (skip k i) (skip k j) q (sym (read_removed places k i) ∙ one) (sym (read_removed places k j) ∙ two));
   }
 
   -- what is left is not the place itself
@@ -225,7 +253,8 @@ module _ {Is Is' : ℕ → Type 0} (places : List ℕ) (k place : ℕ) (each : H
 
 -- ---- none comes or goes
 
-pub each_same : {Is Is' : ℕ → Type 0} (places : List ℕ) → HasEach Is places → ((q : ℕ) → Is q → Is' q) → ((q : ℕ) → Is' q → Is q) → HasEach Is' places
+pub each_same : {Is Is' : ℕ → Type 0} (places : List ℕ) → HasEach Is places → ((q : ℕ) → Is q → Is' q) → ((q : ℕ) → Is' q → Is q)
+    → HasEach Is' places
 each_same places each to from = record {
   sound = λ i q e. to q (each.sound i q e);
   whole = λ q is. each.whole q (from q is);
@@ -235,15 +264,18 @@ each_same places each to from = record {
 -- ---- what is found there
 
 -- what is made of each place is the same
-pub map_read : {X : Type 0} (f g : ℕ → X) (places : List ℕ) → ((i q : ℕ) → slice_get places i ≡ Some q → f q ≡ g q) → map f places ≡ map g places
+pub map_read : {X : Type 0} (f g : ℕ → X) (places : List ℕ) → ((i q : ℕ) → slice_get places i ≡ Some q → f q ≡ g q)
+    → map f places ≡ map g places
 map_read f g [] same = refl
 map_read f g (p ∷ places) same = λ i. same zero p refl i ∷ map_read f g places (λ j q e. same (suc j) q e) i
 
 module _ {X : Type 0} (f : ℕ → X) (test : X → Bool) where
-  pub is_first_place : (places : List ℕ) (i place : ℕ) → slice_get places i ≡ Some place → test (f place) ≡ true → ((j q : ℕ) → slice_get places j ≡ Some q → test (f q) ≡ true → j ≡ i) → IsFirst test (map f places) i
+  pub is_first_place : (places : List ℕ) (i place : ℕ) → slice_get places i ≡ Some place → test (f place) ≡ true
+      → ((j q : ℕ) → slice_get places j ≡ Some q → test (f q) ≡ true → j ≡ i) → IsFirst test (map f places) i
   is_first_place [] i place e passes only = absurd cc
   is_first_place (p ∷ places) zero place e passes only = let same : p ≡ place = cc in ap (λ (q : ℕ). test (f q)) same ∙ passes
-  is_first_place (p ∷ places) (suc i) place e passes only = (by (test (f p)) refl, is_first_place places i place e passes (λ j q r t. omega (arith, only (suc j) q r t)))
+  is_first_place (p ∷ places) (suc i) place e passes only =
+      (by (test (f p)) refl, is_first_place places i place e passes (λ j q r t. omega (arith, only (suc j) q r t)))
     where
       by : (b : Bool) → test (f p) ≡ b → test (f p) ≡ false
       by true t = absurd (omega (arith, only zero p refl t))

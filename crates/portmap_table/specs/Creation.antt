@@ -41,4 +41,5 @@ IsCounter counter = (COUNTER_LEAST ≤ counter) × (counter < 2 ^ 32)
 
 -- the choice is always legal, so a legal creation always exists
 abbrev pub ChoiceIsLegal : Type 0
-ChoiceIsLegal = (counter high : ℕ) (remembered : Option ℕ) → IsCounter counter → IsLegalCreation high remembered (choice counter high remembered)
+ChoiceIsLegal = (counter high : ℕ) (remembered : Option ℕ) → IsCounter counter
+    → IsLegalCreation high remembered (choice counter high remembered)

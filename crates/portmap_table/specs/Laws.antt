@@ -3,7 +3,8 @@ use Rattle.std.specs.Prelude.{◌≡◌, ◌<◌, ◌≤◌, ℕ, true, false, L
 use Rattle.portmap_table.specs.Creation.{IsLegalCreation}
 use Rattle.portmap_wire.specs.Node.{Node}
 use Rattle.portmap_table.specs.declared.row.Row.{Row}
-use Rattle.portmap_table.specs.Rows.{Names, AreKept, same_name, is_active, active_row, retired_row, is_full_for, is_known, known_len, registered, remembered, retired_of, old_name, with_room}
+use Rattle.portmap_table.specs.Rows.{Names, AreKept, same_name, is_active, active_row, retired_row, is_full_for, is_known, known_len}
+use Rattle.portmap_table.specs.Rows.{registered, remembered, retired_of, old_name, with_room}
 
 -- the row that a slot owns
 abbrev pub row_of : ℕ → Names → Option Row
@@ -29,7 +30,8 @@ OthersStayAtRegistration = (names : Names) (reg : Node) (creation slot : ℕ) (o
     → KnowsAlike other names (registered reg creation slot names)
 
 abbrev pub OthersStayAtRetirement : Type 0
-OthersStayAtRetirement = (names : Names) (slot : ℕ) (row : Row) (other : List ℕ) → row_of slot names ≡ Some row → same_name row.reg.name other ≡ false
+OthersStayAtRetirement = (names : Names) (slot : ℕ) (row : Row) (other : List ℕ) → row_of slot names ≡ Some row
+    → same_name row.reg.name other ≡ false
     → KnowsAlike other names (retired_of slot names)
 
 -- the newest stand last, and those that stood there stay where they are
@@ -38,7 +40,8 @@ RegisteredNamesStandLast = (names : Names) (reg : Node) (creation slot : ℕ)
     → (registered reg creation slot names).active ≡ names.active ++ record { reg = reg; creation = creation; slot = slot } ∷ []
 
 abbrev pub RetiredNamesStandLast : Type 0
-RetiredNamesStandLast = (names : Names) (slot : ℕ) (row : Row) → row_of slot names ≡ Some row → (retired_of slot names).retired ≡ names.retired ++ old_name row ∷ []
+RetiredNamesStandLast = (names : Names) (slot : ℕ) (row : Row) → row_of slot names ≡ Some row
+    → (retired_of slot names).retired ≡ names.retired ++ old_name row ∷ []
 
 abbrev pub RetiredNamesStay : Type 0
 RetiredNamesStay = (names : Names) (slot : ℕ) → take (length names.retired) (retired_of slot names).retired ≡ names.retired
@@ -56,16 +59,19 @@ RoomCostsNone = (known_max : ℕ) (names : Names) (name : List ℕ) → known_le
 
 -- and else a new name costs the one that was retired longest
 abbrev pub OldestMakesRoom : Type 0
-OldestMakesRoom = (known_max : ℕ) (names : Names) (name : List ℕ) → known_max ≤ known_len names → is_known name names ≡ false → (with_room known_max name names).retired ≡ drop 1 names.retired
+OldestMakesRoom = (known_max : ℕ) (names : Names) (name : List ℕ) → known_max ≤ known_len names → is_known name names ≡ false
+    → (with_room known_max name names).retired ≡ drop 1 names.retired
 
 -- none is refused where a retired one may be forgotten for it
 abbrev pub NoneIsRefusedForRetiredNames : Type 0
-NoneIsRefusedForRetiredNames = (known_max : ℕ) (names : Names) (name : List ℕ) → AreKept known_max names → is_full_for known_max name names ≡ true → names.retired ≡ []
+NoneIsRefusedForRetiredNames = (known_max : ℕ) (names : Names) (name : List ℕ) → AreKept known_max names
+    → is_full_for known_max name names ≡ true → names.retired ≡ []
 
 -- what is remembered of a name that outlives its connection: its port, and the creation that it had last
 abbrev pub LastCreationsAreRemembered : Type 0
 LastCreationsAreRemembered = (known_max : ℕ) (names : Names) (slot : ℕ) (row : Row) → AreKept known_max names → row_of slot names ≡ Some row
-    → (retired_row row.reg.name (retired_of slot names) ≡ Some (record { name = row.reg.name; port = row.reg.port; creation = row.creation }))
+    → (retired_row row.reg.name (retired_of slot names)
+    ≡ Some (record { name = row.reg.name; port = row.reg.port; creation = row.creation }))
     × (remembered row.reg.name (retired_of slot names) ≡ Some row.creation)
 
 -- a name that returns gets another creation than its last one

@@ -42,7 +42,8 @@ IsRetiredAt entries place = (old : RetiredName) × (slice_get entries place ≡ 
 
 -- this name stands there, active or retired
 abbrev pub StandsAs : List ℕ → List Entry → ℕ → Type 0
-StandsAs name entries place = ((row : Row) × (slice_get entries place ≡ Some (active_entry row)) × (row.reg.name ≡ name)) ⊎ ((old : RetiredName) × (slice_get entries place ≡ Some (retired_entry old)) × (old.name ≡ name))
+StandsAs name entries place = ((row : Row) × (slice_get entries place ≡ Some (active_entry row)) × (row.reg.name ≡ name))
+    ⊎ ((old : RetiredName) × (slice_get entries place ≡ Some (retired_entry old)) × (old.name ≡ name))
 
 -- and at no other
 abbrev pub StandsOnce : List ℕ → List Entry → ℕ → Type 0
@@ -93,7 +94,8 @@ pub record HasEach (Is : ℕ → Type 0) (places : List ℕ) : Type 0 where
 -- the slots of the active names lead to their places
 pub record AreOwners (entries : List Entry) (owner : ℕ → Option ℕ) : Type 0 where
   pub active : (place : ℕ) (row : Row) → slice_get entries place ≡ Some (active_entry row) → owner row.slot ≡ Some place
-  pub slots : (slot place : ℕ) → owner slot ≡ Some place → (row : Row) × (slice_get entries place ≡ Some (active_entry row)) × (row.slot ≡ slot)
+  pub slots : (slot place : ℕ) → owner slot ≡ Some place
+      → (row : Row) × (slice_get entries place ≡ Some (active_entry row)) × (row.slot ≡ slot)
 
 pub record AreInPlace (entries : List Entry) (active retired : List ℕ) (owner : ℕ → Option ℕ) : Type 0 where
   pub active_places : HasEach (IsActiveAt entries) active
@@ -126,4 +128,5 @@ pub record Replaces (known_max : ℕ) (name : List ℕ) (entries : List Entry) (
 pub record TakesPlace (known_max : ℕ) (row : Row) (entries new : List Entry) (retired left : List ℕ) (place : ℕ) : Type 0 where
   pub puts : Puts entries new place (active_entry row)
   pub count : length left + length entries + 1 ≡ length new + length retired
-  pub how : Returns row.reg.name entries retired left place ⊎ (Adds known_max row.reg.name entries retired left place ⊎ Replaces known_max row.reg.name entries retired left place)
+  pub how : Returns row.reg.name entries retired left place
+      ⊎ (Adds known_max row.reg.name entries retired left place ⊎ Replaces known_max row.reg.name entries retired left place)

@@ -1,8 +1,10 @@
 //! What is kept of each name, at a place that stays the name's own for as long as it is known.
-ghost use Rattle.std.specs.Prelude.{◌≡◌, ◌<◌, ◌^◌, ℕ, length, slice_get, option_copied, option_map, Some, None, IfSome, IfOk, OnOk, OnErr, [], ◌++◌, ◌∷◌};
+ghost use Rattle.std.specs.Prelude.{◌≡◌, ◌<◌, ◌^◌, ℕ, length, slice_get, option_copied, option_map, Some, None, IfSome, IfOk, OnOk, OnErr};
+ghost use Rattle.std.specs.Prelude.{[], ◌++◌, ◌∷◌};
 ghost use Rattle.portmap_table.specs.declared.entries.Kept.{Kept};
 ghost use Rattle.portmap_table.specs.declared.row.Row.{Row};
-ghost use Rattle.portmap_table.specs.Places.{AreNamed, IsActiveAt, IsNamed, IsNew, Puts, StandsAs, active_entry, active_in, retired_entry, retired_in};
+ghost use Rattle.portmap_table.specs.Places.{AreNamed, IsActiveAt, IsNamed, IsNew, Puts, StandsAs, active_entry, active_in, retired_entry};
+ghost use Rattle.portmap_table.specs.Places.{retired_in};
 ghost use Rattle.portmap_table.specs.Rows.{old_name, retired_name};
 
 use crate::row::{Old, Retired, Row};
@@ -164,7 +166,8 @@ impl Entries {
     /// The active name at this place is so no more. It takes no memory.
     pub(crate) fn retire(&mut self, place: usize)
         requires { IsActiveAt self.old place }
-        ensures puts { (row : Row) → slice_get self.old place ≡ Some (active_entry row) → Puts self.old self.new place (retired_entry (old_name row)) }
+        ensures puts { (row : Row) → slice_get self.old place ≡ Some (active_entry row)
+            → Puts self.old self.new place (retired_entry (old_name row)) }
         ensures len { length self.new ≡ length self.old }
     {
         let Kept::Active(row) = &self.kept[place] else {

@@ -1,5 +1,8 @@
 //! What registering and retiring do to each name.
-ghost use Rattle.portmap_table.specs.Laws.{ActiveNamesStay, KnownNamesCostNone, LastCreationsAreRemembered, NamesOutliveConnections, NoneIsRefusedForRetiredNames, OldestMakesRoom, OthersStayAtRegistration, OthersStayAtRetirement, RegisteredNamesAreActive, RegisteredNamesStandLast, RetiredNamesStandLast, RetiredNamesStay, ReturningNamesGetAnother, RoomCostsNone};
+ghost use Rattle.portmap_table.specs.Laws.{ActiveNamesStay, KnownNamesCostNone, LastCreationsAreRemembered, NamesOutliveConnections};
+ghost use Rattle.portmap_table.specs.Laws.{NoneIsRefusedForRetiredNames, OldestMakesRoom, OthersStayAtRegistration, OthersStayAtRetirement};
+ghost use Rattle.portmap_table.specs.Laws.{RegisteredNamesAreActive, RegisteredNamesStandLast, RetiredNamesStandLast, RetiredNamesStay};
+ghost use Rattle.portmap_table.specs.Laws.{ReturningNamesGetAnother, RoomCostsNone};
 
 /// A name that registers is active. When its connection is lost it is so no more, and its port and its creation are
 /// remembered.

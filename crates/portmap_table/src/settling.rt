@@ -47,7 +47,8 @@ pub(crate) fn settle(
     row: Row,
 ) -> Result<u32, NoMemory>
     requires places { HasEach (IsRetiredAt entries.old) retired.old.items }
-    requires name { (place : ℕ) (active : Row) → slice_get entries.old place ≡ Some (active_entry active) → active.reg.name ≡ row.reg.name → ⊥ }
+    requires name { (place : ℕ) (active : Row) → slice_get entries.old place ≡ Some (active_entry active) → active.reg.name ≡ row.reg.name
+        → ⊥ }
     requires few { length entries.old ≤ known_max }
     requires oldest { IsNew row.reg.name entries.old → known_max ≤ length entries.old → 0 < length retired.old.items }
     ensures ok { IfOk result (λ place. TakesPlace known_max row entries.old entries.new retired.old.items retired.new.items place) }

@@ -1,7 +1,9 @@
 //! The table of names.
-ghost use Rattle.std.specs.Prelude.{◌≡◌, false, length, slice_get, option_copied, option_map, Ok, Err, None, IfOk, IfSome, OnOk, OnErr, IsOk, ◌^◌, ◌<◌, ◌≤◌};
+ghost use Rattle.std.specs.Prelude.{◌≡◌, false, length, slice_get, option_copied, option_map, Ok, Err, None, IfOk, IfSome, OnOk, OnErr};
+ghost use Rattle.std.specs.Prelude.{IsOk, ◌^◌, ◌<◌, ◌≤◌};
 ghost use Rattle.portmap_table.specs.Creation.{IsCounter, IsCreationFor, IsLegalCreation};
-ghost use Rattle.portmap_table.specs.Rows.{AreKept, active_row, and_retired, is_active, is_full_for, is_known, known_len, owner_of, owns_name, registered, remembered, retired_name, retired_of, standing, with_room};
+ghost use Rattle.portmap_table.specs.Rows.{AreKept, active_row, and_retired, is_active, is_full_for, is_known, known_len, owner_of};
+ghost use Rattle.portmap_table.specs.Rows.{owns_name, registered, remembered, retired_name, retired_of, standing, with_room};
 ghost use Rattle.portmap_table.specs.Table.{GivesOffer, new_table, offered, with_names, with_registration};
 
 use crate::creation::{COUNTER_LEAST, counter_after, creation_for, is_creation_for};
@@ -60,9 +62,15 @@ impl Model for Table {
 
     ghost Value = { TableState };
 
-    ghost view = { λ t. record { names = names_at t.entries t.active.items t.retired.items; known_max = t.known_max; counter = t.counter } };
+    ghost view = { λ t. record {
+      names = names_at t.entries t.active.items t.retired.items;
+      known_max = t.known_max;
+      counter = t.counter;
+    } };
 
-    ghost invariant = { λ t. AreInPlace t.entries t.active.items t.retired.items (get nat_eq t.owners) × (vec_len t.active + vec_len t.retired ≤ vec_capacity t.retired) × AreKept t.known_max (names_at t.entries t.active.items t.retired.items) × IsCounter t.counter × (t.known_max < 2 ^ 32) };
+    ghost invariant = { λ t. AreInPlace t.entries t.active.items t.retired.items (get nat_eq t.owners)
+        × (vec_len t.active + vec_len t.retired ≤ vec_capacity t.retired)
+        × AreKept t.known_max (names_at t.entries t.active.items t.retired.items) × IsCounter t.counter × (t.known_max < 2 ^ 32) };
 }
 
 impl Table {
@@ -89,7 +97,8 @@ impl Table {
         active: &[Row],
         retired: &[Old],
     ) -> Result<Option<Table>, NoMemory>
-        ensures same { IfOk result (λ o. IfSome o (λ t. t ≡ with_names (new_table known_max first) (record { active = active.now; retired = retired.now }))) }
+        ensures same { IfOk result (λ o. IfSome o
+            (λ t. t ≡ with_names (new_table known_max first) (record { active = active.now; retired = retired.now }))) }
         ensures kept { IfOk result (λ o. IfSome o (λ t. AreKept known_max (record { active = active.now; retired = retired.now }))) }
         ensures none { result ≡ Ok None → AreKept known_max (record { active = active.now; retired = retired.now }) → ⊥ }
     {
@@ -137,7 +146,8 @@ impl Table {
         requires room { is_full_for self.old.known_max row.reg.name self.old.names ≡ false }
         requires slot { owns_name row.slot self.old.names ≡ false }
         requires creation { IsCreationFor row.reg.high row.creation }
-        ensures ok { OnOk result (self.new ≡ with_names self.old (registered row.reg row.creation row.slot (with_room self.old.known_max row.reg.name self.old.names))) }
+        ensures ok { OnOk result (self.new ≡ with_names self.old
+            (registered row.reg row.creation row.slot (with_room self.old.known_max row.reg.name self.old.names))) }
         ensures err { OnErr result (self.new ≡ self.old) }
         ensures kept { AreKept self.new.known_max self.new.names }
     {

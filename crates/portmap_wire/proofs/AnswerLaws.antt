@@ -1,5 +1,6 @@
 -- What was written is read back.
-use Rattle.std.proofs.Common.{◌≡◌, ℕ, suc, ◌+◌, ◌≤◌, Bool, true, false, cond, ltb, eqb, List, [], ◌∷◌, ◌++◌, length, Option, Some, None, Result, Ok, Err, refl, ap, subst, ◌∙◌, arith}
+use Rattle.std.proofs.Common.{◌≡◌, ℕ, suc, ◌+◌, ◌≤◌, Bool, true, false, cond, ltb, eqb, List, [], ◌∷◌, ◌++◌, length, Option, Some, None}
+use Rattle.std.proofs.Common.{Result, Ok, Err, refl, ap, subst, ◌∙◌, arith}
 use Rattle.std.specs.Prelude.{IfOk, IfSome}
 use Rattle.std.proofs.lemmas.Bool.{ltb-false, eqb-true}
 use Rattle.portmap_wire.specs.Node.{Node, IsNode, fields}
@@ -11,7 +12,8 @@ use Rattle.portmap_wire.specs.declared.reply_reading.ReplyFault.{ReplyFault}
 use Rattle.portmap_wire.proofs.NameLemmas.{IsBytes}
 use Rattle.std.proofs.lemmas.Bool.{le-ltb}
 use Rattle.portmap_wire.specs.declared.reply_reading.ReplyFault.TheVariants as fault
-use Rattle.portmap_wire.specs.ReplyReading.{registered_answer, with_name, port2_result, port2_answer, GivesReply, IsFound, LookUpsAreReadBack}
+use Rattle.portmap_wire.specs.ReplyReading.{registered_answer, with_name, port2_result, port2_answer, GivesReply, IsFound}
+use Rattle.portmap_wire.specs.ReplyReading.{LookUpsAreReadBack}
 use Rattle.portmap_wire.proofs.FieldLemmas.{FitsFields, fields_again, fields_take}
 use Rattle.portmap_wire.proofs.RequestLaws.{guard, guard_after, name_again, name_takes}
 
@@ -33,11 +35,14 @@ coded false r g e = absurd cc
 same_found : (h g : Node) → ◌≡◌ {A = Result (Option Node) ReplyFault} (Ok (Some h)) (Ok (Some g)) → h ≡ g
 same_found h g e = cc
 
-named_takes : (h g : Node) (read : Result (List ℕ) NameFault) → with_name h read ≡ Ok (Some g) → (n : List ℕ) × (read ≡ Ok n) × (ltb BODY_MOST (13 + length h.name + length h.extra) ≡ false) × (h ≡ g)
-named_takes h g (Ok n) e = let a = guard (ltb BODY_MOST (13 + length h.name + length h.extra)) fault.Strange (Ok (Some h)) (Some g) e in (n, refl, a.0, same_found h g a.1)
+named_takes : (h g : Node) (read : Result (List ℕ) NameFault) → with_name h read ≡ Ok (Some g)
+    → (n : List ℕ) × (read ≡ Ok n) × (ltb BODY_MOST (13 + length h.name + length h.extra) ≡ false) × (h ≡ g)
+named_takes h g (Ok n) e = let a = guard (ltb BODY_MOST (13 + length h.name + length h.extra)) fault.Strange (Ok (Some h)) (Some g) e in
+    (n, refl, a.0, same_found h g a.1)
 named_takes h g (Err f) e = absurd cc
 
-registered_takes : (o : Option (Node × List ℕ)) (g : Node) → registered_answer o ≡ Ok (Some g) → (f : Node × List ℕ) × (o ≡ Some f) × (with_name f.0 (name_in f.0.name) ≡ Ok (Some g))
+registered_takes : (o : Option (Node × List ℕ)) (g : Node) → registered_answer o ≡ Ok (Some g)
+    → (f : Node × List ℕ) × (o ≡ Some f) × (with_name f.0 (name_in f.0.name) ≡ Ok (Some g))
 registered_takes None g e = absurd cc
 registered_takes (Some f) g e = (f, refl, e)
 
@@ -66,7 +71,9 @@ fields_behind rest g fits e =
 pub look_up_takes : (q : List ℕ) (g : Node) → IsBytes q → port2_answer q ≡ Ok (Some g) → IsFound q g
 unfolding Behind
 look_up_takes [] g fits e = absurd cc
-look_up_takes (tag ∷ []) g fits e = absurd (let a = guard_after (eqb tag PORT2_RESP) (fault.BadTag tag) (Err fault.Short) (Some g) e in let no : ◌≡◌ {A = Result (Option Node) ReplyFault} (Err fault.Short) (Ok (Some g)) = a.1 in cc)
+look_up_takes (tag ∷ []) g fits e = absurd
+    (let a = guard_after (eqb tag PORT2_RESP) (fault.BadTag tag) (Err fault.Short) (Some g) e in
+    let no : ◌≡◌ {A = Result (Option Node) ReplyFault} (Err fault.Short) (Ok (Some g)) = a.1 in cc)
 look_up_takes (tag ∷ code ∷ rest) g fits e =
     let a = guard_after (eqb tag PORT2_RESP) (fault.BadTag tag) (port2_result (code ∷ rest)) (Some g) e in
     let b = coded (eqb code 0) (registered_answer (fields_in rest)) g a.1 in
@@ -77,7 +84,8 @@ look_up_takes (tag ∷ code ∷ rest) g fits e =
       text = (λ i. eqb-true _ _ a.0 i ∷ eqb-true _ _ b.0 i ∷ f.1.1 i);
     }
 
-pub look_up_found : (q : List ℕ) (answer : Result (Option Node) ReplyFault) → IsBytes q → GivesReply answer (port2_answer q) → IfOk answer (λ found. IfSome found (λ g. IsFound q g))
+pub look_up_found : (q : List ℕ) (answer : Result (Option Node) ReplyFault) → IsBytes q → GivesReply answer (port2_answer q)
+    → IfOk answer (λ found. IfSome found (λ g. IsFound q g))
 look_up_found q (Ok None) fits h = tt
 look_up_found q (Ok (Some g)) fits h = look_up_takes q g fits h
 look_up_found q (Err f) fits h = tt

@@ -1,8 +1,10 @@
 -- Fields that are read are those that were written, and what was written is read again.
-use Rattle.std.proofs.Common.{◌≡◌, ℕ, ◌+◌, ◌^◌, ◌<◌, ◌≤◌, Bool, true, false, cond, ltb, List, [], ◌∷◌, ◌++◌, length, get_or, take, drop, Option, Some, None, refl, sym, ap, subst, ◌∙◌, arith, append_assoc, inl, inr}
+use Rattle.std.proofs.Common.{◌≡◌, ℕ, ◌+◌, ◌^◌, ◌<◌, ◌≤◌, Bool, true, false, cond, ltb, List, [], ◌∷◌, ◌++◌, length, get_or, take, drop}
+use Rattle.std.proofs.Common.{Option, Some, None, refl, sym, ap, subst, ◌∙◌, arith, append_assoc, inl, inr}
 use Rattle.std.specs.Int.{w16, from_be_bytes}
 use Rattle.std.proofs.lemmas.Bool.{ltb-false, le-ltb, cases_lt}
-use Rattle.std.proofs.lemmas.List.{take_at, drop_at, take-append-drop, drop-drop, length-append, length-take, length-drop, get_or-drop, get_or-take, get_or_past}
+use Rattle.std.proofs.lemmas.List.{take_at, drop_at, take-append-drop, drop-drop, length-append, length-take, length-drop, get_or-drop}
+use Rattle.std.proofs.lemmas.List.{get_or-take, get_or_past}
 use Rattle.std.proofs.lemmas.Nat.{be_bytes_2, from_be_bytes-to_be_bytes_2}
 use Rattle.portmap_wire.specs.Node.{Node, fields, be2}
 use Rattle.portmap_wire.specs.RequestReading.{u16_in, fields_in}
@@ -36,7 +38,8 @@ in_part n i q fits k =
     ]
 
 two : (q : List ℕ) (i : ℕ) → IsBytes q → i + 2 ≤ length q → be2 (u16_in q i) ≡ take 2 (drop i q)
-two q i fits long = be_bytes_2 (take 2 (drop i q)) (u16_in q i) (omega (arith, length-take 2 (drop i q), length-drop i q)) (in_part 2 i q fits) refl
+two q i fits long = be_bytes_2 (take 2 (drop i q)) (u16_in q i) (omega (arith, length-take 2 (drop i q), length-drop i q))
+    (in_part 2 i q fits) refl
 
 pub u16_below : (q : List ℕ) (i : ℕ) → IsBytes q → u16_in q i < 2 ^ 16
 u16_below q i fits = let h : IsBytes (take 2 (drop i q)) = in_part 2 i q fits in omega (arith, h 0, h 1)
@@ -48,11 +51,15 @@ pair (a ∷ b ∷ []) long = absurd (omega arith)
 pair (a ∷ b ∷ c ∷ []) long = absurd (omega arith)
 pair (a ∷ b ∷ c ∷ d ∷ q) long = refl
 
-regroup : (a b c d e n f x r : List ℕ) → (a ++ b ++ c ++ d ++ e ++ n ++ f ++ x) ++ r ≡ a ++ (b ++ (c ++ (d ++ (e ++ (n ++ (f ++ (x ++ r)))))))
+regroup : (a b c d e n f x r : List ℕ) → (a ++ b ++ c ++ d ++ e ++ n ++ f ++ x) ++ r
+    ≡ a ++ (b ++ (c ++ (d ++ (e ++ (n ++ (f ++ (x ++ r)))))))
 regroup a b c d e n f x r = simp append_assoc
 
 -- the parts of a text, one behind the other
-in_parts : (q : List ℕ) (n x : ℕ) → q ≡ take 2 q ++ (take 2 (drop 2 q) ++ (take 2 (drop 4 q) ++ (take 2 (drop 6 q) ++ (take 2 (drop 8 q) ++ (take n (drop 10 q) ++ (take 2 (drop (10 + n) q) ++ (take x (drop (12 + n) q) ++ drop (12 + n + x) q)))))))
+in_parts : (q : List ℕ) (n x : ℕ) → q ≡ take 2 q
+    ++ (take 2 (drop 2 q) ++ (take 2 (drop 4 q)
+    ++ (take 2 (drop 6 q) ++ (take 2 (drop 8 q)
+    ++ (take n (drop 10 q) ++ (take 2 (drop (10 + n) q) ++ (take x (drop (12 + n) q) ++ drop (12 + n + x) q)))))))
 in_parts q n x =
     let e : 10 + n + 2 ≡ 12 + n = omega arith in
     let last : drop (10 + n) q ≡ take 2 (drop (10 + n) q) ++ (take x (drop (12 + n) q) ++ drop (12 + n + x) q) =
@@ -66,9 +73,18 @@ in_parts q n x =
 
 -- what is read from the front
 pub read_at : (q : List ℕ) → Node
-read_at q = record { port = u16_in q 0; kind = get_or q 2 0; proto = get_or q 3 0; high = u16_in q 4; low = u16_in q 6; name = take (u16_in q 8) (drop 10 q); extra = take (u16_in q (10 + u16_in q 8)) (drop (12 + u16_in q 8) q) }
+read_at q = record {
+  port = u16_in q 0;
+  kind = get_or q 2 0;
+  proto = get_or q 3 0;
+  high = u16_in q 4;
+  low = u16_in q 6;
+  name = take (u16_in q 8) (drop 10 q);
+  extra = take (u16_in q (10 + u16_in q 8)) (drop (12 + u16_in q 8) q);
+}
 
-spelled : (q : List ℕ) → IsBytes q → 12 + u16_in q 8 + u16_in q (10 + u16_in q 8) ≤ length q → q ≡ fields (read_at q) ++ drop (12 + u16_in q 8 + u16_in q (10 + u16_in q 8)) q
+spelled : (q : List ℕ) → IsBytes q → 12 + u16_in q 8 + u16_in q (10 + u16_in q 8) ≤ length q
+    → q ≡ fields (read_at q) ++ drop (12 + u16_in q 8 + u16_in q (10 + u16_in q 8)) q
 unfolding read_at
 spelled q fits long =
     let n = u16_in q 8 in
@@ -81,9 +97,12 @@ spelled q fits long =
     let three = two q 4 fits (omega arith) in
     let four = two q 6 fits (omega arith) in
     let both = pair q (omega arith) in
-    let parts : fields (read_at q) ≡ take 2 q ++ take 2 (drop 2 q) ++ take 2 (drop 4 q) ++ take 2 (drop 6 q) ++ take 2 (drop 8 q) ++ take n (drop 10 q) ++ take 2 (drop (10 + n) q) ++ take x (drop (12 + n) q) =
+    let parts : fields (read_at q) ≡ take 2 q ++ take 2 (drop 2 q) ++ take 2 (drop 4 q) ++ take 2 (drop 6 q) ++ take 2 (drop 8 q)
+    ++ take n (drop 10 q) ++ take 2 (drop (10 + n) q) ++ take x (drop (12 + n) q) =
     λ i. one i ++ both i ++ three i ++ four i ++ five i ++ take n (drop 10 q) ++ seven i ++ take x (drop (12 + n) q) in
-    in_parts q n x ∙ sym (ap (λ (t : List ℕ). t ++ drop (12 + n + x) q) parts ∙ regroup (take 2 q) (take 2 (drop 2 q)) (take 2 (drop 4 q)) (take 2 (drop 6 q)) (take 2 (drop 8 q)) (take n (drop 10 q)) (take 2 (drop (10 + n) q)) (take x (drop (12 + n) q)) (drop (12 + n + x) q))
+    in_parts q n x ∙ sym (ap (λ (t : List ℕ). t ++ drop (12 + n + x) q) parts
+    ∙ regroup (take 2 q) (take 2 (drop 2 q)) (take 2 (drop 4 q)) (take 2 (drop 6 q)) (take 2 (drop 8 q)) (take n (drop 10 q))
+    (take 2 (drop (10 + n) q)) (take x (drop (12 + n) q)) (drop (12 + n + x) q))
 
 pub record Takes (q : List ℕ) (g : Node) (rest : List ℕ) : Type 0 where
   pub text : q ≡ fields g ++ rest
@@ -112,12 +131,17 @@ head g = be2 g.port ++ (g.kind ∷ g.proto ∷ []) ++ be2 g.high ++ be2 g.low ++
 
 split_fields : (g : Node) (rest : List ℕ) → fields g ++ rest ≡ (head g ++ g.name) ++ (be2 (length g.extra) ++ (g.extra ++ rest))
 unfolding head
-split_fields g rest = let e : (head g ++ g.name ++ be2 (length g.extra) ++ g.extra) ++ rest ≡ (head g ++ g.name) ++ (be2 (length g.extra) ++ (g.extra ++ rest)) = simp append_assoc in e
+split_fields g rest = let e : (head g ++ g.name ++ be2 (length g.extra) ++ g.extra) ++ rest
+    ≡ (head g ++ g.name) ++ (be2 (length g.extra) ++ (g.extra ++ rest)) = simp append_assoc in e
 
-at_extra : (q front more : List ℕ) (x i : ℕ) → x < 2 ^ 16 → length front ≡ i → q ≡ front ++ (be2 x ++ more) → (u16_in q i ≡ x) × (drop (i + 2) q ≡ more)
+at_extra : (q front more : List ℕ) (x i : ℕ) → x < 2 ^ 16 → length front ≡ i → q ≡ front ++ (be2 x ++ more)
+    → (u16_in q i ≡ x) × (drop (i + 2) q ≡ more)
 at_extra q front more x i small len e =
-    let d : drop i q ≡ be2 x ++ more = ap (λ (t : List ℕ). drop i t) e ∙ drop_at front (be2 x ++ more) i len in
-    (ap (λ (t : List ℕ). from_be_bytes w16 (take 2 t)) d ∙ from_be_bytes-to_be_bytes_2 x small, sym (drop-drop 2 i q) ∙ ap (λ (t : List ℕ). drop 2 t) d)
+    let d : drop i q ≡ be2 x ++ more = ap (λ (t : List ℕ). drop i t) e ∙ drop_at front (be2 x ++ more) i len in (
+      ap (λ (t : List ℕ). from_be_bytes w16 (take 2 t)) d ∙ from_be_bytes-to_be_bytes_2 x small,
+      sym (drop-drop 2 i q)
+          ∙ ap (λ (t : List ℕ). drop 2 t) d,
+    )
 
 three : (a b c d : List ℕ) → a ++ b ++ c ++ d ≡ a ++ (b ++ (c ++ d))
 three a b c d = simp append_assoc
@@ -131,9 +155,14 @@ reads q g rest n x long en ex p0 p1 p2 p3 p4 p5 p6 p7 =
     let t1 : ltb (length q) 12 ≡ false = le-ltb _ _ (omega arith) in
     let t2 : ltb (length q) (12 + n) ≡ false = le-ltb _ _ (omega arith) in
     let t3 : ltb (length q) (12 + n + x) ≡ false = le-ltb _ _ long in
-    rw (t1, en, t2, ex, t3) (λ i. Some (record { port = p0 i; kind = p1 i; proto = p2 i; high = p3 i; low = p4 i; name = p5 i; extra = p6 i }, p7 i))
+    rw (t1, en, t2, ex, t3) (λ i. Some (
+      record
+          { port = p0 i; kind = p1 i; proto = p2 i; high = p3 i; low = p4 i; name = p5 i; extra = p6 i },
+      p7 i,
+    ))
 
-pub fields_again : (g : Node) (rest : List ℕ) → FitsFields g → length g.name < 2 ^ 16 → length g.extra < 2 ^ 16 → fields_in (fields g ++ rest) ≡ Some (g, rest)
+pub fields_again : (g : Node) (rest : List ℕ) → FitsFields g → length g.name < 2 ^ 16 → length g.extra < 2 ^ 16
+    → fields_in (fields g ++ rest) ≡ Some (g, rest)
 unfolding head
 fields_again g rest fits name_fits extra_fits =
     let q = fields g ++ rest in
@@ -144,9 +173,18 @@ fields_again g rest fits name_fits extra_fits =
     let extra = at_extra q (head g ++ g.name) (g.extra ++ rest) x (10 + n) extra_fits front_len parts in
     let e12 : 10 + n + 2 ≡ 12 + n = omega arith in
     let behind : drop (12 + n) q ≡ g.extra ++ rest = ap (λ (k : ℕ). drop k q) (sym e12) ∙ extra.1 in
-    let long : 12 + n + x ≤ length q = omega (arith, ap length behind, length-append g.extra rest, length-drop (12 + n) q, ap length parts, length-append (head g ++ g.name) (be2 x ++ (g.extra ++ rest)), front_len) in
+    let long : 12 + n + x ≤ length q = omega (
+      arith,
+      ap length behind,
+      length-append g.extra rest,
+      length-drop (12 + n) q,
+      ap length parts,
+      length-append (head g ++ g.name) (be2 x ++ (g.extra ++ rest)),
+      front_len,
+    ) in
     reads q g rest n x long (from_be_bytes-to_be_bytes_2 n name_fits) extra.0
-    (from_be_bytes-to_be_bytes_2 g.port fits.port) refl refl (from_be_bytes-to_be_bytes_2 g.high fits.high) (from_be_bytes-to_be_bytes_2 g.low fits.low)
+    (from_be_bytes-to_be_bytes_2 g.port fits.port) refl refl (from_be_bytes-to_be_bytes_2 g.high fits.high)
+    (from_be_bytes-to_be_bytes_2 g.low fits.low)
     (ap (λ (t : List ℕ). take n t) (three g.name (be2 x) g.extra rest) ∙ take_at g.name (be2 x ++ (g.extra ++ rest)) n refl)
     (ap (λ (t : List ℕ). take x t) behind ∙ take_at g.extra rest x refl)
     (sym (drop-drop x (12 + n) q) ∙ ap (λ (t : List ℕ). drop x t) behind ∙ drop_at g.extra rest x refl)

@@ -1,5 +1,6 @@
 -- Lines, each ended by byte 10, are told in one way.
-use Rattle.std.proofs.Common.{◌≡◌, ◌≢◌, ℕ, suc, ◌<◌, ◌^◌, true, false, ltb, List, [], ◌∷◌, ◌++◌, length, get_or, take, drop, Some, None, refl, sym, ap, subst, ◌∙◌, arith, append_assoc, add-one, eqb, inl, inr}
+use Rattle.std.proofs.Common.{◌≡◌, ◌≢◌, ℕ, suc, ◌<◌, ◌^◌, true, false, ltb, List, [], ◌∷◌, ◌++◌, length, get_or, take, drop, Some, None}
+use Rattle.std.proofs.Common.{refl, sym, ap, subst, ◌∙◌, arith, append_assoc, add-one, eqb, inl, inr}
 use Rattle.std.specs.Prelude.{All, codes, position}
 use Rattle.std.specs.List.{flat_map, position_or_len}
 use Rattle.std.specs.Fmt.{decimal}
@@ -19,7 +20,8 @@ use Rattle.portmap_wire.specs.List.{names_line, names_reply}
 use Rattle.portmap_wire.specs.declared.list.Line.{Line}
 use Rattle.portmap_wire.specs.declared.list_reading.ListFault.{ListFault}
 use Rattle.portmap_wire.specs.declared.list_reading.ListFault.TheVariants as fault
-use Rattle.portmap_wire.specs.ListReading.{WritesPort, ReadsLine, HasNoReading, is_newline, HasNoNewline, IsCut, ListsTo, IsStrange, Lists, IsListFault, IsLine, IsReadBack, NamesAreReadBack}
+use Rattle.portmap_wire.specs.ListReading.{WritesPort, ReadsLine, HasNoReading, is_newline, HasNoNewline, IsCut, ListsTo, IsStrange, Lists}
+use Rattle.portmap_wire.specs.ListReading.{IsListFault, IsLine, IsReadBack, NamesAreReadBack}
 use Rattle.portmap_wire.proofs.NameLemmas.{each_fails}
 use Rattle.portmap_wire.proofs.ListingLemmas.{one_reading}
 
@@ -53,12 +55,19 @@ plain_head = (omega arith, (omega arith, (omega arith, (omega arith, (omega arit
 
 plain_middle : Plain (codes " at port ")
 unfolding Plain
-plain_middle = (omega arith, (omega arith, (omega arith, (omega arith, (omega arith, (omega arith, (omega arith, (omega arith, (omega arith, tt)))))))))
+plain_middle = (
+  omega arith,
+  (
+    omega arith,
+    (omega arith, (omega arith, (omega arith, (omega arith, (omega arith, (omega arith, (omega arith, tt))))))),
+  ),
+)
 
 plain_line : (text : List ℕ) (line : Line) → ReadsLine text line → Plain text
 plain_line text line r =
     subst Plain (sym r.shape.text_is) (plain_append (codes "name " ++ line.name ++ codes " at port ") r.shape.digits
-    (plain_append (codes "name " ++ line.name) (codes " at port ") (plain_append (codes "name ") line.name plain_head (plain_name line.name r.name)) plain_middle)
+    (plain_append (codes "name " ++ line.name) (codes " at port ")
+    (plain_append (codes "name ") line.name plain_head (plain_name line.name r.name)) plain_middle)
     (plain_digits r.shape.digits r.shape.port_is.each))
 
 -- ---- the first byte 10
@@ -90,16 +99,19 @@ plain_from_all text h = plain_by_index text (λ k lt. h k 0 lt)
 -- the first byte 10 is found
 at_first : (text : List ℕ) (at : ℕ) → Some at ≡ position is_newline text → (at ≡ position_or_len is_newline text) × (at < length text)
 at_first text at e = elim (cases_lt (position_or_len is_newline text) (length text)) [
-  | inl below ↦ let t : ltb (position_or_len is_newline text) (length text) ≡ true = lt-ltb _ _ below in let e2 = rw t at e in let same : at ≡ position_or_len is_newline text = cc in (same, omega (arith, same))
+  | inl below ↦ let t : ltb (position_or_len is_newline text) (length text) ≡ true = lt-ltb _ _ below in let e2 = rw t at e in
+      let same : at ≡ position_or_len is_newline text = cc in (same, omega (arith, same))
   | inr above ↦ absurd (let t : ltb (position_or_len is_newline text) (length text) ≡ false = le-ltb _ _ above in let e2 = rw t at e in cc)
 ]
 
 pub cut_at : (text : List ℕ) (at : ℕ) → Some at ≡ position is_newline text → IsCut text (take at text) (drop 1 (drop at text))
 cut_at text at e =
     let f = at_first text at e in
-    let newline : get_or text at 0 ≡ 10 = eqb-true _ _ (ap (λ (k : ℕ). eqb (get_or text k 0) 10) f.0 ∙ passes_at_first is_newline text 0 (omega (arith, f.0, f.1))) in
+    let newline : get_or text at 0 ≡ 10 = eqb-true _ _
+    (ap (λ (k : ℕ). eqb (get_or text k 0) 10) f.0 ∙ passes_at_first is_newline text 0 (omega (arith, f.0, f.1))) in
     record {
-      text_is = split_at text at 0 f.1 ∙ ap (λ (x : ℕ). take at text ++ x ∷ drop (suc at) text) newline ∙ ap (λ (t : List ℕ). take at text ++ 10 ∷ t) (rw add-one at (sym (drop-drop 1 at text)));
+      text_is = split_at text at 0 f.1 ∙ ap (λ (x : ℕ). take at text ++ x ∷ drop (suc at) text) newline
+          ∙ ap (λ (t : List ℕ). take at text ++ 10 ∷ t) (rw add-one at (sym (drop-drop 1 at text)));
       front_is = All-from_get_or (λ (b : ℕ). b ≢ 10) (take at text) 0 (λ k lt is.
           let less : k < at = omega (arith, length-take at text, lt) in
           let same : get_or text k 0 ≡ 10 = sym (get_or-take at text k 0 less) ∙ is in
@@ -124,7 +136,8 @@ strange_cut text front after cut unread = record {
 
 -- ---- lines
 
-pub one_more : (lines : List Line) (text rest front after : List ℕ) (line : Line) → ListsTo text lines rest → IsCut rest front after → ReadsLine front line → ListsTo text (lines ++ line ∷ []) after
+pub one_more : (lines : List Line) (text rest front after : List ℕ) (line : Line) → ListsTo text lines rest → IsCut rest front after
+    → ReadsLine front line → ListsTo text (lines ++ line ∷ []) after
 one_more [] text rest front after line h cut r = (front, after, h ∙ cut.text_is, r, refl)
 one_more (l ∷ lines) text rest front after line h cut r = (h.0, h.1, h.2, h.3, one_more lines h.1 rest front after line h.4 cut r)
 
@@ -165,7 +178,10 @@ writes_port port small =
     }
 
 reads_line : (line : Line) → IsLine line → ReadsLine (codes "name " ++ line.name ++ codes " at port " ++ decimal line.port) line
-reads_line line is = record { shape = record { digits = decimal line.port; text_is = refl; port_is = writes_port line.port is.port }; name = is.name }
+reads_line line is = record {
+  shape = record { digits = decimal line.port; text_is = refl; port_is = writes_port line.port is.port };
+  name = is.name;
+}
 
 written : (lines : List Line) → All IsLine lines → ListsTo (flat_map names_line lines) lines []
 written [] is = refl
@@ -195,14 +211,16 @@ module _ (bytes : List ℕ) (port : ℕ) (lines : List Line) (l : Lists bytes po
 
   same_lines : (other : ℕ) (others : List Line) → Lists bytes other others → lines ≡ others
   same_lines other others h =
-      let g = goes_on others lines l.text [] (subst (λ (t : List ℕ). ListsTo t others []) (sym (head_of other others h).text) h.lines_are) l.lines_are in
+      let g = goes_on others lines l.text [] (subst (λ (t : List ℕ). ListsTo t others [])
+      (sym (head_of other others h).text) h.lines_are) l.lines_are in
       g.lines_are ∙ ap (λ (m : List Line). others ++ m) (none_left g.more g.more_are) ∙ append-nil others
 
   no_fault : (f : ListFault) → IsListFault bytes f → f ≡ fault.NoMemory
   no_fault fault.Short h = absurd (omega (arith, h, ap length l.bytes_are, length-append (be4 port) l.text))
   no_fault (fault.StrangeLine at) h =
       let e : l.text ≡ h.text = (same_head port h.port l.text h.text l.port_is h.port_is (sym l.bytes_are ∙ h.bytes_are)).text in
-      let g = goes_on h.line.lines lines l.text h.line.rest (subst (λ (t : List ℕ). ListsTo t h.line.lines h.line.rest) (sym e) h.line.lines_are) l.lines_are in
+      let g = goes_on h.line.lines lines l.text h.line.rest
+      (subst (λ (t : List ℕ). ListsTo t h.line.lines h.line.rest) (sym e) h.line.lines_are) l.lines_are in
       absurd (not_strange g.more h.line.rest g.more_are h.line.strange)
   no_fault fault.NoMemory h = refl
 
@@ -215,4 +233,5 @@ module _ (bytes : List ℕ) (port : ℕ) (lines : List Line) (l : Lists bytes po
   }
 
 pub names_read_back : NamesAreReadBack
-names_read_back port lines small are = lists_once (names_reply port lines) port lines (record { port_is = small; text = flat_map names_line lines; bytes_are = refl; lines_are = written lines are })
+names_read_back port lines small are = lists_once (names_reply port lines) port lines
+    (record { port_is = small; text = flat_map names_line lines; bytes_are = refl; lines_are = written lines are })

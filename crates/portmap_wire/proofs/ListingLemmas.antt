@@ -1,10 +1,12 @@
 -- The digits at the end of a line tell where its port begins, and so a line has one reading.
-use Rattle.std.proofs.Common.{◌≡◌, ℕ, ◌+◌, ◌-◌, ◌*◌, ◌<◌, ◌≤◌, Bool, true, false, List, ◌++◌, length, get_or, take, drop, refl, sym, ap, subst, ◌∙◌, arith, Ok, Err, inl, inr}
+use Rattle.std.proofs.Common.{◌≡◌, ℕ, ◌+◌, ◌-◌, ◌*◌, ◌<◌, ◌≤◌, Bool, true, false, List, ◌++◌, length, get_or, take, drop, refl, sym, ap}
+use Rattle.std.proofs.Common.{subst, ◌∙◌, arith, Ok, Err, inl, inr}
 use Rattle.std.specs.Prelude.{codes, ◌≢◌, MatchBool}
 use Rattle.std.specs.Int.{IsInRange}
 use Rattle.std.specs.Str.Parse.{AllDigits, digits_value}
 use Rattle.std.proofs.lemmas.Bool.{cases_lt}
-use Rattle.std.proofs.lemmas.List.{take_at, drop_at, take-append-drop, length-append, get_or-drop, length-drop, get_or_append_left, get_or-append_right, get_or-append-add, append_cancel_left, append_cancel_right}
+use Rattle.std.proofs.lemmas.List.{take_at, drop_at, take-append-drop, length-append, get_or-drop, length-drop, get_or_append_left}
+use Rattle.std.proofs.lemmas.List.{get_or-append_right, get_or-append-add, append_cancel_left, append_cancel_right}
 use Rattle.std.proofs.lemmas.Str.Parse.{numerals_by_value, tells_digits, tells_by_index, digit_at, digits_value_short, digits_value-take-le}
 use Rattle.std.proofs.lemmas.Str.{digit_value_digit}
 use Rattle.std.proofs.lemmas.Int.Digits.{digits_value_more}
@@ -28,7 +30,11 @@ next_digit ds i each short lt =
     record {
       digit = d;
       value = omega (arith, digits_value_more 10 ds i lt, digit_value_digit (get_or ds i 0) d);
-      small = omega (arith, digits_value-take-le 10 ds (i + 1) (omega arith), digits_value_short (numerals_by_value (AllDigits 10) tells_digits) ds 5 each short);
+      small = omega (
+        arith,
+        digits_value-take-le 10 ds (i + 1) (omega arith),
+        digits_value_short (numerals_by_value (AllDigits 10) tells_digits) ds 5 each short,
+      );
     }
 
 pub digits_behind : (text : List ℕ) (start : ℕ) → EndsInDigits text start → AllDigits 10 (drop start text)
@@ -41,7 +47,8 @@ pub stem : List ℕ → List ℕ
 stem name = (codes "name " ++ name) ++ codes " at port "
 
 -- a text that is not empty and ends in a blank, and digits
-pub same_split : (text front digits : List ℕ) (n start : ℕ) → text ≡ front ++ digits → AllDigits 10 digits → length front ≡ n + 1 → get_or front n 0 ≡ 32 → EndsInDigits text start → n + 1 ≡ start
+pub same_split : (text front digits : List ℕ) (n start : ℕ) → text ≡ front ++ digits → AllDigits 10 digits → length front ≡ n + 1
+    → get_or front n 0 ≡ 32 → EndsInDigits text start → n + 1 ≡ start
 same_split text front digits n start e each len last ends =
     let total : length text ≡ n + 1 + length digits = omega (arith, ap length e, length-append front digits) in
     let blank : get_or text n 0 ≡ 32 = ap (λ (t : List ℕ). get_or t n 0) e ∙ get_or_append_left front digits 0 n (omega arith) ∙ last in
@@ -49,11 +56,13 @@ same_split text front digits n start e each len last ends =
     elim (cases_lt (n + 1) start) [
       | inl lt ↦
           let k = start - 1 in
-          let is : get_or text k 0 ≡ get_or digits (k - (n + 1)) 0 = ap (λ (t : List ℕ). get_or t k 0) e ∙ get_or-append_right front digits (n + 1) k 0 len (omega arith) in
+          let is : get_or text k 0 ≡ get_or digits (k - (n + 1)) 0 = ap (λ (t : List ℕ). get_or t k 0) e
+          ∙ get_or-append_right front digits (n + 1) k 0 len (omega arith) in
           let d = digit_at digits (k - (n + 1)) each (omega arith) in
           absurd (let low : 57 < get_or text k 0 = ends.before k (omega arith) (omega (arith, is, d)) in omega (arith, is, d, low))
       | inr le ↦ elim (cases_lt start (n + 1)) [
-        | inl less ↦ absurd (let d : IsInRange 48 57 (get_or text n 0) = ends.digits n (omega arith) (omega arith) in omega (arith, d, blank))
+        | inl less ↦ absurd (let d : IsInRange 48 57 (get_or text n 0) = ends.digits n (omega arith) (omega arith) in
+            omega (arith, d, blank))
         | inr more ↦ omega arith
       ]
     ]
@@ -62,33 +71,39 @@ pub record Split (text name digits : List ℕ) (start : ℕ) : Type 0 where
   pub front : take start text ≡ stem name
   pub back : drop start text ≡ digits
 
-pub at_split : (text name digits : List ℕ) (start : ℕ) → text ≡ codes "name " ++ name ++ codes " at port " ++ digits → AllDigits 10 digits → EndsInDigits text start → Split text name digits start
+pub at_split : (text name digits : List ℕ) (start : ℕ) → text ≡ codes "name " ++ name ++ codes " at port " ++ digits → AllDigits 10 digits
+    → EndsInDigits text start → Split text name digits start
 unfolding stem
 at_split text name digits start e each ends =
     let n = length (codes "name " ++ name) + 8 in
     let e2 : text ≡ stem name ++ digits = e in
     let len : length (stem name) ≡ n + 1 = omega (arith, length-append (codes "name " ++ name) (codes " at port ")) in
-    let place : n + 1 ≡ start = same_split text (stem name) digits n start e2 each len (get_or-append-add (codes "name " ++ name) (codes " at port ") 8 0) ends in
+    let place : n + 1 ≡ start = same_split text (stem name) digits n start e2 each len
+    (get_or-append-add (codes "name " ++ name) (codes " at port ") 8 0) ends in
     record {
       front = ap (λ (t : List ℕ). take start t) e2 ∙ take_at (stem name) digits start (len ∙ place);
       back = ap (λ (t : List ℕ). drop start t) e2 ∙ drop_at (stem name) digits start (len ∙ place);
     }
 
-pub ends_behind : (text name digits : List ℕ) → text ≡ codes "name " ++ name ++ codes " at port " ++ digits → AllDigits 10 digits → EndsInDigits text (length (stem name))
+pub ends_behind : (text name digits : List ℕ) → text ≡ codes "name " ++ name ++ codes " at port " ++ digits → AllDigits 10 digits
+    → EndsInDigits text (length (stem name))
 unfolding stem
 ends_behind text name digits e each =
     let n = length (codes "name " ++ name) + 8 in
     let e2 : text ≡ stem name ++ digits = e in
     let len : length (stem name) ≡ n + 1 = omega (arith, length-append (codes "name " ++ name) (codes " at port ")) in
     let total : length text ≡ n + 1 + length digits = omega (arith, ap length e2, length-append (stem name) digits) in
-    let blank : get_or text n 0 ≡ 32 = ap (λ (t : List ℕ). get_or t n 0) e2 ∙ get_or_append_left (stem name) digits 0 n (omega arith) ∙ get_or-append-add (codes "name " ++ name) (codes " at port ") 8 0 in
+    let blank : get_or text n 0 ≡ 32 = ap (λ (t : List ℕ). get_or t n 0) e2 ∙ get_or_append_left (stem name) digits 0 n (omega arith)
+    ∙ get_or-append-add (codes "name " ++ name) (codes " at port ") 8 0 in
     record {
       within = omega arith;
       digits = λ k le lt.
-          let is : get_or text k 0 ≡ get_or digits (k - length (stem name)) 0 = ap (λ (t : List ℕ). get_or t k 0) e2 ∙ get_or-append_right (stem name) digits (length (stem name)) k 0 refl le in
+          let is : get_or text k 0 ≡ get_or digits (k - length (stem name)) 0 = ap (λ (t : List ℕ). get_or t k 0) e2
+          ∙ get_or-append_right (stem name) digits (length (stem name)) k 0 refl le in
           let d = digit_at digits (k - length (stem name)) each (omega arith) in
           (omega (arith, is, d), omega (arith, is, d));
-      before = λ k at low. absurd (let same : k ≡ n = omega arith in let here : get_or text k 0 ≡ 32 = ap (λ (j : ℕ). get_or text j 0) same ∙ blank in omega (arith, here, low));
+      before = λ k at low. absurd (let same : k ≡ n = omega arith in let here : get_or text k 0 ≡ 32 = ap (λ (j : ℕ). get_or text j 0) same
+          ∙ blank in omega (arith, here, low));
     }
 
 -- ---- one reading
@@ -99,7 +114,8 @@ pub record SameShape (a b : List ℕ) (p q : ℕ) : Type 0 where
 
 pub same_name : (a b : List ℕ) → stem a ≡ stem b → a ≡ b
 unfolding stem
-same_name a b e = append_cancel_left (codes "name ") a b (append_cancel_right (codes "name " ++ a) (codes "name " ++ b) (codes " at port ") e)
+same_name a b e = append_cancel_left (codes "name ") a b
+    (append_cancel_right (codes "name " ++ a) (codes "name " ++ b) (codes " at port ") e)
 
 pub one_shape : (text a b : List ℕ) (p q : ℕ) → HasShape text a p → HasShape text b q → SameShape a b p q
 one_shape text a b p q x y =
@@ -112,33 +128,45 @@ one_shape text a b p q x y =
     }
 
 pub one_reading : LinesHaveOneReading
-one_reading text a b x y = let s = one_shape text a.name b.name a.port b.port x.shape y.shape in λ i. record { name = s.name i; port = s.port i }
+one_reading text a b x y = let s = one_shape text a.name b.name a.port b.port x.shape y.shape in λ i.
+    record { name = s.name i; port = s.port i }
 
 -- ---- what a search for the parts tells
 
-pub no_suffix : (text front : List ℕ) (start : ℕ) → EndsInDigits text start → front ≡ take start text → ((head : List ℕ) → front ≢ head ++ codes " at port ") → (name : List ℕ) (port : ℕ) → HasShape text name port → ⊥
+pub no_suffix : (text front : List ℕ) (start : ℕ) → EndsInDigits text start → front ≡ take start text
+    → ((head : List ℕ) → front ≢ head ++ codes " at port ") → (name : List ℕ) (port : ℕ) → HasShape text name port → ⊥
 unfolding stem
-no_suffix text front start ends e none name port x = none (codes "name " ++ name) (e ∙ (at_split text name x.digits start x.text_is x.port_is.each ends).front)
+no_suffix text front start ends e none name port x =
+    none (codes "name " ++ name) (e ∙ (at_split text name x.digits start x.text_is x.port_is.each ends).front)
 
-pub no_prefix : (text front head : List ℕ) (start : ℕ) → EndsInDigits text start → front ≡ take start text → front ≡ head ++ codes " at port " → ((rest : List ℕ) → head ≢ codes "name " ++ rest) → (name : List ℕ) (port : ℕ) → HasShape text name port → ⊥
+pub no_prefix : (text front head : List ℕ) (start : ℕ) → EndsInDigits text start → front ≡ take start text
+    → front ≡ head ++ codes " at port " → ((rest : List ℕ) → head ≢ codes "name " ++ rest) → (name : List ℕ) (port : ℕ)
+    → HasShape text name port → ⊥
 unfolding stem
 no_prefix text front head start ends e suffix none name port x =
-    none name (append_cancel_right head (codes "name " ++ name) (codes " at port ") (sym suffix ∙ e ∙ (at_split text name x.digits start x.text_is x.port_is.each ends).front))
+    none name (append_cancel_right head (codes "name " ++ name) (codes " at port ")
+    (sym suffix ∙ e ∙ (at_split text name x.digits start x.text_is x.port_is.each ends).front))
 
-pub no_port : (text back : List ℕ) (start : ℕ) → EndsInDigits text start → back ≡ drop start text → ((port : ℕ) → WritesPort back port → ⊥) → (name : List ℕ) (port : ℕ) → HasShape text name port → ⊥
+pub no_port : (text back : List ℕ) (start : ℕ) → EndsInDigits text start → back ≡ drop start text → ((port : ℕ) → WritesPort back port → ⊥)
+    → (name : List ℕ) (port : ℕ) → HasShape text name port → ⊥
 no_port text back start ends e none name port x =
-    none port (subst (λ (t : List ℕ). WritesPort t port) (sym (e ∙ (at_split text name x.digits start x.text_is x.port_is.each ends).back)) x.port_is)
+    none port (subst (λ (t : List ℕ). WritesPort t port)
+    (sym (e ∙ (at_split text name x.digits start x.text_is x.port_is.each ends).back)) x.port_is)
 
-pub has_shape : (text front back head name : List ℕ) (start port : ℕ) → front ≡ take start text → back ≡ drop start text → front ≡ head ++ codes " at port " → head ≡ codes "name " ++ name → WritesPort back port → HasShape text name port
+pub has_shape : (text front back head name : List ℕ) (start port : ℕ) → front ≡ take start text → back ≡ drop start text
+    → front ≡ head ++ codes " at port " → head ≡ codes "name " ++ name → WritesPort back port → HasShape text name port
 has_shape text front back head name start port e1 e2 suffix prefix port_is = record {
   digits = back;
-  text_is = sym (take-append-drop start text) ∙ (λ i. sym e1 i ++ sym e2 i) ∙ ap (λ (t : List ℕ). t ++ back) (suffix ∙ ap (λ (t : List ℕ). t ++ codes " at port ") prefix);
+  text_is = sym (take-append-drop start text) ∙ (λ i. sym e1 i ++ sym e2 i)
+      ∙ ap (λ (t : List ℕ). t ++ back) (suffix ∙ ap (λ (t : List ℕ). t ++ codes " at port ") prefix);
   port_is = port_is;
 }
 
 -- a name that is refused, other than for want of memory, is no line's
-pub refused : (text name : List ℕ) (port : ℕ) (f : NameFault) → (f ≡ name_fault.NoMemory → ⊥) → (IsName name → GivesName {X = List ℕ} (Err f) (Ok name)) → HasShape text name port → HasNoReading text
-refused text name port f other only shape line r = never f other (only (subst IsName (one_shape text line.name name line.port port r.shape shape).name r.name))
+pub refused : (text name : List ℕ) (port : ℕ) (f : NameFault) → (f ≡ name_fault.NoMemory → ⊥)
+    → (IsName name → GivesName {X = List ℕ} (Err f) (Ok name)) → HasShape text name port → HasNoReading text
+refused text name port f other only shape line r =
+    never f other (only (subst IsName (one_shape text line.name name line.port port r.shape shape).name r.name))
   where
     never : (f : NameFault) → (f ≡ name_fault.NoMemory → ⊥) → GivesName {X = List ℕ} (Err f) (Ok name) → ⊥
     never name_fault.NoMemory other g = other refl
@@ -147,6 +175,8 @@ refused text name port f other only shape line r = never f other (only (subst Is
     never (name_fault.BadByte at) other g = absurd cc
 
 -- a text of a line's shape is one exactly where its name is a name
-pub named_line : (text name : List ℕ) (port : ℕ) (b : Bool) → HasShape text name port → MatchBool b (IsName name) (IsName name → ⊥) → MatchBool b ((line : Line) × ReadsLine text line) (HasNoReading text)
+pub named_line : (text name : List ℕ) (port : ℕ) (b : Bool) → HasShape text name port → MatchBool b (IsName name) (IsName name → ⊥)
+    → MatchBool b ((line : Line) × ReadsLine text line) (HasNoReading text)
 named_line text name port true shape is = (record { name = name; port = port }, record { shape = shape; name = is })
-named_line text name port false shape none = λ line r. none (subst IsName (one_shape text line.name name line.port port r.shape shape).name r.name)
+named_line text name port false shape none = λ line r.
+    none (subst IsName (one_shape text line.name name line.port port r.shape shape).name r.name)

@@ -32,5 +32,11 @@ each_fails p bytes e i lt = fails_before_first p bytes i 0 (elim (cases_lt (posi
   | inr above ↦ omega arith
 ])
 
-pub is_name : (bytes : List ℕ) → IsBytes bytes → 0 < length bytes → length bytes ≤ NAME_MOST → None ≡ position is_control bytes → IsName bytes
-is_name bytes fits some short e = record { some = some; short = short; each = All-from_get_or IsNameByte bytes 0 (λ i lt. passes (get_or bytes i 0) (fits i) (each_fails is_control bytes e i lt)) }
+pub is_name : (bytes : List ℕ) → IsBytes bytes → 0 < length bytes → length bytes ≤ NAME_MOST → None ≡ position is_control bytes
+    → IsName bytes
+is_name bytes fits some short e = record {
+  some = some;
+  short = short;
+  each = All-from_get_or IsNameByte bytes 0
+      (λ i lt. passes (get_or bytes i 0) (fits i) (each_fails is_control bytes e i lt));
+}

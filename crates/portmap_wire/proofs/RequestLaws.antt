@@ -1,5 +1,6 @@
 -- The two laws: what is read is spelled so, and what is spelled so is read.
-use Rattle.std.proofs.Common.{◌≡◌, ◌⊎◌, ℕ, suc, ◌+◌, ◌<◌, ◌≤◌, Bool, true, false, cond, ltb, eqb, List, [], ◌∷◌, ◌++◌, length, Option, Some, None, Result, Ok, Err, refl, sym, ap, subst, ◌∙◌, arith, inl, inr}
+use Rattle.std.proofs.Common.{◌≡◌, ◌⊎◌, ℕ, suc, ◌+◌, ◌<◌, ◌≤◌, Bool, true, false, cond, ltb, eqb, List, [], ◌∷◌, ◌++◌, length, Option, Some}
+use Rattle.std.proofs.Common.{None, Result, Ok, Err, refl, sym, ap, subst, ◌∙◌, arith, inl, inr}
 use Rattle.std.specs.Prelude.{IfOk, IfErr, ◌≢◌, position}
 use Rattle.std.proofs.lemmas.Bool.{ltb-false, le-ltb, eqb-true, eqb-false, ne_eqb}
 use Rattle.std.proofs.lemmas.List.{append-nil, nil_from_length, length-append}
@@ -8,12 +9,14 @@ use Rattle.portmap_wire.specs.Node.{Node, IsNode, fields, be2}
 use Rattle.portmap_wire.specs.declared.name.NameFault.{NameFault}
 use Rattle.portmap_wire.specs.declared.name.NameFault.TheVariants as name_fault
 use Rattle.portmap_wire.specs.declared.name.TheConstants.{NAME_MOST}
-use Rattle.portmap_wire.specs.declared.request.TheConstants.{BODY_MOST, ALIVE2_REQ, PORT_PLEASE2_REQ, NAMES_REQ, DUMP_REQ, KILL_REQ, STOP_REQ}
+use Rattle.portmap_wire.specs.declared.request.TheConstants.{BODY_MOST, ALIVE2_REQ, PORT_PLEASE2_REQ, NAMES_REQ, DUMP_REQ, KILL_REQ}
+use Rattle.portmap_wire.specs.declared.request.TheConstants.{STOP_REQ}
 use Rattle.portmap_wire.specs.declared.request.Malformed.{Malformed}
 use Rattle.portmap_wire.specs.declared.request.Malformed.TheVariants as malformed
 use Rattle.portmap_wire.specs.declared.request.Request.{Request}
 use Rattle.portmap_wire.specs.declared.request.Request.TheVariants.{Alive, Port, Names, Dump, Kill, Stop}
-use Rattle.portmap_wire.specs.RequestReading.{unless_found, name_in, fields_in, named, alone, with_name, filled, alive_in, by_tag, request_in, Gives}
+use Rattle.portmap_wire.specs.RequestReading.{unless_found, name_in, fields_in, named, alone, with_name, filled, alive_in, by_tag}
+use Rattle.portmap_wire.specs.RequestReading.{request_in, Gives}
 use Rattle.portmap_wire.specs.Request.{body_of, IsRequest, Spells, IsMalformed, SpellsOneRequest}
 use Rattle.portmap_wire.proofs.NameLemmas.{IsBytes, is_name, no_control}
 use Rattle.portmap_wire.proofs.FieldLemmas.{FitsFields, fields_take, fields_again}
@@ -62,7 +65,8 @@ name_again bytes name =
 IsBytes-rest : (b : ℕ) (bytes : List ℕ) → IsBytes (b ∷ bytes) → IsBytes bytes
 IsBytes-rest b bytes h i = h (suc i)
 
-named_takes : (make : List ℕ → Request) (read : Result (List ℕ) NameFault) (r : Request) → named make read ≡ Ok r → (n : List ℕ) × (read ≡ Ok n) × (make n ≡ r)
+named_takes : (make : List ℕ → Request) (read : Result (List ℕ) NameFault) (r : Request) → named make read ≡ Ok r
+    → (n : List ℕ) × (read ≡ Ok n) × (make n ≡ r)
 named_takes make (Ok n) r e = (n, refl, cc)
 named_takes make (Err f) r e = absurd cc
 
@@ -70,11 +74,13 @@ alone_takes : (only r : Request) (rest : List ℕ) → alone only rest ≡ Ok r 
 alone_takes only r [] e = (refl, cc)
 alone_takes only r (b ∷ bs) e = absurd cc
 
-with_name_takes : (g : Node) (read : Result (List ℕ) NameFault) (r : Request) → with_name g read ≡ Ok r → (n : List ℕ) × (read ≡ Ok n) × (Alive g ≡ r)
+with_name_takes : (g : Node) (read : Result (List ℕ) NameFault) (r : Request) → with_name g read ≡ Ok r
+    → (n : List ℕ) × (read ≡ Ok n) × (Alive g ≡ r)
 with_name_takes g (Ok n) r e = (n, refl, cc)
 with_name_takes g (Err f) r e = absurd cc
 
-filled_takes : (o : Option (Node × List ℕ)) (r : Request) → filled o ≡ Ok r → (f : Node × List ℕ) × (o ≡ Some f) × (f.1 ≡ []) × (with_name f.0 (name_in f.0.name) ≡ Ok r)
+filled_takes : (o : Option (Node × List ℕ)) (r : Request) → filled o ≡ Ok r
+    → (f : Node × List ℕ) × (o ≡ Some f) × (f.1 ≡ []) × (with_name f.0 (name_in f.0.name) ≡ Ok r)
 filled_takes None r e = absurd cc
 filled_takes (Some f) r e =
     let g = guard_after (eqb (length f.1) 0) malformed.LengthsDisagree _ r e in
@@ -110,17 +116,20 @@ port_takes : (rest : List ℕ) (r : Request) → IsBytes rest → named (λ n. P
 port_takes rest r fits e =
     let m = named_takes (λ n. Port n) (name_in rest) r e in
     let t = name_takes rest m.0 fits m.1 in
-    let all : Spells (PORT_PLEASE2_REQ ∷ rest) (Port m.0) = record { request_is = subst IsName t.0 t.1; text = ap (λ (z : List ℕ). PORT_PLEASE2_REQ ∷ z) t.0 } in
+    let all : Spells (PORT_PLEASE2_REQ ∷ rest) (Port m.0) =
+    record { request_is = subst IsName t.0 t.1; text = ap (λ (z : List ℕ). PORT_PLEASE2_REQ ∷ z) t.0 } in
     subst (λ (x : Request). Spells (PORT_PLEASE2_REQ ∷ rest) x) m.2 all
 
 stop_takes : (rest : List ℕ) (r : Request) → IsBytes rest → named (λ n. Stop n) (name_in rest) ≡ Ok r → Spells (STOP_REQ ∷ rest) r
 stop_takes rest r fits e =
     let m = named_takes (λ n. Stop n) (name_in rest) r e in
     let t = name_takes rest m.0 fits m.1 in
-    let all : Spells (STOP_REQ ∷ rest) (Stop m.0) = record { request_is = subst IsName t.0 t.1; text = ap (λ (z : List ℕ). STOP_REQ ∷ z) t.0 } in
+    let all : Spells (STOP_REQ ∷ rest) (Stop m.0) =
+    record { request_is = subst IsName t.0 t.1; text = ap (λ (z : List ℕ). STOP_REQ ∷ z) t.0 } in
     subst (λ (x : Request). Spells (STOP_REQ ∷ rest) x) m.2 all
 
-one_takes : (tag : ℕ) (only r : Request) (rest : List ℕ) → IsRequest only → tag ∷ [] ≡ body_of only → alone only rest ≡ Ok r → Spells (tag ∷ rest) r
+one_takes : (tag : ℕ) (only r : Request) (rest : List ℕ) → IsRequest only → tag ∷ [] ≡ body_of only → alone only rest ≡ Ok r
+    → Spells (tag ∷ rest) r
 one_takes tag only r rest is text e =
     let a = alone_takes only r rest e in
     let all : Spells (tag ∷ rest) only = record { request_is = is; text = ap (λ (z : List ℕ). tag ∷ z) a.0 ∙ text } in
@@ -158,10 +167,12 @@ alive_again g is =
     let len = length-fields g in
     let total : 13 + length g.name + length g.extra ≤ BODY_MOST = is.fits in
     let fits : FitsFields g = record { port = is.port; kind = is.kind; proto = is.proto; high = is.high; low = is.low } in
-    let read : fields_in (fields g) ≡ Some (g, []) = ap fields_in (sym (append-nil (fields g))) ∙ fields_again g [] fits (omega arith) (omega arith) in
+    let read : fields_in (fields g) ≡ Some (g, []) = ap fields_in (sym (append-nil (fields g)))
+    ∙ fields_again g [] fits (omega arith) (omega arith) in
     let t1 : ltb (length (fields g)) 12 ≡ false = le-ltb _ _ (omega arith) in
     let t2 : ltb BODY_MOST (1 + length (fields g)) ≡ false = le-ltb _ _ (omega arith) in
-    ap (λ (b : Bool). cond b (Err malformed.Short) (cond (ltb BODY_MOST (1 + length (fields g))) (Err malformed.LengthsDisagree) (filled (fields_in (fields g))))) t1
+    ap (λ (b : Bool). cond b (Err malformed.Short)
+    (cond (ltb BODY_MOST (1 + length (fields g))) (Err malformed.LengthsDisagree) (filled (fields_in (fields g))))) t1
     ∙ (ap (λ (b : Bool). cond b (Err malformed.LengthsDisagree) (filled (fields_in (fields g)))) t2
     ∙ (ap filled read ∙ ap (with_name g) (name_again g.name is.name)))
 
@@ -176,7 +187,8 @@ request_again (Stop n) is = rw (name_again n is) refl
 
 -- ---- what the reader answered, by what the bytes say
 
-pub found : (body : List ℕ) (answer : Result Request Malformed) → IsBytes body → Gives answer (request_in body) → IfOk answer (λ r. Spells body r)
+pub found : (body : List ℕ) (answer : Result Request Malformed) → IsBytes body → Gives answer (request_in body)
+    → IfOk answer (λ r. Spells body r)
 found body (Ok r) fits h = request_takes body r fits h
 found body (Err e) fits h = tt
 
@@ -184,7 +196,8 @@ found body (Err e) fits h = tt
 spelled_is_read : (body : List ℕ) (r : Request) → Spells body r → request_in body ≡ Ok r
 spelled_is_read body r spells = ap request_in spells.text ∙ request_again r spells.request_is
 
-pub refused : (body : List ℕ) (answer : Result Request Malformed) → Gives answer (request_in body) → IfErr answer (λ fault. fault ≢ malformed.NoMemory → IsMalformed body)
+pub refused : (body : List ℕ) (answer : Result Request Malformed) → Gives answer (request_in body)
+    → IfErr answer (λ fault. fault ≢ malformed.NoMemory → IsMalformed body)
 refused body (Ok r) h = tt
 refused body (Err malformed.NoMemory) h = λ other. absurd (other refl)
 refused body (Err malformed.Short) h = λ other r spells. let both = sym h ∙ spelled_is_read body r spells in absurd cc
@@ -193,4 +206,5 @@ refused body (Err malformed.LengthsDisagree) h = λ other r spells. let both = s
 refused body (Err (malformed.Name fault)) h = λ other r spells. let both = sym h ∙ spelled_is_read body r spells in absurd cc
 
 pub one_request : SpellsOneRequest
-one_request body a b p q = let both : ◌≡◌ {A = Result Request Malformed} (Ok a) (Ok b) = sym (spelled_is_read body a p) ∙ spelled_is_read body b q in cc
+one_request body a b p q = let both : ◌≡◌ {A = Result Request Malformed} (Ok a) (Ok b) = sym (spelled_is_read body a p)
+    ∙ spelled_is_read body b q in cc

@@ -4,4 +4,7 @@ use Rattle.portmap_wire.specs.Node.{Node}
 use Rattle.portmap_wire.specs.declared.fields_reading.Fields.{Fields}
 
 abbrev pub in_place : Fields → Node × List ℕ
-in_place f = (record { port = f.port; kind = f.kind; proto = f.proto; high = f.high; low = f.low; name = f.name.now; extra = f.extra.now }, f.rest.now)
+in_place f = (
+  record { port = f.port; kind = f.kind; proto = f.proto; high = f.high; low = f.low; name = f.name.now; extra = f.extra.now },
+  f.rest.now,
+)

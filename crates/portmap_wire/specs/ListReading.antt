@@ -59,7 +59,8 @@ pub record IsCut (text front after : List ℕ) : Type 0 where
 -- these lines, each ended by byte 10, and what follows them
 abbrev pub ListsTo : List ℕ → List Line → List ℕ → Type 0
 ListsTo text [] rest = text ≡ rest
-ListsTo text (line ∷ lines) rest = (front : List ℕ) × (after : List ℕ) × (text ≡ front ++ 10 ∷ after) × ReadsLine front line × ListsTo after lines rest
+ListsTo text (line ∷ lines) rest = (front : List ℕ) × (after : List ℕ) × (text ≡ front ++ 10 ∷ after) × ReadsLine front line
+    × ListsTo after lines rest
 
 -- a text is lines
 abbrev pub IsLines : List ℕ → Type 0

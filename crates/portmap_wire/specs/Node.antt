@@ -22,7 +22,8 @@ be2 n = to_be_bytes w16 n
 
 -- the fields one behind the other, the name and the extra bytes each behind their length
 abbrev pub fields : Node → List ℕ
-fields g = be2 g.port ++ (g.kind ∷ g.proto ∷ []) ++ be2 g.high ++ be2 g.low ++ be2 (length g.name) ++ g.name ++ be2 (length g.extra) ++ g.extra
+fields g = be2 g.port ++ (g.kind ∷ g.proto ∷ []) ++ be2 g.high ++ be2 g.low ++ be2 (length g.name) ++ g.name ++ be2 (length g.extra)
+    ++ g.extra
 
 -- each field is in range, and a request of BODY_MOST bytes holds them all (the limit: profile)
 pub record IsNode (g : Node) : Type 0 where
@@ -36,4 +37,7 @@ pub record IsNode (g : Node) : Type 0 where
 
 -- two registrations are equal, as a test: field by field
 abbrev pub are_same : Node → Node → Bool
-are_same = eq_of_both (on (λ g. g.port) nat_eq) (eq_of_both (on (λ g. g.kind) nat_eq) (eq_of_both (on (λ g. g.proto) nat_eq) (eq_of_both (on (λ g. g.high) nat_eq) (eq_of_both (on (λ g. g.low) nat_eq) (eq_of_both (on (λ g. g.name) (pointwise nat_eq)) (on (λ g. g.extra) (pointwise nat_eq)))))))
+are_same = eq_of_both (on (λ g. g.port) nat_eq)
+    (eq_of_both (on (λ g. g.kind) nat_eq) (eq_of_both (on (λ g. g.proto) nat_eq)
+    (eq_of_both (on (λ g. g.high) nat_eq) (eq_of_both (on (λ g. g.low) nat_eq)
+    (eq_of_both (on (λ g. g.name) (pointwise nat_eq)) (on (λ g. g.extra) (pointwise nat_eq)))))))

@@ -1,6 +1,7 @@
 -- What a client makes of the bytes that it got: ERTS User's Guide, EPMD Protocol, the replies; that bytes behind an
 -- answer are not looked at, and either tag of ALIVE2 is taken: profile.
-use Rattle.std.specs.Prelude.{◌≡◌, ℕ, ◌+◌, ◌<◌, ◌^◌, List, [], ◌∷◌, ◌++◌, length, take, Option, Some, None, Result, Ok, Err, IfSome, nat_lt, ◌==◌, if◌then◌else◌}
+use Rattle.std.specs.Prelude.{◌≡◌, ℕ, ◌+◌, ◌<◌, ◌^◌, List, [], ◌∷◌, ◌++◌, length, take, Option, Some, None, Result, Ok, Err, IfSome, nat_lt}
+use Rattle.std.specs.Prelude.{◌==◌, if◌then◌else◌}
 use Rattle.std.specs.Int.{w16, w32, from_be_bytes}
 use Rattle.portmap_wire.specs.Node.{Node, IsNode}
 use Rattle.portmap_wire.specs.RequestReading.{name_in, fields_in}
@@ -31,7 +32,8 @@ short_answer (code ∷ rest) =
 
 abbrev pub alive_answer : List ℕ → Result AliveReply ReplyFault
 alive_answer [] = Err fault.Short
-alive_answer (tag ∷ rest) = if tag == ALIVE2_X_RESP then wide_answer rest else if tag == ALIVE2_RESP then short_answer rest else Err (fault.BadTag tag)
+alive_answer (tag ∷ rest) = if tag == ALIVE2_X_RESP then wide_answer rest else if tag == ALIVE2_RESP then short_answer rest else Err
+    (fault.BadTag tag)
 
 -- ---- the answer to PORT_PLEASE2_REQ
 
@@ -80,7 +82,8 @@ abbrev pub given_or_refused : ℕ → ℕ → AliveReply
 given_or_refused code creation = if code == 0 then Given creation else Refused code
 
 abbrev pub AlivesAreReadBack : Type 0
-AlivesAreReadBack = (high code creation : ℕ) (more : List ℕ) → creation < 2 ^ 32 → (high < WIDE_VERSION → creation < 2 ^ 16) → alive_answer (alive_reply high code creation ++ more) ≡ Ok (given_or_refused code creation)
+AlivesAreReadBack = (high code creation : ℕ) (more : List ℕ) → creation < 2 ^ 32 → (high < WIDE_VERSION → creation < 2 ^ 16)
+    → alive_answer (alive_reply high code creation ++ more) ≡ Ok (given_or_refused code creation)
 
 abbrev pub LookUpsAreReadBack : Type 0
 LookUpsAreReadBack = (found : Option Node) (more : List ℕ) → IfSome found IsNode → port2_answer (port2_reply found ++ more) ≡ Ok found

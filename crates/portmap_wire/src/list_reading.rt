@@ -2,7 +2,9 @@
 ghost use Rattle.std.specs.Prelude.{◌≡◌, ◌++◌, ◌<◌, ℕ, List, [], length, position, IfOk, IfSome, IfErr, MatchBool, MatchOption, None, Err};
 ghost use Rattle.std.specs.Str.Parse.{AllDigits};
 ghost use Rattle.portmap_wire.specs.Reply.{be4};
-ghost use Rattle.portmap_wire.specs.ListReading.{WritesPort, EndsInDigits, HasShape, HasNoReading, ReadsLine, is_newline, HasNoNewline, IsCut, ListsTo, IsLines, Lists, IsList, StrangeIn, IsLinesFault, IsListFault, LinesHaveOneReading, ListsHaveOneReading, NamesAreReadBack};
+ghost use Rattle.portmap_wire.specs.ListReading.{WritesPort, EndsInDigits, HasShape, HasNoReading, ReadsLine, is_newline, HasNoNewline};
+ghost use Rattle.portmap_wire.specs.ListReading.{IsCut, ListsTo, IsLines, Lists, IsList, StrangeIn, IsLinesFault, IsListFault};
+ghost use Rattle.portmap_wire.specs.ListReading.{LinesHaveOneReading, ListsHaveOneReading, NamesAreReadBack};
 
 use crate::NoMemory;
 use crate::list::Line;

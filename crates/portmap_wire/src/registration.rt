@@ -51,9 +51,18 @@ impl Model for Reg {
 
     ghost Value = { Node };
 
-    ghost view = { λ g. record { port = g.port; kind = g.kind; proto = g.proto; high = g.high; low = g.low; name = g.name; extra = g.extra.items } };
+    ghost view = { λ g. record {
+      port = g.port;
+      kind = g.kind;
+      proto = g.proto;
+      high = g.high;
+      low = g.low;
+      name = g.name;
+      extra = g.extra.items;
+    } };
 
-    ghost invariant = { λ g. IsNode (record { port = g.port; kind = g.kind; proto = g.proto; high = g.high; low = g.low; name = g.name; extra = g.extra.items }) };
+    ghost invariant = { λ g. IsNode (record
+        { port = g.port; kind = g.kind; proto = g.proto; high = g.high; low = g.low; name = g.name; extra = g.extra.items }) };
 }
 
 impl Reg {
@@ -68,7 +77,8 @@ impl Reg {
         name: Name,
         extra: &[u8],
     ) -> Result<Reg, ExtraFault>
-        ensures ok { IfOk result (λ g. g ≡ record { port = port; kind = kind; proto = proto; high = high; low = low; name = name; extra = extra.now }) }
+        ensures ok { IfOk result (λ g. g ≡ record
+            { port = port; kind = kind; proto = proto; high = high; low = low; name = name; extra = extra.now }) }
         ensures fits { OnOk result (13 + length name + length extra.now ≤ BODY_MOST) }
         ensures too_long { result ≡ Err ExtraFault.TooLong ↔ (BODY_MOST < 13 + length name + length extra.now) }
     {
@@ -90,7 +100,15 @@ impl Reg {
         extra: &[u8],
     ) -> Result<Reg, NoMemory>
         requires fits { 13 + length name + length extra.now ≤ BODY_MOST }
-        ensures { IfOk result (λ g. g ≡ record { port = port; kind = kind; proto = proto; high = high; low = low; name = name; extra = extra.now }) }
+        ensures { IfOk result (λ g. g ≡ record {
+          port = port;
+          kind = kind;
+          proto = proto;
+          high = high;
+          low = low;
+          name = name;
+          extra = extra.now;
+        }) }
     {
         let extra = Vec::from_slice(alloc, extra)?;
         Ok(Reg {

@@ -1,6 +1,7 @@
 //! Reading the answers to a registration and to a look-up.
 ghost use Rattle.std.specs.Prelude.{◌≡◌, ◌≢◌, ◌+◌, ◌<◌, ◌≤◌, List, ℕ, ◌++◌, length, Err, IsOk, IfOk, IfSome};
-ghost use Rattle.portmap_wire.specs.ReplyReading.{wide_answer, short_answer, alive_answer, registered_answer, port2_result, port2_answer, GivesReply, IsFound, AlivesAreReadBack, LookUpsAreReadBack};
+ghost use Rattle.portmap_wire.specs.ReplyReading.{wide_answer, short_answer, alive_answer, registered_answer, port2_result, port2_answer};
+ghost use Rattle.portmap_wire.specs.ReplyReading.{GivesReply, IsFound, AlivesAreReadBack, LookUpsAreReadBack};
 ghost use Rattle.portmap_wire.specs.RequestReading.{fields_in};
 
 use crate::NoMemory;

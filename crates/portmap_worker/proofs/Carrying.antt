@@ -1,5 +1,6 @@
 -- A piece is read between two writings.
-use Rattle.std.proofs.Common.{◌≡◌, ◌≤◌, ℕ, List, [], ◌∷◌, ◌++◌, length, take, map, Option, Some, None, sym, ap, ◌∙◌, append_assoc, inl, inr, arith}
+use Rattle.std.proofs.Common.{◌≡◌, ◌≤◌, ℕ, List, [], ◌∷◌, ◌++◌, length, take, map, Option, Some, None, sym, ap, ◌∙◌, append_assoc, inl, inr}
+use Rattle.std.proofs.Common.{arith}
 use Rattle.std.proofs.lemmas.List.{length-take}
 use Rattle.std.proofs.KnownBytes.{Appends-trans, Appends-kept}
 use Rattle.std.specs.Io.KnownBytes.{Keeps, Consumes}
@@ -25,7 +26,8 @@ read_between (Some x) (Some y) (Some z) None bs one two three = absurd three
 read_between (Some x) (Some y) (Some z) (Some w) bs one two three = sym one ∙ two ∙ ap (λ (t : List ℕ). bs ++ t) (sym three)
 
 -- the front of the buffer was read
-pub is_read : (old new : Devices) (n : ℕ) (buffer : List ℕ) → n ≤ length buffer → length buffer ≡ PULL_BYTES_MOST → Consumes old.left new.left (take n buffer) → new.pulls ≡ old.pulls ++ pull.Piece n ∷ [] → IsRead old new (take n buffer)
+pub is_read : (old new : Devices) (n : ℕ) (buffer : List ℕ) → n ≤ length buffer → length buffer ≡ PULL_BYTES_MOST
+    → Consumes old.left new.left (take n buffer) → new.pulls ≡ old.pulls ++ pull.Piece n ∷ [] → IsRead old new (take n buffer)
 is_read old new n buffer within room consumed pulled =
     let len : length (take n buffer) ≡ n = omega (arith, length-take n buffer, within) in
     record {
@@ -35,11 +37,13 @@ is_read old new n buffer within room consumed pulled =
     }
 
 -- more bytes are to be written after a first writing, and are written by a second one
-pub moves_more : (a b c d : Option (List ℕ)) (before mid more after : List ℕ) → Moves a b before mid → Keeps b c → Moves c d (mid ++ more) after → Moves a d (before ++ more) after
+pub moves_more : (a b c d : Option (List ℕ)) (before mid more after : List ℕ) → Moves a b before mid → Keeps b c
+    → Moves c d (mid ++ more) after → Moves a d (before ++ more) after
 moves_more a b c d before mid more after one kept two = (
   one.0 ++ two.0,
   Appends-trans a c d one.0 two.0 (Appends-kept a b c one.0 one.1 kept) two.1,
-  append_assoc one.0 two.0 after ∙ ap (λ (t : List ℕ). one.0 ++ t) two.2 ∙ sym (append_assoc one.0 mid more) ∙ ap (λ (t : List ℕ). t ++ more) one.2,
+  append_assoc one.0 two.0 after ∙ ap (λ (t : List ℕ). one.0 ++ t) two.2 ∙ sym (append_assoc one.0 mid more)
+      ∙ ap (λ (t : List ℕ). t ++ more) one.2,
 )
 
 -- the last answer since later on is the last one since before
@@ -51,14 +55,21 @@ last_since old mid new more last grew told = record {
       ∙ ap (λ (t : List Put). t ++ last ∷ []) (append_assoc old more told.before);
 }
 
-pub ends_since : (ended : Flush) (old mid new more : List Put) (waiting : List ℕ) → mid ≡ old ++ more → WritingEnds ended mid new waiting → WritingEnds ended old new waiting
+pub ends_since : (ended : Flush) (old mid new more : List Put) (waiting : List ℕ) → mid ≡ old ++ more → WritingEnds ended mid new waiting
+    → WritingEnds ended old new waiting
 ends_since flush.Empty old mid new more waiting grew ends = ends
 ends_since flush.Later old mid new more waiting grew ends = (ends.0, last_since old mid new more put.Later grew ends.1)
 ends_since flush.Fault old mid new more waiting grew ends = last_since old mid new more put.Fault grew ends
 
 -- what follows a second flush, by all puts since before the first one
-pub follows_flush : (told : Answer) (old mid new : List Put) (count : ℕ) (ended : Flush) (waiting : List ℕ) (next : Next) → Sends old mid count ended → FollowsAnswer told mid new waiting next → FollowsAnswer told old new waiting next
+pub follows_flush : (told : Answer) (old mid new : List Put) (count : ℕ) (ended : Flush) (waiting : List ℕ) (next : Next)
+    → Sends old mid count ended → FollowsAnswer told mid new waiting next → FollowsAnswer told old new waiting next
 follows_flush told old mid new count ended waiting next sent (inl full) = inl full
 follows_flush told old mid new count ended waiting next sent (inr follows) =
     let more = map Wrote sent.counts ++ ending_of ended in
-    inr (follows.0, ends_since follows.0 old mid new more waiting (sent.answers ∙ append_assoc old (map Wrote sent.counts) (ending_of ended)) follows.1, follows.2)
+    inr (
+      follows.0,
+      ends_since follows.0 old mid new more waiting
+          (sent.answers ∙ append_assoc old (map Wrote sent.counts) (ending_of ended)) follows.1,
+      follows.2,
+    )

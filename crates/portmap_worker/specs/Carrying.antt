@@ -116,7 +116,8 @@ FollowsNothing true old new waiting Halt = ⊥
 FollowsNothing true old new waiting NoMemory = ⊥
 FollowsNothing false old new waiting Keep = OffersFirst old new waiting × Pulls pull.Later old new
 FollowsNothing false old new waiting Close = OffersFirst old new waiting × (Pulls pull.End old new ⊎ Refuses Close old new)
-FollowsNothing false old new waiting Fault = (PullsNothing old new × WritingEnds flush.Fault old.puts new.puts waiting) ⊎ (OffersFirst old new waiting × Pulls pull.Fault old new)
+FollowsNothing false old new waiting Fault = (PullsNothing old new × WritingEnds flush.Fault old.puts new.puts waiting)
+    ⊎ (OffersFirst old new waiting × Pulls pull.Fault old new)
 FollowsNothing false old new waiting Halt = OffersFirst old new waiting × Refuses Halt old new
 FollowsNothing false old new waiting NoMemory = OffersFirst old new waiting × Refuses NoMemory old new
 

@@ -24,5 +24,7 @@ GivesUp rounds now until = (EPOCH_ROUNDS_MOST ≤ rounds) × (min (until + EPOCH
 abbrev pub GoesOn : Waiting → ℕ → Option Waiting → Type 0
 GoesOn Come now next = next ≡ Some Asked
 GoesOn Asked now next = next ≡ Some (Name (min (now + NAME_TIMEOUT_MS) (2 ^ 64 - 1)))
-GoesOn (Name until) now next = ((now < until) × (next ≡ Some (Name until))) ⊎ ((until ≤ now) × (epoch : ℕ) × (next ≡ Some (Epoch until epoch 0)))
-GoesOn (Epoch until epoch rounds) now next = (next ≡ None) ⊎ ((GivesUp rounds now until → ⊥) × (next ≡ Some (Epoch until epoch (min (rounds + 1) (2 ^ 32 - 1)))))
+GoesOn (Name until) now next = ((now < until) × (next ≡ Some (Name until)))
+    ⊎ ((until ≤ now) × (epoch : ℕ) × (next ≡ Some (Epoch until epoch 0)))
+GoesOn (Epoch until epoch rounds) now next = (next ≡ None)
+    ⊎ ((GivesUp rounds now until → ⊥) × (next ≡ Some (Epoch until epoch (min (rounds + 1) (2 ^ 32 - 1)))))

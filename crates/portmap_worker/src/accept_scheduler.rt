@@ -84,8 +84,11 @@ impl LoadMeter {
     /// The worker has polled. Whether it has been without a rest for so long that it may want help.
     pub(crate) fn note_poll(&mut self, before: u64, after: u64) -> bool
         ensures rest { REST_US ≤ after - before → (result ≡ false) × (self.new.since ≡ after) × (self.new.polls ≡ 0) }
-        ensures loaded { result ≡ true → (LOAD_US ≤ after - self.old.since) × (LOAD_POLLS ≤ self.old.polls + 1) × (self.new.since ≡ after) × (self.new.polls ≡ 0) }
-        ensures goes_on { result ≡ false → after - before < REST_US → (self.new.since ≡ self.old.since) × (self.new.polls ≡ min (self.old.polls + 1) 4294967295) × ((after - self.old.since < LOAD_US) ⊎ (self.old.polls + 1 < LOAD_POLLS)) }
+        ensures loaded { result ≡ true → (LOAD_US ≤ after - self.old.since) × (LOAD_POLLS ≤ self.old.polls + 1) × (self.new.since ≡ after)
+            × (self.new.polls ≡ 0) }
+        ensures goes_on { result ≡ false → after - before < REST_US
+            → (self.new.since ≡ self.old.since) × (self.new.polls ≡ min (self.old.polls + 1) 4294967295)
+            × ((after - self.old.since < LOAD_US) ⊎ (self.old.polls + 1 < LOAD_POLLS)) }
     {
         let is_rest = after.saturating_sub(before) >= REST_US;
         self.polls = self.polls.saturating_add(1);

@@ -97,7 +97,8 @@ impl<S: Stream> Door<S> {
     fn candidate(&mut self, links: &Links<'_, S>, with_local: bool, now: u64) -> Option<usize>
         ensures early { now < self.old.room_backoff → (result ≡ None) × (self.new ≡ self.old) }
         ensures found { IfSome result (λ _. self.new ≡ self.old) }
-        ensures later { self.old.room_backoff ≤ now → IfNone result (self.new ≡ record self.old { room_backoff = min (now + ROOM_BACKOFF_MS) (2 ^ 64 - 1) }) }
+        ensures later { self.old.room_backoff ≤ now
+            → IfNone result (self.new ≡ record self.old { room_backoff = min (now + ROOM_BACKOFF_MS) (2 ^ 64 - 1) }) }
     {
         if now < self.room_backoff {
             return None;

@@ -5,7 +5,8 @@ ghost use Rattle.portmap_core.specs.declared.event.Event.TheVariants as event;
 ghost use Rattle.portmap_book.specs.Told.{AsksPiece, SaysTo};
 ghost use Rattle.portmap_link.specs.Asking.{devices};
 ghost use Rattle.portmap_link.specs.Flush.{Moves};
-ghost use Rattle.portmap_worker.specs.Carrying.{IsLate, IsRead, FollowsAnswer, FollowsNothing, added, bytes_of, fate_of, is_close, next_after, next_of};
+ghost use Rattle.portmap_worker.specs.Carrying.{IsLate, IsRead, FollowsAnswer, FollowsNothing, added, bytes_of, fate_of, is_close};
+ghost use Rattle.portmap_worker.specs.Carrying.{next_after, next_of};
 
 use crate::limits::PULL_BYTES_MOST;
 use crate::{Gate, Point};
@@ -57,7 +58,8 @@ impl<L: Ledger> Carrier<L> {
 
     /// Goes on with the connection: writes what waits, and, unless a close is due, pulls once for a piece of `PULL_BYTES_MOST` bytes at
     /// most, has the desk answer it, and writes the answer as far as the link takes it. The gate is passed with
-    /// the seat's number before the answer is written and after. Gives the place and the answer that the desk told, if it did, and what is to be done next.
+    /// the seat's number before the answer is written and after. Gives the place and the answer that the desk told, if it did, and what is
+    /// to be done next.
     pub fn ready<I: Input + Output, G: Gate, R: Wait>(
         &mut self,
         rt: &R,
@@ -72,7 +74,8 @@ impl<L: Ledger> Carrier<L> {
             IsRead (seen link.old link.old) (seen link.new link.new) piece) × SaysTo self.old.conn.slot piece told.1
             × AsksPiece self.old.conn.slot piece seat.old.asked seat.new.asked) }
         ensures hears { IfSome result.0 (λ told. seat.new.told ≡ seat.old.told ++ told ∷ []) }
-        ensures written { IfSome result.0 (λ told. Moves (I.held link.old) (I.held link.new) (self.old.out ++ added told.1 result.1) self.new.out) }
+        ensures written { IfSome result.0 (λ told.
+            Moves (I.held link.old) (I.held link.new) (self.old.out ++ added told.1 result.1) self.new.out) }
         ensures due { IfSome result.0 (λ told. (self.old.due ≡ false) × (self.new.due ≡ is_close (fate_of told.1))) }
         ensures counted { IfSome result.0 (λ told. (seat.new.count ≡ seat.old.count + 1) × (seat.old.count ≤ told.0)) }
         ensures next { IfSome result.0 (λ told. FollowsAnswer told.1 (I.puts link.old) (I.puts link.new) self.new.out result.1) }

@@ -1,6 +1,7 @@
 //! What workers are tuned by. `MS` are milliseconds, `US` microseconds.
 ghost use Rattle.std.specs.Prelude.{◌≡◌, ◌+◌, ◌*◌, ◌^◌};
-ghost use Rattle.portmap_worker.specs.declared.limits.TheConstants.{ACCEPT_BACKOFF_MS, FILE_BYTES_MOST, KEPT_SHARE, LATERS_MOST, LOG_BYTES_HEAVY, PULL_BYTES_MOST, QUEUE_BYTES_MOST};
+ghost use Rattle.portmap_worker.specs.declared.limits.TheConstants.{ACCEPT_BACKOFF_MS, FILE_BYTES_MOST, KEPT_SHARE, LATERS_MOST};
+ghost use Rattle.portmap_worker.specs.declared.limits.TheConstants.{LOG_BYTES_HEAVY, PULL_BYTES_MOST, QUEUE_BYTES_MOST};
 ghost use Rattle.portmap_record.specs.declared.playing.TheConstants.{SESSION_MOST};
 
 use portmap_record::SESSION_MOST;

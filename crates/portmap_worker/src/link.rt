@@ -214,7 +214,10 @@ impl<S: Read + Write> Link<S> {
 
     /// So many bytes have moved.
     fn note_moved(&mut self, count: usize)
-        ensures { self.new ≡ record self.old { timer = record self.old.timer { has_moved = true }; moved_bytes = min (self.old.moved_bytes + count) (2 ^ 64 - 1) } }
+        ensures { self.new ≡ record self.old {
+          timer = record self.old.timer { has_moved = true };
+          moved_bytes = min (self.old.moved_bytes + count) (2 ^ 64 - 1);
+        } }
     {
         self.timer.has_moved = true;
         self.moved_bytes = self.moved_bytes.saturating_add(count);

@@ -68,8 +68,10 @@ impl Listener {
     fn fail<S: System>(&mut self, system: &mut S, now: u64, kind: ErrorKind) -> AcceptError
         ensures error { result ≡ accept_error kind }
         ensures aborted { result ≡ AcceptError.Aborted → self.new ≡ self.old }
-        ensures would_block { result ≡ AcceptError.WouldBlock → (self.new.waiting ≡ false) × (self.new.watch ≡ self.old.watch) × (self.new.took ≡ self.old.took) }
-        ensures exhausted { result ≡ AcceptError.Exhausted → (self.new.waiting ≡ false) × (self.new.watch ≡ Watch.From (min (now + ACCEPT_BACKOFF_MS) (2 ^ 64 - 1))) }
+        ensures would_block { result ≡ AcceptError.WouldBlock
+            → (self.new.waiting ≡ false) × (self.new.watch ≡ self.old.watch) × (self.new.took ≡ self.old.took) }
+        ensures exhausted { result ≡ AcceptError.Exhausted
+            → (self.new.waiting ≡ false) × (self.new.watch ≡ Watch.From (min (now + ACCEPT_BACKOFF_MS) (2 ^ 64 - 1))) }
     {
         let error = accept_error(kind);
         match error {

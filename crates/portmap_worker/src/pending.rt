@@ -169,7 +169,8 @@ impl<L: Ledger, S: System, R: Host + Wait + Clock> SocketSource<'_, L, S, R> {
 fn wait_on<S: Stream>(links: &mut Links<'_, S>, rounds: &mut Rounds, key: usize, waiting: Waiting)
     requires { links.old.told ≡ Some key }
     ensures told { links.new.told ≡ None }
-    ensures until { rounds.new ≡ record rounds.old { pending_until = Some (earliest rounds.old.pending_until (until waiting rounds.old.time)) } }
+    ensures until { rounds.new ≡ record rounds.old
+        { pending_until = Some (earliest rounds.old.pending_until (until waiting rounds.old.time)) } }
 {
     if let Some(held) = links.get_mut(key) {
         held.waiting = waiting;

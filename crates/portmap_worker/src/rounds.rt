@@ -98,7 +98,8 @@ impl Rounds {
 
     /// Until when a poll may wait: for what is pending, and for the next look, or a while where there is nothing to look at.
     pub(crate) fn until(&self, is_idle: bool) -> u64
-        ensures { result ≡ earliest self.now.pending_until (cond is_idle (min (self.now.time + IDLE_TIMEOUT_MS) (2 ^ 64 - 1)) self.now.look_due) }
+        ensures { result ≡ earliest self.now.pending_until
+            (cond is_idle (min (self.now.time + IDLE_TIMEOUT_MS) (2 ^ 64 - 1)) self.now.look_due) }
     {
         let look = if is_idle {
             self.time.saturating_add(IDLE_TIMEOUT_MS)

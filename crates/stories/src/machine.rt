@@ -37,8 +37,8 @@ pub struct Machine {
 }
 
 impl Machine {
-    /// A machine on port 4369 that is set to what is usual: checks are not relaxed, 1,024 connections and 4,096 names at most, and creations
-    /// from 4 on.
+    /// A machine on port 4369 that is set to what is usual: checks are not relaxed, 1,024 connections and 4,096 names at most, and
+    /// creations from 4 on.
     pub fn new(alloc: Global) -> Result<Box<Machine>> {
         let config = wanted(Config::new(4369, false, 1024, 4096), "no settings")?;
         Ok(Box::new(alloc, Machine::of(alloc, config, 4, State::empty(alloc))?)?)

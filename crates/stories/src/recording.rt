@@ -78,8 +78,8 @@ fn written(alloc: Global, session: &Record) -> Result<Vec<u8>> {
     wanted(write_record(alloc, session), "it is not recorded")
 }
 
-/// Fails unless bytes are read as the record of these entries, which is a run, is written as these bytes, and is shown so from one device to
-/// another.
+/// Fails unless bytes are read as the record of these entries, which is a run, is written as these bytes, and is shown so from one device
+/// to another.
 fn is_run(alloc: Global, bytes: &[u8], entries: &[Entry], shown: &str) -> Result<()> {
     is_record(alloc, &record_in(alloc, bytes)?, bytes, entries)?;
     is_played(alloc, bytes, shown)

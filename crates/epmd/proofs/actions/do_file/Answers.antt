@@ -17,5 +17,7 @@ returns-in-Check-clause-shown g c =
     let broken = writing_broken c.do_shown.new.output in
     let fails = Fails g.E.Write.contents c.args.errors.now c.do_shown.new.errors in
     let did = c.do_shown.ensures.shown in
-    shown g.E.Write.contents c.args.errors.now c.do_shown.new.errors action (to_show action c.in-Check.is) (tells action) (Refuses action) old new FILE_TURNS c.do_shown.result broken fails
-    (finds (tells action) (Refuses action) old new FILE_TURNS c.do_shown.result broken (c.do_shown.new.errors ≡ c.args.errors.now) fails did.0 did.1.0 did.1.1 did.2)
+    shown g.E.Write.contents c.args.errors.now c.do_shown.new.errors action (to_show action c.in-Check.is) (tells action)
+    (Refuses action) old new FILE_TURNS c.do_shown.result broken fails
+    (finds (tells action) (Refuses action) old new FILE_TURNS c.do_shown.result broken
+    (c.do_shown.new.errors ≡ c.args.errors.now) fails did.0 did.1.0 did.1.1 did.2)

@@ -6,4 +6,5 @@ use Rattle.epmd.proofs.daemon.report_served.Given as goal
 
 abbrev pub invariant-loop-place : goal.invariant-loop-place
 invariant-loop-place g l =
-    IsLeft (served_lines 1 l.served) (served_lines (l.place + 1) (drop l.place l.served)) (g.E.Write.contents (writing_inner l.initial.errors)) (g.E.Write.contents (writing_inner l.errors))
+    IsLeft (served_lines 1 l.served) (served_lines (l.place + 1) (drop l.place l.served))
+    (g.E.Write.contents (writing_inner l.initial.errors)) (g.E.Write.contents (writing_inner l.errors))

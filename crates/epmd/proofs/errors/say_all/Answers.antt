@@ -15,7 +15,8 @@ returns-then-not-say-clause-taken g c =
     let first = slice_index_or pieces c.loop-piece.piece-index record { ref_ptr = (0, 0); now = [] } in
     let more = at_drop_more text pieces c.loop-piece.piece-index record { ref_ptr = (0, 0); now = [] } c.loop-piece-test.true in
     left_for_good (text pieces) (text (drop c.loop-piece.piece-index pieces)) first.now (text (drop (c.loop-piece.piece-index + 1) pieces))
-    (g.E.Write.contents (writing_inner c.args.errors.now)) (g.E.Write.contents (writing_inner c.loop-piece.errors)) (g.E.Write.contents (writing_inner c.say.new.errors))
+    (g.E.Write.contents (writing_inner c.args.errors.now)) (g.E.Write.contents (writing_inner c.loop-piece.errors))
+    (g.E.Write.contents (writing_inner c.say.new.errors))
     more c.loop-piece.invariant c.if-not-say.ensures.taken
 
 pub loop-piece-preserved : goal.loop-piece-preserved
@@ -25,7 +26,8 @@ loop-piece-preserved g c =
     let first = slice_index_or pieces c.loop-piece.piece-index record { ref_ptr = (0, 0); now = [] } in
     let more = at_drop_more text pieces c.loop-piece.piece-index record { ref_ptr = (0, 0); now = [] } c.loop-piece-test.true in
     left_more (text pieces) (text (drop c.loop-piece.piece-index pieces)) first.now (text (drop (c.loop-piece.piece-index + 1) pieces))
-    (g.E.Write.contents (writing_inner c.args.errors.now)) (g.E.Write.contents (writing_inner c.loop-piece.errors)) (g.E.Write.contents (writing_inner c.say.new.errors))
+    (g.E.Write.contents (writing_inner c.args.errors.now)) (g.E.Write.contents (writing_inner c.loop-piece.errors))
+    (g.E.Write.contents (writing_inner c.say.new.errors))
     more c.loop-piece.invariant c.if-not-say.ensures.taken
 
 pub returns-clause-taken : goal.returns-clause-taken
@@ -33,4 +35,5 @@ returns-clause-taken g c =
     let text = λ (pieces : List (Bor (List ℕ))). flat_map (λ piece. piece.now) pieces in
     let pieces = c.args.pieces.now in
     let none = at_drop_all text pieces c.loop-piece.piece-index (omega (arith, c.loop-piece-test.false)) in
-    none_left (text pieces) (text (drop c.loop-piece.piece-index pieces)) (g.E.Write.contents (writing_inner c.args.errors.now)) (g.E.Write.contents (writing_inner c.loop-piece.errors)) none c.loop-piece.invariant
+    none_left (text pieces) (text (drop c.loop-piece.piece-index pieces)) (g.E.Write.contents (writing_inner c.args.errors.now))
+    (g.E.Write.contents (writing_inner c.loop-piece.errors)) none c.loop-piece.invariant

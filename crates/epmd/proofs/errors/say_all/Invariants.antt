@@ -6,4 +6,5 @@ use Rattle.epmd.proofs.errors.say_all.Given as goal
 
 abbrev pub invariant-loop-piece : goal.invariant-loop-piece
 invariant-loop-piece g l =
-    IsLeft (flat_map (λ piece. piece.now) l.pieces) (flat_map (λ piece. piece.now) (drop l.piece-index l.pieces)) (g.E.Write.contents (writing_inner l.initial.errors)) (g.E.Write.contents (writing_inner l.errors))
+    IsLeft (flat_map (λ piece. piece.now) l.pieces) (flat_map (λ piece. piece.now) (drop l.piece-index l.pieces))
+    (g.E.Write.contents (writing_inner l.initial.errors)) (g.E.Write.contents (writing_inner l.errors))

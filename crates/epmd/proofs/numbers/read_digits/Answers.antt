@@ -14,15 +14,18 @@ returns-then-digit-lt48-clause-none c = λ _ number writes.
 
 pub overflow_mul-value : goal.overflow_mul-value
 overflow_mul-value c =
-    let n = next_digit c.args.text.now c.loop-digit.digit-index (omega arith) (omega arith) c.loop-digit.invariant.each (omega arith, omega arith) in
+    let n = next_digit c.args.text.now c.loop-digit.digit-index (omega arith) (omega arith) c.loop-digit.invariant.each
+    (omega arith, omega arith) in
     omega (arith, n.value, n.small, c.loop-digit.invariant.value)
 
 pub overflow_add-value : goal.overflow_add-value
 overflow_add-value c =
-    let n = next_digit c.args.text.now c.loop-digit.digit-index (omega arith) (omega arith) c.loop-digit.invariant.each (omega arith, omega arith) in
+    let n = next_digit c.args.text.now c.loop-digit.digit-index (omega arith) (omega arith) c.loop-digit.invariant.each
+    (omega arith, omega arith) in
     omega (arith, n.value, n.small, c.loop-digit.invariant.value, c.from.ensures)
 
 pub loop-digit-preserved : goal.loop-digit-preserved
 loop-digit-preserved c =
-    let n = next_digit c.args.text.now c.loop-digit.digit-index (omega arith) (omega arith) c.loop-digit.invariant.each (omega arith, omega arith) in
+    let n = next_digit c.args.text.now c.loop-digit.digit-index (omega arith) (omega arith) c.loop-digit.invariant.each
+    (omega arith, omega arith) in
     record { each = n.each; value = omega (arith, n.value, c.loop-digit.invariant.value, c.from.ensures) }

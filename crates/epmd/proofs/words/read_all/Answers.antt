@@ -13,9 +13,17 @@ loop-rest-preserved c =
     (in_front string_bytes c.loop-rest.rest.now c.first-item.result some c.first-item.is) c.in_ok-said.ensures.spelled in
     let one = λ (is : is_action (item_in c.in_ok-said.said) ≡ true). sym c.has_action.ensures ∙ c.in_ok-said.ensures.one is in
     let fewer = c.in_ok-said.ensures.fewer in (
-      says_more (map string_bytes c.args.words.now) (map string_bytes c.loop-rest.rest.now) (map string_bytes c.in_ok-said.after.now) (item_in c.in_ok-said.said) c.loop-rest.plan c.add.new.self c.loop-rest.invariant.0 begins c.add.ensures one,
-      omega (arith, c.loop-rest.invariant.1, fewer, length-take (length c.loop-rest.rest.now - 1) (drop 1 c.loop-rest.rest.now), length-drop 1 c.loop-rest.rest.now),
+      says_more (map string_bytes c.args.words.now) (map string_bytes c.loop-rest.rest.now) (map string_bytes c.in_ok-said.after.now)
+          (item_in c.in_ok-said.said) c.loop-rest.plan c.add.new.self c.loop-rest.invariant.0 begins c.add.ensures one,
+      omega (
+        arith,
+        c.loop-rest.invariant.1,
+        fewer,
+        length-take (length c.loop-rest.rest.now - 1) (drop 1 c.loop-rest.rest.now),
+        length-drop 1 c.loop-rest.rest.now,
+      ),
     )
 
 pub returns-clause-said : goal.returns-clause-said
-returns-clause-said c = says_all string_bytes (map string_bytes c.args.words.now) c.loop-rest.rest.now c.loop-rest.plan c.in_default.len_below c.loop-rest.invariant.0
+returns-clause-said c = says_all string_bytes
+    (map string_bytes c.args.words.now) c.loop-rest.rest.now c.loop-rest.plan c.in_default.len_below c.loop-rest.invariant.0

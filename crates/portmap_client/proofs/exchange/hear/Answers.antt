@@ -14,11 +14,15 @@ use Rattle.portmap_client.proofs.exchange.hear.Goals.{In-Piece}
 use Rattle.portmap_client.proofs.exchange.hear.Goals as goal
 
 -- with the piece, none further than the answer was read
-with_piece : (g : Over) (c : In-Piece g) → HasRead c.args.awaited (g.S.Device.left c.args.stream.now) (g.S.Device.left c.pull.new.self) (c.loop-laters.read.items ++ take c.in-Piece.count c.pull.new.buffer)
+with_piece : (g : Over) (c : In-Piece g)
+    → HasRead c.args.awaited (g.S.Device.left c.args.stream.now) (g.S.Device.left c.pull.new.self)
+    (c.loop-laters.read.items ++ take c.in-Piece.count c.pull.new.buffer)
 with_piece g c =
     let told = c.in-Piece.ensures.bytes in
-    let small : length c.pull.new.buffer ≤ c.missing.result = omega (arith, c.pull.auto.buffer, length-take c.min-most.result c.loop-laters.buffer, c.min-most.ensures) in
-    reads_front c.args.awaited (g.S.Device.left c.args.stream.now) (g.S.Device.left c.loop-laters.stream) (g.S.Device.left c.pull.new.self) c.loop-laters.read.items c.deref.result.now c.pull.new.buffer c.in-Piece.count c.missing.result
+    let small : length c.pull.new.buffer ≤ c.missing.result =
+    omega (arith, c.pull.auto.buffer, length-take c.min-most.result c.loop-laters.buffer, c.min-most.ensures) in
+    reads_front c.args.awaited (g.S.Device.left c.args.stream.now) (g.S.Device.left c.loop-laters.stream)
+    (g.S.Device.left c.pull.new.self) c.loop-laters.read.items c.deref.result.now c.pull.new.buffer c.in-Piece.count c.missing.result
     c.loop-laters.invariant.has_read told.2 small c.deref.ensures.value c.missing.ensures.missing
 
 pub loop-laters-preserved-in-Continue-1 : goal.loop-laters-preserved-in-Continue-1
@@ -27,20 +31,25 @@ loop-laters-preserved-in-Continue-1 g c =
     let at = (goal.at.loop-laters-preserved-in-Continue-1 g c).In-Piece in
     let noted = c.in-Piece.ensures.noted in
     let same : c.extend_from_slice.new.self.items ≡ c.loop-laters.read.items ++ take c.in-Piece.count c.pull.new.buffer =
-    rw (take-append-le c.in-Piece.count c.pull.new.buffer _ c.in-Piece.ensures.bytes.1) at c.in_ok-extend_from_slice-in-Piece.ensures.items in
+    rw (take-append-le c.in-Piece.count c.pull.new.buffer _ c.in-Piece.ensures.bytes.1) at c.in_ok-extend_from_slice-in-Piece.ensures.items
+    in
     record {
       few = inv.few;
-      has_read = subst (HasRead c.args.awaited (g.S.Device.left c.args.stream.now) (g.S.Device.left c.pull.new.self)) (sym same) (with_piece g at);
-      on = on_more IsAskedAgain (g.S.Device.pulls c.args.stream.now) (g.S.Device.pulls c.loop-laters.stream) (g.S.Device.pulls c.pull.new.self) (Piece c.in-Piece.count) inv.on noted tt;
+      has_read = subst (HasRead c.args.awaited (g.S.Device.left c.args.stream.now) (g.S.Device.left c.pull.new.self)) (sym same)
+          (with_piece g at);
+      on = on_more IsAskedAgain (g.S.Device.pulls c.args.stream.now) (g.S.Device.pulls c.loop-laters.stream)
+          (g.S.Device.pulls c.pull.new.self) (Piece c.in-Piece.count) inv.on noted tt;
       waited =
           let pulls = pulled (g.S.Device.pulls c.loop-laters.stream) (g.S.Device.pulls c.pull.new.self) (Piece c.in-Piece.count) noted in
           let puts = ap (λ (t : List Put). count_by is_put_later t) c.in-Piece.ensures.puts in
           omega (arith, inv.waited, pulls, puts);
-      held = Keeps-trans (g.S.Device.held c.args.stream.now) (g.S.Device.held c.loop-laters.stream) (g.S.Device.held c.pull.new.self) inv.held c.in-Piece.ensures.held;
+      held = Keeps-trans (g.S.Device.held c.args.stream.now) (g.S.Device.held c.loop-laters.stream)
+          (g.S.Device.held c.pull.new.self) inv.held c.in-Piece.ensures.held;
     }
 
 pub returns-in_err-extend_from_slice-in-Piece-clause-heard : goal.returns-in_err-extend_from_slice-in-Piece-clause-heard
 returns-in_err-extend_from_slice-in-Piece-clause-heard g c =
     let at = (goal.at.returns-in_err-extend_from_slice-in-Piece-clause-heard g c).In-Piece in
-    stops c.args.awaited IsRead (g.S.Device.left c.args.stream.now) (g.S.Device.left c.pull.new.self) (g.S.Device.pulls c.args.stream.now) (g.S.Device.pulls c.pull.new.self)
+    stops c.args.awaited IsRead (g.S.Device.left c.args.stream.now) (g.S.Device.left c.pull.new.self) (g.S.Device.pulls c.args.stream.now)
+    (g.S.Device.pulls c.pull.new.self)
     (c.loop-laters.read.items ++ take c.in-Piece.count c.pull.new.buffer) c.from_residual.result c.from_residual.ensures.0 (with_piece g at)

@@ -12,7 +12,8 @@ invariant-loop-laters g l = record {
   few : l.laters ≤ LATERS_MOST;
   has_read : HasRead l.awaited (g.S.Device.left l.fn.stream) (g.S.Device.left l.stream) l.read.items;
   on : GoesOn IsAskedAgain (g.S.Device.pulls l.fn.stream) (g.S.Device.pulls l.stream);
-  waited : l.met + laters (g.S.Device.pulls l.stream) (g.S.Device.puts l.stream) ≡ laters (g.S.Device.pulls l.fn.stream) (g.S.Device.puts l.fn.stream) + l.laters;
+  waited : l.met + laters (g.S.Device.pulls l.stream) (g.S.Device.puts l.stream)
+      ≡ laters (g.S.Device.pulls l.fn.stream) (g.S.Device.puts l.fn.stream) + l.laters;
   held : Keeps (g.S.Device.held l.fn.stream) (g.S.Device.held l.stream);
 }
 

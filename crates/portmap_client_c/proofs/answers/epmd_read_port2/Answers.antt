@@ -10,5 +10,6 @@ use Rattle.portmap_client_c.proofs.answers.epmd_read_port2.Goals as goal
 pub returns-in-Ok-Some-clause-told : goal.returns-in-Ok-Some-clause-told
 returns-in-Ok-Some-clause-told c =
     let said = rw c.in-Ok-Some.field-0-is at c.in-Ok-Some.ensures in
-    λ _. subst (λ (answer : Result (Option Node) ReplyFault). TellsFound c.args.bytes.now answer c.args.found.now c.found_at.result EPMD_OK) (sym said.exact)
+    λ _. subst (λ (answer : Result (Option Node) ReplyFault).
+    TellsFound c.args.bytes.now answer c.args.found.now c.found_at.result EPMD_OK) (sym said.exact)
     (refl, found_in c.args.bytes.now c.in-Ok-Some.reg c.found_at.result said.found c.found_at.ensures)

@@ -12,12 +12,15 @@ pub returns-in-Ok-clause-found : goal.returns-in-Ok-clause-found
 returns-in-Ok-clause-found c =
     let bytes = c.args.bytes.now in
     let found = rw c.split_at.ensures.back at c.in-Some.ensures in
-    let reads = c.in-Ok.ensures.found (take c.in-Some.size (drop c.args.at bytes)) (window bytes c.args.at c.in-Some.size found c.requires.0) in
+    let reads = c.in-Ok.ensures.found (take c.in-Some.size (drop c.args.at bytes))
+    (window bytes c.args.at c.in-Some.size found c.requires.0) in
     rw c.bytes.ensures.bytes (next_line bytes c.args.at c.in-Some.size found c.in-Ok.line (omega (arith, c.requires)) reads)
 
 pub returns-in-Err-clause-fault : goal.returns-in-Err-clause-fault
 returns-in-Err-clause-fault c =
     let bytes = c.args.bytes.now in
     let found = rw c.split_at.ensures.back at c.in-Some.ensures in
-    let fault = c.in-Err.ensures.fault (take c.in-Some.size (drop c.args.at bytes)) (window bytes c.args.at c.in-Some.size found c.requires.0) in
-    line_fault (drop c.args.at bytes) (take c.in-Some.size (drop c.args.at bytes)) (drop 1 (drop c.in-Some.size (drop c.args.at bytes))) c.in-Err.fault (cut bytes c.args.at c.in-Some.size found) fault
+    let fault = c.in-Err.ensures.fault (take c.in-Some.size (drop c.args.at bytes))
+    (window bytes c.args.at c.in-Some.size found c.requires.0) in
+    line_fault (drop c.args.at bytes) (take c.in-Some.size (drop c.args.at bytes))
+    (drop 1 (drop c.in-Some.size (drop c.args.at bytes))) c.in-Err.fault (cut bytes c.args.at c.in-Some.size found) fault

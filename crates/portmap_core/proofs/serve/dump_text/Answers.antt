@@ -10,14 +10,19 @@ use Rattle.portmap_core.proofs.serve.dump_text.Goals as goal
 
 pub loop-i-preserved : goal.loop-i-preserved
 loop-i-preserved c =
-    with_line dump_line active_line c.args.table.now.names.active c.loop-i.i c.in-Some.row.now (be4 c.args.port) c.loop-i.reply c.in_ok-reply-2.reply (sym c.in-Some.ensures) c.loop-i.invariant
-    (c.in_ok-reply-2.ensures ∙ ap (λ (g : Node). c.loop-i.reply ++ dump_line (record { name = g.name; port = g.port; slot = Some c.in-Some.row.now.slot })) c.reg.view_is)
+    with_line dump_line active_line c.args.table.now.names.active c.loop-i.i c.in-Some.row.now
+    (be4 c.args.port) c.loop-i.reply c.in_ok-reply-2.reply (sym c.in-Some.ensures) c.loop-i.invariant
+    (c.in_ok-reply-2.ensures ∙ ap (λ (g : Node).
+    c.loop-i.reply ++ dump_line (record { name = g.name; port = g.port; slot = Some c.in-Some.row.now.slot })) c.reg.view_is)
 
 pub unreachable-requires-in_default-retired_at : goal.unreachable-requires-in_default-retired_at
 unreachable-requires-in_default-retired_at c =
     let past : slice_get c.args.table.now.names.retired c.loop-k.k ≡ None = sym c.in_default-retired_at.ensures in
-    not_past c.args.table.now.names.retired c.loop-k.k (subst (λ (n : ℕ). c.loop-k.k < n) c.retired_len-k-end.ensures c.loop-k-test.true) past
+    not_past c.args.table.now.names.retired c.loop-k.k
+    (subst (λ (n : ℕ). c.loop-k.k < n) c.retired_len-k-end.ensures c.loop-k-test.true) past
 
 pub loop-k-preserved : goal.loop-k-preserved
 loop-k-preserved c =
-    with_line dump_line retired_line c.args.table.now.names.retired c.loop-k.k (retired_name c.in-Some-retired_at.old) (dump_reply c.args.port (list_map active_line c.args.table.now.names.active)) c.loop-k.reply c.in_ok-reply-3.reply (sym c.in-Some-retired_at.ensures) c.loop-k.invariant c.in_ok-reply-3.ensures
+    with_line dump_line retired_line c.args.table.now.names.retired c.loop-k.k (retired_name c.in-Some-retired_at.old)
+    (dump_reply c.args.port (list_map active_line c.args.table.now.names.active)) c.loop-k.reply c.in_ok-reply-3.reply
+    (sym c.in-Some-retired_at.ensures) c.loop-k.invariant c.in_ok-reply-3.ensures

@@ -9,4 +9,5 @@ abbrev pub invariant-loop-i : goal.invariant-loop-i
 invariant-loop-i l = l.reply ≡ dump_reply l.port (list_map active_line (take l.i l.table.names.active))
 
 abbrev pub invariant-loop-k : goal.invariant-loop-k
-invariant-loop-k l = l.reply ≡ dump_reply l.port (list_map active_line l.table.names.active) ++ flat_map dump_line (list_map retired_line (take l.k l.table.names.retired))
+invariant-loop-k l = l.reply ≡ dump_reply l.port (list_map active_line l.table.names.active)
+    ++ flat_map dump_line (list_map retired_line (take l.k l.table.names.retired))

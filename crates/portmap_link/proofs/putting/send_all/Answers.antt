@@ -24,8 +24,10 @@ loop-count-preserved-in-Wrote g c =
     let within : n ≤ length bytes - count = omega (arith, put.1, length-drop count bytes) in
     record {
       within = omega (arith, within, c.loop-count-test.true);
-      written = appends_more (g.W.Device.held c.args.output.now) (g.W.Device.held c.loop-count.output) (g.W.Device.held c.put-answer.new.self) count n bytes kept.written put.2;
-      put = rw after (has_put_more (count + n) laters (Wrote n) kept.put (omega (arith, c.loop-count-test.true), due) (put.0, within) told.noted refl (omega arith));
+      written = appends_more (g.W.Device.held c.args.output.now) (g.W.Device.held c.loop-count.output)
+          (g.W.Device.held c.put-answer.new.self) count n bytes kept.written put.2;
+      put = rw after (has_put_more (count + n) laters (Wrote n) kept.put (omega (arith, c.loop-count-test.true), due)
+          (put.0, within) told.noted refl (omega arith));
       few = omega (arith, kept.few, ap left_in after, left_less c.loop-count.left (Wrote n));
       calls =
           let most = most_after c.loop-count.left size (Wrote n) (omega (arith, c.loop-count-test.true), due) (put.0, within) in
@@ -34,8 +36,10 @@ loop-count-preserved-in-Wrote g c =
           let same = ap (puts_most (left_after c.loop-count.left (Wrote n))) rest in
           let left = ap (λ (limit : Limit). puts_most limit (length bytes - (count + n))) after in
           omega (arith, kept.calls, most, more, same, left);
-      broken = told.fault ∙ sym (whole_before (g.W.Device.broken c.loop-count.output) (g.W.Device.broken c.put-answer.new.self) told.for_good told.fault) ∙ kept.broken;
-      left = Keeps-trans (g.W.Device.left c.args.output.now) (g.W.Device.left c.loop-count.output) (g.W.Device.left c.put-answer.new.self) kept.left told.left;
+      broken = told.fault ∙ sym (whole_before (g.W.Device.broken c.loop-count.output)
+          (g.W.Device.broken c.put-answer.new.self) told.for_good told.fault) ∙ kept.broken;
+      left = Keeps-trans (g.W.Device.left c.args.output.now) (g.W.Device.left c.loop-count.output)
+          (g.W.Device.left c.put-answer.new.self) kept.left told.left;
       pulls = told.pulls ∙ kept.pulls;
     }
 
@@ -52,7 +56,8 @@ loop-count-preserved g c =
     record {
       within = kept.within;
       written = search rules;
-      put = rw after (has_put_more count (laters + 1) Later kept.put (omega (arith, c.loop-count-test.true), due) tt told.noted (omega arith) refl);
+      put = rw after (has_put_more count (laters + 1) Later kept.put (omega (arith, c.loop-count-test.true), due) tt told.noted
+          (omega arith) refl);
       few = omega (arith, kept.few, ap left_in after, left_for_later c.loop-count.left due);
       calls =
           let most = most_after c.loop-count.left size Later (omega (arith, c.loop-count-test.true), due) tt in
@@ -61,7 +66,9 @@ loop-count-preserved g c =
           let same = ap (puts_most (left_after c.loop-count.left Later)) rest in
           let left = ap (λ (limit : Limit). puts_most limit size) after in
           omega (arith, kept.calls, most, more, same, left);
-      broken = told.fault ∙ sym (whole_before (g.W.Device.broken c.loop-count.output) (g.W.Device.broken c.put-answer.new.self) told.for_good told.fault) ∙ kept.broken;
-      left = Keeps-trans (g.W.Device.left c.args.output.now) (g.W.Device.left c.loop-count.output) (g.W.Device.left c.put-answer.new.self) kept.left told.left;
+      broken = told.fault ∙ sym (whole_before (g.W.Device.broken c.loop-count.output)
+          (g.W.Device.broken c.put-answer.new.self) told.for_good told.fault) ∙ kept.broken;
+      left = Keeps-trans (g.W.Device.left c.args.output.now) (g.W.Device.left c.loop-count.output)
+          (g.W.Device.left c.put-answer.new.self) kept.left told.left;
       pulls = told.pulls ∙ kept.pulls;
     }

@@ -11,7 +11,8 @@ invariant-loop-count g l = record {
   written : Appends (g.W.Device.held l.initial.output) (g.W.Device.held l.output) (take l.count l.bytes);
   put : HasPut l.fn.limit (length l.bytes) (g.W.Device.puts l.initial.output) (g.W.Device.puts l.output) l.count l.laters l.left;
   few : l.laters + left_in l.left ≤ left_in l.fn.limit;
-  calls : length (g.W.Device.puts l.output) + puts_most l.left (length l.bytes - l.count) ≤ length (g.W.Device.puts l.initial.output) + puts_most l.fn.limit (length l.bytes);
+  calls : length (g.W.Device.puts l.output) + puts_most l.left (length l.bytes - l.count)
+      ≤ length (g.W.Device.puts l.initial.output) + puts_most l.fn.limit (length l.bytes);
   broken : g.W.Device.broken l.output ≡ g.W.Device.broken l.initial.output;
   left : Keeps (g.W.Device.left l.initial.output) (g.W.Device.left l.output);
   pulls : g.W.Device.pulls l.output ≡ g.W.Device.pulls l.initial.output;

@@ -9,8 +9,12 @@ use Rattle.portmap_link.proofs.single.once.Goals as goal
 pub returns-in_err-write_reply-clause-did : goal.returns-in_err-write_reply-clause-did
 returns-in_err-write_reply-clause-did g c =
     let old : Devices = devices g.R.Device.left g.W.Device.held g.R.Device.pulls g.W.Device.puts c.args.input.now c.args.output.now in
-    let new : Devices = devices g.R.Device.left g.W.Device.held g.R.Device.pulls g.W.Device.puts c.hear.new.input c.write_reply.new.output in
-    let heard = subst (λ (o : Option (Vec ℕ Global × Fate)). HearsReply c.args.config old.left new.left old.pulls new.pulls o) c.in-Some.is c.in_ok-reply.ensures.heard in
-    let told = subst (λ (reply : List ℕ). Telling reply old.held new.held (Err c.in_err-write_reply.field-0.0)) c.deref.ensures.value c.in_err-write_reply.ensures.told in
+    let new : Devices =
+    devices g.R.Device.left g.W.Device.held g.R.Device.pulls g.W.Device.puts c.hear.new.input c.write_reply.new.output in
+    let heard = subst (λ (o : Option (Vec ℕ Global × Fate)).
+    HearsReply c.args.config old.left new.left old.pulls new.pulls o) c.in-Some.is c.in_ok-reply.ensures.heard in
+    let told = subst (λ (reply : List ℕ). Telling reply old.held new.held
+    (Err c.in_err-write_reply.field-0.0)) c.deref.ensures.value c.in_err-write_reply.ensures.told in
     let p = err_from_is_err_and c.from_residual-in_err-write_reply.result c.from_residual-in_err-write_reply.ensures.1 in
-    rw (p.1, p.2) (did_part c.args.config old new c.in-Some.reply.items c.in-Some.fate c.in_err-write_reply.field-0.0 heard told (λ sent e. c.in_err-write_reply.ensures.due sent (ap Err e)))
+    rw (p.1, p.2) (did_part c.args.config old new c.in-Some.reply.items c.in-Some.fate c.in_err-write_reply.field-0.0 heard told
+    (λ sent e. c.in_err-write_reply.ensures.due sent (ap Err e)))

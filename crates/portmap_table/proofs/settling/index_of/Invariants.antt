@@ -6,4 +6,5 @@ decreases-loop-front l = l.back - l.front
 
 -- it stands between them
 abbrev pub invariant-loop-front : goal.invariant-loop-front
-invariant-loop-front l = (l.back ≤ length l.places) × (l.front ≤ l.back) × ((i : ℕ) → slice_get l.places i ≡ Some l.place → (l.front ≤ i) × (i < l.back))
+invariant-loop-front l = (l.back ≤ length l.places) × (l.front ≤ l.back)
+    × ((i : ℕ) → slice_get l.places i ≡ Some l.place → (l.front ≤ i) × (i < l.back))

@@ -31,4 +31,5 @@ loop-rest-preserved c =
     let reads = rw c.in-Some-2.is at c.in_ok-line.ensures in
     let e : c.push.new.self.items ≡ c.loop-rest.lines.items ++ (c.in-Some-2.line ∷ []) = search rules in
     subst (λ (ls : List Line). ListsTo c.args.text.now ls c.in-Some.after.now) (sym e)
-    (one_more c.loop-rest.lines.items c.args.text.now c.loop-rest.rest.now c.in-Some.front.now c.in-Some.after.now c.in-Some-2.line c.loop-rest.invariant c.in-Some.ensures.found reads)
+    (one_more c.loop-rest.lines.items c.args.text.now c.loop-rest.rest.now c.in-Some.front.now c.in-Some.after.now c.in-Some-2.line
+    c.loop-rest.invariant c.in-Some.ensures.found reads)

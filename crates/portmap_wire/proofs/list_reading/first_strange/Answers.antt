@@ -9,7 +9,11 @@ loop-rest-preserved c =
     let reads = c.if-is_line.ensures in
     let cut = c.in-Some.ensures.found in
     record {
-      met = (met.0 ++ reads.0 ∷ [], one_more met.0 c.args.text.now c.loop-rest.rest.now c.in-Some.front.now c.in-Some.after.now reads.0 met.1 cut reads.1, omega (arith, met.2, length_push met.0 reads.0));
+      met = (
+        met.0 ++ reads.0 ∷ [],
+        one_more met.0 c.args.text.now c.loop-rest.rest.now c.in-Some.front.now c.in-Some.after.now reads.0 met.1 cut reads.1,
+        omega (arith, met.2, length_push met.0 reads.0),
+      );
       few = omega (arith, c.loop-rest.invariant.few, ap length cut.text_is, length-append c.in-Some.front.now (10 ∷ c.in-Some.after.now));
     }
 

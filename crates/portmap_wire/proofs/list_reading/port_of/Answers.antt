@@ -3,13 +3,17 @@ use Rattle.portmap_wire.proofs.ListingLemmas.{next_digit}
 use Rattle.portmap_wire.proofs.list_reading.port_of.Goals as goal
 
 pub overflow_mul-value : goal.overflow_mul-value
-overflow_mul-value c = let n = next_digit c.args.digits.now c.loop-digit.digit-index c.requires (omega arith) (omega arith) in omega (arith, n.value, n.small, c.loop-digit.invariant)
+overflow_mul-value c = let n = next_digit c.args.digits.now c.loop-digit.digit-index c.requires (omega arith) (omega arith) in
+    omega (arith, n.value, n.small, c.loop-digit.invariant)
 
 pub overflow_sub-digit : goal.overflow_sub-digit
-overflow_sub-digit c = let n = next_digit c.args.digits.now c.loop-digit.digit-index c.requires (omega arith) (omega arith) in omega (arith, n.digit)
+overflow_sub-digit c = let n = next_digit c.args.digits.now c.loop-digit.digit-index c.requires (omega arith) (omega arith) in
+    omega (arith, n.digit)
 
 pub overflow_add-value : goal.overflow_add-value
-overflow_add-value c = let n = next_digit c.args.digits.now c.loop-digit.digit-index c.requires (omega arith) (omega arith) in omega (arith, n.value, n.small, n.digit, c.loop-digit.invariant, c.from.ensures)
+overflow_add-value c = let n = next_digit c.args.digits.now c.loop-digit.digit-index c.requires (omega arith) (omega arith) in
+    omega (arith, n.value, n.small, n.digit, c.loop-digit.invariant, c.from.ensures)
 
 pub loop-digit-preserved : goal.loop-digit-preserved
-loop-digit-preserved c = let n = next_digit c.args.digits.now c.loop-digit.digit-index c.requires (omega arith) (omega arith) in omega (arith, n.value, n.digit, c.loop-digit.invariant, c.from.ensures)
+loop-digit-preserved c = let n = next_digit c.args.digits.now c.loop-digit.digit-index c.requires (omega arith) (omega arith) in
+    omega (arith, n.value, n.digit, c.loop-digit.invariant, c.from.ensures)

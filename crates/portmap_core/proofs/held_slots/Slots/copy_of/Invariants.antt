@@ -6,4 +6,7 @@ use Rattle.portmap_core.proofs.held_slots.Slots.copy_of.Given as goal
 
 -- what is copied, followed by what is left
 abbrev pub invariant-loop-slot : goal.invariant-loop-slot
-invariant-loop-slot l = record { all : entries_held l.held.items ++ l.slot-iterator ≡ tree.entries l.source; each : All IsHeld l.held.items }
+invariant-loop-slot l = record {
+  all : entries_held l.held.items ++ l.slot-iterator ≡ tree.entries l.source;
+  each : All IsHeld l.held.items;
+}

@@ -8,8 +8,10 @@ pub returns-then-held-others : goal.returns-then-held-others
 returns-then-held-others c =
     let held = c.as_slice-held.ensures.value in
     let others = c.as_slice-others.ensures.value in
-    let items = YieldsList-from_zip (YieldsList-from_slice {s = c.zip.result.a} c.as_slice-held.result.now cc) (YieldsList-from_slice {s = c.zip.result.b} c.as_slice-others.result.now cc) in
-    let decides = same_from_all {s = c.zip.result} c.all.new.self _ c.all.result _ _ c.all.ensures.ran items c.if-held-others.true (λ x q k. search rules) (λ x q k. search rules) in
+    let items = YieldsList-from_zip (YieldsList-from_slice {s = c.zip.result.a} c.as_slice-held.result.now cc)
+    (YieldsList-from_slice {s = c.zip.result.b} c.as_slice-others.result.now cc) in
+    let decides = same_from_all {s = c.zip.result} c.all.new.self _ c.all.result _ _ c.all.ensures.ran items c.if-held-others.true
+    (λ x q k. search rules) (λ x q k. search rules) in
     rw (← c.self.view_is, ← c.other.view_is) (
       λ t. ap (λ (xs : List HeldValue). connections_held xs) (sym held ∙ decides.0 t ∙ others),
       λ e. decides.1 (held ∙ same_held _ _ c.self.invariant c.other.invariant e ∙ sym others),

@@ -15,13 +15,28 @@ returns-clause-ok c =
     let all : List ℕ = c.args.feed.now ++ c.args.piece.now in
     let names : c.commit.new.table.names ≡ names_after i.config.known_max c.args.slot told.change i.table.names =
     c.in_ok-stopped.ensures.names ∙ ap (λ (most : ℕ). names_after most c.args.slot told.change i.table.names) c.self.invariant.0 in
-    let served : Served = record { reply = told.reply.items; fate = told.fate; stage = stage_held told.phase c.push.new.self; names = c.commit.new.table.names; stopped = stopped } in
+    let served : Served = record {
+      reply = told.reply.items;
+      fate = told.fate;
+      stage = stage_held told.phase c.push.new.self;
+      names = c.commit.new.table.names;
+      stopped = stopped;
+    } in
     let is : served ≡ served_by i.config i.table.names c.args.slot c.push.new.self told =
-    λ j. record { reply = told.reply.items; fate = told.fate; stage = stage_held told.phase c.push.new.self; names = names j; stopped = c.in_ok-stopped.ensures.stopped j } in
-    let more : first_request all ≡ More → c.push.new.self ≡ all = λ e. c.push.ensures.more (c.in_ok-seen.was ∙ ap Ok (c.in_ok-seen.ensures.answer ∙ ap seen_of (c.in_ok-seen.ensures.joined ∙ e))) in
+    λ j. record {
+      reply = told.reply.items;
+      fate = told.fate;
+      stage = stage_held told.phase c.push.new.self;
+      names = names j;
+      stopped = c.in_ok-stopped.ensures.stopped j;
+    } in
+    let more : first_request all ≡ More → c.push.new.self ≡ all = λ e.
+    c.push.ensures.more (c.in_ok-seen.was ∙ ap Ok (c.in_ok-seen.ensures.answer ∙ ap seen_of (c.in_ok-seen.ensures.joined ∙ e))) in
     rw (← c.self.view_is) (record {
       stopped = stopped;
-      told = told_all i.config i.table.names c.args.local c.args.slot c.push.new.self all served c.in_ok-seen.ensures.joined more (subst (ToldAt i.config i.table.names c.args.local c.args.slot c.push.new.self (first_request c.push.new.self)) (sym is) (c.in_ok-told.ensures.all c.args.slot).told);
+      told = told_all i.config i.table.names c.args.local c.args.slot c.push.new.self all served c.in_ok-seen.ensures.joined more
+          (subst (ToldAt i.config i.table.names c.args.local c.args.slot c.push.new.self (first_request c.push.new.self)) (sym is)
+          (c.in_ok-told.ensures.all c.args.slot).told);
       again = search rules;
       config = search rules;
       connections = search rules;

@@ -19,11 +19,14 @@ invariant_of-self-2 c =
     rw (held_now c) (kept-kept all, omega (arith, room-kept all, there, c.extend_from_slice.ensures.capacity))
 
 -- the same, from all the bytes received
-held_of_all : (c : goal.After-seen_in) (received : List ℕ) → c.args.self.now ≡ kept received → c.extend_from_slice.new.self.items ≡ kept (received ++ c.args.piece.now)
-held_of_all c received was = held_now c ∙ ap (λ (bytes : List ℕ). kept (bytes ++ c.args.piece.now)) was ∙ kept-append_kept received c.args.piece.now
+held_of_all : (c : goal.After-seen_in) (received : List ℕ) → c.args.self.now ≡ kept received
+    → c.extend_from_slice.new.self.items ≡ kept (received ++ c.args.piece.now)
+held_of_all c received was = held_now c ∙ ap (λ (bytes : List ℕ). kept (bytes ++ c.args.piece.now)) was
+    ∙ kept-append_kept received c.args.piece.now
 
 pub returns-clause-seen : goal.returns-clause-seen
-returns-clause-seen c = λ received was. answer_now c ∙ ap (λ (bytes : List ℕ). seen_of (first_request bytes)) (held_of_all c received was) ∙ ap seen_of (first_request-kept _)
+returns-clause-seen c = λ received was. answer_now c ∙ ap (λ (bytes : List ℕ). seen_of (first_request bytes)) (held_of_all c received was)
+    ∙ ap seen_of (first_request-kept _)
 
 pub returns-clause-kept : goal.returns-clause-kept
 returns-clause-kept c = held_of_all c

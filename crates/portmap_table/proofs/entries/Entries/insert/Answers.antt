@@ -11,7 +11,8 @@ entry c = (c.args.name, c.args.kept)
 pushed : (c : goal.Joined-insert-2) → c.insert.new.self.entries ≡ c.self.inside.kept.entries ++ entry c ∷ []
 pushed c =
     let none : IsNew c.args.name c.self.inside.kept.entries = subst (IsNew c.args.name) (sym c.self.view_is) c.requires.new in
-    c.in-Ok.ensures.entries ∙ insert_entry-new same_name c.self.inside.kept c.args.name c.args.kept (new_found c.args.name c.self.inside.kept.entries none)
+    c.in-Ok.ensures.entries ∙ insert_entry-new same_name c.self.inside.kept c.args.name c.args.kept
+    (new_found c.args.name c.self.inside.kept.entries none)
 
 pub returns-in-Ok-clause-ok : goal.returns-in-Ok-clause-ok
 returns-in-Ok-clause-ok c = pushed c ∙ ap (λ (entries : List Entry). entries ++ entry c ∷ []) c.self.view_is
@@ -19,4 +20,5 @@ returns-in-Ok-clause-ok c = pushed c ∙ ap (λ (entries : List Entry). entries 
 pub invariant_of-self : goal.invariant_of-self
 invariant_of-self c =
     subst (λ (entries : List Entry). AreNamed entries) (sym (pushed c))
-    (named_after _ _ (length c.self.inside.kept.entries) (entry c) (puts_last c.self.inside.kept.entries (entry c)) c.requires.named c.self.invariant)
+    (named_after _ _ (length c.self.inside.kept.entries) (entry c)
+    (puts_last c.self.inside.kept.entries (entry c)) c.requires.named c.self.invariant)

@@ -6,7 +6,8 @@ use Rattle.portmap_table.proofs.Places.{key_of, place_read, read_place, stands_a
 use Rattle.portmap_table.proofs.entries.Entries.place.Goals as goal
 
 where_is : (c : goal.After-get_index_of) → c.get_index_of.result ≡ position (same_name c.args.name.now) (map key_of c.args.self.now)
-where_is c = c.get_index_of.ensures.index ∙ ap (λ (entries : List Entry). position (same_name c.args.name.now) (map key_of entries)) c.self.view_is
+where_is c = c.get_index_of.ensures.index
+    ∙ ap (λ (entries : List Entry). position (same_name c.args.name.now) (map key_of entries)) c.self.view_is
 
 pub returns-clause-found : goal.returns-clause-found
 returns-clause-found c = by c.get_index_of.result (where_is c)

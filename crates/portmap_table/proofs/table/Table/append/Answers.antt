@@ -9,7 +9,8 @@ use Rattle.portmap_table.proofs.NameLaws.{kept_appended}
 use Rattle.portmap_table.proofs.table.Table.append.Goals as goal
 
 pub append-requires : goal.append-requires
-append-requires c = unknown_there c.self.invariant.0 c.args.old.now.name (ap (λ (t : TableState). is_known c.args.old.now.name t.names) c.self.view_is ∙ c.requires.unknown) c.len-place.ensures.named
+append-requires c = unknown_there c.self.invariant.0 c.args.old.now.name
+    (ap (λ (t : TableState). is_known c.args.old.now.name t.names) c.self.view_is ∙ c.requires.unknown) c.len-place.ensures.named
 
 abbrev old_names : (c : goal.After-push_reserved) → Names
 old_names c = names_at c.self.inside.entries c.self.inside.active.items c.self.inside.retired.items
@@ -17,23 +18,34 @@ old_names c = names_at c.self.inside.entries c.self.inside.active.items c.self.i
 pushed : (c : goal.After-push_reserved) → c.push_reserved.new.self.items ≡ c.self.inside.retired.items ++ c.len-place.result ∷ []
 pushed c = c.push_reserved.ensures.items ∙ ap (λ (items : _). items ++ c.len-place.result ∷ []) c.reserve.ensures.items
 
-placed : (c : goal.After-push_reserved) → AreInPlace c.append.new.self c.self.inside.active.items c.push_reserved.new.self.items (get nat_eq c.self.inside.owners)
+placed : (c : goal.After-push_reserved)
+    → AreInPlace c.append.new.self c.self.inside.active.items c.push_reserved.new.self.items (get nat_eq c.self.inside.owners)
 placed c = rw (pushed c, c.in_ok-append.ensures.ok, c.len-place.ensures.len) (appended_places c.self.invariant.0 c.args.old.now)
 
-named : (c : goal.After-push_reserved) → names_at c.append.new.self c.self.inside.active.items c.push_reserved.new.self.items ≡ and_retired (old_names c) c.args.old.now
+named : (c : goal.After-push_reserved) → names_at c.append.new.self c.self.inside.active.items c.push_reserved.new.self.items
+    ≡ and_retired (old_names c) c.args.old.now
 named c = rw (pushed c, c.in_ok-append.ensures.ok, c.len-place.ensures.len) (appended_names c.self.invariant.0 c.args.old.now)
 
-kept : (c : goal.After-push_reserved) → AreKept c.self.inside.known_max (names_at c.append.new.self c.self.inside.active.items c.push_reserved.new.self.items)
+kept : (c : goal.After-push_reserved) → AreKept c.self.inside.known_max
+    (names_at c.append.new.self c.self.inside.active.items c.push_reserved.new.self.items)
 kept c =
     let unknown = ap (λ (t : TableState). is_known c.args.old.now.name t.names) c.self.view_is ∙ c.requires.unknown in
     let room = subst (λ (t : TableState). known_len t.names < t.known_max) (sym c.self.view_is) c.requires.room in
     rw (named c) (kept_appended c.self.inside.known_max (old_names c) room c.args.old.now c.self.invariant.2 unknown c.requires.creation)
 
 pub invariant_of-self-2 : goal.invariant_of-self-2
-invariant_of-self-2 c = (placed c, omega (arith, c.in_ok-reserve.ensures.ok, c.push_reserved.ensures.len, c.push_reserved.ensures.capacity, c.reserve.ensures.len), kept c, c.self.invariant.3, c.self.invariant.4)
+invariant_of-self-2 c = (
+  placed c,
+  omega
+      (arith, c.in_ok-reserve.ensures.ok, c.push_reserved.ensures.len, c.push_reserved.ensures.capacity, c.reserve.ensures.len),
+  kept c,
+  c.self.invariant.3,
+  c.self.invariant.4,
+)
 
 pub returns-clause-ok : goal.returns-clause-ok
-returns-clause-ok c = (λ i. record { names = named c i; known_max = c.self.inside.known_max; counter = c.self.inside.counter }) ∙ ap (λ (t : TableState). with_names t (and_retired t.names c.args.old.now)) c.self.view_is
+returns-clause-ok c = (λ i. record { names = named c i; known_max = c.self.inside.known_max; counter = c.self.inside.counter })
+    ∙ ap (λ (t : TableState). with_names t (and_retired t.names c.args.old.now)) c.self.view_is
 
 pub returns-clause-kept : goal.returns-clause-kept
 returns-clause-kept c = kept c

@@ -12,7 +12,8 @@ use Rattle.portmap_table.proofs.Kept.{kept_enters}
 use Rattle.portmap_table.proofs.table.Table.enter.Goals as goal
 
 pub settle-requires-clause-name : goal.settle-requires-clause-name
-settle-requires-clause-name c = inactive_there c.self.invariant.0 c.args.row.reg.name (ap (λ (t : TableState). is_active c.args.row.reg.name t.names) c.self.view_is ∙ c.requires.name)
+settle-requires-clause-name c = inactive_there c.self.invariant.0 c.args.row.reg.name
+    (ap (λ (t : TableState). is_active c.args.row.reg.name t.names) c.self.view_is ∙ c.requires.name)
 
 abbrev old_names : (c : goal.In-Ok) → Names
 old_names c = names_at c.self.inside.entries c.self.inside.active.items c.self.inside.retired.items
@@ -23,28 +24,45 @@ inactive c = ap (λ (t : TableState). is_active c.args.row.reg.name t.names) c.s
 free : (c : goal.In-Ok) → owns_name c.args.row.slot (old_names c) ≡ false
 free c = ap (λ (t : TableState). owns_name c.args.row.slot t.names) c.self.view_is ∙ c.requires.slot
 
-settles : (c : goal.In-Ok) → TakesPlace c.self.inside.known_max c.args.row c.self.inside.entries c.settle.new.entries c.self.inside.retired.items c.settle.new.retired.items c.in_ok-place.place
+settles : (c : goal.In-Ok)
+    → TakesPlace c.self.inside.known_max c.args.row c.self.inside.entries c.settle.new.entries c.self.inside.retired.items
+    c.settle.new.retired.items c.in_ok-place.place
 settles c = rw (← c.reserve.ensures.items) c.in_ok-place.ensures.ok
 
 pushed : (c : goal.In-Ok) → c.push_reserved.new.self.items ≡ c.self.inside.active.items ++ c.in_ok-place.place ∷ []
 pushed c = c.push_reserved.ensures.items ∙ ap (λ (active : List ℕ). active ++ c.in_ok-place.place ∷ []) c.reserve-2.ensures.items
 
 others : (c : goal.In-Ok) (q : ℕ) → q ≢ c.args.row.slot → get nat_eq c.insert.new.self q ≡ get nat_eq c.self.inside.owners q
-others c q other = c.in-Ok.ensures.updates.2 q (ne_eqb c.args.row.slot q (λ same. other (sym same))) ∙ ap (λ (entries : List (ℕ × ℕ)). lookup (nat_eq q) entries) c.reserve-3.ensures.entries
+others c q other = c.in-Ok.ensures.updates.2 q (ne_eqb c.args.row.slot q (λ same. other (sym same)))
+    ∙ ap (λ (entries : List (ℕ × ℕ)). lookup (nat_eq q) entries) c.reserve-3.ensures.entries
 
-named : (c : goal.In-Ok) → names_at c.settle.new.entries c.push_reserved.new.self.items c.settle.new.retired.items ≡ registered c.args.row.reg c.args.row.creation c.args.row.slot (with_room c.self.inside.known_max c.args.row.reg.name (old_names c))
+named : (c : goal.In-Ok) → names_at c.settle.new.entries c.push_reserved.new.self.items c.settle.new.retired.items
+    ≡ registered c.args.row.reg c.args.row.creation c.args.row.slot (with_room c.self.inside.known_max c.args.row.reg.name (old_names c))
 named c = rw (pushed c) (settled_names c.self.invariant.0 (settles c) (inactive c))
 
-kept : (c : goal.In-Ok) → AreKept c.self.inside.known_max (names_at c.settle.new.entries c.push_reserved.new.self.items c.settle.new.retired.items)
+kept : (c : goal.In-Ok) → AreKept c.self.inside.known_max
+    (names_at c.settle.new.entries c.push_reserved.new.self.items c.settle.new.retired.items)
 kept c =
     rw (named c)
-    (kept_enters c.self.inside.known_max c.args.row.creation c.args.row.slot (old_names c) c.args.row.reg c.self.invariant.2 (inactive c) (ap (λ (t : TableState). is_full_for t.known_max c.args.row.reg.name t.names) c.self.view_is ∙ c.requires.room) (free c) c.requires.creation)
+    (kept_enters c.self.inside.known_max c.args.row.creation c.args.row.slot (old_names c) c.args.row.reg c.self.invariant.2 (inactive c)
+    (ap (λ (t : TableState). is_full_for t.known_max c.args.row.reg.name t.names) c.self.view_is ∙ c.requires.room)
+    (free c) c.requires.creation)
 
 pub invariant_of-self-2 : goal.invariant_of-self-2
 invariant_of-self-2 c = (
   rw (pushed c)
-      (settled_places c.self.invariant.0 (settles c) (inactive c) (get nat_eq c.insert.new.self) (is_none (get nat_eq c.self.inside.owners c.args.row.slot) (sym (owns_placed c.self.invariant.0 c.args.row.slot) ∙ free c)) c.in-Ok.ensures.updates.1 (others c)),
-  omega (arith, c.in_ok-reserve.ensures.ok, c.reserve.ensures.len, c.reserve-2.ensures.len, c.push_reserved.ensures.len, c.settle.ensures.few, c.settle.ensures.room),
+      (settled_places c.self.invariant.0 (settles c) (inactive c) (get nat_eq c.insert.new.self)
+      (is_none (get nat_eq c.self.inside.owners c.args.row.slot)
+      (sym (owns_placed c.self.invariant.0 c.args.row.slot) ∙ free c)) c.in-Ok.ensures.updates.1 (others c)),
+  omega (
+    arith,
+    c.in_ok-reserve.ensures.ok,
+    c.reserve.ensures.len,
+    c.reserve-2.ensures.len,
+    c.push_reserved.ensures.len,
+    c.settle.ensures.few,
+    c.settle.ensures.room,
+  ),
   kept c,
   c.self.invariant.3,
   c.self.invariant.4,
@@ -53,7 +71,8 @@ invariant_of-self-2 c = (
 pub returns-clause-ok : goal.returns-clause-ok
 returns-clause-ok c =
     (λ i. record { names = named c i; known_max = c.self.inside.known_max; counter = c.self.inside.counter })
-    ∙ ap (λ (t : TableState). with_names t (registered c.args.row.reg c.args.row.creation c.args.row.slot (with_room t.known_max c.args.row.reg.name t.names))) c.self.view_is
+    ∙ ap (λ (t : TableState). with_names t (registered c.args.row.reg c.args.row.creation c.args.row.slot
+    (with_room t.known_max c.args.row.reg.name t.names))) c.self.view_is
 
 pub returns-clause-kept : goal.returns-clause-kept
 returns-clause-kept c = kept c

@@ -5,4 +5,5 @@ use Rattle.portmap_table.proofs.InPlace.{owns_placed}
 use Rattle.portmap_table.proofs.table.Table.holds.Goals as goal
 
 pub returns : goal.returns
-returns c = c.contains_key.ensures ∙ sym (owns_placed c.self.invariant.0 c.args.slot) ∙ ap (λ (t : TableState). owns_name c.args.slot t.names) c.self.view_is
+returns c = c.contains_key.ensures ∙ sym (owns_placed c.self.invariant.0 c.args.slot)
+    ∙ ap (λ (t : TableState). owns_name c.args.slot t.names) c.self.view_is

@@ -11,11 +11,17 @@ use Rattle.portmap_table.proofs.table.Table.retire.Goals as goal
 
 pub returns-in_default-clause-found : goal.returns-in_default-clause-found
 returns-in_default-clause-found c =
-    sym (owns_placed c.self.invariant.0 c.args.slot ∙ ap is_some (sym c.swap_remove.ensures.value ∙ c.in_default.is)) ∙ ap (λ (t : TableState). owns_name c.args.slot t.names) c.self.view_is
+    sym (owns_placed c.self.invariant.0 c.args.slot ∙ ap is_some (sym c.swap_remove.ensures.value ∙ c.in_default.is))
+    ∙ ap (λ (t : TableState). owns_name c.args.slot t.names) c.self.view_is
 
 pub returns-in_default-clause-retired : goal.returns-in_default-clause-retired
 returns-in_default-clause-retired c =
-    (λ i. record { names = sym (stays_whole c.self.invariant.0 c.args.slot (sym c.swap_remove.ensures.value ∙ c.in_default.is)) i; known_max = c.self.inside.known_max; counter = c.self.inside.counter }) ∙ ap (λ (t : TableState). with_names t (retired_of c.args.slot t.names)) c.self.view_is
+    (λ i. record {
+      names = sym (stays_whole c.self.invariant.0 c.args.slot (sym c.swap_remove.ensures.value ∙ c.in_default.is)) i;
+      known_max = c.self.inside.known_max;
+      counter = c.self.inside.counter;
+    })
+    ∙ ap (λ (t : TableState). with_names t (retired_of c.args.slot t.names)) c.self.view_is
 
 owned : (c : goal.After-push_reserved) → get nat_eq c.self.inside.owners c.args.slot ≡ Some c.in-Some.place
 owned c = sym c.swap_remove.ensures.value ∙ c.in-Some.is
@@ -26,28 +32,43 @@ others c q other = c.swap_remove.ensures.updates.2 q (ne_eqb c.args.slot q (λ s
 abbrev old_names : (c : goal.After-push_reserved) → Names
 old_names c = names_at c.self.inside.entries c.self.inside.active.items c.self.inside.retired.items
 
-placed : (c : goal.After-push_reserved) → AreInPlace c.retire.new.self c.take_out.new.places.items c.push_reserved.new.self.items (get nat_eq c.swap_remove.new.self)
+placed : (c : goal.After-push_reserved)
+    → AreInPlace c.retire.new.self c.take_out.new.places.items c.push_reserved.new.self.items (get nat_eq c.swap_remove.new.self)
 placed c =
     let out = c.take_out.ensures.items in
-    rw (out.2, c.push_reserved.ensures.items) (retires_places (get nat_eq c.swap_remove.new.self) c.args.slot c.in-Some.place out.0 c.self.invariant.0 (owned c) c.retire.ensures.puts c.retire.ensures.len out.1 c.swap_remove.ensures.updates.1 (others c))
+    rw (out.2, c.push_reserved.ensures.items)
+    (retires_places (get nat_eq c.swap_remove.new.self) c.args.slot c.in-Some.place out.0 c.self.invariant.0
+    (owned c) c.retire.ensures.puts c.retire.ensures.len out.1 c.swap_remove.ensures.updates.1 (others c))
 
-named : (c : goal.After-push_reserved) → names_at c.retire.new.self c.take_out.new.places.items c.push_reserved.new.self.items ≡ retired_of c.args.slot (old_names c)
+named : (c : goal.After-push_reserved) → names_at c.retire.new.self c.take_out.new.places.items c.push_reserved.new.self.items
+    ≡ retired_of c.args.slot (old_names c)
 named c =
     let out = c.take_out.ensures.items in
     (λ i. names_at c.retire.new.self (out.2 i) (c.push_reserved.ensures.items i))
-    ∙ retires_names (get nat_eq c.swap_remove.new.self) c.args.slot c.in-Some.place out.0 c.self.invariant.0 (owned c) c.retire.ensures.puts c.retire.ensures.len out.1 c.swap_remove.ensures.updates.1 (others c)
+    ∙ retires_names (get nat_eq c.swap_remove.new.self) c.args.slot c.in-Some.place out.0 c.self.invariant.0
+    (owned c) c.retire.ensures.puts c.retire.ensures.len out.1 c.swap_remove.ensures.updates.1 (others c)
 
-kept : (c : goal.After-push_reserved) → AreKept c.self.inside.known_max (names_at c.retire.new.self c.take_out.new.places.items c.push_reserved.new.self.items)
+kept : (c : goal.After-push_reserved) → AreKept c.self.inside.known_max
+    (names_at c.retire.new.self c.take_out.new.places.items c.push_reserved.new.self.items)
 kept c = rw (named c) (kept_retired c.self.inside.known_max (old_names c) _ c.self.invariant.2)
 
 pub invariant_of-self-2 : goal.invariant_of-self-2
-invariant_of-self-2 c = (placed c, omega (arith, c.self.invariant.1, c.take_out.ensures.len, c.push_reserved.ensures.len, c.push_reserved.ensures.capacity), kept c, c.self.invariant.3, c.self.invariant.4)
+invariant_of-self-2 c = (
+  placed c,
+  omega
+      (arith, c.self.invariant.1, c.take_out.ensures.len, c.push_reserved.ensures.len, c.push_reserved.ensures.capacity),
+  kept c,
+  c.self.invariant.3,
+  c.self.invariant.4,
+)
 
 pub returns-clause-found : goal.returns-clause-found
-returns-clause-found c = sym (owns_placed c.self.invariant.0 c.args.slot ∙ ap is_some (owned c)) ∙ ap (λ (t : TableState). owns_name c.args.slot t.names) c.self.view_is
+returns-clause-found c = sym (owns_placed c.self.invariant.0 c.args.slot ∙ ap is_some (owned c))
+    ∙ ap (λ (t : TableState). owns_name c.args.slot t.names) c.self.view_is
 
 pub returns-clause-retired : goal.returns-clause-retired
-returns-clause-retired c = (λ i. record { names = named c i; known_max = c.self.inside.known_max; counter = c.self.inside.counter }) ∙ ap (λ (t : TableState). with_names t (retired_of c.args.slot t.names)) c.self.view_is
+returns-clause-retired c = (λ i. record { names = named c i; known_max = c.self.inside.known_max; counter = c.self.inside.counter })
+    ∙ ap (λ (t : TableState). with_names t (retired_of c.args.slot t.names)) c.self.view_is
 
 pub returns-clause-kept : goal.returns-clause-kept
 returns-clause-kept c = kept c

@@ -10,22 +10,26 @@ pub returns-in-None : goal.returns-in-None
 returns-in-None c =
     let fresh = stands_nowhere c.args.name.now c.self.inside.entries c.place.result c.in-None.is c.place.ensures.only in
     let full : nat_le c.self.inside.known_max (length c.self.inside.active.items) ≡ true = grind (arith, nat_tests) in
-    sym (stands_new c.self.invariant.0 c.args.name.now c.self.inside.known_max true fresh full) ∙ ap (λ (t : TableState). standing t.known_max c.args.name.now t.names) c.self.view_is
+    sym (stands_new c.self.invariant.0 c.args.name.now c.self.inside.known_max true fresh full)
+    ∙ ap (λ (t : TableState). standing t.known_max c.args.name.now t.names) c.self.view_is
 
 pub returns-in-None-2 : goal.returns-in-None-2
 returns-in-None-2 c =
     let fresh = stands_nowhere c.args.name.now c.self.inside.entries c.place.result c.in-None.is c.place.ensures.only in
     let full : nat_le c.self.inside.known_max (length c.self.inside.active.items) ≡ false = grind (arith, nat_tests) in
-    sym (stands_new c.self.invariant.0 c.args.name.now c.self.inside.known_max false fresh full) ∙ ap (λ (t : TableState). standing t.known_max c.args.name.now t.names) c.self.view_is
+    sym (stands_new c.self.invariant.0 c.args.name.now c.self.inside.known_max false fresh full)
+    ∙ ap (λ (t : TableState). standing t.known_max c.args.name.now t.names) c.self.view_is
 
 pub returns-in-None-retired : goal.returns-in-None-retired
 returns-in-None-retired c =
     let once = stands_once c.args.name.now c.self.inside.entries c.place.result c.in-Some.place c.in-Some.is c.place.ensures.only in
-    sym (stands_kept c.self.invariant.0 c.args.name.now c.self.inside.known_max c.in-Some.place c.in-Some.ensures.found once ∙ ap how_kept (sym c.retired.ensures ∙ ap (option_map retired_name) c.in-None-retired.is))
+    sym (stands_kept c.self.invariant.0 c.args.name.now c.self.inside.known_max c.in-Some.place c.in-Some.ensures.found once
+    ∙ ap how_kept (sym c.retired.ensures ∙ ap (option_map retired_name) c.in-None-retired.is))
     ∙ ap (λ (t : TableState). standing t.known_max c.args.name.now t.names) c.self.view_is
 
 pub returns-in-Some-retired : goal.returns-in-Some-retired
 returns-in-Some-retired c =
     let once = stands_once c.args.name.now c.self.inside.entries c.place.result c.in-Some.place c.in-Some.is c.place.ensures.only in
-    sym (stands_kept c.self.invariant.0 c.args.name.now c.self.inside.known_max c.in-Some.place c.in-Some.ensures.found once ∙ ap how_kept (sym c.retired.ensures ∙ ap (option_map retired_name) c.in-Some-retired.is))
+    sym (stands_kept c.self.invariant.0 c.args.name.now c.self.inside.known_max c.in-Some.place c.in-Some.ensures.found once
+    ∙ ap how_kept (sym c.retired.ensures ∙ ap (option_map retired_name) c.in-Some-retired.is))
     ∙ ap (λ (t : TableState). standing t.known_max c.args.name.now t.names) c.self.view_is

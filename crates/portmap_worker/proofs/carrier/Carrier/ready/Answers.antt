@@ -23,4 +23,6 @@ returns-in-Ok-clause-written g c =
 pub returns-in-Ok-clause-next : goal.returns-in-Ok-clause-next
 returns-in-Ok-clause-next g c =
     follows_flush c.in-Ok.answer _ _ _ _ _ _ _ c.flush.ensures.answers
-    (subst (λ (puts : List Put). FollowsAnswer c.in-Ok.answer puts (g.I.Device.puts c.reply-next.new.link) c.reply-next.new.self.out c.reply-next.result) c.in-Piece.ensures.puts c.reply-next.ensures.next)
+    (subst (λ (puts : List Put). FollowsAnswer c.in-Ok.answer puts
+    (g.I.Device.puts c.reply-next.new.link) c.reply-next.new.self.out c.reply-next.result) c.in-Piece.ensures.puts
+    c.reply-next.ensures.next)
