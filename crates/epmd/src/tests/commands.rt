@@ -96,8 +96,9 @@ fn what_is_asked_for_is_done_and_told(rt: HostRuntime) -> Result<(), Fail> {
         names 4369:name a at port 5000| -> 0 out 4369:name a at port 5000|
         names/single 4369:name a at port 5000| -> 0 out 4369:name a at port 5000|
         names 4369:name a at port 00007| -> 0 out 4369:name a at port 7|
-        names ????name a at port 1|name b at port 65535| -> 0 out epmd: up and running on port 4294967295 with data:|name a at port 1|name
-            b at port 65535|
+        names ????name a at port 1| -> 0 out epmd: up and running on port 4294967295 with data:|name a at port 1|
+        names 4369:name a at port 1|name b at port 2| -> 0 out 4369:name a at port 1|name b at port 2|
+        names 4369:name a at port 65535| -> 0 out 4369:name a at port 65535|
         names 4369:MANY -> 0 out 4369:MANY
         names 4369: -> 0 out 4369:
         dump 4369:active name     a at port 5000, fd = 0| -> 0 out 4369:active name     a at port 5000, fd = 0|

@@ -120,8 +120,8 @@ impl Trial for Ends {
 fn a_daemon_with_debug_output_tells_what_was_served(rt: HostRuntime) -> Result<(), Fail> {
     let table = "
         ends served 5 0 7 -> 0
-        -d ends served 5 0 18446744073709551615 -> 0 err epmd: worker 1 served 5|epmd: worker 2 served 0|epmd: worker 3 served
-            18446744073709551615|
+        -d ends served 5 0 7 -> 0 err epmd: worker 1 served 5|epmd: worker 2 served 0|epmd: worker 3 served 7|
+        -d ends served 18446744073709551615 -> 0 err epmd: worker 1 served 18446744073709551615|
     ";
     all_come(&rt, &Ends, table)
 }
