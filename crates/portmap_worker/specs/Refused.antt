@@ -25,5 +25,5 @@ named (Some name) = codes "name " ++ name
 -- the line that tells of the first one, and of so many more
 abbrev pub in_use_line : Option (List ℕ) → ℕ → List ℕ
 in_use_line name more =
-    codes "epmd: " ++ named name ++ codes " is in
-        use" ++ (if more == 0 then [] else codes ", and " ++ decimal more ++ codes " more") ++ codes "\n"
+    codes "epmd: " ++ named name ++ codes " is in use"
+    ++ (if more == 0 then [] else codes ", and " ++ decimal more ++ codes " more") ++ codes "\n"
