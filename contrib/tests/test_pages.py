@@ -1,4 +1,4 @@
-"""The pages for readers of the code: what they name in backquotes is there, and no line is too wide."""
+"""The pages beside the manuals: what they name and link to is there, and they are as short and as narrow as they are to be."""
 import fnmatch
 import os
 import re
@@ -6,7 +6,10 @@ import unittest
 
 TOP = os.path.join(os.path.dirname(os.path.abspath(__file__)), "..", "..")
 README, CONTRIBUTING, PROVED, DECISIONS = "README.md", "docs/CONTRIBUTING.md", "docs/PROVED.md", "docs/DECISIONS.md"
-COLUMNS_MOST = 140
+PAGES = [README, CONTRIBUTING, PROVED, DECISIONS, "docs/FORMATS.md", "docs/PROTOCOL.md"]
+CHANGES = "CHANGELOG.md"
+# Of a line; of all pages; of the decisions.
+COLUMNS_MOST, LINES_MOST, WORDS_MOST = 140, 1300, 6000
 
 FOLDERS = ["crates", "contrib", "docs", "bench", "faults", "include", ".ci"]
 # Where a name has to stand as a word. This file is left out: what it names itself would be found in it.
@@ -15,7 +18,9 @@ CODE = ["crates", "contrib", "faults"]
 MADE, ANY = ("build", "out", "__pycache__"), ("NAME", "PLAIN_WORDS")
 ENDING = re.compile(r"\.(antt|c|conf|edit|h|md|pc|py|rs|rt|story|txt)$|[a-z]\.[13]$")
 NAME = re.compile(r"[A-Za-z_]\w*(::\w+)*(\(\))?")
+MEMBER = re.compile(r"\b([A-Z]\w*[a-z]\w*)::(\w+)")
 CRATE = re.compile(r"\b(portmap_\w+|tests_\w+|epmd|stories|simulation)\b")
+LINK = re.compile(r"\]\(([^)#\s]*)(?:#([^)\s]*))?\)")
 
 
 def read(*path):
@@ -53,6 +58,7 @@ class Checkout:
         own = os.path.relpath(os.path.abspath(__file__), TOP)
         files = [path for path in below(CODE) if os.path.isfile(os.path.join(TOP, path)) and path != own]
         self.words = set(re.findall(r"\w+", "\n".join([self.makefile, *map(read, files)])))
+        self.sources = [read(path) for path in files if path.endswith(".rt")]
 
     def has(self, path, crates):
         """Whether a path is there. One of a part of a crate is so in one of these crates, where there are any."""
@@ -86,6 +92,30 @@ class Checkout:
                 yield from ((number, word) for word in re.findall(r"\w+", span) if word not in self.words)
 
 
+    def missing_members(self, page):
+        """Of a type and what is its own, as `Desk::close`: functions and variants, in a file that is of the type."""
+        for found in MEMBER.finditer(page):
+            of_type = re.compile(rf"\b(?:struct|enum|trait|impl(?:<[^>]*>)?(?:\s+\w+\s+for)?)\s+{found[1]}\b")
+            own = re.compile(rf"(?m)\bfn\s+{found[2]}\b|^\s*{found[2]}\s*[,({{]")
+            if not any(of_type.search(source) and own.search(source) for source in self.sources):
+                yield 1 + page.count("\n", 0, found.start()), found[0]
+
+
+def anchor(head):
+    return re.sub(r"[^\w -]", "", head.lower()).replace(" ", "-")
+
+
+def broken_links(path):
+    page = read(path)
+    for found in LINK.finditer(page):
+        if "://" in found[1]:
+            continue
+        to = os.path.normpath(os.path.join(os.path.dirname(path), found[1])) if found[1] else path
+        there = os.path.exists(os.path.join(TOP, to))
+        if not there or (found[2] and found[2] not in map(anchor, re.findall(r"(?m)^#+ (.*)$", read(to)))):
+            yield 1 + page.count("\n", 0, found.start()), found[0]
+
+
 def too_wide(page):
     return [(number, len(line)) for number, line in enumerate(page.split("\n"), 1) if len(line) > COLUMNS_MOST]
 
@@ -103,10 +133,27 @@ class Pages(unittest.TestCase):
         self.none(self.CHECKOUT.missing_targets, README, CONTRIBUTING, PROVED, DECISIONS)
 
     def test_each_name_stands_in_the_code(self):
-        self.none(self.CHECKOUT.missing_names, CONTRIBUTING)
+        self.none(self.CHECKOUT.missing_names, CONTRIBUTING, PROVED, DECISIONS)
+        self.none(self.CHECKOUT.missing_members, README, CONTRIBUTING, PROVED, DECISIONS)
+
+    def test_each_link_leads_somewhere(self):
+        self.assertEqual([(page, *found) for page in [*PAGES, CHANGES] for found in broken_links(page)], [])
+
+    def test_each_decision_names_a_file_and_each_room_is_in_the_index(self):
+        page = read(DECISIONS)
+        rooms = re.findall(r"(?m)^## (.*)$", page)[1:]
+        self.assertEqual(re.findall(r"(?m)^- \[(.*?)\]\(", page), rooms)
+        items = re.findall(r"(?m)^- \*\*(?:.|\n(?!- |\n))*", page)
+        self.assertGreater(len(items), len(rooms))
+        files = [[span for _, span, _ in spans(item) if "/" in span or ENDING.search(span) or span == "Makefile"] for item in items]
+        self.assertEqual([item for item, named in zip(items, files) if not named], [])
 
     def test_no_line_is_too_wide(self):
-        self.none(too_wide, README, CONTRIBUTING, PROVED, DECISIONS)
+        self.none(too_wide, *PAGES, CHANGES)
+
+    def test_the_pages_are_short(self):
+        self.assertLessEqual(sum(read(page).count("\n") for page in PAGES), LINES_MOST)
+        self.assertLessEqual(len(read(DECISIONS).split()), WORDS_MOST)
 
 
 if __name__ == "__main__":
