@@ -3,7 +3,8 @@ import pathlib
 import unittest
 
 TOP = pathlib.Path(__file__).resolve().parents[2] / "crates"
-COLUMNS = 140
+# 140, and one more where `rt fmt` takes it
+COLUMNS = 141
 
 
 def wide_lines():
