@@ -148,6 +148,11 @@ impl World {
         self.weather.happens(&mut self.random, fault)
     }
 
+    /// Whether a fault happens now, as it never has.
+    pub fn happens_first(&mut self, fault: Fault) -> bool {
+        !self.weather.has_happened(fault) && self.happens(fault)
+    }
+
     /// Until when a fault lasts, if it happens now, for less than so many microseconds.
     pub fn lasts(&mut self, fault: Fault, most: u64) -> Option<u64> {
         if self.happens(fault) {
