@@ -47,6 +47,8 @@ pub const SCENARIOS: &[Scenario] = scenarios! {
     "crests" (528, 471, 15156, 0) [Local NODE 12, Local TARDY 250]
         [Slow 1000] conn_max: 512, burst_us: 1_000_000, hold_us: 300_000, limit_ms: 10_000;
     "hung" (700, 100, 2100, 900) [Local NODE 3, Local RIVAL 4] [Hung 2] hold_us: 5_000_000, is_strict: false, limit_ms: 4000;
+    "hasty" (1434, 124, 2430, 996) [Local NODE 3, Local RIVAL 4] [Hung 2, Held 10]
+        timeout_us: 1_000_000, refusal_us: 60_000_000, hold_us: 5_000_000, limit_ms: 4000;
     "readers" (162, 83, 856, 0) [Local NODE 12, Local SLOW 10, Local DUMPER 4, Local SEEKER 2] [Short 100, Interrupted 50];
     "unreading" (198, 171, 1982, 0) [Local UNREADING 6, Remote UNREADING 3, Local SILENT 3, Remote DRIPPER 3, Local NODE 4, Local LISTER 2]
         [] conn_max: 32;
@@ -58,6 +60,8 @@ pub const SCENARIOS: &[Scenario] = scenarios! {
     "occupied" (54, 0, 62, 0) [Local NODE 8, Local SEEKER 1] [] conn_max: 8, hold_us: 60_000_000, limit_ms: 250, is_strict: false;
     "encamped" (59, 39, 709, 0) [Remote SILENT 4, Local NODE 3, Local SEEKER 2]
         [] conn_max: 7, burst_us: 2_000_000, hold_us: 60_000_000, limit_ms: 210;
+    "placed" (20, 7, 1397, 0) [Remote SILENT 5, Local NODE 2, Local SEEKER 1]
+        [Delayed 1000, Taken 1000] timeout_us: 3_600_000_000, conn_max: 7, burst_us: 4_000_000, hold_us: 3_600_000_000, limit_ms: 1500;
     "loaded" (1053, 945, 22382, 0) [Local NODE 20, Local LISTER 100, Local SEEKER 120]
         [Slow 1000] conn_max: 512, burst_us: 100_000, hold_us: 30_000, limit_ms: 10_000;
     "stuck" (260, 105, 7398, 212) [Local NODE 6, Local RIVAL 6, Local SEEKER 40]
@@ -79,6 +83,8 @@ pub const SCENARIOS: &[Scenario] = scenarios! {
         [Unreported 1000] limit_ms: 10;
     "floods" (654, 577, 14512, 0) [Local TARDY 750, Local NODE 30]
         [Stopped 20, Late 300] conn_max: 1024, burst_us: 1_000_000, hold_us: 300_000, limit_ms: 200_000;
+    "swells" (700, 546, 15852, 0) [Local TARDY 750, Local NODE 30]
+        [Held 1, Reversed 500] conn_max: 1024, burst_us: 1_000_000, hold_us: 300_000, limit_ms: 200_000;
     "deaf" (55, 20, 700, 0) [] [Deaf 2] is_strict: false, may_end: true;
     "storm" (154, 116, 1854, 0) []
         [Interrupted 30, Short 50, Aborted 15, Exhausted 15, Unwatched 15, Late 100, Spurious 10, Held 5, Dripped 100, Reset 50] limit_ms: 4000;
