@@ -266,7 +266,8 @@ impl World {
 
     /// Whether a fault holds a worker from now on.
     pub fn holds(&mut self, number: usize) -> bool {
-        let begins_late = number == 0 && self.happens_first(Fault::Delayed);
+        let are_several = self.workers().len() > 1;
+        let begins_late = number == 0 && self.happens_first(Fault::Delayed) && are_several;
         let until = if begins_late || self.happens_first(Fault::Hung) {
             Some(self.now.saturating_add(HUNG_US))
         } else {

@@ -32,7 +32,7 @@ pub enum Fault {
     Stuck,
     /// One thread hangs for half a minute, once.
     Hung,
-    /// The first worker hangs for half a minute as it begins.
+    /// The first worker of several hangs for half a minute as it begins.
     Delayed,
     /// Who takes the log out hangs for half a minute.
     Behind,
