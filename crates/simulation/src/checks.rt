@@ -1,7 +1,7 @@
 //! What is checked at each step, at rest and at the end, with what is said where it is wrong.
 use crate::people::{Person, Stage};
 use crate::roles::{GivenUp, Owed, Reading};
-use crate::scene::{Scene, TIMEOUT_US};
+use crate::scene::Scene;
 use crate::weather::{Fault, Weather};
 use crate::wire::{Heard, Wire};
 use crate::world::{Ending, World};
@@ -29,14 +29,11 @@ pub const SEATS: Wrong = "the seats don't add up";
 
 pub const UNSEEN: Wrong = "not all weather was seen";
 
-/// A name that another node holds is refused within this time.
-const REFUSAL_US: u64 = 200_000;
-
 /// Who asks within so much time is owed an answer, however late that is seen.
 const PROMPT_US: u64 = 1_000_000;
 
-/// A connection that asks nothing, or reads nothing, is given up so soon: its timeout, a look and a second later.
-const GIVEN_UP_US: u64 = 6_500_000;
+/// A connection that asks nothing, or reads nothing, is given up so soon once its time is over: a look and a second later.
+const GIVEN_UP_US: u64 = 1_500_000;
 
 /// The connection of a node that was stopped is given up so soon: with the next look.
 const STOPPED_US: u64 = 500_000;
@@ -85,7 +82,8 @@ impl Person {
             GivenUp::Anybody => true,
         };
         if is_useless {
-            return Some(accepted.saturating_add(GIVEN_UP_US));
+            let over = accepted.saturating_add(self.scenario.timeout_us);
+            return Some(over.saturating_add(GIVEN_UP_US));
         }
         if !self.holds() {
             return None;
@@ -137,7 +135,7 @@ impl Person {
         let wrong = if self.role.owns() {
             Some("a node that closed first was refused")
         } else {
-            let is_late = self.waited(now) > REFUSAL_US;
+            let is_late = self.waited(now) > self.scenario.refusal_us;
             is_late.then_some("a duplicate was refused too late")
         };
         wrong.filter(|_| !self.is_lenient)
@@ -166,12 +164,13 @@ impl<'a> Scene<'a> {
 
     /// A connection was told late: its time is over, or it is given up for another one, and nobody is while there is news of him.
     pub(crate) fn judge_late(&mut self, late: usize, has_news: bool) -> Option<()> {
+        let timeout = self.scenario.timeout_us;
         let mut world = self.world()?;
-        let is_early = world.is_early(late, TIMEOUT_US)?;
+        let is_early = world.is_early(late, timeout)?;
         let given_up = self.given_up.saturating_add(u32::from(is_early));
         let is_wanted = given_up <= world.wanting;
         let is_first = !is_early || world.goes_first(late)?;
-        let is_anew = world.note_late(late, TIMEOUT_US)? || world.wanting > 0;
+        let is_anew = world.note_late(late, timeout)? || world.wanting > 0;
         drop(world);
         self.given_up = given_up;
         if self.scenario.is_strict {
@@ -275,13 +274,13 @@ impl<'a> Scene<'a> {
 
     /// This connection was told the names of those who hold one.
     pub(crate) fn judge_names(&mut self, number: usize) -> Option<()> {
-        let is_told = self.are_told(&self.world()?.wires.get(number)?.received);
+        let is_told = self.lists_holders(&self.world()?.wires.get(number)?.received);
         self.check(is_told, "the names at rest are not those of who holds them");
         Some(())
     }
 
     /// Whether these bytes are the names of those who hold one.
-    fn are_told(&self, bytes: &[u8]) -> bool {
+    fn lists_holders(&self, bytes: &[u8]) -> bool {
         match read_names(self.alloc, bytes) {
             Ok((_, lines)) => self.are_holders(&lines),
             Err(_) => false,
@@ -304,18 +303,18 @@ impl<'a> Scene<'a> {
     // ---- at the end
 
     /// It is to end, and tells this fault, or none.
-    pub(crate) fn judge_told(&mut self, told: Option<Failure>) -> Option<()> {
-        let is_right = is_right(&self.world()?.weather, told, self.scenario.may_end);
+    pub(crate) fn judge_failure(&mut self, failure: Option<Failure>) -> Option<()> {
+        let is_right = is_right(&self.world()?.weather, failure, self.scenario.may_end);
         self.check(is_right, "it tells another reason than why it ends");
         Some(())
     }
 }
 
 /// Whether the fault that a daemon tells, if it does, is what has happened.
-fn is_right(weather: &Weather, told: Option<Failure>, may_end: bool) -> bool {
+fn is_right(weather: &Weather, failure: Option<Failure>, may_end: bool) -> bool {
     let is_deaf = weather.has_happened(Fault::Deaf);
     let is_starved = may_end && weather.has_happened(Fault::Famine);
-    match told {
+    match failure {
         None => !is_deaf && !is_starved,
         Some(Failure::Poll) => is_deaf,
         Some(Failure::NoMemory) => is_starved || weather.has_happened(Fault::Starved),

@@ -1,6 +1,6 @@
 //! The parts of a daemon in a world, step by step.
 use crate::scene::Scene;
-use crate::system::{SimFile, SimHost, SimWaker};
+use crate::system::{SimFile, SimHost, SimThread};
 use portmap_book::{Desk, Seat};
 use portmap_worker::{Drain, Drained, Open, RecordQueue, RecordWriter, Shared, Source, Worker};
 use std::sync::Wait;
@@ -11,7 +11,7 @@ use std::sync::ledger::Ledger;
 pub struct Around<'a, L: Ledger, R: Wait + Drop> {
     pub(crate) host: &'a SimHost<R>,
     pub(crate) desk: &'a Desk<L>,
-    pub(crate) shared: &'a Shared<SimWaker>,
+    pub(crate) shared: &'a Shared<SimThread>,
     pub(crate) queue: &'a RecordQueue,
 }
 

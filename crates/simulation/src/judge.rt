@@ -13,20 +13,20 @@ const IN_USE: &[u8] = b"v\x01";
 
 /// What each connection was told, by the log.
 #[derive(Drop)]
-struct Told {
+struct Replies {
     /// By slots: which connection has it.
     slots: Vec<Option<usize>>,
     /// By connections.
-    told: Vec<Vec<u8>>,
+    by_connection: Vec<Vec<u8>>,
     /// How many were opened.
     opened: usize,
     /// How many registrations were refused since their names are in use.
     in_use: u64,
 }
 
-impl Told {
+impl Replies {
     /// A connection has this slot, or none has.
-    fn put(&mut self, slot: usize, number: Option<usize>) -> Option<()> {
+    fn assign(&mut self, slot: usize, number: Option<usize>) -> Option<()> {
         for _ in self.slots.len()..slot.saturating_add(1) {
             self.slots.push(None).ok()?;
         }
@@ -35,11 +35,14 @@ impl Told {
     }
 
     /// A connection was told these bytes.
-    fn tell(&mut self, alloc: Global, number: usize, reply: &[u8]) -> Option<()> {
-        for _ in self.told.len()..number.saturating_add(1) {
-            self.told.push(Vec::new(alloc)).ok()?;
+    fn add(&mut self, alloc: Global, number: usize, reply: &[u8]) -> Option<()> {
+        for _ in self.by_connection.len()..number.saturating_add(1) {
+            self.by_connection.push(Vec::new(alloc)).ok()?;
         }
-        self.told.get_mut(number)?.extend_from_slice(reply).ok()
+        self.by_connection
+            .get_mut(number)?
+            .extend_from_slice(reply)
+            .ok()
     }
 
     /// Notes an entry, where the connections were opened in this order.
@@ -48,14 +51,14 @@ impl Told {
             Entry::Connected { local: _, slot } => {
                 let number = opened.get(self.opened).copied();
                 self.opened = self.opened.saturating_add(1);
-                self.put(*slot as usize, number)
+                self.assign(*slot as usize, number)
             }
             Entry::Piece { slot, reply, .. } => {
                 if reply.starts_with(IN_USE) {
                     self.in_use = self.in_use.saturating_add(1);
                 }
                 match self.slots.get(*slot as usize).copied() {
-                    Some(Some(number)) => self.tell(alloc, number, reply),
+                    Some(Some(number)) => self.add(alloc, number, reply),
                     _ => Some(()),
                 }
             }
@@ -73,7 +76,7 @@ impl Told {
             return Some("connections are missing in the recording");
         }
         for (number, wire) in world.wires.iter().enumerate() {
-            let told: &[u8] = match self.told.get(number) {
+            let told: &[u8] = match self.by_connection.get(number) {
                 Some(told) => told,
                 None => &[],
             };
@@ -209,9 +212,9 @@ pub fn judge(
     }
     let has_failed = world.notices.failed > 0;
     let mut next = 0u64;
-    let mut told = Told {
+    let mut replies = Replies {
         slots: Vec::new(alloc),
-        told: Vec::new(alloc),
+        by_connection: Vec::new(alloc),
         opened: 0,
         in_use: 0,
     };
@@ -224,7 +227,7 @@ pub fn judge(
             Ok(None) => {}
             Ok(Some(record)) => {
                 for entry in &record.entries {
-                    told.note(alloc, opened, entry)?;
+                    replies.note(alloc, opened, entry)?;
                 }
             }
         }
@@ -235,8 +238,8 @@ pub fn judge(
     if next != acts {
         return Some(Some("acts are missing in the recording"));
     }
-    if world.notices.in_use_told > told.in_use {
+    if world.notices.in_use_notified > replies.in_use {
         return Some(Some("the operator is told of names that were not refused"));
     }
-    Some(told.find(world, opened))
+    Some(replies.find(world, opened))
 }

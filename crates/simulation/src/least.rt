@@ -1,6 +1,7 @@
 //! What people have done in all cases of a scenario together, and what they do at least.
 use crate::people::Tally;
-use crate::scenario::{Deeds, SCENARIOS, Scenario};
+use crate::scenario::{Deeds, Scenario};
+use crate::scenarios::SCENARIOS;
 use std::alloc::Global;
 use std::io;
 
@@ -16,8 +17,8 @@ struct Total {
 }
 
 impl Total {
-    /// Tells what people have done, if that is too little.
-    fn tell(&self, rt: &HostRuntime) -> io::Result<()> {
+    /// Prints what people have done, if that is too little.
+    fn print_lack(&self, rt: &HostRuntime) -> io::Result<()> {
         let Deeds(registrations, restarts, answers, refused) = self.deeds;
         let Scenario { name, least, .. } = self.scenario;
         if self.deeds.reach(least) {
@@ -58,13 +59,13 @@ impl Totals {
         }
     }
 
-    /// Tells which scenarios had too little of something, and how many had their cases.
-    pub fn tell(&self, rt: &HostRuntime) -> io::Result<()> {
+    /// Prints which scenarios had too little of something, and how many had their cases.
+    pub fn print(&self, rt: &HostRuntime) -> io::Result<()> {
         let mut held = 0u32;
         for total in &self.totals {
             if total.cases >= CASES {
                 held = held.saturating_add(1);
-                total.tell(rt)?;
+                total.print_lack(rt)?;
             }
         }
         let count = SCENARIOS.len();

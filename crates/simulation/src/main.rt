@@ -1,6 +1,7 @@
 //! A daemon in simulated worlds, whose every choice comes from a seed.
 //!
-//! Standard input has a line for each case: `seed N workers W scenario S steps K`. The output has one line a case.
+//! Standard input has a line for each case: `seed N workers W scenario S steps K`. The output has one line a case: all counts where it is
+//! wrong, or the line has the word `counts`, and else some of them and a checksum of the others. With `trace` each step is a line.
 #![tactic(auto)]
 
 mod checks;
@@ -15,6 +16,7 @@ mod rest;
 mod roles;
 mod run;
 mod scenario;
+mod scenarios;
 mod scene;
 mod steps;
 mod system;
@@ -25,7 +27,7 @@ mod world;
 use crate::least::Totals;
 use crate::people::Tally;
 use crate::run::{Case, Outcome, run_case};
-use crate::scenario::SCENARIOS;
+use crate::scenarios::SCENARIOS;
 use crate::steps::Step;
 use crate::weather::FAULTS;
 use portmap_book::PARTS;
@@ -44,18 +46,18 @@ fn number_after(words: &[&str], word: &str) -> Option<u64> {
 fn main(rt: HostRuntime) -> io::Result<()> {
     let words: Vec<String> = env::args(&rt)?.collect(rt.alloc())?;
     if words.len() > 1 {
-        return tell_words(&rt, &rt, &words);
+        return run_words(&rt, &rt, &words);
     }
     let mut totals = Totals::new(rt.alloc())?;
     let input = io::BufReader::new(rt.alloc(), rt.stdin())?;
     for line in input.lines(rt.alloc()) {
-        tell(&rt, &rt, line?.as_str(), &mut totals)?;
+        run_line(&rt, &rt, line?.as_str(), &mut totals)?;
     }
-    totals.tell(&rt)
+    totals.print(&rt)
 }
 
-/// Tells what the case of these words comes to: those of a line, with hyphens before their names.
-fn tell_words<R: Wait + Clone + Drop>(
+/// Runs the case of these words: those of a line, with hyphens before their names.
+fn run_words<R: Wait + Clone + Drop>(
     rt: &HostRuntime,
     host: &R,
     words: &[String],
@@ -65,11 +67,11 @@ fn tell_words<R: Wait + Clone + Drop>(
         line.push_str(word.as_str().trim_start_matches('-'))?;
         line.push_str(" ")?;
     }
-    tell(rt, host, line.as_str(), &mut Totals::new(rt.alloc())?)
+    run_line(rt, host, line.as_str(), &mut Totals::new(rt.alloc())?)
 }
 
-/// Tells what a case comes to, and notes what people did.
-fn tell<R: Wait + Clone + Drop>(
+/// Runs the case of a line, prints what it came to, and notes what people did.
+fn run_line<R: Wait + Clone + Drop>(
     rt: &HostRuntime,
     host: &R,
     line: &str,
@@ -90,24 +92,37 @@ fn tell<R: Wait + Clone + Drop>(
         is_traced: words.contains(&"trace"),
     };
     let own: R = host.clone()?;
-    match run_case::<Brand, R>(own, rt.alloc(), Blank::new(PARTS), &case) {
-        None => println!(rt; "WRONG {line}: no memory"),
-        Some(outcome) => {
-            totals.note(place, &outcome.tally);
-            tell_outcome(rt, line, &outcome)
-        }
-    }
-}
-
-/// Tells what a case came to.
-fn tell_outcome(rt: &HostRuntime, line: &str, outcome: &Outcome) -> io::Result<()> {
+    let Some(outcome) = run_case::<Brand, R>(own, rt.alloc(), Blank::new(PARTS), &case) else {
+        return println!(rt; "WRONG {line}: no memory");
+    };
+    totals.note(place, &outcome.tally);
     for Step { now, actor, turn } in &outcome.trace {
         println!(rt; "{now} {actor} {turn:?}")?;
     }
     match outcome.wrong {
         Some(wrong) => print!(rt; "WRONG {line}: {wrong}:")?,
-        None => print!(rt; "ok {line}:")?,
+        None if words.contains(&"counts") => print!(rt; "ok {line}:")?,
+        None => return print_in_brief(rt, line, &outcome),
     }
+    print_counts(rt, &outcome)
+}
+
+/// Prints that a case went well, and as one number what else is counted.
+fn print_in_brief(rt: &HostRuntime, line: &str, outcome: &Outcome) -> io::Result<()> {
+    let Tally {
+        connections,
+        registrations,
+        restarts,
+        ..
+    } = outcome.tally;
+    let others = outcome.checksum();
+    println!(rt;
+        "ok {line}: {connections} connections, {registrations} registrations, {restarts} restarts, {others:016x}"
+    )
+}
+
+/// Prints all that is counted of a case.
+fn print_counts(rt: &HostRuntime, outcome: &Outcome) -> io::Result<()> {
     let Tally {
         connections,
         registrations,
@@ -115,9 +130,9 @@ fn tell_outcome(rt: &HostRuntime, line: &str, outcome: &Outcome) -> io::Result<(
         restarts,
         answers,
         unanswered,
-        longest,
+        ..
     } = outcome.tally;
-    let (longest, acts, seconds) = (longest / 1000, outcome.acts, outcome.seconds);
+    let (longest, acts, seconds) = (outcome.longest_ms(), outcome.acts, outcome.seconds);
     print!(rt; " {connections} connections, {registrations} registrations, {refused} refused,")?;
     print!(rt;
         " {restarts} restarts, {answers} answers within {longest} ms, {unanswered} without,"

@@ -9,37 +9,38 @@ const NEWS_US: u64 = 5_000_000;
 
 /// Notices of a kind. Times are in microseconds.
 #[derive(Clone, Copy, Default)]
-struct Telling {
+struct Topic {
     /// Since when there is something to tell.
-    untold_since: Option<u64>,
+    pending_since: Option<u64>,
     /// When the operator was told last.
-    told_at: Option<u64>,
+    notified_at: Option<u64>,
 }
 
-impl Telling {
+impl Topic {
     /// From when on the next one may come.
     fn free_at(&self) -> u64 {
-        self.told_at.map_or(0, |at| at.saturating_add(NOTICE_US))
+        self.notified_at
+            .map_or(0, |at| at.saturating_add(NOTICE_US))
     }
 
     /// From this time on, or from when it may be, there is something to tell.
     fn note(&mut self, now: u64) {
-        if self.untold_since.is_none() {
-            self.untold_since = Some(now.max(self.free_at()));
+        if self.pending_since.is_none() {
+            self.pending_since = Some(now.max(self.free_at()));
         }
     }
 
     /// The operator is told. Whether it may be.
-    fn tell(&mut self, now: u64) -> bool {
+    fn note_notice(&mut self, now: u64) -> bool {
         let is_free = self.free_at() <= now;
-        self.told_at = Some(now);
-        self.untold_since = None;
+        self.notified_at = Some(now);
+        self.pending_since = None;
         is_free
     }
 
     /// Whether the operator should have been told by now.
     fn is_late(&self, now: u64) -> bool {
-        self.untold_since
+        self.pending_since
             .is_some_and(|since| now > since.saturating_add(NEWS_US))
     }
 }
@@ -52,11 +53,11 @@ pub struct Notices {
     /// When a connection, a listener or memory was refused last.
     refused_at: u64,
     /// That no connection can be accepted.
-    accept: Telling,
+    accept: Topic,
     /// That names are in use, how many nodes have heard that, and of how many it was told.
-    in_use: Telling,
+    in_use: Topic,
     in_use_heard: u64,
-    pub in_use_told: u64,
+    pub in_use_notified: u64,
     wrong: Option<Wrong>,
 }
 
@@ -75,11 +76,11 @@ impl Notices {
     }
 
     /// It is told that no connection can be accepted.
-    pub fn tell_unaccepted(&mut self, now: u64) {
+    pub fn note_unaccepted_notice(&mut self, now: u64) {
         if now > self.refused_at.saturating_add(NEWS_US) {
             self.wrong = Some("the operator is told of what has not happened");
         }
-        if !self.accept.tell(now) {
+        if !self.accept.note_notice(now) {
             self.wrong = Some("the operator is told twice within ten seconds");
         }
     }
@@ -91,12 +92,12 @@ impl Notices {
     }
 
     /// It is told that so many names were refused: all that nodes have heard of were in the log before.
-    pub fn tell_in_use(&mut self, now: u64, count: u64) {
-        self.in_use_told = self.in_use_told.saturating_add(count);
-        if self.in_use_told < self.in_use_heard {
+    pub fn note_in_use_notice(&mut self, now: u64, count: u64) {
+        self.in_use_notified = self.in_use_notified.saturating_add(count);
+        if self.in_use_notified < self.in_use_heard {
             self.wrong = Some("the operator is told of fewer names than were refused");
         }
-        if !self.in_use.tell(now) {
+        if !self.in_use.note_notice(now) {
             self.wrong = Some("the operator is told of names twice within ten seconds");
         }
     }

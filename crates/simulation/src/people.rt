@@ -61,7 +61,7 @@ pub struct Person {
     is_retired: bool,
 }
 
-/// When the look comes at which those are late who came at the beginning.
+/// When the look comes at which those are late who came at the beginning, where the time of each is five seconds.
 const TARDY_US: u64 = 6_850_000;
 
 /// What a talker says.

@@ -46,7 +46,7 @@ pub struct Thread {
     /// It was told of a connection that has come: there is room for one.
     has_held: bool,
     /// What its source told last, if it is a worker's, and the connection of that with whether there was news of it.
-    told: Option<Turn>,
+    turn: Option<Turn>,
     met: Option<(usize, bool)>,
     /// How often it has polled, and how many steps of its source were made since.
     pub polls: u64,
@@ -65,7 +65,7 @@ impl Thread {
             held_until: 0,
             has_ended: false,
             has_held: false,
-            told: None,
+            turn: None,
             met: None,
             polls: 0,
             steps: 0,
@@ -92,6 +92,13 @@ impl Thread {
             if listener.is_on && listener.news_at.is_none() {
                 listener.news_at = Some(now);
             }
+        }
+    }
+
+    /// No connection waits at the listener at this place.
+    fn forget_comers(&mut self, place: usize) {
+        if let Some(listener) = self.listeners.get_mut(place) {
+            listener.news_at = None;
         }
     }
 
@@ -171,21 +178,21 @@ impl World {
     }
 
     /// A worker's source tells this, of this connection, where there is news of it or is not.
-    pub fn tell(&mut self, number: usize, told: Option<Turn>, met: Option<(usize, bool)>) {
-        if let (Some(Turn::Fresh { .. }), Some((fresh, _))) = (told, met) {
+    pub fn note_turn(&mut self, number: usize, turn: Option<Turn>, met: Option<(usize, bool)>) {
+        if let (Some(Turn::Fresh { .. }), Some((fresh, _))) = (turn, met) {
             self.hold_comer(number, fresh);
         }
         if let Some(thread) = self.threads.get_mut(number) {
-            thread.told = told;
+            thread.turn = turn;
             thread.met = met;
             thread.steps = thread.steps.saturating_add(1);
         }
     }
 
     /// What the source of a worker told last.
-    pub fn told(&self, number: usize) -> Option<Turn> {
+    pub fn last_turn(&self, number: usize) -> Option<Turn> {
         let thread = self.threads.get(number)?;
-        if thread.has_ended { None } else { thread.told }
+        if thread.has_ended { None } else { thread.turn }
     }
 
     /// A worker has made a turn, and goes on or ends: the fresh connection that it was told, or the late one, with whether there was news
@@ -195,7 +202,7 @@ impl World {
             return (None, None);
         };
         thread.has_ended = !goes_on;
-        match (thread.told, thread.met) {
+        match (thread.turn, thread.met) {
             (Some(Turn::Fresh { .. }), Some((fresh, _))) => (Some(fresh), None),
             (Some(Turn::Late(_)), late) => (None, late),
             _ => (None, None),
@@ -259,7 +266,9 @@ impl World {
 
     /// Whether a fault holds a worker from now on.
     pub fn holds(&mut self, number: usize) -> bool {
-        let until = if !self.weather.has_happened(Fault::Hung) && self.happens(Fault::Hung) {
+        let are_several = self.workers().len() > 1;
+        let begins_late = number == 0 && self.happens_first(Fault::Delayed) && are_several;
+        let until = if begins_late || self.happens_first(Fault::Hung) {
             Some(self.now.saturating_add(HUNG_US))
         } else {
             match self.lasts(Fault::Held, 500_000) {
@@ -316,12 +325,16 @@ impl World {
         }
         self.land();
         let is_spurious = self.happens(Fault::Spurious);
+        let is_reversed = self.happens(Fault::Reversed);
         let (now, until) = (self.now, self.until(timeout_ms));
         let Some(thread) = self.threads.get_mut(number) else {
             return false;
         };
         thread.polls = thread.polls.saturating_add(1);
         thread.steps = 0;
+        if is_reversed {
+            thread.watched.reverse();
+        }
         let are_told = thread.report_calls(now)
             && thread.report_streams(&mut self.wires, now, is_spurious);
         self.is_lost = self.is_lost || !are_told;
@@ -448,6 +461,11 @@ impl World {
         }
         let waiting = self.backlogs.get_mut(place).ok_or(ErrorKind::WouldBlock)?;
         let number = waiting.pop_front().ok_or(ErrorKind::WouldBlock)?;
+        if waiting.is_empty() && self.happens(Fault::Taken) {
+            for thread in &mut self.threads {
+                thread.forget_comers(place);
+            }
+        }
         if self.happens(Fault::Aborted) {
             self.reset(number);
             return Err(ErrorKind::ConnectionAborted);

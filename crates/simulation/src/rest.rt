@@ -140,8 +140,9 @@ impl<'a, L: Ledger, S: Source + Drop, R: Wait + Drop> Daemon<'a, L, S, R> {
 
     /// Each of these connections is answered.
     fn try_places(&mut self, numbers: &[usize]) -> Option<()> {
-        // So long that one could be given up for another one, if anybody still waited for a place.
-        if self.pass(OLD_US) && self.scene.send(numbers, &[0x6E]).is_some() && self.hear(numbers) {
+        // So long that one could be given up for another one, if anybody still waited for a place, and no longer than each may be silent.
+        let old_us = OLD_US.min(self.scene.scenario.timeout_us / 5 * 3);
+        if self.pass(old_us) && self.scene.send(numbers, &[0x6E]).is_some() && self.hear(numbers) {
             return self.scene.judge_places(numbers);
         }
         None
@@ -152,8 +153,8 @@ impl<'a, L: Ledger, S: Source + Drop, R: Wait + Drop> Daemon<'a, L, S, R> {
         let has_ended = self.has_ended();
         let may_end = self.scene.scenario.may_end;
         self.scene.check(!has_ended || may_end, HAS_ENDED);
-        let told = self.around.shared.ending.failure();
-        let until = self.scene.begin_end(told)?;
+        let failure = self.around.shared.ending.failure();
+        let until = self.scene.begin_end(failure)?;
         if !has_ended {
             self.around.shared.stop_all();
         }

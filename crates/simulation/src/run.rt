@@ -6,10 +6,10 @@ use crate::daemon::{Around, Daemon, SimWorker};
 use crate::judge::judge;
 use crate::people::{Tally, people_of};
 use crate::scenario::Scenario;
-use crate::scene::{Scene, TIMEOUT_US};
+use crate::scene::Scene;
 use crate::steps::{Step, Stepped};
-use crate::system::{SharedWorld, SimFile, SimHost, SimSystem, SimWaker};
-use crate::weather::Counts;
+use crate::system::{SharedWorld, SimFile, SimHost, SimThread};
+use crate::weather::FaultCounts;
 use crate::world::World;
 use portmap_book::{Book, Desk, PARTS, Seat};
 use portmap_core::Config;
@@ -23,6 +23,9 @@ use std::mem;
 use std::rc::Rc;
 use std::sync::Wait;
 use std::sync::ledger::{Blank, Ledger};
+
+/// The most names that are known.
+const KNOWN_MAX: u32 = 64;
 
 /// It has ended so long after memory is gone.
 const STARVED_US: u64 = 20_000_000;
@@ -43,13 +46,47 @@ pub struct Case {
 pub struct Outcome {
     pub wrong: Option<Wrong>,
     pub tally: Tally,
-    pub happened: Counts,
-    pub has_all_happened: bool,
+    pub happened: FaultCounts,
     /// How many acts the workers made.
     pub acts: u64,
     /// How many seconds have passed in the world.
     pub seconds: u64,
     pub trace: Vec<Step>,
+}
+
+/// What FNV-1a of 64 bits begins with, and what it multiplies with.
+const FNV_BASIS: u64 = 0xCBF2_9CE4_8422_2325;
+
+const FNV_PRIME: u64 = 0x0000_0100_0000_01B3;
+
+/// This sum, with the bytes of a number in it, the least first.
+fn fnv(sum: u64, number: u64) -> u64 {
+    let mut sum = sum;
+    for byte in number.to_le_bytes() {
+        sum = (sum ^ u64::from(byte)).wrapping_mul(FNV_PRIME);
+    }
+    sum
+}
+
+impl Outcome {
+    /// The longest that an answer took, in milliseconds.
+    pub fn longest_ms(&self) -> u64 {
+        self.tally.longest / 1000
+    }
+
+    /// One number for all counts but those of connections, registrations and restarts, in the order in which they are printed.
+    pub fn checksum(&self) -> u64 {
+        let tally = self.tally;
+        let mut sum = fnv(FNV_BASIS, u64::from(tally.refused));
+        sum = fnv(sum, u64::from(tally.answers));
+        sum = fnv(sum, self.longest_ms());
+        sum = fnv(sum, u64::from(tally.unanswered));
+        sum = fnv(fnv(sum, self.acts), self.seconds);
+        for count in self.happened {
+            sum = fnv(sum, u64::from(count));
+        }
+        sum
+    }
 }
 
 impl<'a, L: Ledger, S: Source + Drop, R: Wait + Drop> Daemon<'a, L, S, R> {
@@ -129,12 +166,12 @@ impl<'a> Scene<'a> {
     fn outcome(&mut self) -> Option<Outcome> {
         let mut world = self.world()?;
         let most = self.scenario.file_bytes_most;
+        let is_seen = world.weather.has_all_happened(self.scenario.chances);
         let found = judge(self.alloc, &mut world, &self.opened, self.acts, most)?;
         Some(Outcome {
-            wrong: self.wrong.or(found),
+            wrong: self.wrong.or(found).or((!is_seen).then_some(UNSEEN)),
             tally: self.tally,
             happened: world.weather.happened,
-            has_all_happened: world.weather.has_all_happened(self.scenario.chances),
             acts: self.acts,
             seconds: world.now / 1_000_000,
             trace: mem::replace(&mut self.trace, Vec::new(self.alloc)),
@@ -142,15 +179,15 @@ impl<'a> Scene<'a> {
     }
 }
 
-/// The source of a worker.
+/// The source of a worker, whose connections may move no byte for so many milliseconds.
 fn source_of<'a, L: Ledger, R: Wait + Drop>(
     alloc: Global,
     around: &Around<'a, L, R>,
     thread: usize,
+    timeout: u64,
 ) -> Option<Stepped<'a, L, R>> {
-    let world = around.host.world.clone().ok()?;
-    let system = SimSystem { world, thread };
-    let sockets = Sockets::new(alloc, thread, system, TIMEOUT_US / 1000).ok()?;
+    let system = SimThread::of(&around.host.world, thread)?;
+    let sockets = Sockets::new(alloc, thread, system, timeout).ok()?;
     let source = SocketSource::new(around.host, alloc, around.desk, around.shared, sockets)?;
     let world = around.host.world.clone().ok()?;
     Some(Stepped {
@@ -160,15 +197,18 @@ fn source_of<'a, L: Ledger, R: Wait + Drop>(
     })
 }
 
-/// The sources of so many workers.
+/// The sources of the workers of a case.
 fn sources_of<'a, L: Ledger, R: Wait + Drop>(
     alloc: Global,
     around: &Around<'a, L, R>,
-    count: u32,
+    case: &Case,
 ) -> Option<Vec<Stepped<'a, L, R>>> {
+    let timeout = case.scenario.timeout_us / 1000;
     let mut sources = Vec::new(alloc);
-    for thread in 0..count as usize {
-        sources.push(source_of(alloc, around, thread)?).ok()?;
+    for thread in 0..case.workers as usize {
+        sources
+            .push(source_of(alloc, around, thread, timeout)?)
+            .ok()?;
     }
     Some(sources)
 }
@@ -215,31 +255,24 @@ fn simulate<'a, L: Ledger, S: Source + Drop, R: Wait + Drop>(
     daemon.serve(case)
 }
 
-/// What wakes a thread.
-fn waker_of(world: &SharedWorld, thread: usize) -> Option<SimWaker> {
-    let world = world.clone().ok()?;
-    Some(SimWaker { world, thread })
-}
-
 /// What the threads of a daemon share.
 fn shared_of<R: Wait + Drop>(
     host: &SimHost<R>,
     alloc: Global,
     case: &Case,
-) -> Option<Shared<SimWaker>> {
+) -> Option<Shared<SimThread>> {
     let mut states = Vec::new(alloc);
     for thread in 0..case.workers as usize {
-        let waker = waker_of(&host.world, thread)?;
+        let waker = SimThread::of(&host.world, thread)?;
         states.push(WorkerState::new(waker)).ok()?;
     }
-    let drain = waker_of(&host.world, case.workers as usize)?;
+    let drain = SimThread::of(&host.world, case.workers as usize)?;
     Some(Shared::new(host, states, drain, case.scenario.conn_max))
 }
 
 /// The book of a scenario.
 fn book_of(alloc: Global, scenario: &Scenario) -> Option<Book> {
-    let (conn_max, known_max) = (scenario.conn_max, scenario.known_max);
-    let config = Config::new(4369, scenario.is_relaxed, conn_max, known_max).ok()?;
+    let config = Config::new(4369, scenario.is_relaxed, scenario.conn_max, KNOWN_MAX).ok()?;
     Book::new(alloc, config, 4).ok()
 }
 
@@ -263,11 +296,10 @@ fn at_desk<L: Ledger, R: Wait + Drop>(
         shared: &shared,
         queue: &queue,
     };
-    let sources = sources_of(alloc, &around, case.workers)?;
+    let sources = sources_of(alloc, &around, case)?;
     let (mut outcome, seats) = simulate(alloc, &around, sources, case)?;
     let odd = desk.finish(seats).is_err().then_some(SEATS);
-    let unseen = (!outcome.has_all_happened).then_some(UNSEEN);
-    outcome.wrong = outcome.wrong.or(odd).or(unseen);
+    outcome.wrong = outcome.wrong.or(odd);
     Some(outcome)
 }
 

@@ -10,9 +10,6 @@ use portmap_worker::Failure;
 use std::alloc::Global;
 use std::cell::RefMut;
 
-/// For so long a connection may move no byte.
-pub(crate) const TIMEOUT_US: u64 = 5_000_000;
-
 /// A daemon that is to end has ended by then.
 const END_US: u64 = 200_000;
 
@@ -139,7 +136,7 @@ impl<'a> Scene<'a> {
         if !self.is_traced {
             return Some(());
         }
-        let (now, turn) = (world.now, world.told(actor));
+        let (now, turn) = (world.now, world.last_turn(actor));
         self.trace.push(Step { now, actor, turn }).ok()
     }
 
@@ -268,8 +265,8 @@ impl<'a> Scene<'a> {
     }
 
     /// It is to end, and tells this fault, or none: by when.
-    pub(crate) fn begin_end(&mut self, told: Option<Failure>) -> Option<u64> {
-        self.judge_told(told)?;
+    pub(crate) fn begin_end(&mut self, failure: Option<Failure>) -> Option<u64> {
+        self.judge_failure(failure)?;
         self.is_ending = true;
         let mut world = self.world()?;
         world.calm();

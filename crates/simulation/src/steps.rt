@@ -1,5 +1,5 @@
 //! A worker's source, step by step.
-use crate::system::{SharedWorld, SimHost, SimStream, SimSystem};
+use crate::system::{SharedWorld, SimHost, SimStream, SimThread};
 use portmap_worker::{Link, SocketSource, Source, Turn};
 use std::sync::Wait;
 use std::sync::ledger::Ledger;
@@ -18,7 +18,7 @@ pub struct Step {
 /// A source that is asked once for each step. What it tells is noted in the world.
 #[derive(Drop)]
 pub struct Stepped<'a, L: Ledger, R: Wait + Drop> {
-    pub source: SocketSource<'a, L, SimSystem, SimHost<R>>,
+    pub source: SocketSource<'a, L, SimThread, SimHost<R>>,
     pub world: SharedWorld,
     pub thread: usize,
 }
@@ -42,7 +42,7 @@ impl<L: Ledger, R: Wait + Drop> Source for Stepped<'_, L, R> {
             Turn::Ready(_) | Turn::Idle | Turn::Stop => None,
         };
         if let Ok(mut world) = self.world.try_borrow_mut() {
-            world.tell(self.thread, told, met);
+            world.note_turn(self.thread, told, met);
         }
         turn
     }

@@ -101,14 +101,21 @@ impl Stream for SimStream {
     }
 }
 
-/// What ends the wait of a thread.
+/// A thread, which asks the world, and whose wait others end.
 #[derive(Drop)]
-pub struct SimWaker {
-    pub world: SharedWorld,
-    pub thread: usize,
+pub struct SimThread {
+    world: SharedWorld,
+    thread: usize,
 }
 
-impl Wake for SimWaker {
+impl SimThread {
+    pub fn of(world: &SharedWorld, thread: usize) -> Option<SimThread> {
+        let world = world.clone().ok()?;
+        Some(SimThread { world, thread })
+    }
+}
+
+impl Wake for SimThread {
     fn wake(&self) {
         if let Ok(mut world) = self.world.try_borrow_mut() {
             world.wake(self.thread);
@@ -116,17 +123,10 @@ impl Wake for SimWaker {
     }
 }
 
-/// What a thread asks of the world.
-#[derive(Drop)]
-pub struct SimSystem {
-    pub world: SharedWorld,
-    pub thread: usize,
-}
-
-impl System for SimSystem {
+impl System for SimThread {
     type Stream = SimStream;
 
-    type Waker = SimWaker;
+    type Waker = SimThread;
 
     fn poll(&mut self, timeout_ms: u64) -> bool {
         borrow(&self.world).is_ok_and(|mut world| world.poll(self.thread, timeout_ms))
@@ -240,7 +240,7 @@ impl<R: Wait + Drop> Host for SimHost<R> {
                 }
                 Notice::CannotAccept => {
                     let now = world.now;
-                    world.notices.tell_unaccepted(now);
+                    world.notices.note_unaccepted_notice(now);
                 }
             }
         }
@@ -249,7 +249,7 @@ impl<R: Wait + Drop> Host for SimHost<R> {
     fn notify_refused(&self, _alloc: Global, refused: &Refused) {
         if let Ok(mut world) = self.world.try_borrow_mut() {
             let now = world.now;
-            world.notices.tell_in_use(now, refused.count());
+            world.notices.note_in_use_notice(now, refused.count());
         }
     }
 

@@ -32,6 +32,8 @@ pub enum Fault {
     Stuck,
     /// One thread hangs for half a minute, once.
     Hung,
+    /// The first worker of several hangs for half a minute as it begins.
+    Delayed,
     /// Who takes the log out hangs for half a minute.
     Behind,
     /// A step takes up to two milliseconds.
@@ -60,32 +62,36 @@ pub enum Fault {
     Deaf,
     /// The poll refuses to report a stream, and no listener.
     Unreported,
+    /// One thread is told of a connection that comes a millisecond before the others are, and these no more once all are accepted.
+    Taken,
+    /// The polls of a thread begin at the other end of its streams from now on: they report no more than so many.
+    Reversed,
 }
 
 /// How each is told, in the order in which they are declared.
 pub const FAULTS: &str = "\
     interrupted short aborted exhausted unable unwatched unleft late lost stopped spurious held \
-    stuck hung behind slow jumps unread starved famine stalled full reset broken shut dripped \
-    deaf unreported";
+    stuck hung delayed behind slow jumps unread starved famine stalled full reset broken shut dripped \
+    deaf unreported taken reversed";
 
 /// How often faults happen, in a thousand times.
 pub type Chances = &'static [(Fault, u32)];
 
 /// How often each has happened.
-pub type Counts = [u32; 28];
+pub type FaultCounts = [u32; 31];
 
 /// The weather: what may happen, and how often each has.
 #[derive(Drop)]
 pub struct Weather {
     chances: Chances,
-    pub happened: Counts,
+    pub happened: FaultCounts,
 }
 
 impl Weather {
     pub fn new(chances: Chances) -> Weather {
         Weather {
             chances,
-            happened: [0; 28],
+            happened: [0; 31],
         }
     }
 

@@ -148,6 +148,11 @@ impl World {
         self.weather.happens(&mut self.random, fault)
     }
 
+    /// Whether a fault happens now, as it never has.
+    pub fn happens_first(&mut self, fault: Fault) -> bool {
+        !self.weather.has_happened(fault) && self.happens(fault)
+    }
+
     /// Until when a fault lasts, if it happens now, for less than so many microseconds.
     pub fn lasts(&mut self, fault: Fault, most: u64) -> Option<u64> {
         if self.happens(fault) {
@@ -208,10 +213,20 @@ impl World {
             self.is_lost = true;
             return None;
         }
-        for thread in &mut self.threads {
-            thread.note_comer(place, self.now);
-        }
+        self.note_comer(place);
         Some(number)
+    }
+
+    /// A connection has come to the listener at this place: threads are told of it, all now, or one before the others.
+    fn note_comer(&mut self, place: usize) {
+        let (now, mut first) = (self.now, None);
+        if self.happens(Fault::Taken) {
+            first = Some(self.random.below(self.threads.len() as u64) as usize);
+        }
+        for (number, thread) in self.threads.iter_mut().enumerate() {
+            let is_later = first.is_some_and(|first| first != number);
+            thread.note_comer(place, now.saturating_add(if is_later { 1000 } else { 0 }));
+        }
     }
 
     /// A peer sends bytes, ends its connection, or resets it: then it sends and reads no more.
