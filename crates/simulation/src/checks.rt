@@ -65,7 +65,8 @@ const STEPS_MOST: u32 = 130;
 /// Who takes the log out looks at it once in so much time.
 const SECOND_US: u64 = 1_000_000;
 
-/// A connection that no poll reports is passed over by a look where it was to be read just then, and by the next one again, but not for so long.
+/// A connection that no poll reports is passed over by a look where it was to be read just then, and by the next one again, but not for so
+/// long.
 const PASSED_OVER_US: u64 = 3_000_000;
 
 /// When connections have come one by one so many workers are told of the next one: one, and one that was called for its help since.
@@ -73,8 +74,8 @@ const LISTENING_MOST: usize = 2;
 
 /// What one of the people finds wrong. Nobody who is owed nothing does, but for how long a name took.
 impl Person {
-    /// When the daemon is to have given up its connection, which it has accepted at this time: since it asks nothing, or reads nothing, or its
-    /// node was stopped.
+    /// When the daemon is to have given up its connection, which it has accepted at this time: since it asks nothing, or reads nothing, or
+    /// its node was stopped.
     fn kept_until(&self, world: &World, accepted: u64) -> Option<u64> {
         let is_useless = match self.role.given_up {
             GivenUp::Nobody => false,

@@ -1,5 +1,5 @@
-//! The scenarios, a row for each: its name, what its people do at least, who comes if it is not the usual people, the weather, and what else
-//! differs from the usual scenario.
+//! The scenarios, a row for each: its name, what its people do at least, who comes if it is not the usual people, the weather, and what
+//! else differs from the usual scenario.
 use crate::roles;
 use crate::scenario::{Crowd, Deeds, Scenario, USUAL};
 use crate::weather::Fault;
@@ -87,5 +87,6 @@ pub const SCENARIOS: &[Scenario] = scenarios! {
         [Held 1, Reversed 500] conn_max: 1024, burst_us: 1_000_000, hold_us: 300_000, limit_ms: 200_000;
     "deaf" (55, 20, 700, 0) [] [Deaf 2] is_strict: false, may_end: true;
     "storm" (154, 116, 1854, 0) []
-        [Interrupted 30, Short 50, Aborted 15, Exhausted 15, Unwatched 15, Late 100, Spurious 10, Held 5, Dripped 100, Reset 50] limit_ms: 4000;
+        [Interrupted 30, Short 50, Aborted 15, Exhausted 15, Unwatched 15, Late 100, Spurious 10, Held 5, Dripped 100,
+            Reset 50] limit_ms: 4000;
 };
