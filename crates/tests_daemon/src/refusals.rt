@@ -11,7 +11,6 @@ use portmap_testing::bytes::ALIVE_A;
 use portmap_testing::marks::{begin, end, was_refused};
 use portmap_worker::{Drain, Drained, Host, RecordQueue, Shared, Wake, write_recording};
 use std::alloc::Global;
-use std::fs::File;
 use std::io::{PipeReader, Read, pipe};
 use std::marker::Brand;
 use std::rt::Clock;
@@ -37,7 +36,7 @@ fn registers<L: Ledger, R: Wait>(rt: &R, alloc: Global, desk: &Desk<L>) -> Optio
 }
 
 /// Whether the last turn says that the log is out, while memory may be refused. No worker serves.
-fn is_out<L: Ledger, R: Host<File = File> + Wait + Clock>(
+fn is_out<L: Ledger, R: Host + Wait + Clock>(
     rt: &R,
     alloc: Global,
     desk: &Desk<L>,
@@ -51,11 +50,11 @@ fn is_out<L: Ledger, R: Host<File = File> + Wait + Clock>(
 }
 
 /// Whether it is told that all was recorded at this path.
-fn is_told_whole<L: Ledger, R: Host<File = File> + Wait + Clock>(
+fn is_told_whole<L: Ledger, R: Host + Wait + Clock>(
     rt: &R,
     alloc: Global,
     blank: Blank,
-    path: &str,
+    path: &String,
 ) -> Option<bool>
     requires name { blank.name ≡ L.name }
     requires parts { blank.parts ≡ L.parts }
@@ -67,7 +66,7 @@ fn is_told_whole<L: Ledger, R: Host<File = File> + Wait + Clock>(
     registers(rt, alloc, &desk)?;
     let is_out = is_out(rt, alloc, &desk, &mut drain);
     queue.close(rt);
-    write_recording(rt, alloc, &queue, path, u64::MAX);
+    write_recording(rt, alloc, &queue, path.as_str(), u64::MAX);
     Some(is_out && queue.is_written(rt, Duration::ZERO))
 }
 
@@ -85,7 +84,7 @@ fn a_recording_that_lacks_entries_is_told_to_have_failed(rt: HostRuntime) -> Res
     let path = path_of(alloc, &writer)?;
     let host = Pushed::new(rt, alloc)?;
     let blank = Blank::new(PARTS);
-    let told = is_told_whole::<Brand, Pushed<HostRuntime>>(&host, alloc, blank, path.as_str());
+    let told = is_told_whole::<Brand, Pushed<HostRuntime>>(&host, alloc, blank, &path);
     drop(writer);
     let has_all = has_all(alloc, reader)?;
     assert_eq!(rt; told, Some(has_all));
