@@ -1,7 +1,7 @@
 //! What people have done in all cases of a scenario together, and what they do at least.
 use crate::people::Tally;
 use crate::scenario::{Deeds, Scenario};
-use crate::scenarios::SCENARIOS;
+use crate::scenarios::{CALLS, ENDS, PEOPLE, TIMES};
 use std::alloc::Global;
 use std::io;
 
@@ -38,17 +38,34 @@ pub struct Totals {
 }
 
 impl Totals {
-    /// Nobody has done anything.
+    /// Nobody has done anything in any scenario.
     pub fn new(alloc: Global) -> io::Result<Totals> {
-        let mut totals = Vec::new(alloc);
-        for scenario in SCENARIOS {
-            totals.push(Total {
+        let mut totals = Totals {
+            totals: Vec::new(alloc),
+        };
+        totals.add(CALLS)?;
+        totals.add(PEOPLE)?;
+        totals.add(TIMES)?;
+        totals.add(ENDS)?;
+        Ok(totals)
+    }
+
+    fn add(&mut self, scenarios: &'static [Scenario]) -> io::Result<()> {
+        for scenario in scenarios {
+            self.totals.push(Total {
                 scenario,
                 cases: 0,
                 deeds: Deeds(0, 0, 0, 0),
             })?;
         }
-        Ok(Totals { totals })
+        Ok(())
+    }
+
+    /// The place of the scenario that one of these words names, and the scenario.
+    pub fn find(&self, words: &[&str]) -> Option<(usize, &'static Scenario)> {
+        let mut totals = self.totals.iter().enumerate();
+        let (place, total) = totals.find(|each| words.contains(&each.1.scenario.name))?;
+        Some((place, total.scenario))
     }
 
     /// Notes what people have done in a case of the scenario at this place.
@@ -68,7 +85,7 @@ impl Totals {
                 total.print_lack(rt)?;
             }
         }
-        let count = SCENARIOS.len();
+        let count = self.totals.len();
         println!(rt; "{held} of {count} scenarios had {CASES} cases or more")
     }
 }

@@ -27,7 +27,6 @@ mod world;
 use crate::least::Totals;
 use crate::people::Tally;
 use crate::run::{Case, Outcome, run_case};
-use crate::scenarios::SCENARIOS;
 use crate::steps::Step;
 use crate::weather::FAULTS;
 use portmap_book::PARTS;
@@ -78,8 +77,7 @@ fn run_line<R: Wait + Clone + Drop>(
     totals: &mut Totals,
 ) -> io::Result<()> {
     let words: Vec<&str> = line.split_whitespace().collect(rt.alloc())?;
-    let mut scenarios = SCENARIOS.iter().enumerate();
-    let Some((place, scenario)) = scenarios.find(|each| words.contains(&each.1.name)) else {
+    let Some((place, scenario)) = totals.find(&words) else {
         return println!(rt; "no scenario: {line}");
     };
     let case = Case {

@@ -18,7 +18,8 @@ macro_rules! scenarios {
     };
 }
 
-pub const SCENARIOS: &[Scenario] = scenarios! {
+/// What calls and polls are told.
+pub const CALLS: &[Scenario] = scenarios! {
     "calm" (128, 89, 2416, 0) [] [];
     "signals" (120, 80, 2336, 0) [] [Interrupted 100, Short 200];
     "edges" (107, 67, 1852, 0) [] [Late 300, Spurious 50];
@@ -34,6 +35,10 @@ pub const SCENARIOS: &[Scenario] = scenarios! {
     "plodders" (149, 136, 757, 0) [Local PLODDER 6, Local NODE 2, Local DRIPPER 1] [];
     "resets" (128, 88, 2264, 0) [] [Reset 300, Late 50, Broken 500, Interrupted 100];
     "losses" (153, 115, 2011, 0) [] [Lost 50] limit_ms: 4000;
+};
+
+/// Who comes, and what is recorded of them.
+pub const PEOPLE: &[Scenario] = scenarios! {
     "files" (131, 92, 2374, 0) [] [] file_bytes_most: 4000;
     "pipes" (131, 91, 2403, 0) [] [] file_bytes_most: 4000, is_plain: false;
     "restarts" (994, 861, 2752, 0) [Local NODE 20, Local SEEKER 2] [Late 200, Reset 100];
@@ -52,6 +57,10 @@ pub const SCENARIOS: &[Scenario] = scenarios! {
     "readers" (162, 83, 856, 0) [Local NODE 12, Local SLOW 10, Local DUMPER 4, Local SEEKER 2] [Short 100, Interrupted 50];
     "unreading" (198, 171, 1982, 0) [Local UNREADING 6, Remote UNREADING 3, Local SILENT 3, Remote DRIPPER 3, Local NODE 4, Local LISTER 2]
         [] conn_max: 32;
+};
+
+/// Bursts, places that are wanted, and clocks.
+pub const TIMES: &[Scenario] = scenarios! {
     "hours" (850, 771, 850, 0) [Local NODE 12] [] patience_us: 25_000, rest_us: 3_600_000_000;
     "bursts" (682, 602, 13354, 0) [Local NODE 12, Local LISTER 20, Local SEEKER 40]
         [] conn_max: 512, burst_us: 100_000, hold_us: 30_000, patience_us: 25_000;
@@ -70,6 +79,10 @@ pub const SCENARIOS: &[Scenario] = scenarios! {
     "stopped" (267, 232, 3474, 0) [Local NODE 6, Local SEEKER 10, Local LISTER 10] [Stopped 5, Late 200, Lost 200] limit_ms: 30_000;
     "frozen" (1940, 1876, 1940, 0) [Local NODE 12] [Stopped 100, Late 200] limit_ms: 1_000_000;
     "tardy" (0, 0, 5870, 0) [Local TARDY 180, Local SEEKER 1] [] conn_max: 256;
+};
+
+/// Want of memory and of disks, floods, and ends.
+pub const ENDS: &[Scenario] = scenarios! {
     "unread" (134, 94, 2337, 0) [] [Unread 2] limit_ms: 3000;
     "starved" (15, 1000, 400, 0) [] [Starved 100] is_strict: false, may_end: true;
     "famine" (123, 13372, 123, 0) [Local NODE 12] [Famine 100] is_strict: false, limit_ms: 10_000, may_end: true;
