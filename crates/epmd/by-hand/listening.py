@@ -118,7 +118,12 @@ def other_host(path):
         for words in ("link set lo up", "link set there up", f"addr add {THERE[0]}/24 dev there", f"addr add {THERE[1]}/64 dev there nodad"):
             subprocess.run([*inside, "ip", *words.split()], check=True)
         time.sleep(1.5)
-        words = subprocess.run(["ip", "-6", "-o", "addr", "show", "dev", "here", "scope", "link"], capture_output=True, text=True).stdout.split()
+        show = ["ip", "-6", "-o", "addr", "show", "dev", "here", "scope", "link"]
+        for _ in range(50):  # An address is nobody's until the system has asked whether another host has it.
+            words = subprocess.run(show, capture_output=True, text=True).stdout.split()
+            if "tentative" not in words:
+                break
+            time.sleep(0.1)
         own = [*HERE, f"{words[3].split('/')[0]}%here"]
         say(all(registers(address, b"one") for address in own), f"a peer of this host registers by its other addresses: {own}:")
         done = subprocess.run([*inside, sys.executable, __file__, "--from", *HERE], capture_output=True, text=True, timeout=30)
