@@ -82,6 +82,19 @@ impl<S: Stream> Door<S> {
         self.newcomer.is_none()
     }
 
+    /// Whether something is to be done here at once: connections may wait at a listener, or, while one waits for a place, there may be one
+    /// for it, unless the last search for one was in vain.
+    pub(crate) fn is_busy(&self, is_waiting: bool, now: u64) -> bool
+        ensures none { IfNone self.now.newcomer (result ≡ is_waiting) }
+        ensures some { IfSome self.now.newcomer (λ _. (result ≡ true) ↔ (self.now.room_backoff ≤ now)) }
+    {
+        if self.accepts() {
+            is_waiting
+        } else {
+            now >= self.room_backoff
+        }
+    }
+
     /// One was accepted. Whether so many waited that a further worker is to accept too.
     pub(crate) fn note_accepted(&mut self) -> bool
         ensures last { (result ≡ true) ↔ (self.old.backlog ≡ 1) }

@@ -78,14 +78,16 @@ impl<L: Ledger, S: System, R: Host + Wait + Clock> SocketSource<'_, L, S, R> {
         self.sockets.listeners.until(self.rounds.until(is_idle))
     }
 
-    /// For how many milliseconds the poll may wait: not at all while something is to be told, this epoch is not passed, or connections
-    /// may wait at a listener, unless one waits for a place already: until it has one no other is accepted.
+    /// For how many milliseconds the poll may wait: not at all while something is to be told, something is to be done at the door, or this
+    /// epoch is not passed.
     fn timeout(&self, begun: Begun) -> u64
         ensures queue { 0 < result → self.now.ready.queue ≡ [] }
     {
         let is_behind = !begun.is_passed(self.state);
-        let is_waiting = self.door.accepts() && self.sockets.listeners.is_waiting();
-        let is_busy = is_behind || self.ready.backlog() > 0 || is_waiting;
+        let is_waiting = self.sockets.listeners.is_waiting();
+        let is_busy = is_behind
+            || self.ready.backlog() > 0
+            || self.door.is_busy(is_waiting, self.rounds.time);
         poll_timeout(is_busy, self.rounds.time, self.until())
     }
 
