@@ -43,9 +43,9 @@ pub const PEOPLE: &[Scenario] = scenarios! {
     "pipes" (131, 91, 2403, 0) [] [] file_bytes_most: 4000, is_plain: false;
     "restarts" (994, 861, 2752, 0) [Local NODE 20, Local SEEKER 2] [Late 200, Reset 100];
     "rivals" (1287, 146, 1989, 552) [Local NODE 3, Local RIVAL 4] [];
-    "strangers" (48, 22, 546, 0) [Remote SILENT 30, Remote DRIPPER 12, Remote BABBLER 12, Remote LISTER 6, Local NODE 4, Local SEEKER 3]
+    "strangers" (48, 22, 544, 0) [Remote SILENT 30, Remote DRIPPER 12, Remote BABBLER 12, Remote LISTER 6, Local NODE 4, Local SEEKER 3]
         [] conn_max: 56;
-    "crowded" (264, 242, 870, 0) [Local SILENT 20, Local DRIPPER 10, Local NODE 4, Local SEEKER 4, Remote SILENT 6]
+    "crowded" (240, 214, 849, 0) [Local SILENT 20, Local DRIPPER 10, Local NODE 4, Local SEEKER 4, Remote SILENT 6]
         [] conn_max: 16, hold_us: 300_000, limit_ms: 3000, is_strict: false;
     "talkers" (133, 73, 159, 0) [Local TALKER 3, Local NODE 3, Local SEEKER 3] [] hold_us: 20_000;
     "shouters" (228, 93, 306, 0) [Local TALKER 3, Local NODE 3, Local SEEKER 3] [] hold_us: 100_000, talk_bytes: 1000;
@@ -64,12 +64,12 @@ pub const TIMES: &[Scenario] = scenarios! {
     "hours" (850, 771, 850, 0) [Local NODE 12] [] patience_us: 25_000, rest_us: 3_600_000_000;
     "bursts" (682, 602, 13354, 0) [Local NODE 12, Local LISTER 20, Local SEEKER 40]
         [] conn_max: 512, burst_us: 100_000, hold_us: 30_000, patience_us: 25_000;
-    "besieged" (0, 0, 1876, 0) [Remote SILENT 40, Local PLODDER 2, Local SEEKER 8]
+    "besieged" (0, 0, 1898, 0) [Remote SILENT 40, Local PLODDER 2, Local SEEKER 8]
         [] conn_max: 16, burst_us: 2_000_000, hold_us: 60_000_000, limit_ms: 40;
     "occupied" (60, 7, 74, 0) [Local NODE 8, Local SEEKER 1] [] conn_max: 8, hold_us: 60_000_000, limit_ms: 250, is_strict: false;
-    "encamped" (96, 76, 1138, 0) [Remote SILENT 4, Local NODE 3, Local SEEKER 2]
+    "encamped" (84, 64, 1117, 0) [Remote SILENT 4, Local NODE 3, Local SEEKER 2]
         [] conn_max: 7, burst_us: 2_000_000, hold_us: 60_000_000, limit_ms: 210;
-    "placed" (19, 6, 1404, 0) [Remote SILENT 5, Local NODE 2, Local SEEKER 1]
+    "placed" (20, 7, 1439, 0) [Remote SILENT 5, Local NODE 2, Local SEEKER 1]
         [Delayed 1000, Taken 1000] timeout_us: 3_600_000_000, conn_max: 7, burst_us: 4_000_000, hold_us: 3_600_000_000, limit_ms: 1500;
     "loaded" (1053, 945, 22382, 0) [Local NODE 20, Local LISTER 100, Local SEEKER 120]
         [Slow 1000] conn_max: 512, burst_us: 100_000, hold_us: 30_000, limit_ms: 10_000;
