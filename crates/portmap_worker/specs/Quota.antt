@@ -13,6 +13,8 @@ abbrev pub IsFree : Bool → ℕ → ℕ → ℕ → Type 0
 IsFree true most local remote = local + remote < most
 IsFree false most local remote = remote < remote_most most local
 
--- a connection is given up before another one: a remote one before a local one, and of two alike the older
+-- a connection is given up before another one: a remote one before a local one, of two alike one without news, and else the older
 abbrev pub GoesBefore : Candidate → Candidate → Type 0
-GoesBefore one other = ((one.is_local ≡ false) × (other.is_local ≡ true)) ⊎ ((one.is_local ≡ other.is_local) × (one.came < other.came))
+GoesBefore one other = ((one.is_local ≡ false) × (other.is_local ≡ true))
+    ⊎ ((one.is_local ≡ other.is_local) × (one.has_news ≡ false) × (other.has_news ≡ true))
+    ⊎ ((one.is_local ≡ other.is_local) × (one.has_news ≡ other.has_news) × (one.came < other.came))

@@ -256,12 +256,14 @@ fn give_way<S: Stream>(links: &mut Links<'_, S>, key: usize, now: u64) -> Turn
 fn first_to_go<S: Stream>(links: &Links<'_, S>, with_local: bool, now: u64) -> Option<usize> {
     let mut first: Option<Candidate> = None;
     for key in 0..links.keys() {
-        if links.place(key) == Some(Place::Pending) {
+        let place = links.place(key);
+        if place == Some(Place::Pending) {
             continue;
         }
         if let Some(OpenLink { link, .. }) = links.get(key) {
             let candidate = Candidate {
                 is_local: link.is_local,
+                has_news: place == Some(Place::Queued) && !link.is_late(),
                 came: link.came,
                 key,
             };

@@ -139,6 +139,13 @@ impl<S: Read + Write> Link<S> {
         self.is_timed() && now.saturating_sub(self.came) > YOUNG_MS
     }
 
+    /// Whether it is to be told that its time is over.
+    pub(crate) fn is_late(&self) -> bool
+        ensures { result ≡ self.now.timer.is_late }
+    {
+        self.timer.is_late
+    }
+
     /// It is given up for another one, if it can be. If it is kept it has come anew.
     pub(crate) fn give_way(&mut self, now: u64)
         ensures came { self.new.came ≡ now }

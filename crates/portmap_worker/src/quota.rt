@@ -11,6 +11,8 @@ use std::sync::atomic::{AtomicBool, AtomicU64, Ordering};
 #[derive(Clone, Copy, Debug, PartialEq, Eq)]
 pub(crate) struct Candidate {
     pub(crate) is_local: bool,
+    /// It is to be told, and not that its time is over.
+    pub(crate) has_news: bool,
     /// When it came, in milliseconds.
     pub(crate) came: u64,
     pub(crate) key: usize,
@@ -36,14 +38,16 @@ fn is_free(is_local: bool, most: u64, local: u64, remote: u64) -> bool
     }
 }
 
-/// Whether a connection is given up before another one: a remote one before a local one, and of two alike the older.
+/// Whether a connection is given up before another one: a remote one before a local one, of two alike one without news, and else the older.
 fn goes_before(one: Candidate, other: Candidate) -> bool
     ensures { (result ≡ true) ↔ GoesBefore one other }
 {
-    if one.is_local == other.is_local {
-        one.came < other.came
-    } else {
+    if one.is_local != other.is_local {
         other.is_local
+    } else if one.has_news != other.has_news {
+        other.has_news
+    } else {
+        one.came < other.came
     }
 }
 

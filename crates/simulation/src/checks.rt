@@ -163,19 +163,19 @@ impl<'a> Scene<'a> {
 
     // ---- at a step
 
-    /// A connection was told late: its time is over, or it is given up for another one, and nobody is while there is news of him.
+    /// A connection was told late: its time is over, and there is no news of it, or it is given up for another one.
     pub(crate) fn judge_late(&mut self, late: usize, has_news: bool) -> Option<()> {
         let timeout = self.scenario.timeout_us;
         let mut world = self.world()?;
         let is_early = world.is_early(late, timeout)?;
         let given_up = self.given_up.saturating_add(u32::from(is_early));
         let is_wanted = given_up <= world.wanting;
-        let is_first = !is_early || world.goes_first(late)?;
+        let is_first = !is_early || world.goes_first(late, has_news)?;
         let is_anew = world.note_late(late, timeout)? || world.wanting > 0;
         drop(world);
         self.given_up = given_up;
         if self.scenario.is_strict {
-            self.check(!has_news, "one was told late of whom there was news");
+            self.check(is_early || !has_news, "one was told late of whom there was news");
             self.check(is_wanted, "a connection was given up for no one");
             self.check(is_first, "one was given up before who goes first");
             self.check(is_anew, "one was told late twice within its time");

@@ -458,16 +458,20 @@ impl World {
         (asked > time).then_some(told)
     }
 
-    /// Whether of the connections of its worker that were never answered none goes before one that is given up: one of another host, where
-    /// it is of this one, and else one that came earlier.
-    pub fn goes_first(&self, number: usize) -> Option<bool> {
+    /// Whether of the connections of its worker that were never answered none goes before one that is given up, and of which there is news
+    /// or is not: one of another host, where it is of this one, else one of which nothing was reported, where there is news of it, and else
+    /// one that came earlier.
+    pub fn goes_first(&self, number: usize, has_news: bool) -> Option<bool> {
         let given_up = self.wires.get(number)?;
         let (worker, came) = given_up.accepted?;
+        let young = self.now.saturating_sub(YOUNG_US);
         for wire in &self.wires {
-            let until = if wire.is_local == given_up.is_local {
+            let until = if wire.is_local != given_up.is_local {
+                if given_up.is_local { young } else { 0 }
+            } else if wire.is_reported == has_news {
                 came
-            } else if given_up.is_local {
-                self.now.saturating_sub(YOUNG_US)
+            } else if has_news {
+                young
             } else {
                 0
             };
