@@ -1,9 +1,11 @@
--- What any host is told of active names, and that other hosts are told nothing else.
+-- What any host is told of active names, that other hosts are told nothing else, and why a local peer is refused.
 use Rattle.std.proofs.Common.{◌≡◌, ◌⊎◌, ℕ, Bool, true, false, cond, List, [], ◌∷◌, ◌++◌, Option, Some, refl, sym, ap, subst, ◌∙◌}
 use Rattle.std.proofs.Common.{append_assoc, inl, inr}
-use Rattle.std.specs.Prelude.{find, option_map, map as list_map}
+use Rattle.std.specs.Prelude.{codes, find, is_some, length, option_map, map as list_map, ◌==◌, ◌||◌}
 use Rattle.std.specs.List.{flat_map}
 use Rattle.std.specs.FinMap as map
+use Rattle.std.proofs.lemmas.Bool.{le-leb, ne_eqb}
+use Rattle.std.proofs.lemmas.List.{nil_from_length}
 use Rattle.std.proofs.lemmas.Option.{same_Some}
 use Rattle.portmap_feed.specs.Stream.{Sight, More, Zero, TooLarge, Whole, first_request}
 use Rattle.portmap_wire.specs.List.{names_line}
@@ -13,7 +15,7 @@ use Rattle.portmap_wire.specs.declared.request.Request.{Request}
 use Rattle.portmap_wire.specs.declared.request.Request.TheVariants.{Alive, Port, Dump, Kill, Stop}
 use Rattle.portmap_wire.specs.declared.request.Request.TheVariants as request
 use Rattle.portmap_wire.proofs.RequestLaws.{one_request}
-use Rattle.portmap_table.specs.Rows.{Names, same_name}
+use Rattle.portmap_table.specs.Rows.{Names, is_active, retired_row, same_name}
 use Rattle.portmap_table.specs.declared.row.Row.{Row}
 use Rattle.portmap_core.specs.declared.event.Fate.{Fate}
 use Rattle.portmap_core.specs.declared.connection.Connection.{Connection}
@@ -21,9 +23,10 @@ use Rattle.portmap_core.specs.declared.connection.Stage.{Stage}
 use Rattle.portmap_core.specs.declared.connection.Stage.TheVariants.{Waiting, Holding, Done}
 use Rattle.portmap_core.specs.Config.{Configuration}
 use Rattle.portmap_core.specs.State.{State}
-use Rattle.portmap_core.specs.Serving.{Served, ServesBody, ToldAt, names_line_of, served}
-use Rattle.portmap_core.specs.Step.{Outcome, Says, Settles, Told}
-use Rattle.portmap_core.specs.Laws.{ActiveNamesAreFound, ActiveNamesAreListed, Completes, IsLook, OthersAreToldNothing}
+use Rattle.portmap_core.specs.Serving.{Served, ServesBody, ToldAt, halts, names_line_of, replied, served}
+use Rattle.portmap_core.specs.Step.{Outcome, Says, Settles, Told, outcome_of}
+use Rattle.portmap_core.specs.Laws.{ActiveNamesAreFound, ActiveNamesAreListed, ActiveNamesAreTaken, Completes, IsLook, IsRefused, IsTold}
+use Rattle.portmap_core.specs.Laws.{KillsAreRefused, KillsEnd, NewNamesWantRoom, OthersAreToldNothing, refusal}
 
 -- what the connection in a slot is told
 told_here : (cfg : Configuration) (s s' : State) (slot : ℕ) (connection : Connection) (piece reply : List ℕ) (fate : Fate)
@@ -147,3 +150,67 @@ pub others_are_told_nothing : OthersAreToldNothing
 others_are_told_nothing cfg s s' slot connection piece reply fate here far says =
     told_far cfg s slot connection piece connection.stage (record { reply = reply; fate = fate; state = s' }) far
     (told_here cfg s s' slot connection piece reply fate here says)
+
+-- ---- local peers
+
+-- what comes of a request, whatever creation it would have
+concluded : (cfg : Configuration) (s s' : State) (request : Request) (reply : List ℕ) (fate : Fate) (o : Served)
+    (t : IsTold cfg s request reply fate s') → ((creation : ℕ) → served cfg s.names true t.slot request creation ≡ o)
+    → record { reply = reply; fate = fate; state = s' } ≡ outcome_of s t.slot t.connection o
+concluded cfg s s' request reply fate o t is =
+    let c = t.completes in
+    let all : List ℕ = c.received ++ c.piece in
+    let said : Outcome = record { reply = reply; fate = c.fate; state = s' } in
+    let waited : Settles cfg s t.slot t.connection all said =
+    subst (λ (x : Stage). Told cfg s t.slot t.connection c.piece x said) c.waits
+    (told_here cfg s s' t.slot t.connection c.piece reply c.fate c.is_open c.says) in
+    let whole : ServesBody cfg s.names t.connection.local t.slot t.body waited.served =
+    subst (λ (x : Sight). ToldAt cfg s.names t.connection.local t.slot all x waited.served) c.whole waited.told in
+    let here = subst (λ (b : Bool). ServesBody cfg s.names b t.slot t.body waited.served) t.local whole in
+    let by = spelled cfg s.names true t.slot t.body request waited.served t.spells here in
+    ap (λ (f : Fate). record { reply = reply; fate = f; state = s' }) (sym t.fate_is) ∙ waited.outcome
+    ∙ ap (outcome_of s t.slot t.connection) (by.1 ∙ is by.0)
+
+refuses : (cfg : Configuration) (s s' : State) (request : Request) (reply : List ℕ) (fate : Fate) (text : List ℕ)
+    (t : IsTold cfg s request reply fate s') → ((creation : ℕ) → served cfg s.names true t.slot request creation ≡ replied s.names text)
+    → IsRefused s text reply fate s'
+refuses cfg s s' request reply fate text t is =
+    let o = concluded cfg s s' request reply fate (replied s.names text) t is in
+    record {
+      reply_is = ap (λ (x : Outcome). x.reply) o;
+      closes = ap (λ (x : Outcome). x.fate) o;
+      names = ap (λ (x : Outcome). x.state.names) o;
+      halted = ap (λ (x : Outcome). x.state.halted) o;
+    }
+
+pub active_names_are_taken : ActiveNamesAreTaken
+active_names_are_taken cfg s s' g row reply fate t active =
+    refuses cfg s s' (Alive g) reply fate (refusal g.high 1) t (λ creation. let is = ap is_some active in rw is refl)
+
+neither : (a b : Bool) → (a || b) ≡ false → (a ≡ false) × (b ≡ false)
+neither true b e = absurd cc
+neither false b e = (refl, e)
+
+pub new_names_want_room : NewNamesWantRoom
+new_names_want_room cfg s s' g reply fate t new full =
+    let strange = neither (is_active g.name s.names) (is_some (retired_row g.name s.names)) new in
+    let most = le-leb cfg.known_max (length s.names.active) full in
+    refuses cfg s s' (Alive g) reply fate (refusal g.high 2) t (λ creation. rw (strange.0, most, strange.1) refl)
+
+either : (a b : Bool) → b ≡ true → (a || b) ≡ true
+either true b e = refl
+either false b e = e
+
+pub kills_end : KillsEnd
+kills_end cfg s s' reply fate t may =
+    let ends : (length s.names.active == 0 || cfg.relaxed) ≡ true = elim may [
+      | inl none ↦ rw none refl
+      | inr relaxed ↦ either (length s.names.active == 0) cfg.relaxed relaxed
+    ] in
+    let o = concluded cfg s s' Kill reply fate (halts s.names) t (λ creation. rw ends refl) in
+    (ap (λ (x : Outcome). x.reply) o, ap (λ (x : Outcome). x.fate) o, ap (λ (x : Outcome). x.state.halted) o)
+
+pub kills_are_refused : KillsAreRefused
+kills_are_refused cfg s s' reply fate t some strict =
+    let active = ne_eqb (length s.names.active) 0 (λ e. some (nil_from_length s.names.active e)) in
+    refuses cfg s s' Kill reply fate (codes "NO") t (λ creation. rw (active, strict) refl)

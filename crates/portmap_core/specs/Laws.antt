@@ -1,17 +1,18 @@
 -- Laws of the machine, each proved on a public function.
-use Rattle.std.specs.Prelude.{◌≡◌, ◌≢◌, ℕ, ◌<◌, ◌≤◌, ◌==◌, true, false, List, [], ◌++◌, length, map as list_map, slice_index_or, Some, None}
-use Rattle.std.specs.Prelude.{◌⊎◌}
+use Rattle.std.specs.Prelude.{◌≡◌, ◌≢◌, ℕ, ◌<◌, ◌≤◌, ◌==◌, true, false, List, [], ◌∷◌, ◌++◌, length, map as list_map, slice_index_or}
+use Rattle.std.specs.Prelude.{◌⊎◌, Some, None, codes, nat_lt, if◌then◌else◌}
 use Rattle.std.specs.FinMap as map
 use Rattle.portmap_feed.specs.Stream.{Sight, More, Zero, TooLarge, Whole, first_request}
 use Rattle.portmap_wire.specs.List.{names_line}
+use Rattle.portmap_wire.specs.Node.{Node}
 use Rattle.portmap_wire.specs.Reply.{port2_reply}
 use Rattle.portmap_wire.specs.Request.{body_of, sent, IsRequest, IsMalformed, Spells}
 use Rattle.portmap_wire.specs.declared.request.Request.{Request}
 use Rattle.portmap_wire.specs.declared.request.Request.TheVariants as request
-use Rattle.portmap_table.specs.Rows.{Names, active_row, known_len, known_names, remembered, same_name}
+use Rattle.portmap_table.specs.Rows.{Names, active_row, is_known, known_len, known_names, remembered, same_name}
 use Rattle.portmap_table.specs.declared.row.Row.{Row}
 use Rattle.portmap_core.specs.declared.event.Fate.{Fate}
-use Rattle.portmap_core.specs.declared.event.Fate.TheVariants.{Stay}
+use Rattle.portmap_core.specs.declared.event.Fate.TheVariants.{Stay, Close, Halt}
 use Rattle.portmap_core.specs.declared.connection.Connection.{Connection}
 use Rattle.portmap_core.specs.declared.connection.Stage.TheVariants.{Waiting, Holding}
 use Rattle.portmap_core.specs.Config.{Configuration, IsConfiguration}
@@ -145,3 +146,50 @@ OthersAreToldNothing =
     → map.get s.connections slot ≡ Some connection → connection.local ≡ false → Says cfg s slot piece reply fate s'
     → (reply ≡ []) ⊎ ((received : List ℕ) × (body : List ℕ) × (request : Request) × (connection.stage ≡ Waiting received)
     × (first_request (received ++ piece) ≡ Whole body) × Spells body request × IsLook request)
+
+-- ---- what a local peer is told
+
+-- a request of one, whole by a piece of a connection that waits, and what comes of it
+pub record IsTold (cfg : Configuration) (s : State) (request : Request) (reply : List ℕ) (fate : Fate) (s' : State) : Type 0 where
+  pub slot : ℕ
+  pub connection : Connection
+  pub body : List ℕ
+  pub completes : Completes cfg s slot connection body reply s'
+  pub fate_is : completes.fate ≡ fate
+  pub local : connection.local ≡ true
+  pub spells : Spells body request
+
+-- this is the reply, and a close, and nothing is changed by it
+pub record IsRefused (s : State) (text reply : List ℕ) (fate : Fate) (s' : State) : Type 0 where
+  pub reply_is : reply ≡ text
+  pub closes : fate ≡ Close
+  pub names : s'.names ≡ s.names
+  pub halted : s'.halted ≡ s.halted
+
+-- a registration that is refused, as bytes: ALIVE2_X_RESP (118) from version 6 on, else ALIVE2_RESP (121); the result, and creation 0
+abbrev pub refusal : ℕ → ℕ → List ℕ
+refusal high result = if nat_lt high 6 then 121 ∷ result ∷ 0 ∷ 0 ∷ [] else 118 ∷ result ∷ 0 ∷ 0 ∷ 0 ∷ 0 ∷ []
+
+-- a name that is active is refused with result 1
+abbrev pub ActiveNamesAreTaken : Type 0
+ActiveNamesAreTaken =
+    (cfg : Configuration) (s s' : State) (g : Node) (row : Row) (reply : List ℕ) (fate : Fate) → IsTold cfg s (request.Alive g) reply fate s'
+    → active_row g.name s.names ≡ Some row → IsRefused s (refusal g.high 1) reply fate s'
+
+-- and one that is not known with result 2, where as many are active as may be known
+abbrev pub NewNamesWantRoom : Type 0
+NewNamesWantRoom =
+    (cfg : Configuration) (s s' : State) (g : Node) (reply : List ℕ) (fate : Fate) → IsTold cfg s (request.Alive g) reply fate s'
+    → is_known g.name s.names ≡ false → cfg.known_max ≤ length s.names.active → IsRefused s (refusal g.high 2) reply fate s'
+
+-- KILL ends the port mapper where no name is active, or its checks are relaxed
+abbrev pub KillsEnd : Type 0
+KillsEnd =
+    (cfg : Configuration) (s s' : State) (reply : List ℕ) (fate : Fate) → IsTold cfg s request.Kill reply fate s'
+    → (s.names.active ≡ []) ⊎ (cfg.relaxed ≡ true) → (reply ≡ codes "OK") × (fate ≡ Halt) × (s'.halted ≡ true)
+
+-- and is refused elsewhere
+abbrev pub KillsAreRefused : Type 0
+KillsAreRefused =
+    (cfg : Configuration) (s s' : State) (reply : List ℕ) (fate : Fate) → IsTold cfg s request.Kill reply fate s'
+    → s.names.active ≢ [] → cfg.relaxed ≡ false → IsRefused s (codes "NO") reply fate s'

@@ -1,7 +1,8 @@
 //! What always holds of the machine, as laws of its definitions.
-ghost use Rattle.portmap_core.specs.Laws.{ActiveNamesAreFound, ActiveNamesAreListed, EndsAreFinal, EndsLeaveNoName, EntriesDetermine};
-ghost use Rattle.portmap_core.specs.Laws.{HoldersOutlastTheirTime, MalformedChangesNoName, NamesBelongToConnections, OthersAreToldNothing};
-ghost use Rattle.portmap_core.specs.Laws.{RunsKeepLimits, StepsKeepOwned, TakenCreationsAreNew, WrittenIsWhole};
+ghost use Rattle.portmap_core.specs.Laws.{ActiveNamesAreFound, ActiveNamesAreListed, ActiveNamesAreTaken, EndsAreFinal, EndsLeaveNoName};
+ghost use Rattle.portmap_core.specs.Laws.{EntriesDetermine, HoldersOutlastTheirTime, KillsAreRefused, KillsEnd, MalformedChangesNoName};
+ghost use Rattle.portmap_core.specs.Laws.{NamesBelongToConnections, NewNamesWantRoom, OthersAreToldNothing, RunsKeepLimits};
+ghost use Rattle.portmap_core.specs.Laws.{StepsKeepOwned, TakenCreationsAreNew, WrittenIsWhole};
 
 /// The first request of what was written, whatever follows it, is the request written.
 pub fn written_is_whole()
@@ -64,4 +65,17 @@ pub fn active_names_are_shown()
 /// Peers of other hosts are told where names are and which there are, and nothing else.
 pub fn others_are_told_nothing()
     ensures { OthersAreToldNothing }
+{}
+
+/// A local peer whose registration is refused is told why: result 1 where the name is active, and 2 where it is not known and
+/// as many are active as may be known.
+pub fn refused_names_are_told_why()
+    ensures taken { ActiveNamesAreTaken }
+    ensures full { NewNamesWantRoom }
+{}
+
+/// A local peer's KILL ends the port mapper where no name is active, or its checks are relaxed, and is refused elsewhere.
+pub fn kills_end_where_they_may()
+    ensures ends { KillsEnd }
+    ensures refused { KillsAreRefused }
 {}
