@@ -79,7 +79,8 @@ names_belong cfg es s is run = belongs cfg s (run_owned cfg es _ s (owned_empty 
 -- ---- names after a malformed request
 
 module _ (cfg : Configuration) (names : Names) (local : Bool) (slot : ℕ) where
-  bad_names : (received : List ℕ) (sight : Sight) (o : Served) → IsBad sight → ToldAt cfg names local slot received sight o → o.names ≡ names
+  bad_names : (received : List ℕ) (sight : Sight) (o : Served) → IsBad sight → ToldAt cfg names local slot received sight o
+      → o.names ≡ names
   bad_names received More o bad told = absurd bad
   bad_names received Zero o bad told = ap (λ (x : Served). x.names) told
   bad_names received (TooLarge n) o bad told = ap (λ (x : Served). x.names) told
