@@ -1,12 +1,12 @@
 -- Where the port mapper ends and what comes of it then, the limits that a run keeps, and a connection that holds its name,
 -- whose time is over.
-use Rattle.std.proofs.Common.{◌≡◌, ℕ, Bool, true, false, List, [], ◌++◌, length, Option, Some, None, refl, sym, ap, subst, ◌∙◌, inl, inr}
+use Rattle.std.proofs.Common.{◌≡◌, ℕ, Bool, true, false, List, [], ◌++◌, length, Option, Some, None, refl, sym, ap, subst, ◌∙◌}
 use Rattle.std.specs.Prelude.{codes, not, ◌==◌, ◌||◌}
 use Rattle.std.specs.FinMap as map
 use Rattle.std.proofs.lemmas.Bool.{cond_both, eqb-true}
 use Rattle.std.proofs.lemmas.List.{nil_from_length}
 use Rattle.std.proofs.lemmas.Option.{same_Some}
-use Rattle.portmap_feed.specs.Stream.{Sight, More, Zero, TooLarge, Whole, first_request}
+use Rattle.portmap_feed.specs.Stream.{More, first_request}
 use Rattle.portmap_wire.specs.Node.{Node}
 use Rattle.portmap_wire.specs.Reply.{alive_reply}
 use Rattle.portmap_wire.specs.declared.request.Request.{Request}
@@ -19,14 +19,14 @@ use Rattle.portmap_core.specs.declared.connection.Stage.TheVariants.{Waiting, Ho
 use Rattle.portmap_core.specs.Config.{Configuration}
 use Rattle.portmap_core.specs.State.{State, empty_state}
 use Rattle.portmap_core.specs.Entry.{Closed, Connected, Faulted, Late, Piece}
-use Rattle.portmap_core.specs.Serving.{Served, ToldAt, awaits, closed, dump_served, alive_served, halts, if_local, kill_served}
+use Rattle.portmap_core.specs.Serving.{Served, closed, dump_served, alive_served, halts, if_local, kill_served}
 use Rattle.portmap_core.specs.Serving.{registers, replied, served, stop_served, stops}
 use Rattle.portmap_core.specs.Step.{Outcome, Told, halted_by, late_at}
 use Rattle.portmap_core.specs.Owned.{IsOwned, IsSlotFor, IsStageFor}
 use Rattle.portmap_core.specs.Laws.{EndsAreFinal, EndsLeaveNoName, HoldersOutlastTheirTime, KeepsLimits, RunsKeepLimits}
 use Rattle.portmap_core.proofs.Owned.{owned_empty}
 use Rattle.portmap_core.proofs.Runs.{run_owned}
-use Rattle.portmap_core.proofs.Waits.{said}
+use Rattle.portmap_core.proofs.Waits.{said, told_by}
 
 pub ends_are_final : EndsAreFinal
 ends_are_final cfg s s' e h step =
@@ -73,9 +73,6 @@ kills cfg names strict =
 if_near : (local : Bool) (names : Names) (told : Served) → LeavesNone names told → LeavesNone names (if_local local names told)
 if_near local names told h = cond_both (not local) (closed names) told (LeavesNone names) (λ _. replies names []) (λ _. h)
 
-by_served : (names : Names) (o p : Served) → o ≡ p → LeavesNone names p → LeavesNone names o
-by_served names o p e h = subst (λ (x : Served). LeavesNone names x) (sym e) h
-
 module _ (cfg : Configuration) (names : Names) (local : Bool) (slot : ℕ) (strict : cfg.relaxed ≡ false) where
   serves_on : (request : Request) (creation : ℕ) → LeavesNone names (served cfg names local slot request creation)
   serves_on (Alive g) creation = if_near local names (alive_served cfg names slot g creation)
@@ -90,13 +87,6 @@ module _ (cfg : Configuration) (names : Names) (local : Bool) (slot : ℕ) (stri
       (cond_both (not cfg.relaxed) (closed names) (stops names (owner_of name names)) (LeavesNone names) (λ _. replies names [])
       (λ _. stops_on names (owner_of name names)))
 
-  sight_on : (received : List ℕ) (sight : Sight) (o : Served) → ToldAt cfg names local slot received sight o → LeavesNone names o
-  sight_on received More o told = by_served names o (awaits names received) told (λ ended. absurd cc)
-  sight_on received Zero o told = by_served names o _ told (replies names [])
-  sight_on received (TooLarge n) o told = by_served names o _ told (replies names [])
-  sight_on received (Whole body) o (inl p) = by_served names o _ p.serves.is (serves_on p.request p.serves.creation)
-  sight_on received (Whole body) o (inr p) = by_served names o _ p.is (replies names [])
-
 -- it does not end where it ran before and nothing changes that
 runs_on : (s s' : State) → s.halted ≡ false → s'.halted ≡ s.halted → s'.halted ≡ true → s.names.active ≡ []
 runs_on s s' runs same ended = absurd (let both : false ≡ true = sym runs ∙ sym same ∙ ended in cc)
@@ -106,7 +96,8 @@ module _ (cfg : Configuration) (s : State) (slot : ℕ) (connection : Connection
       → o.state.halted ≡ true → s.names.active ≡ []
   told_on (Waiting received) o strict runs told ended =
       let all : List ℕ = received ++ piece in
-      sight_on cfg s.names connection.local slot strict all (first_request all) told.served told.told
+      told_by cfg s.names connection.local slot (LeavesNone s.names) all (first_request all) told.served (λ more ended. absurd cc)
+      (replies s.names []) (λ request creation _. serves_on cfg s.names connection.local slot strict request creation) told.told
       (ap (λ (b : Bool). halted_by told.served.fate b) (sym runs) ∙ sym (ap (λ (x : Outcome). x.state.halted) told.outcome) ∙ ended)
   told_on Holding o strict runs told ended = runs_on s o.state runs (ap (λ (x : Outcome). x.state.halted) told) ended
   told_on Done o strict runs told ended = runs_on s o.state runs (ap (λ (x : Outcome). x.state.halted) told) ended

@@ -6,7 +6,7 @@ use Rattle.std.specs.FinMap as map
 use Rattle.std.specs.Cmp.{nat_cmp_total}
 use Rattle.std.specs.Ordering.{nat_cmp}
 use Rattle.std.proofs.lemmas.Bool.{cases_eq}
-use Rattle.portmap_feed.specs.Stream.{Sight, More, Zero, TooLarge, Whole, first_request}
+use Rattle.portmap_feed.specs.Stream.{first_request}
 use Rattle.portmap_wire.specs.Node.{Node}
 use Rattle.portmap_wire.specs.declared.request.Request.{Request}
 use Rattle.portmap_wire.specs.declared.request.Request.TheVariants.{Alive, Port, Dump, Kill, Stop}
@@ -26,7 +26,7 @@ use Rattle.portmap_core.specs.Entry.{Closed, Connected, Faulted, Late, Piece}
 use Rattle.portmap_core.specs.Step.{Leaves, Opens, Outcome, Told, late_at, settled}
 use Rattle.portmap_core.specs.Owned.{IsStageFor, IsSlotFor, IsOwned}
 use Rattle.portmap_core.specs.Laws.{StepsKeepOwned}
-use Rattle.portmap_core.proofs.Waits.{WaitsAt, said}
+use Rattle.portmap_core.proofs.Waits.{WaitsAt, said, told_by}
 use Rattle.portmap_core.proofs.Slots.{cut_other, cut_same, ended_open, put_other, put_same}
 
 -- ---- one slot
@@ -211,18 +211,10 @@ module _ (w : WaitsAt) (owned : IsOwned w.config w.state) where
 
   -- ---- what a piece does
 
-  by_served : (o p : Served) → o ≡ p → IsOwned cfg (settled s slot connection p) → IsOwned cfg (settled s slot connection o)
-  by_served o p e kept = subst (λ (x : Served). IsOwned cfg (settled s slot connection x)) (sym e) kept
-
-  sight_owned : (received : List ℕ) (sight : Sight) (o : Served) → first_request received ≡ sight
-      → ToldAt cfg s.names connection.local slot received sight o → IsOwned cfg (settled s slot connection o)
-  sight_owned received More o is told = by_served o _ told (stays_owned (Waiting received) s.halted (refl, is))
-  sight_owned received Zero o is told = by_served o _ told closed_owned
-  sight_owned received (TooLarge n) o is told = by_served o _ told closed_owned
-  sight_owned received (Whole body) o is (inl p) =
-      let serves = p.serves in
-      by_served o _ serves.is (served_owned p.request serves.creation (λ h. serves.legal (ap (λ (x : Served). x.stage) serves.is ∙ h)))
-  sight_owned received (Whole body) o is (inr p) = by_served o _ p.is closed_owned
+  sight_owned : (received : List ℕ) (o : Served) → ToldAt cfg s.names connection.local slot received (first_request received) o
+      → IsOwned cfg (settled s slot connection o)
+  sight_owned received o = told_by cfg s.names connection.local slot (λ x. IsOwned cfg (settled s slot connection x)) received
+      (first_request received) o (λ more. stays_owned (Waiting received) s.halted (refl, more)) closed_owned served_owned
 
 by_outcome : (cfg : Configuration) (o p : Outcome) → o ≡ p → IsOwned cfg p.state → IsOwned cfg o.state
 by_outcome cfg o p e owned = subst (λ (x : Outcome). IsOwned cfg x.state) (sym e) owned
@@ -244,8 +236,7 @@ module _ {cfg : Configuration} {s : State} (owned : IsOwned cfg s) (slot : ℕ) 
   told_owned : (piece : List ℕ) (stage : Stage) (o : Outcome) → connection.stage ≡ stage → Told cfg s slot connection piece stage o
       → IsOwned cfg o.state
   told_owned piece (Waiting received) o stage told =
-      let all : List ℕ = received ++ piece in
-      by_outcome cfg o _ told.outcome (sight_owned (waits received stage) owned all (first_request all) told.served refl told.told)
+      by_outcome cfg o _ told.outcome (sight_owned (waits received stage) owned (received ++ piece) told.served told.told)
   told_owned piece Holding o stage told = by_outcome cfg o _ told owned
   told_owned piece Done o stage told = by_outcome cfg o _ told owned
 

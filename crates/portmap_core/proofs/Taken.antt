@@ -5,7 +5,7 @@ use Rattle.std.specs.Prelude.{codes, find, is_some, not, position, remove, slice
 use Rattle.std.specs.Cmp.Lexicographic.{same_text}
 use Rattle.std.proofs.lemmas.Bool.{cases_Bool, cond_both}
 use Rattle.std.proofs.lemmas.Option.{same_Some}
-use Rattle.portmap_feed.specs.Stream.{Sight, More, Zero, TooLarge, Whole, first_request}
+use Rattle.portmap_feed.specs.Stream.{first_request}
 use Rattle.portmap_wire.specs.Node.{Node}
 use Rattle.portmap_wire.specs.declared.request.Request.{Request}
 use Rattle.portmap_wire.specs.declared.request.Request.TheVariants.{Alive, Port, Dump, Kill, Stop}
@@ -24,11 +24,11 @@ use Rattle.portmap_core.specs.declared.connection.Stage.TheVariants.{Waiting, Ho
 use Rattle.portmap_core.specs.Config.{Configuration}
 use Rattle.portmap_core.specs.State.{State}
 use Rattle.portmap_core.specs.Entry.{Closed, Connected, Entry, Faulted, Late, Piece}
-use Rattle.portmap_core.specs.Serving.{MayTake, Served, ToldAt, alive_served, closed, dump_served, halts, if_local, kill_served}
+use Rattle.portmap_core.specs.Serving.{MayTake, Served, alive_served, closed, dump_served, halts, if_local, kill_served}
 use Rattle.portmap_core.specs.Serving.{replied, served, stop_served, stops}
 use Rattle.portmap_core.specs.Step.{Outcome, Step, Told, late_at}
 use Rattle.portmap_core.specs.Laws.{TakenCreationsAreNew}
-use Rattle.portmap_core.proofs.Waits.{said}
+use Rattle.portmap_core.proofs.Waits.{said, told_by}
 
 -- each name that becomes active between the two has another creation than was remembered for it
 abbrev TakesNew : Names → Names → Type 0
@@ -96,9 +96,6 @@ stops_new : (P : Type 0) (names : Names) (owner : Option ℕ) → TakesBy P name
 stops_new P names None = λ _. stays names
 stops_new P names (Some owner) = λ _. retires names owner
 
-by_served : (names : Names) (o p : Served) → o ≡ p → TakesNew names p.names → TakesNew names o.names
-by_served names o p e h = subst (λ (x : Served). TakesNew names x.names) (sym e) h
-
 module _ (cfg : Configuration) (names : Names) (local : Bool) (slot : ℕ) where
   serves_new : (request : Request) (creation : ℕ)
       → TakesBy (MayTake names request creation) names (served cfg names local slot request creation)
@@ -122,16 +119,6 @@ module _ (cfg : Configuration) (names : Names) (local : Bool) (slot : ℕ) where
       (cond_both (not cfg.relaxed) (closed names) (stops names (owner_of name names)) (TakesBy P names) (λ _ _. stays names)
       (λ _. stops_new P names (owner_of name names)))
 
-  sight_new : (received : List ℕ) (sight : Sight) (o : Served) → ToldAt cfg names local slot received sight o → TakesNew names o.names
-  sight_new received More o told = by_served names o _ told (stays names)
-  sight_new received Zero o told = by_served names o _ told (stays names)
-  sight_new received (TooLarge n) o told = by_served names o _ told (stays names)
-  sight_new received (Whole body) o (inl p) =
-      let serves = p.serves in
-      by_served names o _ serves.is
-      (serves_new p.request serves.creation (λ h. serves.legal (ap (λ (x : Served). x.stage) serves.is ∙ h)))
-  sight_new received (Whole body) o (inr p) = by_served names o _ p.is (stays names)
-
 -- ---- every step
 
 by_names : (names a b : Names) → a ≡ b → TakesNew names b → TakesNew names a
@@ -142,7 +129,8 @@ module _ (cfg : Configuration) (s : State) (slot : ℕ) (connection : Connection
   told_new (Waiting received) o told =
       let all : List ℕ = received ++ piece in
       by_names s.names _ _ (ap (λ (x : Outcome). x.state.names) told.outcome)
-      (sight_new cfg s.names connection.local slot all (first_request all) told.served told.told)
+      (told_by cfg s.names connection.local slot (λ o. TakesNew s.names o.names) all (first_request all) told.served
+      (λ more. stays s.names) (stays s.names) (serves_new cfg s.names connection.local slot) told.told)
   told_new Holding o told = by_names s.names _ _ (ap (λ (x : Outcome). x.state.names) told) (stays s.names)
   told_new Done o told = by_names s.names _ _ (ap (λ (x : Outcome). x.state.names) told) (stays s.names)
 
