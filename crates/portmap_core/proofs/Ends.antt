@@ -1,12 +1,12 @@
 -- Where the port mapper ends and what comes of it then, the limits that a run keeps, and a connection that holds its name,
 -- whose time is over.
-use Rattle.std.proofs.Common.{◌≡◌, ℕ, Bool, true, false, List, [], ◌++◌, length, Option, Some, None, refl, sym, ap, subst, ◌∙◌, inl, inr}
+use Rattle.std.proofs.Common.{◌≡◌, ℕ, Bool, true, false, List, [], ◌++◌, length, Option, Some, None, refl, sym, ap, subst, ◌∙◌}
 use Rattle.std.specs.Prelude.{codes, not, ◌==◌, ◌||◌}
 use Rattle.std.specs.FinMap as map
 use Rattle.std.proofs.lemmas.Bool.{cond_both, eqb-true}
 use Rattle.std.proofs.lemmas.List.{nil_from_length}
 use Rattle.std.proofs.lemmas.Option.{same_Some}
-use Rattle.portmap_feed.specs.Stream.{Sight, More, Zero, TooLarge, Whole, first_request}
+use Rattle.portmap_feed.specs.Stream.{More, first_request}
 use Rattle.portmap_wire.specs.Node.{Node}
 use Rattle.portmap_wire.specs.Reply.{alive_reply}
 use Rattle.portmap_wire.specs.declared.request.Request.{Request}
@@ -19,13 +19,14 @@ use Rattle.portmap_core.specs.declared.connection.Stage.TheVariants.{Waiting, Ho
 use Rattle.portmap_core.specs.Config.{Configuration}
 use Rattle.portmap_core.specs.State.{State, empty_state}
 use Rattle.portmap_core.specs.Entry.{Closed, Connected, Faulted, Late, Piece}
-use Rattle.portmap_core.specs.Serving.{Served, ServesBody, ToldAt, awaits, closed, dump_served, alive_served, halts, if_local, kill_served}
+use Rattle.portmap_core.specs.Serving.{Served, closed, dump_served, alive_served, halts, if_local, kill_served}
 use Rattle.portmap_core.specs.Serving.{registers, replied, served, stop_served, stops}
 use Rattle.portmap_core.specs.Step.{Outcome, Told, halted_by, late_at}
 use Rattle.portmap_core.specs.Owned.{IsOwned, IsSlotFor, IsStageFor}
 use Rattle.portmap_core.specs.Laws.{EndsAreFinal, EndsLeaveNoName, HoldersOutlastTheirTime, KeepsLimits, RunsKeepLimits}
 use Rattle.portmap_core.proofs.Owned.{owned_empty}
 use Rattle.portmap_core.proofs.Runs.{run_owned}
+use Rattle.portmap_core.proofs.Waits.{said, told_by}
 
 pub ends_are_final : EndsAreFinal
 ends_are_final cfg s s' e h step =
@@ -37,9 +38,7 @@ holders_outlast_their_time cfg s s' slot fate connection here holds step =
     let moves = step.moves in
     let same : moves.connection ≡ connection = same_Some moves.connection connection (sym moves.is_open ∙ here) in
     let stage : moves.connection.stage ≡ Holding = ap (λ (x : Connection). x.stage) same ∙ holds in
-    let told : ◌≡◌ {A = Outcome} (record { reply = []; fate = fate; state = s' }) (late_at s slot moves.connection Holding) =
-    subst (λ (st : Stage). ◌≡◌ {A = Outcome} (record { reply = []; fate = fate; state = s' })
-    (late_at s slot moves.connection st)) stage moves.told in
+    let told = subst (λ (st : Stage). said [] fate s' ≡ late_at s slot moves.connection st) stage moves.told in
     (ap (λ (o : Outcome). o.fate) told, ap (λ (o : Outcome). o.state) told)
 
 -- ---- where it ends
@@ -74,49 +73,34 @@ kills cfg names strict =
 if_near : (local : Bool) (names : Names) (told : Served) → LeavesNone names told → LeavesNone names (if_local local names told)
 if_near local names told h = cond_both (not local) (closed names) told (LeavesNone names) (λ _. replies names []) (λ _. h)
 
-serves_on : (cfg : Configuration) (names : Names) (local : Bool) (slot : ℕ) (request : Request) (creation : ℕ) → cfg.relaxed ≡ false
-    → LeavesNone names (served cfg names local slot request creation)
-serves_on cfg names local slot (Alive g) creation strict = if_near local names (alive_served cfg names slot g creation)
-    (cond_both (is_active g.name names) _ _ (LeavesNone names) (λ _. replies names (alive_reply g.high 1 0)) (λ _.
-    cond_both (is_full_for cfg.known_max g.name names) _ _ (LeavesNone names) (λ _. replies names (alive_reply g.high 2 0))
-    (λ _. registers_on cfg.known_max names slot g creation)))
-serves_on cfg names local slot (Port name) creation strict = λ ended. absurd cc
-serves_on cfg names local slot request.Names creation strict = λ ended. absurd cc
-serves_on cfg names local slot Dump creation strict = if_near local names (dump_served cfg names) (λ ended. absurd cc)
-serves_on cfg names local slot Kill creation strict = if_near local names (kill_served cfg names) (kills cfg names strict)
-serves_on cfg names local slot (Stop name) creation strict = if_near local names (stop_served cfg names name)
-    (cond_both (not cfg.relaxed) (closed names) (stops names (owner_of name names)) (LeavesNone names) (λ _. replies names [])
-    (λ _. stops_on names (owner_of name names)))
-
-by_served : (names : Names) (o p : Served) → o ≡ p → LeavesNone names p → LeavesNone names o
-by_served names o p e h = subst (λ (x : Served). LeavesNone names x) (sym e) h
-
-body_on : (cfg : Configuration) (names : Names) (local : Bool) (slot : ℕ) (body : List ℕ) (o : Served) → cfg.relaxed ≡ false
-    → ServesBody cfg names local slot body o → LeavesNone names o
-body_on cfg names local slot body o strict (inl p) =
-    by_served names o _ p.serves.is (serves_on cfg names local slot p.request p.serves.creation strict)
-body_on cfg names local slot body o strict (inr p) = by_served names o _ p.is (replies names [])
-
-sight_on : (cfg : Configuration) (names : Names) (local : Bool) (slot : ℕ) (received : List ℕ) (sight : Sight) (o : Served)
-    → cfg.relaxed ≡ false → ToldAt cfg names local slot received sight o → LeavesNone names o
-sight_on cfg names local slot received More o strict told = by_served names o (awaits names received) told (λ ended. absurd cc)
-sight_on cfg names local slot received Zero o strict told = by_served names o _ told (replies names [])
-sight_on cfg names local slot received (TooLarge n) o strict told = by_served names o _ told (replies names [])
-sight_on cfg names local slot received (Whole body) o strict told = body_on cfg names local slot body o strict told
+module _ (cfg : Configuration) (names : Names) (local : Bool) (slot : ℕ) (strict : cfg.relaxed ≡ false) where
+  serves_on : (request : Request) (creation : ℕ) → LeavesNone names (served cfg names local slot request creation)
+  serves_on (Alive g) creation = if_near local names (alive_served cfg names slot g creation)
+      (cond_both (is_active g.name names) _ _ (LeavesNone names) (λ _. replies names (alive_reply g.high 1 0)) (λ _.
+      cond_both (is_full_for cfg.known_max g.name names) _ _ (LeavesNone names) (λ _. replies names (alive_reply g.high 2 0))
+      (λ _. registers_on cfg.known_max names slot g creation)))
+  serves_on (Port name) creation = λ ended. absurd cc
+  serves_on request.Names creation = λ ended. absurd cc
+  serves_on Dump creation = if_near local names (dump_served cfg names) (λ ended. absurd cc)
+  serves_on Kill creation = if_near local names (kill_served cfg names) (kills cfg names strict)
+  serves_on (Stop name) creation = if_near local names (stop_served cfg names name)
+      (cond_both (not cfg.relaxed) (closed names) (stops names (owner_of name names)) (LeavesNone names) (λ _. replies names [])
+      (λ _. stops_on names (owner_of name names)))
 
 -- it does not end where it ran before and nothing changes that
 runs_on : (s s' : State) → s.halted ≡ false → s'.halted ≡ s.halted → s'.halted ≡ true → s.names.active ≡ []
 runs_on s s' runs same ended = absurd (let both : false ≡ true = sym runs ∙ sym same ∙ ended in cc)
 
-told_on : (cfg : Configuration) (s : State) (slot : ℕ) (connection : Connection) (piece : List ℕ) (stage : Stage) (o : Outcome)
-    → cfg.relaxed ≡ false → s.halted ≡ false → Told cfg s slot connection piece stage o → o.state.halted ≡ true → s.names.active ≡ []
-told_on cfg s slot connection piece (Waiting received) o strict runs told ended =
-    let all : List ℕ = received ++ piece in
-    sight_on cfg s.names connection.local slot all (first_request all) told.served strict told.told
-    (ap (λ (b : Bool). halted_by told.served.fate b) (sym runs) ∙ sym (ap (λ (x : Outcome). x.state.halted) told.outcome) ∙ ended)
-told_on cfg s slot connection piece Holding o strict runs told ended =
-    runs_on s o.state runs (ap (λ (x : Outcome). x.state.halted) told) ended
-told_on cfg s slot connection piece Done o strict runs told ended = runs_on s o.state runs (ap (λ (x : Outcome). x.state.halted) told) ended
+module _ (cfg : Configuration) (s : State) (slot : ℕ) (connection : Connection) (piece : List ℕ) where
+  told_on : (stage : Stage) (o : Outcome) → cfg.relaxed ≡ false → s.halted ≡ false → Told cfg s slot connection piece stage o
+      → o.state.halted ≡ true → s.names.active ≡ []
+  told_on (Waiting received) o strict runs told ended =
+      let all : List ℕ = received ++ piece in
+      told_by cfg s.names connection.local slot (LeavesNone s.names) all (first_request all) told.served (λ more ended. absurd cc)
+      (replies s.names []) (λ request creation _. serves_on cfg s.names connection.local slot strict request creation) told.told
+      (ap (λ (b : Bool). halted_by told.served.fate b) (sym runs) ∙ sym (ap (λ (x : Outcome). x.state.halted) told.outcome) ∙ ended)
+  told_on Holding o strict runs told ended = runs_on s o.state runs (ap (λ (x : Outcome). x.state.halted) told) ended
+  told_on Done o strict runs told ended = runs_on s o.state runs (ap (λ (x : Outcome). x.state.halted) told) ended
 
 late_on : (s : State) (slot : ℕ) (connection : Connection) (stage : Stage) → (late_at s slot connection stage).state.halted ≡ s.halted
 late_on s slot connection (Waiting received) = refl
@@ -127,8 +111,7 @@ pub ends_leave_no_name : EndsLeaveNoName
 ends_leave_no_name cfg s s' (Connected local slot) strict step ended =
     runs_on s s' step.runs (ap (λ (x : State). x.halted) step.moves.after) ended
 ends_leave_no_name cfg s s' (Piece slot piece reply fate) strict step ended =
-    told_on cfg s slot step.moves.connection piece step.moves.connection.stage
-    (record { reply = reply; fate = fate; state = s' }) strict step.runs step.moves.told ended
+    told_on cfg s slot step.moves.connection piece step.moves.connection.stage (said reply fate s') strict step.runs step.moves.told ended
 ends_leave_no_name cfg s s' (Closed slot) strict step ended = runs_on s s' step.runs (ap (λ (x : State). x.halted) step.moves.after) ended
 ends_leave_no_name cfg s s' (Faulted slot) strict step ended = runs_on s s' step.runs (ap (λ (x : State). x.halted) step.moves.after) ended
 ends_leave_no_name cfg s s' (Late slot fate) strict step ended =

@@ -16,10 +16,11 @@ use Rattle.portmap_core.specs.declared.connection.Phase.TheVariants as phase
 use Rattle.portmap_core.specs.Config.{Configuration}
 use Rattle.portmap_core.specs.Connections.{ConnectionMap, at_stage, stopped_in}
 use Rattle.portmap_core.specs.State.{State, empty_state, phase_at, phase_of_connection, phase_of_stage, state_of}
-use Rattle.portmap_core.specs.Serving.{Served, ServesBody, ToldAt, awaits, served, stops}
-use Rattle.portmap_core.specs.Step.{Opens, Outcome, Says, Settles, Told, halted_by, outcome_of, settled}
+use Rattle.portmap_core.specs.Serving.{Served, ToldAt, awaits, served, stops}
+use Rattle.portmap_core.specs.Step.{Opens, Outcome, Says, Settles, halted_by, outcome_of, settled}
 use Rattle.portmap_core.specs.Run.{Hears, waiting_state}
 use Rattle.portmap_core.proofs.Slots.{get_inserted, insert_again, stopped_alike}
+use Rattle.portmap_core.proofs.Waits.{WaitsAt, said, settles_at}
 
 -- the connection that has sent these bytes
 abbrev sender : List ℕ → Connection
@@ -31,10 +32,6 @@ alike : (slot : ℕ) (a b : List ℕ) (o : Served)
 alike slot a b o = ap (λ (m : ConnectionMap). let x : Outcome =
     record { reply = o.reply; fate = o.fate; state = state_of o.names m (halted_by o.fate false) } in x)
     (stopped_alike map.empty o.stopped slot (sender a) (sender b) (record { local = true; stage = o.stage }))
-
-settles_alike : (cfg : Configuration) (slot : ℕ) (a b received : List ℕ) (o : Outcome)
-    → Settles cfg (waiting_state slot a) slot (sender a) received o → Settles cfg (waiting_state slot b) slot (sender b) received o
-settles_alike cfg slot a b received o t = record { served = t.served; told = t.told; outcome = t.outcome ∙ alike slot a b t.served }
 
 -- ---- the phase tells whether more is awaited
 
@@ -52,19 +49,6 @@ stops_settled : (names : rows.Names) (owner : Option ℕ) → IsSettled (stops n
 stops_settled names None = tt
 stops_settled names (Some owner) = tt
 
-served_settled : (cfg : Configuration) (names : rows.Names) (local : Bool) (slot : ℕ) (request : Request) (creation : ℕ)
-    → IsSettled (served cfg names local slot request creation).stage
-served_settled cfg names local slot Names creation = tt
-served_settled cfg names local slot (Port name) creation = tt
-served_settled cfg names local slot Dump creation = either_settled (not local) _ _ tt tt
-served_settled cfg names local slot Kill creation =
-    either_settled (not local) _ _ tt (either_settled (length names.active == 0 || cfg.relaxed) _ _ tt tt)
-served_settled cfg names local slot (Stop name) creation =
-    either_settled (not local) _ _ tt (either_settled (not cfg.relaxed) _ _ tt (stops_settled names (rows.owner_of name names)))
-served_settled cfg names local slot (Alive g) creation =
-    either_settled (not local) _ _ tt (either_settled (rows.is_active g.name names) _ _ tt
-    (either_settled (rows.is_full_for cfg.known_max g.name names) _ _ tt tt))
-
 -- more is awaited exactly where the next stage is waiting, with all that was received
 abbrev AwaitsBy : List ℕ → Sight → Stage → Type 0
 AwaitsBy received More stage = stage ≡ Waiting received
@@ -75,18 +59,26 @@ AwaitsBy received (Whole body) stage = IsSettled stage
 by_served : (x y : Served) → x ≡ y → IsSettled y.stage → IsSettled x.stage
 by_served x y e h = subst (λ (o : Served). IsSettled o.stage) (sym e) h
 
-body_settled : (cfg : Configuration) (names : rows.Names) (local : Bool) (slot : ℕ) (body : List ℕ) (o : Served)
-    → ServesBody cfg names local slot body o → IsSettled o.stage
-body_settled cfg names local slot body o (inl p) =
-    by_served o _ p.serves.is (served_settled cfg names local slot p.request p.serves.creation)
-body_settled cfg names local slot body o (inr p) = by_served o _ p.is tt
+module _ (cfg : Configuration) (names : rows.Names) (local : Bool) (slot : ℕ) where
+  served_settled : (request : Request) (creation : ℕ) → IsSettled (served cfg names local slot request creation).stage
+  served_settled Names creation = tt
+  served_settled (Port name) creation = tt
+  served_settled Dump creation = either_settled (not local) _ _ tt tt
+  served_settled Kill creation =
+      either_settled (not local) _ _ tt (either_settled (length names.active == 0 || cfg.relaxed) _ _ tt tt)
+  served_settled (Stop name) creation =
+      either_settled (not local) _ _ tt (either_settled (not cfg.relaxed) _ _ tt (stops_settled names (rows.owner_of name names)))
+  served_settled (Alive g) creation =
+      either_settled (not local) _ _ tt (either_settled (rows.is_active g.name names) _ _ tt
+      (either_settled (rows.is_full_for cfg.known_max g.name names) _ _ tt tt))
 
-told_awaits : (cfg : Configuration) (names : rows.Names) (local : Bool) (slot : ℕ) (received : List ℕ) (sight : Sight) (o : Served)
-    → ToldAt cfg names local slot received sight o → AwaitsBy received sight o.stage
-told_awaits cfg names local slot received More o t = ap (λ (x : Served). x.stage) t
-told_awaits cfg names local slot received Zero o t = by_served o _ t tt
-told_awaits cfg names local slot received (TooLarge n) o t = by_served o _ t tt
-told_awaits cfg names local slot received (Whole body) o t = body_settled cfg names local slot body o t
+  told_awaits : (received : List ℕ) (sight : Sight) (o : Served) → ToldAt cfg names local slot received sight o
+      → AwaitsBy received sight o.stage
+  told_awaits received More o t = ap (λ (x : Served). x.stage) t
+  told_awaits received Zero o t = by_served o _ t tt
+  told_awaits received (TooLarge n) o t = by_served o _ t tt
+  told_awaits received (Whole body) o (inl p) = by_served o _ p.serves.is (served_settled p.request p.serves.creation)
+  told_awaits received (Whole body) o (inr p) = by_served o _ p.is tt
 
 settled_waits_not : (stage : Stage) → IsSettled stage → phase_of_stage stage ≡ phase.Waiting → ⊥
 settled_waits_not (Waiting received) h e = h
@@ -102,21 +94,6 @@ awaits_more received (Whole body) stage h e = absurd (settled_waits_not stage h 
 
 -- ---- for callers of the machine
 
--- the connection that is found is the one that was opened
-found : (slot : ℕ) (read : List ℕ) (connection : Connection) → map.get (waiting_state slot read).connections slot ≡ Some connection
-    → connection ≡ sender read
-found slot read connection e = let both : Some connection ≡ Some (sender read) = sym e ∙ get_inserted map.empty slot (sender read) in cc
-
--- what is said of a piece, as it is told of all that was read
-settles_of : (cfg : Configuration) (s s' : State) (slot : ℕ) (read piece reply : List ℕ) (fate : Fate) → s ≡ waiting_state slot read
-    → Says cfg s slot piece reply fate s'
-    → Settles cfg (waiting_state slot read) slot (sender read) (read ++ piece) (record { reply = reply; fate = fate; state = s' })
-settles_of cfg s s' slot read piece reply fate e said =
-    let says : Says cfg (waiting_state slot read) slot piece reply fate s' =
-    subst (λ (x : State). Says cfg x slot piece reply fate s') e said in
-    subst (λ (x : Connection). Told cfg (waiting_state slot read) slot x piece x.stage (record { reply = reply; fate = fate; state = s' }))
-    (found slot read says.connection says.is_open) says.told
-
 -- a machine that has ample room opens its first connection
 opens : (cfg : Configuration) (slot : ℕ) → 1 ≤ cfg.conn_max → Opens cfg empty_state true slot (waiting_state slot [])
 opens cfg slot some = record {
@@ -125,77 +102,86 @@ opens cfg slot some = record {
   after = refl;
 }
 
--- all that was read, in one piece, is told so
-hears : (cfg : Configuration) (slot : ℕ) (before read reply : List ℕ) (fate : Fate) (s' : State) → 1 ≤ cfg.conn_max
-    → Settles cfg (waiting_state slot before) slot (sender before) read (record { reply = reply; fate = fate; state = s' })
-    → Hears cfg read reply fate
-hears cfg slot before read reply fate s' some told =
-    let says : Says cfg (waiting_state slot []) slot read reply fate s' = record {
-      connection = sender [];
-      is_open = get_inserted map.empty slot (sender []);
-      told = settles_alike cfg slot before [] read _ told;
-    } in
-    record {
-      slot = slot;
-      after = s';
-      run =
-          (waiting_state slot [], record { runs = refl; moves = opens cfg slot some }, (s', record { runs = refl; moves = says }, refl));
-    }
-
 -- the connection that waits is open
 pub is_not_missed : (s : State) (slot : ℕ) (read : List ℕ) → s ≡ waiting_state slot read → map.get s.connections slot ≡ None → ⊥
 is_not_missed s slot read e none = let both : Some (sender read) ≡ None =
     sym (ap (λ (x : State). map.get x.connections slot) e ∙ get_inserted map.empty slot (sender read)) ∙ none in cc
 
--- the phase that it is left in
-phase_left : (s s' : State) (slot : ℕ) (connection : Connection) (o : Served) → s' ≡ settled s slot connection o
-    → phase_at s' slot ≡ Some (phase_of_stage o.stage)
-phase_left s s' slot connection o e = ap (λ (x : State). phase_at x slot) e
-    ∙ ap phase_of_connection (get_inserted (stopped_in o.stopped s.connections) slot (at_stage connection o.stage))
+-- what is said of a piece to one that has sent others
+module _ {cfg : Configuration} {s s' : State} {slot : ℕ} {piece reply : List ℕ} {fate : Fate} (read : List ℕ)
+    (is : s ≡ waiting_state slot read) (says : Says cfg s slot piece reply fate s') where
+  -- it is told of all that was read
+  settles : Settles cfg (waiting_state slot read) slot (sender read) (read ++ piece) (said reply fate s')
+  settles =
+      let waits : WaitsAt = record {
+        config = cfg;
+        state = waiting_state slot read;
+        slot = slot;
+        connection = sender read;
+        received = read;
+        is_open = get_inserted map.empty slot (sender read);
+        stage = refl;
+      } in
+      settles_at waits (subst (λ (x : State). Says cfg x slot piece reply fate s') is says)
 
--- of all that was read
-told_phase : (cfg : Configuration) (s s' : State) (slot : ℕ) (read piece reply : List ℕ) (fate : Fate) → s ≡ waiting_state slot read
-    → Says cfg s slot piece reply fate s'
-    → (o : Served) × ToldAt cfg rows.no_names true slot (read ++ piece) (first_request (read ++ piece)) o
-    × (s' ≡ settled (waiting_state slot read) slot (sender read) o) × (phase_at s' slot ≡ Some (phase_of_stage o.stage))
-told_phase cfg s s' slot read piece reply fate e says =
-    let t = settles_of cfg s s' slot read piece reply fate e says in
-    let after = ap (λ (x : Outcome). x.state) t.outcome in
-    (t.served, t.told, after, phase_left (waiting_state slot read) s' slot (sender read) t.served after)
+  after : s' ≡ settled (waiting_state slot read) slot (sender read) settles.served
+  after = ap (λ (x : Outcome). x.state) settles.outcome
 
--- the connection stays open
-pub stays_open : (cfg : Configuration) (s s' : State) (slot : ℕ) (read piece reply : List ℕ) (fate : Fate) → s ≡ waiting_state slot read
-    → Says cfg s slot piece reply fate s' → phase_at s' slot ≡ None → ⊥
-stays_open cfg s s' slot read piece reply fate e says none =
-    let t = told_phase cfg s s' slot read piece reply fate e says in
-    let both : Some (phase_of_stage t.0.stage) ≡ None = sym t.3 ∙ none in
-    cc
+  phase_left : phase_at s' slot ≡ Some (phase_of_stage settles.served.stage)
+  phase_left =
+      let o = settles.served in
+      ap (λ (x : State). phase_at x slot) after ∙ ap phase_of_connection
+      (get_inserted (stopped_in o.stopped (waiting_state slot read).connections) slot (at_stage (sender read) o.stage))
 
--- where it still waits, all that was read is no whole request
-pub says_more : (cfg : Configuration) (s s' : State) (slot : ℕ) (read piece reply : List ℕ) (fate : Fate) → s ≡ waiting_state slot read
-    → Says cfg s slot piece reply fate s' → phase_at s' slot ≡ Some phase.Waiting
-    → (first_request (read ++ piece) ≡ More) × (s' ≡ waiting_state slot (read ++ piece))
-says_more cfg s s' slot read piece reply fate e says waiting =
-    let all : List ℕ = read ++ piece in
-    let t = told_phase cfg s s' slot read piece reply fate e says in
-    let both : Some (phase_of_stage t.0.stage) ≡ Some phase.Waiting = sym t.3 ∙ waiting in
-    let waits : phase_of_stage t.0.stage ≡ phase.Waiting = cc in
-    let more : first_request all ≡ More = awaits_more all (first_request all) t.0.stage
-    (told_awaits cfg rows.no_names true slot all (first_request all) t.0 t.1) waits in
-    let is : t.0 ≡ awaits rows.no_names all = subst (λ (x : Sight). ToldAt cfg rows.no_names true slot all x t.0) more t.1 in (
-      more,
-      t.2 ∙ ap (settled (waiting_state slot read) slot (sender read)) is
-          ∙ ap (λ (m : ConnectionMap). state_of rows.no_names m false) (insert_again map.empty slot (sender read) (sender all)),
-    )
+  -- in one piece too
+  hears : 1 ≤ cfg.conn_max → Hears cfg (read ++ piece) reply fate
+  hears some =
+      let heard : Says cfg (waiting_state slot []) slot (read ++ piece) reply fate s' = record {
+        connection = sender [];
+        is_open = get_inserted map.empty slot (sender []);
+        told = record {
+          served = settles.served;
+          told = settles.told;
+          outcome = settles.outcome ∙ alike slot read [] settles.served;
+        };
+      } in
+      record {
+        slot = slot;
+        after = s';
+        run = (
+          waiting_state slot [],
+          record { runs = refl; moves = opens cfg slot some },
+          (s', record { runs = refl; moves = heard }, refl),
+        );
+      }
 
--- where it waits no more, all that was read is told so
-pub says_all : (cfg : Configuration) (s s' : State) (slot : ℕ) (read piece reply : List ℕ) (fate : Fate) → 1 ≤ cfg.conn_max
-    → s ≡ waiting_state slot read → Says cfg s slot piece reply fate s' → phase_at s' slot ≢ Some phase.Waiting
-    → (first_request (read ++ piece) ≢ More) × Hears cfg (read ++ piece) reply fate
-says_all cfg s s' slot read piece reply fate some e says other =
-    let all : List ℕ = read ++ piece in
-    let t = told_phase cfg s s' slot read piece reply fate e says in
-    let decided : first_request all ≢ More = λ more.
-    let is : t.0 ≡ awaits rows.no_names all = subst (λ (x : Sight). ToldAt cfg rows.no_names true slot all x t.0) more t.1 in
-    other (t.3 ∙ ap (λ (o : Served). Some (phase_of_stage o.stage)) is) in
-    (decided, hears cfg slot read all reply fate s' some (settles_of cfg s s' slot read piece reply fate e says))
+  -- the connection stays open
+  pub stays_open : phase_at s' slot ≡ None → ⊥
+  stays_open none = let both : Some (phase_of_stage settles.served.stage) ≡ None = sym phase_left ∙ none in cc
+
+  -- where all that was read is no whole request
+  awaits_it : first_request (read ++ piece) ≡ More → settles.served ≡ awaits rows.no_names (read ++ piece)
+  awaits_it more = subst (λ (x : Sight). ToldAt cfg rows.no_names true slot (read ++ piece) x settles.served) more settles.told
+
+  -- so it is where the connection still waits
+  pub says_more : phase_at s' slot ≡ Some phase.Waiting
+      → (first_request (read ++ piece) ≡ More) × (s' ≡ waiting_state slot (read ++ piece))
+  says_more waiting =
+      let all : List ℕ = read ++ piece in
+      let o = settles.served in
+      let both : Some (phase_of_stage o.stage) ≡ Some phase.Waiting = sym phase_left ∙ waiting in
+      let waits : phase_of_stage o.stage ≡ phase.Waiting = cc in
+      let more = awaits_more all (first_request all) o.stage
+      (told_awaits cfg rows.no_names true slot all (first_request all) o settles.told) waits in (
+        more,
+        after ∙ ap (settled (waiting_state slot read) slot (sender read)) (awaits_it more)
+            ∙ ap (λ (m : ConnectionMap). state_of rows.no_names m false) (insert_again map.empty slot (sender read) (sender all)),
+      )
+
+  -- where it waits no more, all that was read is told so
+  pub says_all : 1 ≤ cfg.conn_max → phase_at s' slot ≢ Some phase.Waiting
+      → (first_request (read ++ piece) ≢ More) × Hears cfg (read ++ piece) reply fate
+  says_all some other = (
+    λ more. other (phase_left ∙ ap (λ (o : Served). Some (phase_of_stage o.stage)) (awaits_it more)),
+    hears some,
+  )

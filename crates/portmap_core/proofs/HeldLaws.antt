@@ -43,12 +43,12 @@ above q [] t j d lt = absurd (omega arith)
 above q (h ∷ held) t zero d lt = let first : T (is_lt (nat_cmp q h.slot)) = (parts _ _ t).0 in grind (arith, nat_tests, first)
 above q (h ∷ held) t (suc j) d lt = above q held (parts _ _ t).1 j d (omega arith)
 
-pub rising : (held : List HeldValue) (i j : ℕ) (d e : HeldValue) → SlotsRise (entries_held held) → i < j → j < length held
-    → (get_or held i d).slot < (get_or held j e).slot
-rising [] i j d e t lt within = absurd (omega arith)
-rising (x ∷ held) i zero d e t lt within = absurd (omega arith)
-rising (x ∷ held) zero (suc j) d e t lt within = above x.slot held (parts _ _ t).0 j e (omega arith)
-rising (x ∷ held) (suc i) (suc j) d e t lt within = rising held i j d e (parts _ _ t).1 (omega arith) (omega arith)
+pub rising : (held : List HeldValue) (i j : ℕ) (d : HeldValue) → SlotsRise (entries_held held) → i < j → j < length held
+    → (get_or held i d).slot < (get_or held j d).slot
+rising [] i j d t lt within = absurd (omega arith)
+rising (x ∷ held) i zero d t lt within = absurd (omega arith)
+rising (x ∷ held) zero (suc j) d t lt within = above x.slot held (parts _ _ t).0 j d (omega arith)
+rising (x ∷ held) (suc i) (suc j) d t lt within = rising held i j d (parts _ _ t).1 (omega arith) (omega arith)
 
 pub rise_by : (held : List HeldValue) → AllAdjacentBelow (λ x y. x.slot < y.slot) held (length held) → SlotsRise (entries_held held)
 rise_by [] each = tt
@@ -107,7 +107,7 @@ searched slot held (Err i) rise within is =
     let parted = is (λ a b d le lt. grind (
       arith,
       nat_tests,
-      rising held a b d d rise,
+      rising held a b d rise,
       λ (e : a ≡ b). ap (λ (k : ℕ). (get_or held k d).slot) e,
     )) in
     let lower = λ (k : ℕ) (d : HeldValue) (le : 0 ≤ k) (lt : k < i). ranked _ slot _ (sym (parted.0 k d le lt)) in

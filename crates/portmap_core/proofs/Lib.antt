@@ -1,3 +1,4 @@
+pub mod Waits
 pub mod Determined
 pub mod Fronts
 pub mod Runs

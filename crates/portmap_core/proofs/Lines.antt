@@ -8,20 +8,18 @@ use Rattle.std.proofs.lemmas.List.{append-nil, map_more}
 use Rattle.std.proofs.lemmas.List.Concat.{flat_map-cons}
 use Rattle.std.proofs.lemmas.Option.{slice_get_cases, slice_get_within, get_or_from_slice_get}
 
-pub one_more : {X L : Type 0} (line : L → List ℕ) (f : X → L) (xs : List X) (i : ℕ) (x : X) → slice_get xs i ≡ Some x
-    → flat_map line (map f (take (i + 1) xs)) ≡ flat_map line (map f (take i xs)) ++ line (f x)
-one_more line f xs i x e =
-    let lt : i < length xs = slice_get_within xs i x e in
-    let here : get_or xs i x ≡ x = get_or_from_slice_get xs i x x e in
-    rw (map_more f xs i x lt, here, flat_map-append line, flat_map-cons line (f x) [], append-nil (line (f x))) refl
+module _ {X L : Type 0} (line : L → List ℕ) (f : X → L) (xs : List X) (i : ℕ) (x : X) (here : slice_get xs i ≡ Some x) where
+  one_more : flat_map line (map f (take (i + 1) xs)) ≡ flat_map line (map f (take i xs)) ++ line (f x)
+  one_more =
+      let lt : i < length xs = slice_get_within xs i x here in
+      let is : get_or xs i x ≡ x = get_or_from_slice_get xs i x x here in
+      rw (map_more f xs i x lt, is, flat_map-append line, flat_map-cons line (f x) [], append-nil (line (f x))) refl
 
-pub with_line : {X L : Type 0} (line : L → List ℕ) (f : X → L) (xs : List X) (i : ℕ) (x : X) (base reply after : List ℕ)
-    → slice_get xs i ≡ Some x
-    → reply ≡ base ++ flat_map line (map f (take i xs)) → after ≡ reply ++ line (f x)
-    → after ≡ base ++ flat_map line (map f (take (i + 1) xs))
-with_line line f xs i x base reply after e so_far is =
-    is ∙ ap (λ (r : List ℕ). r ++ line (f x)) so_far ∙ append_assoc base (flat_map line (map f (take i xs))) (line (f x))
-    ∙ ap (λ (r : List ℕ). base ++ r) (sym (one_more line f xs i x e))
+  pub with_line : {reply after : List ℕ} (base : List ℕ) → reply ≡ base ++ flat_map line (map f (take i xs)) → after ≡ reply ++ line (f x)
+      → after ≡ base ++ flat_map line (map f (take (i + 1) xs))
+  with_line base so_far is =
+      is ∙ ap (λ (r : List ℕ). r ++ line (f x)) so_far ∙ append_assoc base (flat_map line (map f (take i xs))) (line (f x))
+      ∙ ap (λ (r : List ℕ). base ++ r) (sym one_more)
 
 -- where a list goes on, something stands
 pub not_past : {X : Type 0} (xs : List X) (i : ℕ) → i < length xs → slice_get xs i ≡ None → ⊥

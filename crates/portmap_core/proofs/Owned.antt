@@ -6,7 +6,7 @@ use Rattle.std.specs.FinMap as map
 use Rattle.std.specs.Cmp.{nat_cmp_total}
 use Rattle.std.specs.Ordering.{nat_cmp}
 use Rattle.std.proofs.lemmas.Bool.{cases_eq}
-use Rattle.portmap_feed.specs.Stream.{Sight, More, Zero, TooLarge, Whole, first_request}
+use Rattle.portmap_feed.specs.Stream.{first_request}
 use Rattle.portmap_wire.specs.Node.{Node}
 use Rattle.portmap_wire.specs.declared.request.Request.{Request}
 use Rattle.portmap_wire.specs.declared.request.Request.TheVariants.{Alive, Port, Dump, Kill, Stop}
@@ -21,27 +21,15 @@ use Rattle.portmap_core.specs.declared.connection.Stage.TheVariants.{Waiting, Ho
 use Rattle.portmap_core.specs.Config.{Configuration}
 use Rattle.portmap_core.specs.Connections.{ConnectionMap, at_stage, ended, ended_at}
 use Rattle.portmap_core.specs.State.{State, empty_state, state_of}
-use Rattle.portmap_core.specs.Serving.{MayTake, Served, ServesBody, ToldAt, closed, if_local, registers, served, stops}
+use Rattle.portmap_core.specs.Serving.{MayTake, Served, ToldAt, closed, if_local, registers, served, stops}
 use Rattle.portmap_core.specs.Entry.{Closed, Connected, Faulted, Late, Piece}
 use Rattle.portmap_core.specs.Step.{Leaves, Opens, Outcome, Told, late_at, settled}
 use Rattle.portmap_core.specs.Owned.{IsStageFor, IsSlotFor, IsOwned}
 use Rattle.portmap_core.specs.Laws.{StepsKeepOwned}
+use Rattle.portmap_core.proofs.Waits.{WaitsAt, said, told_by}
 use Rattle.portmap_core.proofs.Slots.{cut_other, cut_same, ended_open, put_other, put_same}
 
 -- ---- one slot
-
-slot_as : (a b : Bool) (o p : Option Connection) → a ≡ b → o ≡ p → IsSlotFor b p → IsSlotFor a o
-slot_as a b o p e f h = subst (λ (x : Bool). IsSlotFor x o) (sym e) (subst (λ (y : Option Connection). IsSlotFor b y) (sym f) h)
-
--- a connection that waits or is done owns no name
-free_at : (b : Bool) (o : Option Connection) (connection : Connection) → o ≡ Some connection → IsSlotFor b o
-    → IsStageFor b connection.local connection.stage
-free_at b o connection e h = subst (λ (y : Option Connection). IsSlotFor b y) e h
-
-pub waiting_free : (b : Bool) (o : Option Connection) (connection : Connection) (received : List ℕ) → o ≡ Some connection
-    → connection.stage ≡ Waiting received → IsSlotFor b o → b ≡ false
-waiting_free b o connection received e stage h =
-    (subst (λ (x : Stage). IsStageFor b connection.local x) stage (free_at b o connection e h)).0
 
 none_free : (b : Bool) (o : Option Connection) → o ≡ None → IsSlotFor b o → b ≡ false
 none_free b o e h = subst (λ (y : Option Connection). IsSlotFor b y) e h
@@ -51,38 +39,34 @@ none_free b o e h = subst (λ (y : Option Connection). IsSlotFor b y) e h
 abbrev AreSlotsFor : rows.Names → ConnectionMap → Type 0
 AreSlotsFor names connections = (q : ℕ) → IsSlotFor (owns_name q names) (map.get connections q)
 
--- a connection is written, and no other slot gets or loses a name
-slots_with : (names after : rows.Names) (connections : ConnectionMap) (slot : ℕ) (connection : Connection)
-    → ((q : ℕ) → q ≢ slot → owns_name q after ≡ owns_name q names) → AreSlotsFor names connections
-    → IsSlotFor (owns_name slot after) (Some connection)
-    → AreSlotsFor after (map.insert connections slot connection)
-slots_with names after connections slot connection others all here = λ q. elim (cases_eq q slot) [
-  | inl e ↦ slot_as (owns_name q after) (owns_name slot after) (map.get (map.insert connections slot connection) q) (Some connection)
-      (ap (λ (x : ℕ). owns_name x after) e) (put_same connections slot q connection e) here
-  | inr ne ↦ slot_as (owns_name q after) (owns_name q names) (map.get (map.insert connections slot connection) q) (map.get connections q)
-      (others q ne) (put_other connections slot q connection ne) (all q)
-]
+-- no slot but one gets or loses a name
+record Turns (names after : rows.Names) (connections : ConnectionMap) (slot : ℕ) : Type 0 where
+  others : (q : ℕ) → q ≢ slot → owns_name q after ≡ owns_name q names
+  all : AreSlotsFor names connections
 
--- a connection goes
-slots_without : (names after : rows.Names) (connections : ConnectionMap) (slot : ℕ)
-    → ((q : ℕ) → q ≢ slot → owns_name q after ≡ owns_name q names) → AreSlotsFor names connections → owns_name slot after ≡ false
-    → AreSlotsFor after (map.remove connections slot)
-slots_without names after connections slot others all here = λ q. elim (cases_eq q slot) [
-  | inl e ↦ slot_as (owns_name q after) false (map.get (map.remove connections slot) q) None (ap (λ (x : ℕ). owns_name x after) e ∙ here)
-      (cut_same connections slot q e) refl
-  | inr ne ↦ slot_as (owns_name q after) (owns_name q names) (map.get (map.remove connections slot) q) (map.get connections q)
-      (others q ne) (cut_other connections slot q ne) (all q)
-]
+module _ {names after : rows.Names} {connections : ConnectionMap} {slot : ℕ} (turns : Turns names after connections slot) where
+  -- and no other slot is written
+  slots_by : (m : ConnectionMap) → ((q : ℕ) → q ≢ slot → map.get m q ≡ map.get connections q)
+      → IsSlotFor (owns_name slot after) (map.get m slot) → AreSlotsFor after m
+  slots_by m same here = λ q. elim (cases_eq q slot) [
+    | inl e ↦ subst (λ (x : ℕ). IsSlotFor (owns_name x after) (map.get m x)) (sym e) here
+    | inr ne ↦ rw (turns.others q ne, same q ne) (turns.all q)
+  ]
 
--- a name is taken from a connection that was not open
-slots_closed : (names after : rows.Names) (connections : ConnectionMap) (slot : ℕ)
-    → ((q : ℕ) → q ≢ slot → owns_name q after ≡ owns_name q names) → AreSlotsFor names connections → owns_name slot after ≡ false
-    → map.get connections slot ≡ None → AreSlotsFor after connections
-slots_closed names after connections slot others all here closed = λ q. elim (cases_eq q slot) [
-  | inl e ↦ slot_as (owns_name q after) false (map.get connections q) None (ap (λ (x : ℕ). owns_name x after) e ∙ here)
-      (ap (λ (x : ℕ). map.get connections x) e ∙ closed) refl
-  | inr ne ↦ slot_as (owns_name q after) (owns_name q names) (map.get connections q) (map.get connections q) (others q ne) refl (all q)
-]
+  -- a connection is written
+  slots_with : (connection : Connection) → IsSlotFor (owns_name slot after) (Some connection)
+      → AreSlotsFor after (map.insert connections slot connection)
+  slots_with connection here = slots_by (map.insert connections slot connection) (λ q ne. put_other connections slot q connection ne)
+      (rw (put_same connections slot slot connection refl) here)
+
+  -- a connection goes
+  slots_without : owns_name slot after ≡ false → AreSlotsFor after (map.remove connections slot)
+  slots_without here =
+      slots_by (map.remove connections slot) (λ q ne. cut_other connections slot q ne) (rw (cut_same connections slot slot refl) here)
+
+-- no name changes
+stays : (names : rows.Names) {connections : ConnectionMap} (slot : ℕ) → AreSlotsFor names connections → Turns names names connections slot
+stays names slot all = record { others = λ q ne. refl; all = all }
 
 -- ---- how many are open
 
@@ -110,7 +94,7 @@ pub owned_empty : (cfg : Configuration) → IsOwned cfg empty_state
 owned_empty cfg = record {
   names = kept_empty cfg.known_max;
   few = omega (arith, map.len-empty nat_cmp Connection);
-  slots = λ q. slot_as (owns_name q empty_state.names) false (map.get empty_state.connections q) None refl (map.get-empty nat_cmp q) refl;
+  slots = λ q. rw (map.get-empty nat_cmp q) refl;
 }
 
 -- ---- what a request does
@@ -119,31 +103,47 @@ not_false : (b : Bool) → not b ≡ false → b ≡ true
 not_false true e = refl
 not_false false e = absurd cc
 
--- a name's registration ends, wherever its connection is
-ended_slots : (names : rows.Names) (connections : ConnectionMap) (owner : ℕ) (o : Option Connection) → map.get connections owner ≡ o
-    → AreSlotsFor names connections → owns_name owner (retired_of owner names) ≡ false
-    → ((q : ℕ) → q ≢ owner → owns_name q (retired_of owner names) ≡ owns_name q names)
-    → AreSlotsFor (retired_of owner names) (ended_at owner o connections)
-ended_slots names connections owner None e all free others = slots_closed names (retired_of owner names) connections owner others all free e
-ended_slots names connections owner (Some connection) e all free others =
-    slots_with names (retired_of owner names) connections owner (at_stage connection Done) others all free
+-- a name's registration ends
+module _ {cfg : Configuration} {s : State} (owned : IsOwned cfg s) (owner : ℕ) where
+  gone : owns_name owner (retired_of owner s.names) ≡ false
+  gone = owns_retired owner s.names owned.names.owners
+
+  retires : Turns s.names (retired_of owner s.names) s.connections owner
+  retires = record { others = λ q ne. owns_retired_other q owner s.names owned.names.owners ne; all = owned.slots }
+
+  kept_names : AreKept cfg.known_max (retired_of owner s.names)
+  kept_names = kept_retired cfg.known_max s.names (position (λ row. row.slot == owner) s.names.active) owned.names
+
+  -- wherever its connection is
+  ended_slots : (o : Option Connection) → map.get s.connections owner ≡ o
+      → AreSlotsFor (retired_of owner s.names) (ended_at owner o s.connections)
+  ended_slots None e = slots_by retires s.connections (λ q ne. refl) (rw e gone)
+  ended_slots (Some connection) e = slots_with retires (at_stage connection Done) gone
 
 pub ended_len : (connections : ConnectionMap) (owner : ℕ) (o : Option Connection) → map.get connections owner ≡ o
     → map.len (ended_at owner o connections) ≡ map.len connections
 ended_len connections owner None e = refl
 ended_len connections owner (Some connection) e = len_open connections owner (at_stage connection Done) connection e
 
--- a connection that is open, and owns no name
-module _ (cfg : Configuration) (s : State) (slot : ℕ) (connection : Connection) (owned : IsOwned cfg s)
-    (here : map.get s.connections slot ≡ Some connection) (free : owns_name slot s.names ≡ false) where
+waiting_free : (b : Bool) (o : Option Connection) (w : WaitsAt) → o ≡ Some w.connection → IsSlotFor b o → b ≡ false
+waiting_free b o w here h =
+    (subst (λ (x : Stage). IsStageFor b w.connection.local x) w.stage (subst (λ (y : Option Connection). IsSlotFor b y) here h)).0
+
+-- a connection that waits
+module _ (w : WaitsAt) (owned : IsOwned w.config w.state) where
+  open w use {config as cfg, state as s, slot, connection}
+
+  -- it owns no name
+  free : owns_name slot s.names ≡ false
+  free = waiting_free (owns_name slot s.names) (map.get s.connections slot) w w.is_open (owned.slots slot)
+
   -- it stays without one, at any other stage that fits
   stays_owned : (stage : Stage) (halted : Bool) → IsStageFor false connection.local stage
       → IsOwned cfg (state_of s.names (map.insert s.connections slot (at_stage connection stage)) halted)
   stays_owned stage halted fits = record {
     names = owned.names;
-    few = rw (len_open s.connections slot (at_stage connection stage) connection here) owned.few;
-    slots = slots_with s.names s.names s.connections slot (at_stage connection stage) (λ q other. refl) owned.slots
-        (slot_as (owns_name slot s.names) false (Some (at_stage connection stage)) (Some (at_stage connection stage)) free refl fits);
+    few = rw (len_open s.connections slot (at_stage connection stage) connection w.is_open) owned.few;
+    slots = slots_with (stays s.names slot owned.slots) (at_stage connection stage) (rw free fits);
   }
 
   closed_owned : IsOwned cfg (settled s slot connection (closed s.names))
@@ -152,33 +152,34 @@ module _ (cfg : Configuration) (s : State) (slot : ℕ) (connection : Connection
   register_owned : (g : Node) (creation : ℕ) → connection.local ≡ true → is_active g.name s.names ≡ false
       → is_full_for cfg.known_max g.name s.names ≡ false → MayTake s.names (Alive g) creation
       → IsOwned cfg (settled s slot connection (registers cfg.known_max s.names slot g creation))
-  register_owned g creation local inactive fits legal = let room = with_room cfg.known_max g.name s.names in record {
-    names = kept_registers cfg.known_max creation slot s.names g owned.names inactive fits free legal;
-    few = rw (len_open s.connections slot (at_stage connection Holding) connection here) owned.few;
-    slots = slots_with s.names (registered g creation slot room) s.connections slot (at_stage connection Holding)
-        (λ q other. owns_registered_other q g creation slot room other ∙ owns_in_room cfg.known_max g.name q s.names) owned.slots
-        (owns_registered g creation slot room, local);
-  }
+  register_owned g creation local inactive fits legal =
+      let room = with_room cfg.known_max g.name s.names in
+      let turns : Turns s.names (registered g creation slot room) s.connections slot = record {
+        others = λ q ne. owns_registered_other q g creation slot room ne ∙ owns_in_room cfg.known_max g.name q s.names;
+        all = owned.slots;
+      } in
+      record {
+        names = kept_registers cfg.known_max creation slot s.names g owned.names inactive fits free legal;
+        few = rw (len_open s.connections slot (at_stage connection Holding) connection w.is_open) owned.few;
+        slots = slots_with turns (at_stage connection Holding) (owns_registered g creation slot room, local);
+      }
 
   stop_owned : (o : Option ℕ) → IsOwned cfg (settled s slot connection (stops s.names o))
   stop_owned None = closed_owned
   stop_owned (Some owner) =
-      let gone : owns_name owner (retired_of owner s.names) ≡ false = owns_retired owner s.names owned.names.owners in
-      let others = λ (q : ℕ) (ne : q ≢ owner). owns_retired_other q owner s.names owned.names.owners ne in
       let still : owns_name slot (retired_of owner s.names) ≡ false = elim (cases_eq slot owner) [
-        | inl same ↦ ap (λ (x : ℕ). owns_name x (retired_of owner s.names)) same ∙ gone
-        | inr ne ↦ others slot ne ∙ free
+        | inl same ↦ ap (λ (x : ℕ). owns_name x (retired_of owner s.names)) same ∙ gone owned owner
+        | inr ne ↦ (retires owned owner).others slot ne ∙ free
       ] in
-      let open_then = ended_open s.connections owner slot (map.get s.connections owner) connection refl here in
+      let ends = ended_slots owned owner (map.get s.connections owner) refl in
+      let open_then = ended_open s.connections owner slot (map.get s.connections owner) connection refl w.is_open in
       record {
-        names = kept_retired cfg.known_max s.names (position (λ row. row.slot == owner) s.names.active) owned.names;
+        names = kept_names owned owner;
         few = rw (
           len_open (ended owner s.connections) slot (at_stage connection Done) open_then.0 open_then.1,
           ended_len s.connections owner (map.get s.connections owner) refl,
         ) owned.few;
-        slots = slots_with (retired_of owner s.names) (retired_of owner s.names) (ended owner s.connections) slot
-            (at_stage connection Done) (λ q other. refl)
-            (ended_slots s.names s.connections owner (map.get s.connections owner) refl owned.slots gone others) still;
+        slots = slots_with (stays (retired_of owner s.names) slot ends) (at_stage connection Done) still;
       }
 
   -- what is told keeps it, where a connection that is to hold its name may take its creation
@@ -210,48 +211,39 @@ module _ (cfg : Configuration) (s : State) (slot : ℕ) (connection : Connection
 
   -- ---- what a piece does
 
-  by_served : (o p : Served) → o ≡ p → IsOwned cfg (settled s slot connection p) → IsOwned cfg (settled s slot connection o)
-  by_served o p e kept = subst (λ (x : Served). IsOwned cfg (settled s slot connection x)) (sym e) kept
-
-  body_owned : (body : List ℕ) (o : Served) → ServesBody cfg s.names connection.local slot body o
+  sight_owned : (received : List ℕ) (o : Served) → ToldAt cfg s.names connection.local slot received (first_request received) o
       → IsOwned cfg (settled s slot connection o)
-  body_owned body o (inl p) =
-      let serves = p.serves in
-      by_served o _ serves.is (served_owned p.request serves.creation (λ h. serves.legal (ap (λ (x : Served). x.stage) serves.is ∙ h)))
-  body_owned body o (inr p) = by_served o _ p.is (closed_owned)
-
-  sight_owned : (received : List ℕ) (sight : Sight) (o : Served) → first_request received ≡ sight
-      → ToldAt cfg s.names connection.local slot received sight o → IsOwned cfg (settled s slot connection o)
-  sight_owned received More o is told = by_served o _ told (stays_owned (Waiting received) s.halted (refl, is))
-  sight_owned received Zero o is told = by_served o _ told (closed_owned)
-  sight_owned received (TooLarge n) o is told = by_served o _ told (closed_owned)
-  sight_owned received (Whole body) o is told = body_owned body o told
+  sight_owned received o = told_by cfg s.names connection.local slot (λ x. IsOwned cfg (settled s slot connection x)) received
+      (first_request received) o (λ more. stays_owned (Waiting received) s.halted (refl, more)) closed_owned served_owned
 
 by_outcome : (cfg : Configuration) (o p : Outcome) → o ≡ p → IsOwned cfg p.state → IsOwned cfg o.state
 by_outcome cfg o p e owned = subst (λ (x : Outcome). IsOwned cfg x.state) (sym e) owned
 
--- a connection that waits owns no name
-waiting_owns_none : (cfg : Configuration) (s : State) (slot : ℕ) (connection : Connection) (received : List ℕ) → IsOwned cfg s
-    → map.get s.connections slot ≡ Some connection → connection.stage ≡ Waiting received → owns_name slot s.names ≡ false
-waiting_owns_none cfg s slot connection received owned here stage =
-    waiting_free (owns_name slot s.names) (map.get s.connections slot) connection received here stage (owned.slots slot)
+-- a connection that is open
+module _ {cfg : Configuration} {s : State} (owned : IsOwned cfg s) (slot : ℕ) {connection : Connection}
+    (here : map.get s.connections slot ≡ Some connection) where
+  abbrev waits : (received : List ℕ) → connection.stage ≡ Waiting received → WaitsAt
+  waits received stage = record {
+    config = cfg;
+    state = s;
+    slot = slot;
+    connection = connection;
+    received = received;
+    is_open = here;
+    stage = stage;
+  }
 
-told_owned : (cfg : Configuration) (s : State) (slot : ℕ) (connection : Connection) (piece : List ℕ) (stage : Stage) (o : Outcome)
-    → IsOwned cfg s → map.get s.connections slot ≡ Some connection → connection.stage ≡ stage → Told cfg s slot connection piece stage o
-    → IsOwned cfg o.state
-told_owned cfg s slot connection piece (Waiting received) o owned here stage told =
-    let all : List ℕ = received ++ piece in
-    by_outcome cfg o _ told.outcome (sight_owned cfg s slot connection owned here
-    (waiting_owns_none cfg s slot connection received owned here stage) all (first_request all) told.served refl told.told)
-told_owned cfg s slot connection piece Holding o owned here stage told = by_outcome cfg o _ told owned
-told_owned cfg s slot connection piece Done o owned here stage told = by_outcome cfg o _ told owned
+  told_owned : (piece : List ℕ) (stage : Stage) (o : Outcome) → connection.stage ≡ stage → Told cfg s slot connection piece stage o
+      → IsOwned cfg o.state
+  told_owned piece (Waiting received) o stage told =
+      by_outcome cfg o _ told.outcome (sight_owned (waits received stage) owned (received ++ piece) told.served told.told)
+  told_owned piece Holding o stage told = by_outcome cfg o _ told owned
+  told_owned piece Done o stage told = by_outcome cfg o _ told owned
 
-late_owned : (cfg : Configuration) (s : State) (slot : ℕ) (connection : Connection) (stage : Stage) → IsOwned cfg s
-    → map.get s.connections slot ≡ Some connection → connection.stage ≡ stage → IsOwned cfg (late_at s slot connection stage).state
-late_owned cfg s slot connection (Waiting received) owned here stage =
-    closed_owned cfg s slot connection owned here (waiting_owns_none cfg s slot connection received owned here stage)
-late_owned cfg s slot connection Holding owned here stage = owned
-late_owned cfg s slot connection Done owned here stage = owned
+  late_owned : (stage : Stage) → connection.stage ≡ stage → IsOwned cfg (late_at s slot connection stage).state
+  late_owned (Waiting received) stage = closed_owned (waits received stage) owned
+  late_owned Holding stage = owned
+  late_owned Done stage = owned
 
 -- ---- the other entries
 
@@ -265,7 +257,7 @@ open_owned cfg s s' local slot owned opens =
     subst (λ (x : State). IsOwned cfg x) (sym opens.after) (record {
       names = owned.names;
       few = omega arith;
-      slots = slots_with s.names s.names s.connections slot connection (λ q other. refl) owned.slots
+      slots = slots_with (stays s.names slot owned.slots) connection
           (none_free (owns_name slot s.names) (map.get s.connections slot) opens.free (owned.slots slot), refl);
     })
 
@@ -273,19 +265,16 @@ leave_owned : (cfg : Configuration) (s s' : State) (slot : ℕ) → IsOwned cfg 
 leave_owned cfg s s' slot owned leaves =
     let few : map.len s.connections ≤ cfg.conn_max = owned.few in
     subst (λ (x : State). IsOwned cfg x) (sym leaves.after) (record {
-      names = kept_retired cfg.known_max s.names (position (λ row. row.slot == slot) s.names.active) owned.names;
+      names = kept_names owned slot;
       few = omega (arith, len_less s.connections slot);
-      slots = slots_without s.names (retired_of slot s.names) s.connections slot
-          (λ q ne. owns_retired_other q slot s.names owned.names.owners ne) owned.slots (owns_retired slot s.names owned.names.owners);
+      slots = slots_without (retires owned slot) (gone owned slot);
     })
 
 pub steps_keep : StepsKeepOwned
 steps_keep cfg s s' (Connected local slot) owned step = open_owned cfg s s' local slot owned step.moves
 steps_keep cfg s s' (Piece slot piece reply fate) owned step =
-    told_owned cfg s slot step.moves.connection piece step.moves.connection.stage
-    (record { reply = reply; fate = fate; state = s' }) owned step.moves.is_open refl step.moves.told
+    told_owned owned slot step.moves.is_open piece step.moves.connection.stage (said reply fate s') refl step.moves.told
 steps_keep cfg s s' (Closed slot) owned step = leave_owned cfg s s' slot owned step.moves
 steps_keep cfg s s' (Faulted slot) owned step = leave_owned cfg s s' slot owned step.moves
 steps_keep cfg s s' (Late slot fate) owned step =
-    by_outcome cfg (record { reply = []; fate = fate; state = s' }) _ step.moves.told
-    (late_owned cfg s slot step.moves.connection step.moves.connection.stage owned step.moves.is_open refl)
+    by_outcome cfg (said [] fate s') _ step.moves.told (late_owned owned slot step.moves.is_open step.moves.connection.stage refl)

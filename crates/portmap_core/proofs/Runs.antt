@@ -6,7 +6,7 @@ use Rattle.std.proofs.Math.Seq.{take-append_seam}
 use Rattle.std.proofs.lemmas.Bool.{le-ltb, ne_eqb}
 use Rattle.portmap_feed.specs.Stream.{Sight, More, Zero, TooLarge, Whole, first_request, sight_behind}
 use Rattle.portmap_wire.specs.Node.{Node, fields, be2}
-use Rattle.portmap_wire.specs.Request.{body_of, IsRequest, IsMalformed}
+use Rattle.portmap_wire.specs.Request.{body_of, IsRequest}
 use Rattle.portmap_wire.specs.declared.request.TheConstants.{BODY_MOST}
 use Rattle.portmap_wire.specs.declared.request.Request.{Request}
 use Rattle.portmap_wire.specs.declared.request.Request.TheVariants.{Alive, Port, Dump, Kill, Stop}
@@ -20,26 +20,26 @@ use Rattle.portmap_core.specs.declared.connection.Stage.{Stage}
 use Rattle.portmap_core.specs.declared.connection.Stage.TheVariants.{Waiting, Holding, Done}
 use Rattle.portmap_core.specs.Config.{Configuration}
 use Rattle.portmap_core.specs.State.{State}
-use Rattle.portmap_core.specs.Serving.{Served, ServesBody, ToldAt}
+use Rattle.portmap_core.specs.Serving.{Served, ToldAt}
 use Rattle.portmap_core.specs.Entry.{Entry}
-use Rattle.portmap_core.specs.Step.{Outcome, Settles, Step, Told}
+use Rattle.portmap_core.specs.Step.{Outcome, Step}
 use Rattle.portmap_core.specs.Run.{Run}
 use Rattle.portmap_core.specs.Owned.{IsStageFor, IsSlotFor, IsOwned}
 use Rattle.portmap_core.specs.Laws.{IsBad, WrittenIsWhole, NamesBelong, NamesBelongToConnections, owners, MalformedChangesNoName}
 use Rattle.portmap_core.proofs.Owned.{owned_empty, steps_keep}
+use Rattle.portmap_core.proofs.Waits.{WaitsAt, settles_at}
 
 -- ---- names after a run
 
--- a run behind a run
-pub runs_join : (cfg : Configuration) (es fs : List Entry) (s mid s' : State) → Run cfg s es mid → Run cfg mid fs s'
-    → Run cfg s (es ++ fs) s'
-runs_join cfg [] fs s mid s' run more = subst (λ (x : State). Run cfg x fs s') run more
-runs_join cfg (e ∷ es) fs s mid s' run more = (run.0, run.1, runs_join cfg es fs run.0 mid s' run.2 more)
+module _ (cfg : Configuration) where
+  -- a run behind a run
+  pub runs_join : (es fs : List Entry) (s mid s' : State) → Run cfg s es mid → Run cfg mid fs s' → Run cfg s (es ++ fs) s'
+  runs_join [] fs s mid s' run more = subst (λ (x : State). Run cfg x fs s') run more
+  runs_join (e ∷ es) fs s mid s' run more = (run.0, run.1, runs_join es fs run.0 mid s' run.2 more)
 
--- one step behind it
-pub run_more : (cfg : Configuration) (es : List Entry) (e : Entry) (s mid s' : State) → Run cfg s es mid → Step cfg mid e s'
-    → Run cfg s (es ++ e ∷ []) s'
-run_more cfg es e s mid s' run step = runs_join cfg es (e ∷ []) s mid s' run (s', step, refl)
+  -- one step behind it
+  pub run_more : (es : List Entry) (e : Entry) (s mid s' : State) → Run cfg s es mid → Step cfg mid e s' → Run cfg s (es ++ e ∷ []) s'
+  run_more es e s mid s' run step = runs_join es (e ∷ []) s mid s' run (s', step, refl)
 
 pub run_owned : (cfg : Configuration) (es : List Entry) (s s' : State) → IsOwned cfg s → Run cfg s es s' → IsOwned cfg s'
 run_owned cfg [] s s' owned run = subst (λ (x : State). IsOwned cfg x) (sym run) owned
@@ -78,29 +78,30 @@ names_belong cfg es s is run = belongs cfg s (run_owned cfg es _ s (owned_empty 
 
 -- ---- names after a malformed request
 
-refused_names : (cfg : Configuration) (names : Names) (local : Bool) (slot : ℕ) (body : List ℕ) (o : Served) → IsMalformed body
-    → ServesBody cfg names local slot body o → o.names ≡ names
-refused_names cfg names local slot body o malformed (inl a) = absurd (malformed a.request a.spells)
-refused_names cfg names local slot body o malformed (inr r) = ap (λ (x : Served). x.names) r.is
-
-bad_names : (cfg : Configuration) (names : Names) (local : Bool) (slot : ℕ) (received : List ℕ) (sight : Sight) (o : Served) → IsBad sight
-    → ToldAt cfg names local slot received sight o → o.names ≡ names
-bad_names cfg names local slot received More o bad told = absurd bad
-bad_names cfg names local slot received Zero o bad told = ap (λ (x : Served). x.names) told
-bad_names cfg names local slot received (TooLarge n) o bad told = ap (λ (x : Served). x.names) told
-bad_names cfg names local slot received (Whole body) o bad told = refused_names cfg names local slot body o bad told
+module _ (cfg : Configuration) (names : Names) (local : Bool) (slot : ℕ) where
+  bad_names : (received : List ℕ) (sight : Sight) (o : Served) → IsBad sight → ToldAt cfg names local slot received sight o
+      → o.names ≡ names
+  bad_names received More o bad told = absurd bad
+  bad_names received Zero o bad told = ap (λ (x : Served). x.names) told
+  bad_names received (TooLarge n) o bad told = ap (λ (x : Served). x.names) told
+  bad_names received (Whole body) o bad (inl p) = absurd (bad p.request p.spells)
+  bad_names received (Whole body) o bad (inr p) = ap (λ (x : Served). x.names) p.is
 
 pub malformed_keeps : MalformedChangesNoName
 malformed_keeps cfg s s' slot connection received piece reply fate here stage bad says =
-    let both : Some says.connection ≡ Some connection = sym says.is_open ∙ here in
-    let one : says.connection ≡ connection = cc in
-    let o : Outcome = record { reply = reply; fate = fate; state = s' } in
-    let told : Told cfg s slot connection piece connection.stage o =
-    subst (λ (c : Connection). Told cfg s slot c piece c.stage o) one says.told in
-    let waited : Settles cfg s slot connection (received ++ piece) o =
-    subst (λ (x : Stage). Told cfg s slot connection piece x o) stage told in
-    ap (λ (x : Outcome). x.state.names) waited.outcome
-    ∙ bad_names cfg s.names connection.local slot (received ++ piece) (first_request (received ++ piece)) waited.served bad waited.told
+    let waits : WaitsAt = record {
+      config = cfg;
+      state = s;
+      slot = slot;
+      connection = connection;
+      received = received;
+      is_open = here;
+      stage = stage;
+    } in
+    let all : List ℕ = received ++ piece in
+    let settles = settles_at waits says in
+    ap (λ (x : Outcome). x.state.names) settles.outcome
+    ∙ bad_names cfg s.names connection.local slot all (first_request all) settles.served bad settles.told
 
 -- ---- a request that was written
 

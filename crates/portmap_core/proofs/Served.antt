@@ -44,35 +44,49 @@ is_free false false last free e = (refl, refl, let same : free ≡ last = cc in 
 
 -- ---- a request
 
--- it is told so whatever creation it would have
-pub all_alike : (cfg : Configuration) (names : Names) (local : Bool) (slot : ℕ) (request : Request) (wanted : Option ℕ) (o : Served)
-    → ((creation : ℕ) → o ≡ served cfg names local slot request creation) → (o.stage ≡ Holding → MayTake names request 0)
-    → IsAllTold (Serves cfg names local slot request) wanted o
-all_alike cfg names local slot request wanted o is legal = record {
-  told = record { creation = 0; legal = legal; is = is 0 };
-  only = λ other p e. p.is ∙ sym (is p.creation);
-}
+module _ (cfg : Configuration) (names : Names) (local : Bool) (slot : ℕ) where
+  -- it is told so whatever creation it would have
+  all_alike : {wanted : Option ℕ} (request : Request) (o : Served) → ((creation : ℕ) → o ≡ served cfg names local slot request creation)
+      → (o.stage ≡ Holding → MayTake names request 0) → IsAllTold (Serves cfg names local slot request) wanted o
+  all_alike request o is legal = record {
+    told = record { creation = 0; legal = legal; is = is 0 };
+    only = λ other p e. p.is ∙ sym (is p.creation);
+  }
 
-pub tells_alike : {E : Type 0} (asked : Asked) (local : Bool) (request : Request) (o : Served) (result : Result Response E)
-    → ((slot creation : ℕ) → o ≡ served asked.config asked.table.now.names local slot request creation)
-    → MayTake asked.table.now.names request 0
-    → IfOk result (λ told. Tells asked told o) → AnswersAll asked result (λ cfg names slot. Serves cfg names local slot request)
-tells_alike asked local request o result is legal =
-    let cfg = asked.config in
-    let names = asked.table.now.names in
-    IfOk-weaker result (λ told. Tells asked told o)
-    (λ told. (bytes : List ℕ) → TellsAll (λ slot. Serves cfg names local slot request) asked bytes told) (λ told h bytes. record {
-      all = λ slot. all_alike cfg names local slot request asked.wanted (served_by cfg names slot bytes told)
-          (λ creation. h.is slot bytes ∙ is slot creation) (λ _. legal);
-      may = h.may;
-      chosen = h.chosen;
-    })
+  -- so is the body that spells it
+  all_spelled : {wanted : Option ℕ} {o : Served} (body : List ℕ) (request : Request) → Spells body request
+      → IsAllTold (Serves cfg names local slot request) wanted o → IsAllTold (ServesBody cfg names local slot body) wanted o
+  all_spelled body request spells all = record {
+    told = inl (record { request = request; spells = spells; serves = all.told });
+    only = λ other p e. elim p [
+      | inl q ↦ all.only other (subst (λ (r : Request). Serves cfg names local slot r other)
+          (one_request body q.request request q.spells spells) q.serves) e
+      | inr q ↦ absurd (q.malformed request spells)
+    ];
+  }
 
--- where it is local, as one that is
-pub near : {E : Type 0} (asked : Asked) (request : Request) (result : Result Response E) → asked.local ≡ true
-    → AnswersAll asked result (λ cfg names slot. Serves cfg names true slot request)
-    → AnswersAll asked result (λ cfg names slot. Serves cfg names asked.local slot request)
-near asked request result e h = subst (λ (l : Bool). AnswersAll asked result (λ cfg names slot. Serves cfg names l slot request)) (sym e) h
+module _ {E : Type 0} (asked : Asked) where
+  pub tells_alike : (local : Bool) (request : Request) (o : Served) (result : Result Response E)
+      → ((slot creation : ℕ) → o ≡ served asked.config asked.table.now.names local slot request creation)
+      → MayTake asked.table.now.names request 0
+      → IfOk result (λ told. Tells asked told o) → AnswersAll asked result (λ cfg names slot. Serves cfg names local slot request)
+  tells_alike local request o result is legal =
+      let cfg = asked.config in
+      let names = asked.table.now.names in
+      IfOk-weaker result (λ told. Tells asked told o)
+      (λ told. (bytes : List ℕ) → TellsAll (λ slot. Serves cfg names local slot request) asked bytes told) (λ told h bytes. record {
+        all = λ slot. all_alike cfg names local slot request (served_by cfg names slot bytes told)
+            (λ creation. h.is slot bytes ∙ is slot creation) (λ _. legal);
+        may = h.may;
+        chosen = h.chosen;
+      })
+
+  -- where it is local, as one that is
+  pub near : (request : Request) (result : Result Response E) → asked.local ≡ true
+      → AnswersAll asked result (λ cfg names slot. Serves cfg names true slot request)
+      → AnswersAll asked result (λ cfg names slot. Serves cfg names asked.local slot request)
+  near request result e h =
+      subst (λ (l : Bool). AnswersAll asked result (λ cfg names slot. Serves cfg names l slot request)) (sym e) h
 
 -- a registration for which there is no room
 is_full : (taken full : Bool) (last : Option ℕ) → stands taken full last ≡ how.NoRoom → (taken ≡ false) × (full ≡ true)
@@ -80,84 +94,87 @@ is_full true full last e = absurd cc
 is_full false true last e = (refl, refl)
 is_full false false last e = absurd cc
 
-pub refused : (asked : Asked) (g : Node) (told : Response) → standing asked.config.known_max g.name asked.table.now.names ≡ how.NoRoom
-    → told.reply.items ≡ alive_reply g.high 2 0 → told.fate ≡ Close → told.phase ≡ phase.Done → told.change ≡ Nothing
-    → (bytes : List ℕ) → TellsAll (λ slot. Serves asked.config asked.table.now.names true slot (Alive g)) asked bytes told
-refused asked g told e text fate phase change bytes =
+-- what is told so
+pub record Refuses (asked : Asked) (g : Node) (told : Response) : Type 0 where
+  pub stands : standing asked.config.known_max g.name asked.table.now.names ≡ how.NoRoom
+  pub text : told.reply.items ≡ alive_reply g.high 2 0
+  pub fate : told.fate ≡ Close
+  pub phase : told.phase ≡ phase.Done
+  pub change : told.change ≡ Nothing
+
+pub refused : {asked : Asked} {g : Node} {told : Response} → Refuses asked g told → (bytes : List ℕ)
+    → TellsAll (λ slot. Serves asked.config asked.table.now.names true slot (Alive g)) asked bytes told
+refused {asked} {g} {told} r bytes =
     let cfg = asked.config in
     let names = asked.table.now.names in
-    let full = is_full (is_active g.name names) (is_full_for cfg.known_max g.name names) (remembered g.name names) e in
+    let full = is_full (is_active g.name names) (is_full_for cfg.known_max g.name names) (remembered g.name names) r.stands in
     let said : (slot : ℕ) → served_by cfg names slot bytes told ≡ replied names (alive_reply g.high 2 0) =
     λ slot i. record {
-      reply = text i;
-      fate = fate i;
-      stage = stage_held (phase i) bytes;
-      names = names_after cfg.known_max slot (change i) names;
-      stopped = stopped_by (change i);
+      reply = r.text i;
+      fate = r.fate i;
+      stage = stage_held (r.phase i) bytes;
+      names = names_after cfg.known_max slot (r.change i) names;
+      stopped = stopped_by (r.change i);
     } in
     let is : (slot creation : ℕ) → alive_served cfg names slot g creation ≡ replied names (alive_reply g.high 2 0) =
     λ slot creation. second (is_active g.name names) _ _ full.0
     ∙ ap (λ (b : Bool). cond b (replied names (alive_reply g.high 2 0)) (registers cfg.known_max names slot g creation)) full.1 in
     record {
-      all = λ slot. all_alike cfg names true slot (Alive g) asked.wanted (served_by cfg names slot bytes told)
+      all = λ slot. all_alike cfg names true slot (Alive g) (served_by cfg names slot bytes told)
           (λ creation. said slot ∙ sym (is slot creation))
           (λ h. let both : Done ≡ Holding = sym (ap (λ (o : Served). o.stage) (said slot)) ∙ h in absurd cc);
-      may = subst (MayChange cfg.known_max names) (sym change) tt;
-      chosen = subst (IsChosen cfg.port asked.table.now asked.wanted told.reply.items) (sym change) tt;
+      may = subst (MayChange cfg.known_max names) (sym r.change) tt;
+      chosen = subst (IsChosen cfg.port asked.table.now asked.wanted told.reply.items) (sym r.change) tt;
     }
 
 -- a registration of a name that is free
-pub may_register : (known_max : ℕ) (names : Names) (g : Node) (last : Option ℕ) (creation : ℕ)
-    → standing known_max g.name names ≡ how.Free last → IsLegalCreation g.high last creation → MayRegister known_max names g creation
-may_register known_max names g last creation stands legal =
-    let free = is_free (is_active g.name names) (is_full_for known_max g.name names) (remembered g.name names) last stands in
-    record { active = free.0; room = free.1; legal = subst (λ (o : Option ℕ). IsLegalCreation g.high o creation) free.2 legal }
+module _ (asked : Asked) (g : Node) {last : Option ℕ}
+    (stands : standing asked.config.known_max g.name asked.table.now.names ≡ how.Free last) where
+  frees : (is_active g.name asked.table.now.names ≡ false) × (is_full_for asked.config.known_max g.name asked.table.now.names ≡ false)
+      × (last ≡ remembered g.name asked.table.now.names)
+  frees = is_free (is_active g.name asked.table.now.names) (is_full_for asked.config.known_max g.name asked.table.now.names)
+      (remembered g.name asked.table.now.names) last stands
 
-pub is_chosen : (known_max : ℕ) (names : Names) (g : Node) (wanted last : Option ℕ) (counter creation : ℕ)
-    → standing known_max g.name names ≡ how.Free last → (wanted ≡ None → creation ≡ choice counter g.high last) → wanted ≡ None
-    → creation ≡ choice counter g.high (remembered g.name names)
-is_chosen known_max names g wanted last counter creation stands chosen none =
-    chosen none ∙ ap (choice counter g.high)
-    (is_free (is_active g.name names) (is_full_for known_max g.name names) (remembered g.name names) last stands).2
+  pub may_register : (creation : ℕ) → IsLegalCreation g.high last creation
+      → MayRegister asked.config.known_max asked.table.now.names g creation
+  may_register creation legal = record {
+    active = frees.0;
+    room = frees.1;
+    legal = subst (λ (o : Option ℕ). IsLegalCreation g.high o creation) frees.2 legal;
+  }
 
-pub all_free : (cfg : Configuration) (names : Names) (slot : ℕ) (g : Node) (wanted last : Option ℕ) (creation : ℕ) (reply : List ℕ)
-    → standing cfg.known_max g.name names ≡ how.Free last → MayRegister cfg.known_max names g creation
-    → ((other : ℕ) → wanted ≡ Some other → IsLegalCreation g.high last other → other ≡ creation) → reply ≡ alive_reply g.high 0 creation
-    → IsAllTold (Serves cfg names true slot (Alive g)) wanted
-    (record {
-      reply = reply;
-      fate = Stay;
-      stage = Holding;
-      names = registered g creation slot (with_room cfg.known_max g.name names);
-      stopped = None;
-    })
-all_free cfg names slot g wanted last creation reply stands may picked said =
-    let free = is_free (is_active g.name names) (is_full_for cfg.known_max g.name names) (remembered g.name names) last stands in
-    let to : (c : ℕ) → alive_served cfg names slot g c ≡ registers cfg.known_max names slot g c = λ c.
-    second (is_active g.name names) _ _ may.active ∙ second (is_full_for cfg.known_max g.name names) _ _ may.room in
-    rw said (record {
-      told = record { creation = creation; legal = λ h. may.legal; is = sym (to creation) };
-      only = λ other p e.
-          let told = p.is ∙ to p.creation in
-          let legal : IsLegalCreation g.high (remembered g.name names) p.creation = p.legal (ap (λ (w : Served). w.stage) told) in
-          let shown = sym e ∙ ap (λ (w : Served). shown_creation w.reply) told ∙ shows g.high p.creation legal.range in
-          told ∙ ap (registers cfg.known_max names slot g)
-          (picked p.creation shown (subst (λ (w : Option ℕ). IsLegalCreation g.high w p.creation) (sym free.2) legal));
-    })
+  pub is_chosen : (counter creation : ℕ) → (asked.wanted ≡ None → creation ≡ choice counter g.high last) → asked.wanted ≡ None
+      → creation ≡ choice counter g.high (remembered g.name asked.table.now.names)
+  is_chosen counter creation chosen none = chosen none ∙ ap (choice counter g.high) frees.2
+
+  pub all_free : (slot creation : ℕ) (reply : List ℕ) → IsLegalCreation g.high last creation
+      → ((other : ℕ) → asked.wanted ≡ Some other → IsLegalCreation g.high last other → other ≡ creation)
+      → reply ≡ alive_reply g.high 0 creation
+      → IsAllTold (Serves asked.config asked.table.now.names true slot (Alive g)) asked.wanted
+      (record {
+        reply = reply;
+        fate = Stay;
+        stage = Holding;
+        names = registered g creation slot (with_room asked.config.known_max g.name asked.table.now.names);
+        stopped = None;
+      })
+  all_free slot creation reply legal picked said =
+      let cfg = asked.config in
+      let names = asked.table.now.names in
+      let may = may_register creation legal in
+      let to : (c : ℕ) → alive_served cfg names slot g c ≡ registers cfg.known_max names slot g c = λ c.
+      second (is_active g.name names) _ _ may.active ∙ second (is_full_for cfg.known_max g.name names) _ _ may.room in
+      rw said (record {
+        told = record { creation = creation; legal = λ h. may.legal; is = sym (to creation) };
+        only = λ other p e.
+            let told = p.is ∙ to p.creation in
+            let legal : IsLegalCreation g.high (remembered g.name names) p.creation = p.legal (ap (λ (w : Served). w.stage) told) in
+            let shown = sym e ∙ ap (λ (w : Served). shown_creation w.reply) told ∙ shows g.high p.creation legal.range in
+            told ∙ ap (registers cfg.known_max names slot g)
+            (picked p.creation shown (subst (λ (w : Option ℕ). IsLegalCreation g.high w p.creation) (sym frees.2) legal));
+      })
 
 -- ---- a body
-
-pub all_spelled : (cfg : Configuration) (names : Names) (local : Bool) (slot : ℕ) (body : List ℕ) (request : Request) (wanted : Option ℕ)
-    (o : Served) → Spells body request → IsAllTold (Serves cfg names local slot request) wanted o
-    → IsAllTold (ServesBody cfg names local slot body) wanted o
-all_spelled cfg names local slot body request wanted o spells all = record {
-  told = inl (record { request = request; spells = spells; serves = all.told });
-  only = λ other p e. elim p [
-    | inl q ↦ all.only other (subst (λ (r : Request). Serves cfg names local slot r other)
-        (one_request body q.request request q.spells spells) q.serves) e
-    | inr q ↦ absurd (q.malformed request spells)
-  ];
-}
 
 pub tells_spelled : {E : Type 0} (asked : Asked) (body : List ℕ) (request : Request) (result : Result Response E) → Spells body request
     → AnswersAll asked result (λ cfg names slot. Serves cfg names asked.local slot request)
@@ -168,8 +185,7 @@ tells_spelled asked body request result spells =
     IfOk-weaker result (λ told. (bytes : List ℕ) → TellsAll (λ slot. Serves cfg names asked.local slot request) asked bytes told)
     (λ told. (bytes : List ℕ) → TellsAll (λ slot. ServesBody cfg names asked.local slot body) asked bytes told)
     (λ told h bytes. record {
-      all = λ slot.
-          all_spelled cfg names asked.local slot body request asked.wanted (served_by cfg names slot bytes told) spells ((h bytes).all slot);
+      all = λ slot. all_spelled cfg names asked.local slot body request spells ((h bytes).all slot);
       may = (h bytes).may;
       chosen = (h bytes).chosen;
     })
@@ -192,28 +208,30 @@ tells_whole asked received body (Whole whole) result is =
     (λ told h. subst (λ (b : List ℕ). TellsAll (λ slot. ServesBody cfg names asked.local slot b) asked received told) one (h received))
 
 -- what a feed keeps of it tells as much
-told_kept : (cfg : Configuration) (names : Names) (local : Bool) (slot : ℕ) (feed all : List ℕ) (sight : Sight) (o : Served)
-    → (sight ≡ More → feed ≡ all) → ToldAt cfg names local slot feed sight o → ToldAt cfg names local slot all sight o
-told_kept cfg names local slot feed all More o same p = p ∙ ap (awaits names) (same refl)
-told_kept cfg names local slot feed all Zero o same p = p
-told_kept cfg names local slot feed all (TooLarge n) o same p = p
-told_kept cfg names local slot feed all (Whole body) o same p = p
+module _ (cfg : Configuration) (names : Names) (local : Bool) (slot : ℕ) (feed all : List ℕ) where
+  told_kept : (sight : Sight) (o : Served) → (sight ≡ More → feed ≡ all) → ToldAt cfg names local slot feed sight o
+      → ToldAt cfg names local slot all sight o
+  told_kept More o same p = p ∙ ap (awaits names) (same refl)
+  told_kept Zero o same p = p
+  told_kept (TooLarge n) o same p = p
+  told_kept (Whole body) o same p = p
 
-pub told_all : (cfg : Configuration) (names : Names) (local : Bool) (slot : ℕ) (feed all : List ℕ) (o : Served)
-    → first_request feed ≡ first_request all → (first_request all ≡ More → feed ≡ all)
-    → ToldAt cfg names local slot feed (first_request feed) o → ToldAt cfg names local slot all (first_request all) o
-told_all cfg names local slot feed all o sight same p =
-    told_kept cfg names local slot feed all (first_request all) o same (subst (λ (x : Sight). ToldAt cfg names local slot feed x o) sight p)
+  pub told_all : (o : Served) → first_request feed ≡ first_request all → (first_request all ≡ More → feed ≡ all)
+      → ToldAt cfg names local slot feed (first_request feed) o → ToldAt cfg names local slot all (first_request all) o
+  told_all o sight same p =
+      told_kept (first_request all) o same (subst (λ (x : Sight). ToldAt cfg names local slot feed x o) sight p)
 
-pub all_kept : (cfg : Configuration) (names : Names) (near local : Bool) (slot : ℕ) (feed all : List ℕ) (wanted : Option ℕ) (o : Served)
-    → near ≡ local → feed ≡ kept all → IsAllTold (ToldAt cfg names near slot feed (first_request feed)) wanted o
-    → IsAllTold (ToldAt cfg names local slot all (first_request all)) wanted o
-all_kept cfg names near local slot feed all wanted o alike is told =
-    let sight : first_request feed ≡ first_request all = ap first_request is ∙ first_request-kept all in
-    let same = λ (more : first_request all ≡ More). is ∙ kept_more all more in
-    let here = subst (λ (sight : Sight). IsAllTold (ToldAt cfg names local slot feed sight) wanted o) sight
-    (subst (λ (l : Bool). IsAllTold (ToldAt cfg names l slot feed (first_request feed)) wanted o) alike told) in
-    record {
-      told = told_kept cfg names local slot feed all (first_request all) o same here.told;
-      only = λ other p e. here.only other (told_kept cfg names local slot all feed (first_request all) other (λ more. sym (same more)) p) e;
-    }
+module _ (cfg : Configuration) (names : Names) {near local : Bool} (alike : near ≡ local) (slot : ℕ) where
+  pub all_kept : {wanted : Option ℕ} {o : Served} (feed all : List ℕ) → feed ≡ kept all
+      → IsAllTold (ToldAt cfg names near slot feed (first_request feed)) wanted o
+      → IsAllTold (ToldAt cfg names local slot all (first_request all)) wanted o
+  all_kept {wanted} {o} feed all is told =
+      let sight : first_request feed ≡ first_request all = ap first_request is ∙ first_request-kept all in
+      let same = λ (more : first_request all ≡ More). is ∙ kept_more all more in
+      let here = subst (λ (sight : Sight). IsAllTold (ToldAt cfg names local slot feed sight) wanted o) sight
+      (subst (λ (l : Bool). IsAllTold (ToldAt cfg names l slot feed (first_request feed)) wanted o) alike told) in
+      record {
+        told = told_kept cfg names local slot feed all (first_request all) o same here.told;
+        only = λ other p e.
+            here.only other (told_kept cfg names local slot all feed (first_request all) other (λ more. sym (same more)) p) e;
+      }

@@ -5,7 +5,7 @@ use Rattle.std.specs.Prelude.{codes, find, is_some, not, position, remove, slice
 use Rattle.std.specs.Cmp.Lexicographic.{same_text}
 use Rattle.std.proofs.lemmas.Bool.{cases_Bool, cond_both}
 use Rattle.std.proofs.lemmas.Option.{same_Some}
-use Rattle.portmap_feed.specs.Stream.{Sight, More, Zero, TooLarge, Whole, first_request}
+use Rattle.portmap_feed.specs.Stream.{first_request}
 use Rattle.portmap_wire.specs.Node.{Node}
 use Rattle.portmap_wire.specs.declared.request.Request.{Request}
 use Rattle.portmap_wire.specs.declared.request.Request.TheVariants.{Alive, Port, Dump, Kill, Stop}
@@ -24,10 +24,11 @@ use Rattle.portmap_core.specs.declared.connection.Stage.TheVariants.{Waiting, Ho
 use Rattle.portmap_core.specs.Config.{Configuration}
 use Rattle.portmap_core.specs.State.{State}
 use Rattle.portmap_core.specs.Entry.{Closed, Connected, Entry, Faulted, Late, Piece}
-use Rattle.portmap_core.specs.Serving.{MayTake, Served, ServesBody, ToldAt, alive_served, closed, dump_served, halts, if_local, kill_served}
+use Rattle.portmap_core.specs.Serving.{MayTake, Served, alive_served, closed, dump_served, halts, if_local, kill_served}
 use Rattle.portmap_core.specs.Serving.{replied, served, stop_served, stops}
 use Rattle.portmap_core.specs.Step.{Outcome, Step, Told, late_at}
 use Rattle.portmap_core.specs.Laws.{TakenCreationsAreNew}
+use Rattle.portmap_core.proofs.Waits.{said, told_by}
 
 -- each name that becomes active between the two has another creation than was remembered for it
 abbrev TakesNew : Names → Names → Type 0
@@ -95,59 +96,43 @@ stops_new : (P : Type 0) (names : Names) (owner : Option ℕ) → TakesBy P name
 stops_new P names None = λ _. stays names
 stops_new P names (Some owner) = λ _. retires names owner
 
-serves_new : (cfg : Configuration) (names : Names) (local : Bool) (slot : ℕ) (request : Request) (creation : ℕ)
-    → TakesBy (MayTake names request creation) names (served cfg names local slot request creation)
-serves_new cfg names local slot (Alive g) creation =
-    let P : Type 0 = MayTake names (Alive g) creation in
-    if_near P local names (alive_served cfg names slot g creation)
-    (cond_both (is_active g.name names) _ _ (TakesBy P names) (λ _ _. stays names) (λ _.
-    cond_both (is_full_for cfg.known_max g.name names) _ _ (TakesBy P names) (λ _ _. stays names)
-    (λ _ legal. takes cfg.known_max names slot g creation (legal refl))))
-serves_new cfg names local slot (Port name) creation = λ _. stays names
-serves_new cfg names local slot request.Names creation = λ _. stays names
-serves_new cfg names local slot Dump creation = if_near (MayTake names Dump creation) local names (dump_served cfg names) (λ _. stays names)
-serves_new cfg names local slot Kill creation =
-    let P : Type 0 = MayTake names Kill creation in
-    if_near P local names (kill_served cfg names)
-    (cond_both (length names.active == 0 || cfg.relaxed) (halts names) (replied names (codes "NO")) (TakesBy P names)
-    (λ _ _. stays names) (λ _ _. stays names))
-serves_new cfg names local slot (Stop name) creation =
-    let P : Type 0 = MayTake names (Stop name) creation in
-    if_near P local names (stop_served cfg names name)
-    (cond_both (not cfg.relaxed) (closed names) (stops names (owner_of name names)) (TakesBy P names) (λ _ _. stays names)
-    (λ _. stops_new P names (owner_of name names)))
-
-by_served : (names : Names) (o p : Served) → o ≡ p → TakesNew names p.names → TakesNew names o.names
-by_served names o p e h = subst (λ (x : Served). TakesNew names x.names) (sym e) h
-
-body_new : (cfg : Configuration) (names : Names) (local : Bool) (slot : ℕ) (body : List ℕ) (o : Served)
-    → ServesBody cfg names local slot body o → TakesNew names o.names
-body_new cfg names local slot body o (inl p) =
-    let serves = p.serves in
-    by_served names o _ serves.is (serves_new cfg names local slot p.request serves.creation
-    (λ h. serves.legal (ap (λ (x : Served). x.stage) serves.is ∙ h)))
-body_new cfg names local slot body o (inr p) = by_served names o _ p.is (stays names)
-
-sight_new : (cfg : Configuration) (names : Names) (local : Bool) (slot : ℕ) (received : List ℕ) (sight : Sight) (o : Served)
-    → ToldAt cfg names local slot received sight o → TakesNew names o.names
-sight_new cfg names local slot received More o told = by_served names o _ told (stays names)
-sight_new cfg names local slot received Zero o told = by_served names o _ told (stays names)
-sight_new cfg names local slot received (TooLarge n) o told = by_served names o _ told (stays names)
-sight_new cfg names local slot received (Whole body) o told = body_new cfg names local slot body o told
+module _ (cfg : Configuration) (names : Names) (local : Bool) (slot : ℕ) where
+  serves_new : (request : Request) (creation : ℕ)
+      → TakesBy (MayTake names request creation) names (served cfg names local slot request creation)
+  serves_new (Alive g) creation =
+      let P : Type 0 = MayTake names (Alive g) creation in
+      if_near P local names (alive_served cfg names slot g creation)
+      (cond_both (is_active g.name names) _ _ (TakesBy P names) (λ _ _. stays names) (λ _.
+      cond_both (is_full_for cfg.known_max g.name names) _ _ (TakesBy P names) (λ _ _. stays names)
+      (λ _ legal. takes cfg.known_max names slot g creation (legal refl))))
+  serves_new (Port name) creation = λ _. stays names
+  serves_new request.Names creation = λ _. stays names
+  serves_new Dump creation = if_near (MayTake names Dump creation) local names (dump_served cfg names) (λ _. stays names)
+  serves_new Kill creation =
+      let P : Type 0 = MayTake names Kill creation in
+      if_near P local names (kill_served cfg names)
+      (cond_both (length names.active == 0 || cfg.relaxed) (halts names) (replied names (codes "NO")) (TakesBy P names)
+      (λ _ _. stays names) (λ _ _. stays names))
+  serves_new (Stop name) creation =
+      let P : Type 0 = MayTake names (Stop name) creation in
+      if_near P local names (stop_served cfg names name)
+      (cond_both (not cfg.relaxed) (closed names) (stops names (owner_of name names)) (TakesBy P names) (λ _ _. stays names)
+      (λ _. stops_new P names (owner_of name names)))
 
 -- ---- every step
 
 by_names : (names a b : Names) → a ≡ b → TakesNew names b → TakesNew names a
 by_names names a b e h = subst (λ (x : Names). TakesNew names x) (sym e) h
 
-told_new : (cfg : Configuration) (s : State) (slot : ℕ) (connection : Connection) (piece : List ℕ) (stage : Stage) (o : Outcome)
-    → Told cfg s slot connection piece stage o → TakesNew s.names o.state.names
-told_new cfg s slot connection piece (Waiting received) o told =
-    let all : List ℕ = received ++ piece in
-    by_names s.names _ _ (ap (λ (x : Outcome). x.state.names) told.outcome)
-    (sight_new cfg s.names connection.local slot all (first_request all) told.served told.told)
-told_new cfg s slot connection piece Holding o told = by_names s.names _ _ (ap (λ (x : Outcome). x.state.names) told) (stays s.names)
-told_new cfg s slot connection piece Done o told = by_names s.names _ _ (ap (λ (x : Outcome). x.state.names) told) (stays s.names)
+module _ (cfg : Configuration) (s : State) (slot : ℕ) (connection : Connection) (piece : List ℕ) where
+  told_new : (stage : Stage) (o : Outcome) → Told cfg s slot connection piece stage o → TakesNew s.names o.state.names
+  told_new (Waiting received) o told =
+      let all : List ℕ = received ++ piece in
+      by_names s.names _ _ (ap (λ (x : Outcome). x.state.names) told.outcome)
+      (told_by cfg s.names connection.local slot (λ o. TakesNew s.names o.names) all (first_request all) told.served
+      (λ more. stays s.names) (stays s.names) (serves_new cfg s.names connection.local slot) told.told)
+  told_new Holding o told = by_names s.names _ _ (ap (λ (x : Outcome). x.state.names) told) (stays s.names)
+  told_new Done o told = by_names s.names _ _ (ap (λ (x : Outcome). x.state.names) told) (stays s.names)
 
 late_new : (s : State) (slot : ℕ) (connection : Connection) (stage : Stage) → TakesNew s.names (late_at s slot connection stage).state.names
 late_new s slot connection (Waiting received) = stays s.names
@@ -157,8 +142,7 @@ late_new s slot connection Done = stays s.names
 step_new : (cfg : Configuration) (s s' : State) (e : Entry) → Step cfg s e s' → TakesNew s.names s'.names
 step_new cfg s s' (Connected local slot) step = by_names s.names _ _ (ap (λ (x : State). x.names) step.moves.after) (stays s.names)
 step_new cfg s s' (Piece slot piece reply fate) step =
-    told_new cfg s slot step.moves.connection piece step.moves.connection.stage
-    (record { reply = reply; fate = fate; state = s' }) step.moves.told
+    told_new cfg s slot step.moves.connection piece step.moves.connection.stage (said reply fate s') step.moves.told
 step_new cfg s s' (Closed slot) step = by_names s.names _ _ (ap (λ (x : State). x.names) step.moves.after) (retires s.names slot)
 step_new cfg s s' (Faulted slot) step = by_names s.names _ _ (ap (λ (x : State). x.names) step.moves.after) (retires s.names slot)
 step_new cfg s s' (Late slot fate) step =

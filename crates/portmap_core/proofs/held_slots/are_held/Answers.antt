@@ -15,5 +15,5 @@ pub returns-else-is_sorted_by : goal.returns-else-is_sorted_by
 returns-else-is_sorted_by c =
     let sorted = c.if-is_sorted_by.ensures.cases (λ x y. ltb x.slot y.slot) (answers_always _ _ _ (λ f a r g called. search rules)) in
     let far = λ (are : AreHeld c.args.held.now).
-    rising c.args.held.now sorted.0 (sorted.0 + 1) any_held any_held are.rise (omega arith) sorted.1 in
+    rising c.args.held.now sorted.0 (sorted.0 + 1) any_held are.rise (omega arith) sorted.1 in
     (λ t. absurd cc, λ are. absurd (omega (arith, far are, ltb-false _ _ (sym (sorted.2 any_held)))))

@@ -1,4 +1,4 @@
-use Rattle.portmap_core.proofs.Shown.{active_names_are_taken, new_names_want_room}
+use Rattle.portmap_core.proofs.LocalPeers.{active_names_are_taken, new_names_want_room}
 use Rattle.portmap_core.proofs.laws.refused_names_are_told_why.Goals as goal
 
 pub returns : goal.returns

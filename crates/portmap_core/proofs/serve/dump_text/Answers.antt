@@ -11,7 +11,7 @@ use Rattle.portmap_core.proofs.serve.dump_text.Goals as goal
 pub loop-i-preserved : goal.loop-i-preserved
 loop-i-preserved c =
     with_line dump_line active_line c.args.table.now.names.active c.loop-i.i c.in-Some.row.now
-    (be4 c.args.port) c.loop-i.reply c.in_ok-reply-2.reply (sym c.in-Some.ensures) c.loop-i.invariant
+    (sym c.in-Some.ensures) (be4 c.args.port) c.loop-i.invariant
     (c.in_ok-reply-2.ensures ∙ ap (λ (g : Node).
     c.loop-i.reply ++ dump_line (record { name = g.name; port = g.port; slot = Some c.in-Some.row.now.slot })) c.reg.view_is)
 
@@ -24,5 +24,5 @@ unreachable-requires-in_default-retired_at c =
 pub loop-k-preserved : goal.loop-k-preserved
 loop-k-preserved c =
     with_line dump_line retired_line c.args.table.now.names.retired c.loop-k.k (retired_name c.in-Some-retired_at.old)
-    (dump_reply c.args.port (list_map active_line c.args.table.now.names.active)) c.loop-k.reply c.in_ok-reply-3.reply
-    (sym c.in-Some-retired_at.ensures) c.loop-k.invariant c.in_ok-reply-3.ensures
+    (sym c.in-Some-retired_at.ensures) (dump_reply c.args.port (list_map active_line c.args.table.now.names.active)) c.loop-k.invariant
+    c.in_ok-reply-3.ensures

@@ -9,5 +9,5 @@ use Rattle.portmap_core.proofs.serve.names_text.Goals as goal
 pub loop-i-preserved : goal.loop-i-preserved
 loop-i-preserved c =
     with_line names_line names_line_of c.args.table.now.names.active c.loop-i.i c.in-Some.row.now
-    (be4 c.args.port) c.loop-i.reply c.in_ok-reply-2.reply (sym c.in-Some.ensures) c.loop-i.invariant
+    (sym c.in-Some.ensures) (be4 c.args.port) c.loop-i.invariant
     (c.in_ok-reply-2.ensures ∙ ap (λ (g : Node). c.loop-i.reply ++ names_line (record { name = g.name; port = g.port })) c.reg.view_is)

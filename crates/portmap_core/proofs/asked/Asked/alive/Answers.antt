@@ -1,8 +1,9 @@
 use Rattle.std.proofs.Common.{◌≡◌, sym, ap, ◌∙◌}
 use Rattle.portmap_wire.specs.Node.{Node}
+use Rattle.portmap_table.specs.Creation.{IsLegalCreation}
 use Rattle.portmap_table.specs.Rows.{standing}
 use Rattle.portmap_table.specs.declared.standing.Standing.TheVariants.{Free, NoRoom}
-use Rattle.portmap_core.proofs.Served.{all_free, is_chosen, may_register, refused}
+use Rattle.portmap_core.proofs.Served.{Refuses, all_free, is_chosen, may_register, refused}
 use Rattle.portmap_core.proofs.asked.Asked.alive.Goals as goal
 
 pub returns-in-NoRoom : goal.returns-in-NoRoom
@@ -12,8 +13,14 @@ returns-in-NoRoom c =
     ap (λ (g : Node). standing asked.config.known_max g.name asked.table.now.names) (sym c.reg.view_is) ∙ sym c.standing.ensures
     ∙ c.in-NoRoom.is in
     let said = c.replied-in-NoRoom.ensures in
-    refused asked c.args.reg c.replied-in-NoRoom.result stands
-    (said.text ∙ rw (← c.reg.view_is) c.in_ok-write_alive-in-NoRoom.ensures) said.fate said.phase said.change
+    let refuses : Refuses asked c.args.reg c.replied-in-NoRoom.result = record {
+      stands = stands;
+      text = said.text ∙ rw (← c.reg.view_is) c.in_ok-write_alive-in-NoRoom.ensures;
+      fate = said.fate;
+      phase = said.phase;
+      change = said.change;
+    } in
+    refused refuses
 
 pub returns : goal.returns
 returns c =
@@ -23,11 +30,11 @@ returns c =
     let last = c.in-Free.last in
     let stands : standing asked.config.known_max c.args.reg.name names ≡ Free last =
     ap (λ (g : Node). standing asked.config.known_max g.name names) (sym c.reg.view_is) ∙ sym c.standing.ensures ∙ c.in-Free.is in
-    let may = may_register asked.config.known_max names c.args.reg last made.result stands (rw (← c.reg.view_is) made.ensures.legal) in
+    let legal : IsLegalCreation c.args.reg.high last made.result = rw (← c.reg.view_is) made.ensures.legal in
     λ bytes. record {
-      all = λ slot. all_free asked.config names slot c.args.reg asked.wanted last made.result c.in_ok-write_alive.field-0.items stands may
+      all = λ slot. all_free asked c.args.reg stands slot made.result c.in_ok-write_alive.field-0.items legal
           (rw (← c.reg.view_is) made.ensures.wanted) (rw (← c.reg.view_is) c.in_ok-write_alive.ensures);
-      may = may;
-      chosen = is_chosen asked.config.known_max names c.args.reg asked.wanted last asked.table.now.counter made.result stands
+      may = may_register asked c.args.reg stands made.result legal;
+      chosen = is_chosen asked c.args.reg stands asked.table.now.counter made.result
           (rw (← c.reg.view_is, ← c.counter.ensures.same) made.ensures.choice);
     }

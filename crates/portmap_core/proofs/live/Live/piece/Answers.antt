@@ -8,23 +8,22 @@ use Rattle.portmap_core.specs.Step.{halted_by}
 use Rattle.portmap_core.specs.declared.connection.Stage.{Stage}
 use Rattle.portmap_core.specs.declared.connection.Stage.TheVariants.{Waiting}
 use Rattle.portmap_core.proofs.Steps.{restores, says_done, says_holding, says_next, settles}
+use Rattle.portmap_core.proofs.Waits.{WaitsAt}
 use Rattle.portmap_core.proofs.live.Live.piece.Goals as goal
 
 pub returns-in-Holding-clause-ok : goal.returns-in-Holding-clause-ok
 returns-in-Holding-clause-ok c =
     let i = c.self.inside in
     rw (← c.self.view_is)
-    (says_holding i.config i.table.names i.connections c.take-local.new.self c.put.new.self i.halted c.args.slot c.take-local.result
-    c.args.piece.now c.silent.result.reply.items c.silent.result.fate c.take-local.ensures.was c.in-Holding.is
+    (says_holding i.config (state_of i.table.names i.connections i.halted) c.args.slot c.take-local.ensures.was c.in-Holding.is
     c.take-local.ensures.done c.put.ensures.open c.silent.ensures.reply c.silent.ensures.fate)
 
 pub returns-in-Done-clause-ok : goal.returns-in-Done-clause-ok
 returns-in-Done-clause-ok c =
     let i = c.self.inside in
     rw (← c.self.view_is)
-    (says_done i.config i.table.names i.connections c.take-local.new.self i.halted c.args.slot c.take-local.result c.args.piece.now
-    c.silent-in-Done.result.reply.items c.silent-in-Done.result.fate c.take-local.ensures.was c.in-Done.is c.take-local.ensures.done
-    c.silent-in-Done.ensures.reply c.silent-in-Done.ensures.fate)
+    (says_done i.config (state_of i.table.names i.connections i.halted) c.args.slot c.take-local.ensures.was c.in-Done.is
+    c.take-local.ensures.done c.silent-in-Done.ensures.reply c.silent-in-Done.ensures.fate)
 
 pub returns-in-Ok-clause-ok : goal.returns-in-Ok-clause-ok
 returns-in-Ok-clause-ok c =
@@ -40,17 +39,23 @@ returns-in-Ok-clause-ok c =
       stopped = settled.stopped;
     } in
     let written =
-    settles i.connections c.take-local.new.self j.connections c.put-in-Ok.new.self settled.stopped c.args.slot c.take-local.result
-    c.stage.result c.take-local.ensures.was c.take-local.ensures.done
+    settles i.connections c.args.slot c.take-local.ensures.was settled.stopped c.stage.result c.take-local.ensures.done
     (ap (λ (m : Machine). m.state.connections) c.self-2.view_is ∙ settled.connections) c.put-in-Ok.ensures.open
     ∙ ap (λ (x : Stage). map.insert (stopped_in settled.stopped i.connections) c.args.slot
     (at_stage c.take-local.result x)) c.stage.ensures in
     let names : j.table.names ≡ c.settle.new.self.state.names = ap (λ (m : Machine). m.state.names) c.self-2.view_is in
     let halted : c.halted_by-self-inside.result ≡ halted_by said.fate i.halted = c.halted_by-self-inside.ensures
     ∙ ap (λ (m : Machine). halted_by said.fate m.state.halted) c.self-2.view_is ∙ ap (halted_by said.fate) settled.halted in
-    rw (← c.self.view_is, names, halted)
-    (says_next i.config i.table.names i.connections c.put-in-Ok.new.self i.halted c.args.slot c.take-local.result c.in-Waiting.feed
-    c.args.piece.now o c.take-local.ensures.was c.in-Waiting.is settled.told written)
+    let waits : WaitsAt = record {
+      config = i.config;
+      state = state_of i.table.names i.connections i.halted;
+      slot = c.args.slot;
+      connection = c.take-local.result;
+      received = c.in-Waiting.feed;
+      is_open = c.take-local.ensures.was;
+      stage = c.in-Waiting.is;
+    } in
+    rw (← c.self.view_is, names, halted) (says_next waits c.args.piece.now o settled.told written)
 
 pub returns-in-Err-clause-err : goal.returns-in-Err-clause-err
 returns-in-Err-clause-err c =
@@ -60,8 +65,7 @@ returns-in-Err-clause-err c =
     let e = c.self-2.view_is ∙ same in
     let feed : c.cut.new.self ≡ c.in-Waiting.feed = c.cut.ensures
     ∙ ap (λ (b : List ℕ). take (length b) c.settle.new.feed) c.kept-before.ensures.bytes ∙ c.settle.ensures.front in
-    let back = restores i.connections c.take-local.new.self c.put-in-Err.new.self c.args.slot c.take-local.result
-    (Waiting c.cut.new.self) c.take-local.ensures.was c.take-local.ensures.done
+    let back = restores i.connections c.args.slot c.take-local.ensures.was (Waiting c.cut.new.self) c.take-local.ensures.done
     (λ found here. c.put-in-Err.ensures.open found (ap (λ (m : Machine). map.get m.state.connections c.args.slot) e ∙ here)
     ∙ ap (λ (m : Machine). map.insert m.state.connections c.args.slot (at_stage found (Waiting c.cut.new.self))) e)
     (ap Waiting feed ∙ sym c.in-Waiting.is) in

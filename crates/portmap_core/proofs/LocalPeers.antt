@@ -1,0 +1,69 @@
+-- Which result a local peer's registration is refused with, and where its KILL ends the port mapper.
+use Rattle.std.proofs.Common.{◌≡◌, ◌⊎◌, ℕ, Bool, true, false, List, refl, sym, ap, subst, ◌∙◌, inl, inr}
+use Rattle.std.specs.Prelude.{codes, is_some, length, ◌==◌, ◌||◌}
+use Rattle.std.proofs.lemmas.Bool.{le-leb, ne_eqb}
+use Rattle.std.proofs.lemmas.List.{nil_from_length}
+use Rattle.portmap_wire.specs.declared.request.Request.{Request}
+use Rattle.portmap_wire.specs.declared.request.Request.TheVariants.{Alive, Kill}
+use Rattle.portmap_table.specs.Rows.{is_active, retired_row}
+use Rattle.portmap_core.specs.declared.event.Fate.{Fate}
+use Rattle.portmap_core.specs.Config.{Configuration}
+use Rattle.portmap_core.specs.State.{State}
+use Rattle.portmap_core.specs.Serving.{Served, halts, replied, served}
+use Rattle.portmap_core.specs.Step.{Outcome, outcome_of}
+use Rattle.portmap_core.specs.Laws.{ActiveNamesAreTaken, IsRefused, IsTold, KillsAreRefused, KillsEnd, NewNamesWantRoom, refusal}
+use Rattle.portmap_core.proofs.Shown.{completed}
+use Rattle.portmap_core.proofs.Waits.{said}
+
+-- what comes of a request that is told one thing whatever creation it would have
+concluded : {cfg : Configuration} {s s' : State} {request : Request} {reply : List ℕ} {fate : Fate} (t : IsTold cfg s request reply fate s')
+    (o : Served) → ((creation : ℕ) → served cfg s.names true t.slot request creation ≡ o)
+    → said reply fate s' ≡ outcome_of s t.slot t.connection o
+concluded {cfg} {s} {s'} {request} {reply} {fate} t o is =
+    let by = completed t.completes request t.spells in
+    let local = ap (λ (b : Bool). served cfg s.names b t.slot request by.0) t.local in
+    ap (λ (f : Fate). said reply f s') (sym t.fate_is) ∙ by.1 ∙ ap (outcome_of s t.slot t.connection) (local ∙ is by.0)
+
+refuses : {cfg : Configuration} {s s' : State} {request : Request} {reply : List ℕ} {fate : Fate} (t : IsTold cfg s request reply fate s')
+    (text : List ℕ) → ((creation : ℕ) → served cfg s.names true t.slot request creation ≡ replied s.names text)
+    → IsRefused s text reply fate s'
+refuses {cfg} {s} t text is =
+    let o = concluded t (replied s.names text) is in
+    record {
+      reply_is = ap (λ (x : Outcome). x.reply) o;
+      closes = ap (λ (x : Outcome). x.fate) o;
+      names = ap (λ (x : Outcome). x.state.names) o;
+      halted = ap (λ (x : Outcome). x.state.halted) o;
+    }
+
+pub active_names_are_taken : ActiveNamesAreTaken
+active_names_are_taken cfg s s' g row reply fate t active =
+    refuses t (refusal g.high 1) (λ creation. let is = ap is_some active in rw is refl)
+
+neither : (a b : Bool) → (a || b) ≡ false → (a ≡ false) × (b ≡ false)
+neither true b e = absurd cc
+neither false b e = (refl, e)
+
+pub new_names_want_room : NewNamesWantRoom
+new_names_want_room cfg s s' g reply fate t new full =
+    let strange = neither (is_active g.name s.names) (is_some (retired_row g.name s.names)) new in
+    let most = le-leb cfg.known_max (length s.names.active) full in
+    refuses t (refusal g.high 2) (λ creation. rw (strange.0, most, strange.1) refl)
+
+either : (a b : Bool) → b ≡ true → (a || b) ≡ true
+either true b e = refl
+either false b e = e
+
+pub kills_end : KillsEnd
+kills_end cfg s s' reply fate t may =
+    let ends : (length s.names.active == 0 || cfg.relaxed) ≡ true = elim may [
+      | inl none ↦ rw none refl
+      | inr relaxed ↦ either (length s.names.active == 0) cfg.relaxed relaxed
+    ] in
+    let o = concluded t (halts s.names) (λ creation. rw ends refl) in
+    (ap (λ (x : Outcome). x.reply) o, ap (λ (x : Outcome). x.fate) o, ap (λ (x : Outcome). x.state.halted) o)
+
+pub kills_are_refused : KillsAreRefused
+kills_are_refused cfg s s' reply fate t some strict =
+    let active = ne_eqb (length s.names.active) 0 (λ e. some (nil_from_length s.names.active e)) in
+    refuses t (codes "NO") (λ creation. rw (active, strict) refl)

@@ -1,0 +1,58 @@
+-- A connection that waits in a slot, and what is said of a piece there.
+use Rattle.std.proofs.Common.{◌≡◌, ℕ, Bool, List, ◌++◌, Some, refl, sym, ap, subst, ◌∙◌, inl, inr}
+use Rattle.std.specs.FinMap as map
+use Rattle.std.proofs.lemmas.Option.{same_Some}
+use Rattle.portmap_feed.specs.Stream.{Sight, More, Zero, TooLarge, Whole}
+use Rattle.portmap_wire.specs.declared.request.Request.{Request}
+use Rattle.portmap_table.specs.Rows.{Names}
+use Rattle.portmap_core.specs.declared.event.Fate.{Fate}
+use Rattle.portmap_core.specs.declared.connection.Connection.{Connection}
+use Rattle.portmap_core.specs.declared.connection.Stage.{Stage}
+use Rattle.portmap_core.specs.declared.connection.Stage.TheVariants.{Waiting, Holding}
+use Rattle.portmap_core.specs.Config.{Configuration}
+use Rattle.portmap_core.specs.State.{State}
+use Rattle.portmap_core.specs.Serving.{MayTake, Served, ToldAt, awaits, closed, served}
+use Rattle.portmap_core.specs.Step.{Outcome, Says, Settles, Told}
+
+abbrev pub said : List ℕ → Fate → State → Outcome
+said reply fate after = record { reply = reply; fate = fate; state = after }
+
+-- it is told to the connection that is open there
+pub told_here : {cfg : Configuration} {s after : State} {slot : ℕ} {connection : Connection} {piece reply : List ℕ} {fate : Fate}
+    → map.get s.connections slot ≡ Some connection → Says cfg s slot piece reply fate after
+    → Told cfg s slot connection piece connection.stage (said reply fate after)
+told_here {cfg} {s} {after} {slot} {connection} {piece} {reply} {fate} is_open says =
+    subst (λ (c : Connection). Told cfg s slot c piece c.stage (said reply fate after))
+    (same_Some says.connection connection (sym says.is_open ∙ is_open)) says.told
+
+-- a machine in a state, and the connection in a slot, which has sent these bytes
+pub record WaitsAt : Type 0 where
+  pub config : Configuration
+  pub state : State
+  pub slot : ℕ
+  pub connection : Connection
+  pub received : List ℕ
+  pub is_open : map.get state.connections slot ≡ Some connection
+  pub stage : connection.stage ≡ Waiting received
+
+-- of all that it sent
+pub settles_at : (w : WaitsAt) {after : State} {piece reply : List ℕ} {fate : Fate}
+    → Says w.config w.state w.slot piece reply fate after
+    → Settles w.config w.state w.slot w.connection (w.received ++ piece) (said reply fate after)
+settles_at w {after} {piece} {reply} {fate} says =
+    subst (λ (x : Stage). Told w.config w.state w.slot w.connection piece x (said reply fate after)) w.stage (told_here w.is_open says)
+
+-- what holds of each answer that may be told holds of what is told
+module _ (cfg : Configuration) (names : Names) (local : Bool) (slot : ℕ) (P : Served → Type 0) where
+  pub told_by : (received : List ℕ) (sight : Sight) (o : Served) → (sight ≡ More → P (awaits names received)) → P (closed names)
+      → ((request : Request) (creation : ℕ)
+          → ((served cfg names local slot request creation).stage ≡ Holding → MayTake names request creation)
+          → P (served cfg names local slot request creation))
+      → ToldAt cfg names local slot received sight o → P o
+  told_by received More o waits refused each told = subst P (sym told) (waits refl)
+  told_by received Zero o waits refused each told = subst P (sym told) refused
+  told_by received (TooLarge n) o waits refused each told = subst P (sym told) refused
+  told_by received (Whole body) o waits refused each (inl p) =
+      let serves = p.serves in
+      subst P (sym serves.is) (each p.request serves.creation (λ h. serves.legal (ap (λ (x : Served). x.stage) serves.is ∙ h)))
+  told_by received (Whole body) o waits refused each (inr p) = subst P (sym p.is) refused
