@@ -1,10 +1,9 @@
 -- Which result a local peer's registration is refused with, and where its KILL ends the port mapper.
-use Rattle.std.proofs.Common.{◌≡◌, ◌⊎◌, ℕ, Bool, true, false, List, refl, sym, ap, ◌∙◌, inl, inr}
+use Rattle.std.proofs.Common.{◌≡◌, ℕ, Bool, true, false, List, refl, sym, ap, ◌∙◌, inl, inr}
 use Rattle.std.specs.Prelude.{codes, is_some, length, ◌==◌, ◌||◌}
 use Rattle.std.proofs.lemmas.Bool.{le-leb, ne_eqb}
 use Rattle.std.proofs.lemmas.List.{nil_from_length}
 use Rattle.portmap_wire.specs.declared.request.Request.{Request}
-use Rattle.portmap_wire.specs.declared.request.Request.TheVariants.{Alive, Kill}
 use Rattle.portmap_table.specs.Rows.{is_active, retired_row}
 use Rattle.portmap_core.specs.declared.event.Fate.{Fate}
 use Rattle.portmap_core.specs.Config.{Configuration}
