@@ -1,6 +1,6 @@
 -- Where the port mapper ends and what comes of it then, the limits that a run keeps, and a connection that holds its name,
 -- whose time is over.
-use Rattle.std.proofs.Common.{◌≡◌, ℕ, Bool, true, false, List, [], ◌++◌, length, Option, Some, None, refl, sym, ap, subst, ◌∙◌}
+use Rattle.std.proofs.Common.{◌≡◌, ℕ, Bool, true, false, List, [], length, Option, Some, None, refl, sym, ap, subst, ◌∙◌}
 use Rattle.std.specs.Prelude.{codes, not, ◌==◌, ◌||◌}
 use Rattle.std.specs.FinMap as map
 use Rattle.std.proofs.lemmas.Bool.{cond_both, eqb-true}
@@ -15,18 +15,18 @@ use Rattle.portmap_wire.specs.declared.request.Request.TheVariants as request
 use Rattle.portmap_table.specs.Rows.{Names, is_active, is_full_for, owner_of, owns_name}
 use Rattle.portmap_core.specs.declared.connection.Connection.{Connection}
 use Rattle.portmap_core.specs.declared.connection.Stage.{Stage}
-use Rattle.portmap_core.specs.declared.connection.Stage.TheVariants.{Waiting, Holding, Done}
+use Rattle.portmap_core.specs.declared.connection.Stage.TheVariants.{Waiting, Holding}
 use Rattle.portmap_core.specs.Config.{Configuration}
 use Rattle.portmap_core.specs.State.{State, empty_state}
 use Rattle.portmap_core.specs.Entry.{Closed, Connected, Faulted, Late, Piece}
 use Rattle.portmap_core.specs.Serving.{Served, closed, dump_served, alive_served, halts, if_local, kill_served}
 use Rattle.portmap_core.specs.Serving.{registers, replied, served, stop_served, stops}
-use Rattle.portmap_core.specs.Step.{Outcome, Told, halted_by, late_at}
+use Rattle.portmap_core.specs.Step.{Outcome, halted_by, late_at, settled}
 use Rattle.portmap_core.specs.Owned.{IsOwned, IsSlotFor, IsStageFor}
 use Rattle.portmap_core.specs.Laws.{EndsAreFinal, EndsLeaveNoName, HoldersOutlastTheirTime, KeepsLimits, RunsKeepLimits}
 use Rattle.portmap_core.proofs.Owned.{owned_empty}
 use Rattle.portmap_core.proofs.Runs.{run_owned}
-use Rattle.portmap_core.proofs.Waits.{said, told_by}
+use Rattle.portmap_core.proofs.Waits.{expires_leads, said, says_leads, told_by}
 
 pub ends_are_final : EndsAreFinal
 ends_are_final cfg s s' e h step =
@@ -91,32 +91,19 @@ module _ (cfg : Configuration) (names : Names) (local : Bool) (slot : ℕ) (stri
 runs_on : (s s' : State) → s.halted ≡ false → s'.halted ≡ s.halted → s'.halted ≡ true → s.names.active ≡ []
 runs_on s s' runs same ended = absurd (let both : false ≡ true = sym runs ∙ sym same ∙ ended in cc)
 
-module _ (cfg : Configuration) (s : State) (slot : ℕ) (connection : Connection) (piece : List ℕ) where
-  told_on : (stage : Stage) (o : Outcome) → cfg.relaxed ≡ false → s.halted ≡ false → Told cfg s slot connection piece stage o
-      → o.state.halted ≡ true → s.names.active ≡ []
-  told_on (Waiting received) o strict runs told ended =
-      let all : List ℕ = received ++ piece in
-      told_by cfg s.names connection.local slot (LeavesNone s.names) all (first_request all) told.served (λ more ended. absurd cc)
-      (replies s.names []) (λ request creation _. serves_on cfg s.names connection.local slot strict request creation) told.told
-      (ap (λ (b : Bool). halted_by told.served.fate b) (sym runs) ∙ sym (ap (λ (x : Outcome). x.state.halted) told.outcome) ∙ ended)
-  told_on Holding o strict runs told ended = runs_on s o.state runs (ap (λ (x : Outcome). x.state.halted) told) ended
-  told_on Done o strict runs told ended = runs_on s o.state runs (ap (λ (x : Outcome). x.state.halted) told) ended
-
-late_on : (s : State) (slot : ℕ) (connection : Connection) (stage : Stage) → (late_at s slot connection stage).state.halted ≡ s.halted
-late_on s slot connection (Waiting received) = refl
-late_on s slot connection Holding = refl
-late_on s slot connection Done = refl
-
 pub ends_leave_no_name : EndsLeaveNoName
 ends_leave_no_name cfg s s' (Connected local slot) strict step ended =
     runs_on s s' step.runs (ap (λ (x : State). x.halted) step.moves.after) ended
 ends_leave_no_name cfg s s' (Piece slot piece reply fate) strict step ended =
-    told_on cfg s slot step.moves.connection piece step.moves.connection.stage (said reply fate s') strict step.runs step.moves.told ended
+    says_leads (λ x. x.halted ≡ true → s.names.active ≡ []) step.moves (runs_on s s step.runs refl) (λ connection received o told ended.
+    told_by cfg s.names connection.local slot (LeavesNone s.names) received (first_request received) o (λ more ended. absurd cc)
+    (replies s.names []) (λ request creation _. serves_on cfg s.names connection.local slot strict request creation) told
+    (ap (λ (b : Bool). halted_by o.fate b) (sym step.runs) ∙ ended)) ended
 ends_leave_no_name cfg s s' (Closed slot) strict step ended = runs_on s s' step.runs (ap (λ (x : State). x.halted) step.moves.after) ended
 ends_leave_no_name cfg s s' (Faulted slot) strict step ended = runs_on s s' step.runs (ap (λ (x : State). x.halted) step.moves.after) ended
 ends_leave_no_name cfg s s' (Late slot fate) strict step ended =
-    runs_on s s' step.runs (ap (λ (x : Outcome). x.state.halted) step.moves.told
-    ∙ late_on s slot step.moves.connection step.moves.connection.stage) ended
+    expires_leads (λ x. x.halted ≡ true → s.names.active ≡ []) step.moves (runs_on s s step.runs refl)
+    (λ connection. runs_on s (settled s slot connection (closed s.names)) step.runs refl) ended
 
 -- ---- limits
 

@@ -1,5 +1,5 @@
 -- A name that becomes active gets another creation than the one that was remembered for it.
-use Rattle.std.proofs.Common.{◌≡◌, ◌≢◌, ℕ, zero, suc, Bool, List, [], ◌∷◌, ◌++◌, length, Option, Some, None, refl, sym, ap, subst, ◌∙◌, inl}
+use Rattle.std.proofs.Common.{◌≡◌, ◌≢◌, ℕ, zero, suc, Bool, List, [], ◌∷◌, length, Option, Some, None, refl, sym, ap, subst, ◌∙◌, inl}
 use Rattle.std.proofs.Common.{inr}
 use Rattle.std.specs.Prelude.{codes, find, is_some, not, position, remove, slice_get, ◌==◌, ◌||◌}
 use Rattle.std.specs.Cmp.Lexicographic.{same_text}
@@ -18,17 +18,15 @@ use Rattle.portmap_table.proofs.Finding.{find-push, find-push_other}
 use Rattle.portmap_table.proofs.First.{NonePass, finds_none, none_found}
 use Rattle.portmap_table.proofs.Kept.{has_name}
 use Rattle.portmap_table.proofs.NameLaws.{active_names_stay}
-use Rattle.portmap_core.specs.declared.connection.Connection.{Connection}
-use Rattle.portmap_core.specs.declared.connection.Stage.{Stage}
-use Rattle.portmap_core.specs.declared.connection.Stage.TheVariants.{Waiting, Holding, Done}
+use Rattle.portmap_core.specs.declared.connection.Stage.TheVariants.{Holding}
 use Rattle.portmap_core.specs.Config.{Configuration}
 use Rattle.portmap_core.specs.State.{State}
 use Rattle.portmap_core.specs.Entry.{Closed, Connected, Entry, Faulted, Late, Piece}
 use Rattle.portmap_core.specs.Serving.{MayTake, Served, alive_served, closed, dump_served, halts, if_local, kill_served}
 use Rattle.portmap_core.specs.Serving.{replied, served, stop_served, stops}
-use Rattle.portmap_core.specs.Step.{Outcome, Step, Told, late_at}
+use Rattle.portmap_core.specs.Step.{Step}
 use Rattle.portmap_core.specs.Laws.{TakenCreationsAreNew}
-use Rattle.portmap_core.proofs.Waits.{said, told_by}
+use Rattle.portmap_core.proofs.Waits.{expires_leads, says_leads, told_by}
 
 -- each name that becomes active between the two has another creation than was remembered for it
 abbrev TakesNew : Names → Names → Type 0
@@ -124,30 +122,16 @@ module _ (cfg : Configuration) (names : Names) (local : Bool) (slot : ℕ) where
 by_names : (names a b : Names) → a ≡ b → TakesNew names b → TakesNew names a
 by_names names a b e h = subst (λ (x : Names). TakesNew names x) (sym e) h
 
-module _ (cfg : Configuration) (s : State) (slot : ℕ) (connection : Connection) (piece : List ℕ) where
-  told_new : (stage : Stage) (o : Outcome) → Told cfg s slot connection piece stage o → TakesNew s.names o.state.names
-  told_new (Waiting received) o told =
-      let all : List ℕ = received ++ piece in
-      by_names s.names _ _ (ap (λ (x : Outcome). x.state.names) told.outcome)
-      (told_by cfg s.names connection.local slot (λ o. TakesNew s.names o.names) all (first_request all) told.served
-      (λ more. stays s.names) (stays s.names) (serves_new cfg s.names connection.local slot) told.told)
-  told_new Holding o told = by_names s.names _ _ (ap (λ (x : Outcome). x.state.names) told) (stays s.names)
-  told_new Done o told = by_names s.names _ _ (ap (λ (x : Outcome). x.state.names) told) (stays s.names)
-
-late_new : (s : State) (slot : ℕ) (connection : Connection) (stage : Stage) → TakesNew s.names (late_at s slot connection stage).state.names
-late_new s slot connection (Waiting received) = stays s.names
-late_new s slot connection Holding = stays s.names
-late_new s slot connection Done = stays s.names
-
 step_new : (cfg : Configuration) (s s' : State) (e : Entry) → Step cfg s e s' → TakesNew s.names s'.names
 step_new cfg s s' (Connected local slot) step = by_names s.names _ _ (ap (λ (x : State). x.names) step.moves.after) (stays s.names)
 step_new cfg s s' (Piece slot piece reply fate) step =
-    told_new cfg s slot step.moves.connection piece step.moves.connection.stage (said reply fate s') step.moves.told
+    says_leads (λ x. TakesNew s.names x.names) step.moves (stays s.names) (λ connection received o.
+    told_by cfg s.names connection.local slot (λ w. TakesNew s.names w.names) received (first_request received) o
+    (λ more. stays s.names) (stays s.names) (serves_new cfg s.names connection.local slot))
 step_new cfg s s' (Closed slot) step = by_names s.names _ _ (ap (λ (x : State). x.names) step.moves.after) (retires s.names slot)
 step_new cfg s s' (Faulted slot) step = by_names s.names _ _ (ap (λ (x : State). x.names) step.moves.after) (retires s.names slot)
 step_new cfg s s' (Late slot fate) step =
-    by_names s.names _ _ (ap (λ (x : Outcome). x.state.names) step.moves.told)
-    (late_new s slot step.moves.connection step.moves.connection.stage)
+    expires_leads (λ x. TakesNew s.names x.names) step.moves (stays s.names) (λ connection. stays s.names)
 
 pub taken_creations_are_new : TakenCreationsAreNew
 taken_creations_are_new cfg s s' e name row last step = step_new cfg s s' e step name row last

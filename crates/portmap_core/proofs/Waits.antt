@@ -2,17 +2,17 @@
 use Rattle.std.proofs.Common.{◌≡◌, ℕ, Bool, List, ◌++◌, Some, refl, sym, ap, subst, ◌∙◌, inl, inr}
 use Rattle.std.specs.FinMap as map
 use Rattle.std.proofs.lemmas.Option.{same_Some}
-use Rattle.portmap_feed.specs.Stream.{Sight, More, Zero, TooLarge, Whole}
+use Rattle.portmap_feed.specs.Stream.{Sight, More, Zero, TooLarge, Whole, first_request}
 use Rattle.portmap_wire.specs.declared.request.Request.{Request}
 use Rattle.portmap_table.specs.Rows.{Names}
 use Rattle.portmap_core.specs.declared.event.Fate.{Fate}
 use Rattle.portmap_core.specs.declared.connection.Connection.{Connection}
 use Rattle.portmap_core.specs.declared.connection.Stage.{Stage}
-use Rattle.portmap_core.specs.declared.connection.Stage.TheVariants.{Waiting, Holding}
+use Rattle.portmap_core.specs.declared.connection.Stage.TheVariants.{Waiting, Holding, Done}
 use Rattle.portmap_core.specs.Config.{Configuration}
 use Rattle.portmap_core.specs.State.{State}
 use Rattle.portmap_core.specs.Serving.{MayTake, Served, ToldAt, awaits, closed, served}
-use Rattle.portmap_core.specs.Step.{Outcome, Says, Settles, Told}
+use Rattle.portmap_core.specs.Step.{Expires, Outcome, Says, Settles, Told, late_at, settled}
 
 abbrev pub said : List ℕ → Fate → State → Outcome
 said reply fate after = record { reply = reply; fate = fate; state = after }
@@ -46,8 +46,8 @@ settles_at w {after} {piece} {reply} {fate} says =
 module _ (cfg : Configuration) (names : Names) (local : Bool) (slot : ℕ) (P : Served → Type 0) where
   pub told_by : (received : List ℕ) (sight : Sight) (o : Served) → (sight ≡ More → P (awaits names received)) → P (closed names)
       → ((request : Request) (creation : ℕ)
-          → ((served cfg names local slot request creation).stage ≡ Holding → MayTake names request creation)
-          → P (served cfg names local slot request creation))
+      → ((served cfg names local slot request creation).stage ≡ Holding → MayTake names request creation)
+      → P (served cfg names local slot request creation))
       → ToldAt cfg names local slot received sight o → P o
   told_by received More o waits refused each told = subst P (sym told) (waits refl)
   told_by received Zero o waits refused each told = subst P (sym told) refused
@@ -56,3 +56,29 @@ module _ (cfg : Configuration) (names : Names) (local : Bool) (slot : ℕ) (P : 
       let serves = p.serves in
       subst P (sym serves.is) (each p.request serves.creation (λ h. serves.legal (ap (λ (x : Served). x.stage) serves.is ∙ h)))
   told_by received (Whole body) o waits refused each (inr p) = subst P (sym p.is) refused
+
+-- what holds of a state, and where a connection was told something, holds after a piece, and after a time-out
+module _ (P : State → Type 0) where
+  pub says_leads : {cfg : Configuration} {s after : State} {slot : ℕ} {piece reply : List ℕ} {fate : Fate}
+      → Says cfg s slot piece reply fate after → P s
+      → ((connection : Connection) (received : List ℕ) (o : Served)
+      → ToldAt cfg s.names connection.local slot received (first_request received) o → P (settled s slot connection o))
+      → P after
+  says_leads {cfg} {s} {after} {slot} {piece} {reply} {fate} says same each =
+      by says.connection.stage (said reply fate after) says.told
+    where
+      by : (stage : Stage) (o : Outcome) → Told cfg s slot says.connection piece stage o → P o.state
+      by (Waiting received) o told =
+          subst (λ (x : Outcome). P x.state) (sym told.outcome) (each says.connection (received ++ piece) told.served told.told)
+      by Holding o told = subst (λ (x : Outcome). P x.state) (sym told) same
+      by Done o told = subst (λ (x : Outcome). P x.state) (sym told) same
+
+  pub expires_leads : {s after : State} {slot : ℕ} {fate : Fate} → Expires s slot fate after → P s
+      → ((connection : Connection) → P (settled s slot connection (closed s.names))) → P after
+  expires_leads {s} {after} {slot} expires same each =
+      subst (λ (x : Outcome). P x.state) (sym expires.told) (by expires.connection.stage)
+    where
+      by : (stage : Stage) → P (late_at s slot expires.connection stage).state
+      by (Waiting received) = each expires.connection
+      by Holding = same
+      by Done = same
