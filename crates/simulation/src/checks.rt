@@ -175,7 +175,10 @@ impl<'a> Scene<'a> {
         drop(world);
         self.given_up = given_up;
         if self.scenario.is_strict {
-            self.check(is_early || !has_news, "one was told late of whom there was news");
+            self.check(
+                is_early || !has_news,
+                "one was told late of whom there was news",
+            );
             self.check(is_wanted, "a connection was given up for no one");
             self.check(is_first, "one was given up before who goes first");
             self.check(is_anew, "one was told late twice within its time");
