@@ -13,7 +13,7 @@ import unittest
 
 CONTRIB = os.path.join(os.path.dirname(os.path.abspath(__file__)), "..")
 sys.path.append(CONTRIB)
-from epmd_recording import Recording
+from epmd_recording import BODY_MOST, NAME_MOST, Recording
 
 LOG = os.path.join(CONTRIB, "epmd-log")
 STAMP = r"\d{4}-\d\d-\d\dT\d\d:\d\d:\d\dZ "
@@ -72,6 +72,13 @@ GRANTED = b"v\0" + number(4, 4)
 IN_USE = b"v\1" + number(0, 4)
 NO_ROOM = b"v\2" + number(0, 4)
 FOUND = b"w\0" + number(5000, 2) + b"\x4d\0\0\6\0\5\0\1a\0\0"
+
+
+class Limits(unittest.TestCase):
+    def test_they_are_those_of_the_source(self):
+        for name, limit in [("name", NAME_MOST), ("request", BODY_MOST)]:
+            with open(os.path.join(CONTRIB, "..", "crates", "portmap_wire", "src", name + ".rt"), encoding="utf-8") as file:
+                self.assertEqual(re.findall(r"pub const \w+_MOST: u\w+ = ([\d_]+);", file.read()), [f"{limit:_}"])
 
 
 class Told(unittest.TestCase):
