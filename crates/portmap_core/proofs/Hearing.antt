@@ -38,8 +38,7 @@ alike slot a b o = ap (λ (m : ConnectionMap). let x : Outcome =
 -- a stage at which nothing more is awaited
 abbrev IsSettled : Stage → Type 0
 IsSettled (Waiting received) = ⊥
-IsSettled Holding = Unit {0}
-IsSettled Done = Unit {0}
+IsSettled stage = Unit {0}
 
 either_settled : (t : Bool) (x y : Served) → IsSettled x.stage → IsSettled y.stage → IsSettled (cond t x y).stage
 either_settled true x y p q = p
@@ -82,8 +81,7 @@ module _ (cfg : Configuration) (names : rows.Names) (local : Bool) (slot : ℕ) 
 
 settled_waits_not : (stage : Stage) → IsSettled stage → phase_of_stage stage ≡ phase.Waiting → ⊥
 settled_waits_not (Waiting received) h e = h
-settled_waits_not Holding h e = cc
-settled_waits_not Done h e = cc
+settled_waits_not stage h e = cc
 
 awaits_more : (received : List ℕ) (sight : Sight) (stage : Stage) → AwaitsBy received sight stage → phase_of_stage stage ≡ phase.Waiting
     → sight ≡ More

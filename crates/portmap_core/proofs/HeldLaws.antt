@@ -244,8 +244,7 @@ copied_same source held all each = tree.same_entries_map (connections_held held)
 
 abbrev bytes_kept : Stage → List ℕ
 bytes_kept (stage.Waiting bytes) = bytes
-bytes_kept stage.Holding = []
-bytes_kept stage.Done = []
+bytes_kept other = []
 
 -- what is held, of its entry
 abbrev told_by : ℕ × Connection → HeldValue
@@ -253,8 +252,7 @@ told_by e = record { slot = e.0; local = e.1.local; phase = phase_of_stage e.1.s
 
 told_stage : (p : Phase) (a : List ℕ) → IsKeptFor p a → (phase_of_stage (stage_held p a) ≡ p) × (bytes_kept (stage_held p a) ≡ a)
 told_stage Waiting a empty = (refl, refl)
-told_stage Holding a empty = (refl, sym empty)
-told_stage Done a empty = (refl, sym empty)
+told_stage p a empty = (refl, sym empty)
 
 told_all : (held : List HeldValue) → All IsHeld held → list_map told_by (entries_held held) ≡ held
 told_all [] each = refl

@@ -1,7 +1,7 @@
 -- Which result a local peer's registration is refused with, and where its KILL ends the port mapper.
 use Rattle.std.proofs.Common.{◌≡◌, ℕ, Bool, true, false, List, refl, sym, ap, ◌∙◌, inl, inr}
 use Rattle.std.specs.Prelude.{codes, is_some, length, ◌==◌, ◌||◌}
-use Rattle.std.proofs.lemmas.Bool.{le-leb, ne_eqb}
+use Rattle.std.proofs.lemmas.Bool.{le-leb, ne_eqb, or_parts, or_right}
 use Rattle.std.proofs.lemmas.List.{nil_from_length}
 use Rattle.portmap_wire.specs.declared.request.Request.{Request}
 use Rattle.portmap_table.specs.Rows.{is_active, retired_row}
@@ -39,25 +39,17 @@ pub active_names_are_taken : ActiveNamesAreTaken
 active_names_are_taken cfg s s' g row reply fate t active =
     refuses t (refusal g.high 1) (λ creation. let is = ap is_some active in rw is refl)
 
-neither : (a b : Bool) → (a || b) ≡ false → (a ≡ false) × (b ≡ false)
-neither true b e = absurd cc
-neither false b e = (refl, e)
-
 pub new_names_want_room : NewNamesWantRoom
 new_names_want_room cfg s s' g reply fate t new full =
-    let strange = neither (is_active g.name s.names) (is_some (retired_row g.name s.names)) new in
+    let strange = or_parts (is_active g.name s.names) (is_some (retired_row g.name s.names)) new in
     let most = le-leb cfg.known_max (length s.names.active) full in
     refuses t (refusal g.high 2) (λ creation. rw (strange.0, most, strange.1) refl)
-
-either : (a b : Bool) → b ≡ true → (a || b) ≡ true
-either true b e = refl
-either false b e = e
 
 pub kills_end : KillsEnd
 kills_end cfg s s' reply fate t may =
     let ends : (length s.names.active == 0 || cfg.relaxed) ≡ true = elim may [
       | inl none ↦ rw none refl
-      | inr relaxed ↦ either (length s.names.active == 0) cfg.relaxed relaxed
+      | inr relaxed ↦ or_right (length s.names.active == 0) cfg.relaxed relaxed
     ] in
     let o = concluded t (halts s.names) (λ creation. rw ends refl) in
     (ap (λ (x : Outcome). x.reply) o, ap (λ (x : Outcome). x.fate) o, ap (λ (x : Outcome). x.state.halted) o)

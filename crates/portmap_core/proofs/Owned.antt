@@ -237,13 +237,11 @@ module _ {cfg : Configuration} {s : State} (owned : IsOwned cfg s) (slot : ℕ) 
       → IsOwned cfg o.state
   told_owned piece (Waiting received) o stage told =
       by_outcome cfg o _ told.outcome (sight_owned (waits received stage) owned (received ++ piece) told.served told.told)
-  told_owned piece Holding o stage told = by_outcome cfg o _ told owned
-  told_owned piece Done o stage told = by_outcome cfg o _ told owned
+  told_owned piece stage o is told = by_outcome cfg o _ told owned
 
   late_owned : (stage : Stage) → connection.stage ≡ stage → IsOwned cfg (late_at s slot connection stage).state
   late_owned (Waiting received) stage = closed_owned (waits received stage) owned
-  late_owned Holding stage = owned
-  late_owned Done stage = owned
+  late_owned stage is = owned
 
 -- ---- the other entries
 

@@ -102,9 +102,9 @@ pub record Refuses (asked : Asked) (g : Node) (told : Response) : Type 0 where
   pub phase : told.phase ≡ phase.Done
   pub change : told.change ≡ Nothing
 
-pub refused : {asked : Asked} {g : Node} {told : Response} → Refuses asked g told → (bytes : List ℕ)
+pub no_room : {asked : Asked} {g : Node} {told : Response} → Refuses asked g told → (bytes : List ℕ)
     → TellsAll (λ slot. Serves asked.config asked.table.now.names true slot (Alive g)) asked bytes told
-refused {asked} {g} {told} r bytes =
+no_room {asked} {g} {told} r bytes =
     let cfg = asked.config in
     let names = asked.table.now.names in
     let full = is_full (is_active g.name names) (is_full_for cfg.known_max g.name names) (remembered g.name names) r.stands in

@@ -139,8 +139,7 @@ module _ (cfg : Configuration) (s : State) (slot : ℕ) (connection : Connection
         | inl silent ↦ inl (ap (λ (x : Outcome). x.reply) told.outcome ∙ silent)
         | inr look ↦ inr (received, look.0, look.1, refl, look.2, look.3, look.4)
       ]
-  told_far Holding o far told = inl (ap (λ (x : Outcome). x.reply) told)
-  told_far Done o far told = inl (ap (λ (x : Outcome). x.reply) told)
+  told_far stage o far told = inl (ap (λ (x : Outcome). x.reply) told)
 
 pub others_are_told_nothing : OthersAreToldNothing
 others_are_told_nothing cfg s s' slot connection piece reply fate here far says =

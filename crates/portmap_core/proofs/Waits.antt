@@ -70,8 +70,7 @@ module _ (P : State → Type 0) where
       by : (stage : Stage) (o : Outcome) → Told cfg s slot says.connection piece stage o → P o.state
       by (Waiting received) o told =
           subst (λ (x : Outcome). P x.state) (sym told.outcome) (each says.connection (received ++ piece) told.served told.told)
-      by Holding o told = subst (λ (x : Outcome). P x.state) (sym told) same
-      by Done o told = subst (λ (x : Outcome). P x.state) (sym told) same
+      by stage o told = subst (λ (x : Outcome). P x.state) (sym told) same
 
   pub expires_leads : {s after : State} {slot : ℕ} {fate : Fate} → Expires s slot fate after → P s
       → ((connection : Connection) → P (settled s slot connection (closed s.names))) → P after
@@ -80,5 +79,4 @@ module _ (P : State → Type 0) where
     where
       by : (stage : Stage) → P (late_at s slot expires.connection stage).state
       by (Waiting received) = each expires.connection
-      by Holding = same
-      by Done = same
+      by stage = same

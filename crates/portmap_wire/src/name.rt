@@ -16,7 +16,7 @@ pub const NAME_MOST: usize = 1_020;
 pub enum NameFault {
     /// There is no byte.
     Empty,
-    /// There are more than 1,020 bytes.
+    /// There are more than [`NAME_MOST`] bytes.
     TooLong,
     /// The byte at this place, the first such one, is below 32 or 127.
     BadByte(usize),
@@ -34,7 +34,7 @@ impl From<NoMemory> for NameFault {
     }
 }
 
-/// A node's name: 1 to 1,020 bytes, none of them a control character. Bytes from 128 up are taken as they are.
+/// A node's name: 1 to [`NAME_MOST`] bytes, none of them a control character. Bytes from 128 up are taken as they are.
 #[derive(Debug, Drop)]
 pub struct Name {
     bytes: Vec<u8>,

@@ -3,7 +3,7 @@ use Rattle.portmap_wire.specs.Node.{Node}
 use Rattle.portmap_table.specs.Creation.{IsLegalCreation}
 use Rattle.portmap_table.specs.Rows.{standing}
 use Rattle.portmap_table.specs.declared.standing.Standing.TheVariants.{Free, NoRoom}
-use Rattle.portmap_core.proofs.Served.{Refuses, all_free, is_chosen, may_register, refused}
+use Rattle.portmap_core.proofs.Served.{Refuses, all_free, is_chosen, may_register, no_room}
 use Rattle.portmap_core.proofs.asked.Asked.alive.Goals as goal
 
 pub returns-in-NoRoom : goal.returns-in-NoRoom
@@ -20,7 +20,7 @@ returns-in-NoRoom c =
       phase = said.phase;
       change = said.change;
     } in
-    refused refuses
+    no_room refuses
 
 pub returns : goal.returns
 returns c =
