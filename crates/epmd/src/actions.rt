@@ -9,8 +9,10 @@ ghost use Rattle.portmap_link.specs.declared.single.OnceFault.{OnceFault};
 ghost use Rattle.portmap_record.specs.Playing.{local_record, IsRemoteRun, Plays, TellsFound};
 ghost use Rattle.portmap_record.specs.declared.verdict.Verdict.{Verdict};
 ghost use Rattle.portmap_record.specs.declared.playing.PlayFault.{PlayFault};
-ghost use Rattle.epmd.specs.Actions.{once_config, status_of, line_of, Fails, TellsVerdict, TellsErrors, Passes, EndsWith, failure_of_once};
-ghost use Rattle.epmd.specs.Actions.{failure_of_play, status_of_fate, status_of_found, status_of_verdict, IsOfFile, IsSilent, IsToShow};
+ghost use Rattle.epmd.specs.Actions.{once_config, status_of, line_of, Fails, TellsVerdict, TellsErrors, Passes};
+ghost use Rattle.epmd.specs.Actions.{EndsWith, failure_of_once};
+ghost use Rattle.epmd.specs.Actions.{failure_of_play, status_of_fate, status_of_found, status_of_verdict, IsOfFile};
+ghost use Rattle.epmd.specs.Actions.{IsSilent, IsToShow};
 ghost use Rattle.epmd.specs.Actions.{Refuses, tells};
 
 use crate::errors::{say, say_number};
@@ -24,8 +26,8 @@ use std::io::{Read, Write};
 /// All went well.
 pub const DONE: u8 = 0;
 
-/// It did not come to what was asked for: a recorded session is no run of the machine, a port mapper that runs did not do what it
-/// was asked to, or can't be asked, or the daemon can't listen.
+/// It did not come to what was asked for: a recorded session is no run of the machine, a port mapper that runs did not
+/// do what it was asked to, or can't be asked, or the daemon can't listen.
 pub const NOT_DONE: u8 = 1;
 
 /// The words of the command are none that it knows, or a record is none.
@@ -165,7 +167,8 @@ pub fn fail<E: Write>(errors: &mut Writing<E>, failure: Failure) -> u8
 
 /// Has the output pass on all that it took, and gives the status that was reached, or that of a device that failed.
 pub fn end<W: Write, E: Write>(output: &mut Writing<W>, errors: &mut Writing<E>, status: u8) -> u8
-    ensures passes { Passes status result (writing_broken output.new) (errors.new ≡ errors.old) (Fails E.contents errors.old errors.new) }
+    ensures passes { Passes status result (writing_broken output.new) (errors.new ≡ errors.old)
+        (Fails E.contents errors.old errors.new) }
     ensures silent { writing_broken output.new ≡ false → errors.new ≡ errors.old }
     ensures held { Keeps (W.contents (writing_inner output.old)) (W.contents (writing_inner output.new)) }
     ensures puts { writing_puts output.new ≡ writing_puts output.old }
@@ -185,7 +188,8 @@ fn serve_once<R: Read, W: Write>(
     ensures did { let seen = streams R.remaining W.contents in
         Did once_config (seen input.old output.old) (seen input.new output.new) result }
     ensures turns { let seen = streams R.remaining W.contents in
-        MakesTurns TURNS (seen input.old output.old) (seen input.new output.new) result (λ sent. Err (OnceFault.TooManyTurns sent)) }
+        MakesTurns TURNS (seen input.old output.old) (seen input.new output.new) result
+        (λ sent. Err (OnceFault.TooManyTurns sent)) }
 {
     let Ok(config) = Config::new(PORT, false, CONNECTIONS_MOST, NAMES_MOST) else {
         unreachable!()
@@ -193,11 +197,12 @@ fn serve_once<R: Read, W: Write>(
     once(alloc, config, FIRST_CREATION, input, output, TURNS)
 }
 
-/// Reads one request from `input` as from a local connection, and writes the reply to `output`: the request's length in two
-/// bytes and its body, in any pieces. The port mapper that answers has port `PORT`, is not relaxed, knows no name, starts
-/// creations at `FIRST_CREATION`, and takes `CONNECTIONS_MOST` connections and `NAMES_MOST` names. Status 0, also where the
-/// input ends before the request is whole or the request is malformed: then nothing is written. Status 3 where a device
-/// failed, `TURNS` pulls and puts were made and one more was due, or memory ran out: `errors` then gets one line.
+/// Reads one request from `input` as from a local connection, and writes the reply to `output`: the request's length in
+/// two bytes and its body, in any pieces. The port mapper that answers has port `PORT`, is not relaxed, knows no name,
+/// starts creations at `FIRST_CREATION`, and takes `CONNECTIONS_MOST` connections and `NAMES_MOST` names. Status 0,
+/// also where the input ends before the request is whole or the request is malformed: then nothing is written. Status 3
+/// where a device failed, `TURNS` pulls and puts were made and one more was due, or memory ran out: `errors` then gets
+/// one line.
 ///
 /// The output is flushed at the end. That a flushed writer has passed on what it took no clause can say: tests show it.
 pub fn do_once<R: Read, W: Write, E: Write>(
@@ -207,13 +212,15 @@ pub fn do_once<R: Read, W: Write, E: Write>(
     errors: &mut Writing<E>,
 ) -> u8
     ensures silent { result ≡ DONE → errors.new ≡ errors.old }
-    // What was read and written, in how many turns, and why the status is so: one that is not 0 comes of a fault, or of an
-    // output that failed to pass on what it took.
+    // What was read and written, in how many turns, and why the status is so: one that is not 0 comes of a fault, or of
+    // an output that failed to pass on what it took.
     ensures served { (ended : Result Fate OnceFault)
         × (let seen = streams R.remaining W.contents in
         Did once_config (seen input.old output.old) (seen input.new output.new) ended
-        × MakesTurns TURNS (seen input.old output.old) (seen input.new output.new) ended (λ sent. Err (OnceFault.TooManyTurns sent)))
-        × EndsWith status_of_fate failure_of_once result ended (writing_broken output.new) (λ _. errors.new ≡ errors.old)
+        × MakesTurns TURNS (seen input.old output.old) (seen input.new output.new) ended
+        (λ sent. Err (OnceFault.TooManyTurns sent)))
+        × EndsWith status_of_fate failure_of_once result ended (writing_broken output.new)
+        (λ _. errors.new ≡ errors.old)
         (Fails E.contents errors.old errors.new) }
 {
     match serve_once(alloc, input, output) {
@@ -240,7 +247,8 @@ fn show<R: Read, W: Write>(
     ensures did { let seen = streams R.remaining W.contents in
         Plays (tells action.now) (Refuses action.now) (seen input.old output.old) (seen input.new output.new) result }
     ensures turns { let seen = streams R.remaining W.contents in
-        MakesTurns FILE_TURNS (seen input.old output.old) (seen input.new output.new) result (λ sent. Err (PlayFault.TooManyTurns sent)) }
+        MakesTurns FILE_TURNS (seen input.old output.old) (seen input.new output.new) result
+        (λ sent. Err (PlayFault.TooManyTurns sent)) }
 {
     match action {
         Action::Check(_) => write_verdict(alloc, input, output, FILE_TURNS),
@@ -262,8 +270,10 @@ fn do_shown<R: Read, W: Write, E: Write>(
     ensures shown { (ended : Result Bool PlayFault)
         × (let seen = streams R.remaining W.contents in
         Plays (tells action.now) (Refuses action.now) (seen input.old output.old) (seen input.new output.new) ended
-        × MakesTurns FILE_TURNS (seen input.old output.old) (seen input.new output.new) ended (λ sent. Err (PlayFault.TooManyTurns sent)))
-        × EndsWith status_of_verdict failure_of_play result ended (writing_broken output.new) (λ _. errors.new ≡ errors.old)
+        × MakesTurns FILE_TURNS (seen input.old output.old) (seen input.new output.new) ended
+        (λ sent. Err (PlayFault.TooManyTurns sent)))
+        × EndsWith status_of_verdict failure_of_play result ended (writing_broken output.new)
+        (λ _. errors.new ≡ errors.old)
         (Fails E.contents errors.old errors.new) }
 {
     match show(alloc, action, input, output) {
@@ -307,8 +317,10 @@ fn do_local<R: Read, W: Write, E: Write>(
     ensures written { (ended : Result Verdict PlayFault)
         × (let seen = streams R.remaining W.contents in
         TellsFound local_record IsRemoteRun (seen input.old output.old) (seen input.new output.new) ended
-        × MakesTurns FILE_TURNS (seen input.old output.old) (seen input.new output.new) ended (λ sent. Err (PlayFault.TooManyTurns sent)))
-        × EndsWith status_of_found failure_of_play result ended (writing_broken output.new) (TellsVerdict E.contents errors.old errors.new)
+        × MakesTurns FILE_TURNS (seen input.old output.old) (seen input.new output.new) ended
+        (λ sent. Err (PlayFault.TooManyTurns sent)))
+        × EndsWith status_of_found failure_of_play result ended (writing_broken output.new)
+        (TellsVerdict E.contents errors.old errors.new)
         (Fails E.contents errors.old errors.new) }
 {
     match write_local(alloc, input, output, FILE_TURNS) {
@@ -317,12 +329,12 @@ fn do_local<R: Read, W: Write, E: Write>(
     }
 }
 
-/// Reads a recorded session from `input`, to its end, and writes to `output` what is found of it: for `Check` whether it is a
-/// run of the port mapper's machine, for `Play` every entry before that. For `Local` it writes the session without its remote
-/// peers where it is a run; where it is none, nothing, and `errors` gets the line that tells so. Status 0 for a run, 1 for
-/// none. Status 2 where the bytes are no record, or for `Local` one that begins with an open connection of a remote peer, status 3 where a
-/// device failed, `FILE_TURNS` pulls and puts were made and one more was due, the input has more bytes than a session may have, or memory
-/// ran out: `errors` then gets one line.
+/// Reads a recorded session from `input`, to its end, and writes to `output` what is found of it: for `Check` whether
+/// it is a run of the port mapper's machine, for `Play` every entry before that. For `Local` it writes the session
+/// without its remote peers where it is a run; where it is none, nothing, and `errors` gets the line that tells so.
+/// Status 0 for a run, 1 for none. Status 2 where the bytes are no record, or for `Local` one that begins with an open
+/// connection of a remote peer, status 3 where a device failed, `FILE_TURNS` pulls and puts were made and one more was
+/// due, the input has more bytes than a session may have, or memory ran out: `errors` then gets one line.
 ///
 /// The output is flushed at the end, as by `do_once`.
 pub fn do_file<R: Read, W: Write, E: Write>(
@@ -338,7 +350,8 @@ pub fn do_file<R: Read, W: Write, E: Write>(
     ensures shown { (ended : Result Verdict PlayFault)
         × (let seen = streams R.remaining W.contents in
         TellsFound (tells action.now) (Refuses action.now) (seen input.old output.old) (seen input.new output.new) ended
-        × MakesTurns FILE_TURNS (seen input.old output.old) (seen input.new output.new) ended (λ sent. Err (PlayFault.TooManyTurns sent)))
+        × MakesTurns FILE_TURNS (seen input.old output.old) (seen input.new output.new) ended
+        (λ sent. Err (PlayFault.TooManyTurns sent)))
         × EndsWith status_of_found failure_of_play result ended (writing_broken output.new)
         (TellsErrors action.now E.contents errors.old errors.new) (Fails E.contents errors.old errors.new) }
 {

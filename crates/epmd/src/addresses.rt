@@ -91,8 +91,9 @@ fn listening(alloc: Global, listed: &[[u8; 4]]) -> Result<Vec<[u8; 4]>, NoMemory
     Ok(addresses)
 }
 
-/// What a daemon listens on for this text, addresses with commas between: each once, in the order of the text; `LOOPBACK` at the
-/// end, if it isn't among them; but where `ANYWHERE` is, that alone. None where the text is no list of addresses.
+/// What a daemon listens on for this text, addresses with commas between: each once, in the order of the text;
+/// `LOOPBACK` at the end, if it isn't among them; but where `ANYWHERE` is, that alone. None where the text is no list
+/// of addresses.
 pub fn read_listening(alloc: Global, text: &[u8]) -> Result<Option<Vec<[u8; 4]>>, NoMemory>
     ensures { IfOk result (λ read. IfSome read (λ addresses. ListensOn text.now addresses.items)) }
 {

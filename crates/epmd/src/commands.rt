@@ -4,7 +4,8 @@ ghost use Rattle.portmap_link.specs.Adapters.{writing_inner, writing_broken};
 ghost use Rattle.portmap_client.specs.Exchange.{view};
 ghost use Rattle.portmap_client.specs.declared.fault.ClientFault.{ClientFault};
 ghost use Rattle.epmd.specs.Actions.{Fails};
-ghost use Rattle.epmd.specs.Commands.{IsOfClient, Asks, head_line, names_text, dump_text, kill_told, stop_told, answer_told, IsTold};
+ghost use Rattle.epmd.specs.Commands.{IsOfClient, Asks, head_line, names_text, dump_text, kill_told, stop_told};
+ghost use Rattle.epmd.specs.Commands.{answer_told, IsTold};
 ghost use Rattle.epmd.specs.Commands.{IsToldOf, Prints, Tells};
 ghost use Rattle.epmd.specs.declared.actions.Failure.{Failure};
 ghost use Rattle.epmd.specs.declared.commands.Answer.{Answer};
@@ -19,7 +20,8 @@ use portmap_wire::{Line, put_names_line};
 use std::alloc::Global;
 use std::io::Write;
 
-/// How many puts the text gets. The longest has less than 17,000,000 bytes, and each put that is not put off takes one at least.
+/// How many puts the text gets. The longest has less than 17,000,000 bytes, and each put that is not put off takes one
+/// at least.
 const TURNS: u64 = 1_000_000_000;
 
 /// What the port mapper answered to an action.
@@ -185,7 +187,8 @@ pub fn print<W: Write, E: Write>(
     text: &[u8],
     status: u8,
 ) -> u8
-    ensures prints { Prints text.now status result (W.contents (writing_inner output.old)) (W.contents (writing_inner output.new))
+    ensures prints { Prints text.now status result (W.contents (writing_inner output.old))
+        (W.contents (writing_inner output.new))
         (writing_broken output.new) (errors.new ≡ errors.old) (Fails E.contents errors.old errors.new) }
     ensures silent { result ≢ FAILED → errors.new ≡ errors.old }
 {
@@ -195,11 +198,12 @@ pub fn print<W: Write, E: Write>(
     }
 }
 
-/// Asks the port mapper at the other end of `stream` for what the action wants, and writes to `output` what it answered: the
-/// registered names for `Names`, all that it knows for `Dump`, a word for `Kill` and `Stop`. The text is made whole before its
-/// first byte is written. Status 0 where the port mapper did as it was asked. Status 1 where it did not: `output` gets `NOEXIST`
-/// where a name to be forgotten was not active, else `errors` gets one line, that it is not allowed, or that the answer can't be
-/// had or is none. Status 3 where the output failed or memory ran out: `errors` then gets one line.
+/// Asks the port mapper at the other end of `stream` for what the action wants, and writes to `output` what it
+/// answered: the registered names for `Names`, all that it knows for `Dump`, a word for `Kill` and `Stop`. The text is
+/// made whole before its first byte is written. Status 0 where the port mapper did as it was asked. Status 1 where it
+/// did not: `output` gets `NOEXIST` where a name to be forgotten was not active, else `errors` gets one line, that it
+/// is not allowed, or that the answer can't be had or is none. Status 3 where the output failed or memory ran out:
+/// `errors` then gets one line.
 ///
 /// The output is flushed at the end, as by `do_once`.
 pub fn do_client<S: Input + Output, W: Write, E: Write>(
@@ -216,7 +220,8 @@ pub fn do_client<S: Input + Output, W: Write, E: Write>(
         × (let seen = view S.left S.held S.pulls S.puts S.broken in
         Asks action.now (seen stream.old) (seen stream.new) ended)
         × IsToldOf ended told
-        × Tells told result (W.contents (writing_inner output.old)) (W.contents (writing_inner output.new)) (writing_broken output.new)
+        × Tells told result (W.contents (writing_inner output.old)) (W.contents (writing_inner output.new))
+        (writing_broken output.new)
         (output.new ≡ output.old) (errors.new ≡ errors.old) (Fails E.contents errors.old errors.new) }
 {
     match learn(alloc, action, stream) {

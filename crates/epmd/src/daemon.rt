@@ -1,7 +1,8 @@
 //! The daemon: what it is set to, and how its end is told.
 ghost use Rattle.std.specs.Prelude.{◌≡◌, false, IfOk, IfSome, None};
 ghost use Rattle.portmap_link.specs.Adapters.{writing_inner};
-ghost use Rattle.epmd.specs.Daemon.{SetsAs, beside, first_by, status_of_end, served_line, served_lines, unheard_beside, unheard_line};
+ghost use Rattle.epmd.specs.Daemon.{SetsAs, beside, first_by, status_of_end, served_line, served_lines, unheard_beside};
+ghost use Rattle.epmd.specs.Daemon.{unheard_line};
 ghost use Rattle.epmd.specs.Daemon.{text_of_end};
 ghost use Rattle.epmd.specs.Errors.{IsTaken, IsSpent, IsSaid};
 
@@ -31,8 +32,8 @@ const EVERYWHERE: &[u8] = b"[::]:";
 
 const ITSELF: &[u8] = b"[::1]:";
 
-/// Where creations start, by the time since 1970: its seconds, so that a name which registers with the next daemon most likely gets
-/// another creation. 0 where the time is not known.
+/// Where creations start, by the time since 1970: its seconds, so that a name which registers with the next daemon most
+/// likely gets another creation. 0 where the time is not known.
 fn first_by(now: Option<Duration>) -> u32
     ensures { result ≡ first_by now }
 {
@@ -143,10 +144,10 @@ pub fn refuse_handed<E: Write>(errors: &mut Writing<E>, fault: HandedFault) -> u
     }
 }
 
-/// Tells how the daemon of this command has ended, and gives the status that does: `DONE` where the port mapper was told to end,
-/// `NOT_DONE` where it can't listen, `FAILED` where readiness of sockets can't be had or memory ran out, or where it was told to
-/// end and its recording failed, which the daemon has told itself. With debug output a daemon that was told to end tells how many
-/// acts each worker made, by rising number from 1.
+/// Tells how the daemon of this command has ended, and gives the status that does: `DONE` where the port mapper was
+/// told to end, `NOT_DONE` where it can't listen, `FAILED` where readiness of sockets can't be had or memory ran out,
+/// or where it was told to end and its recording failed, which the daemon has told itself. With debug output a daemon
+/// that was told to end tells how many acts each worker made, by rising number from 1.
 pub fn end_daemon<E: Write>(
     errors: &mut Writing<E>,
     command: &Command,

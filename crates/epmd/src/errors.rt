@@ -14,7 +14,8 @@ const PUTS_MOST: u64 = 1000;
 
 /// Writes a text, and says whether all of it was taken. A failure of `errors` changes nothing else.
 pub fn say<E: Write>(errors: &mut Writing<E>, text: &[u8]) -> bool
-    ensures taken { IsTaken text.now result (E.contents (writing_inner errors.old)) (E.contents (writing_inner errors.new)) }
+    ensures taken { IsTaken text.now result (E.contents (writing_inner errors.old))
+        (E.contents (writing_inner errors.new)) }
     ensures spent { result ≡ false → IsSpent errors.new }
 {
     match write_reply(errors, text, PUTS_MOST) {

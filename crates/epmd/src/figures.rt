@@ -1,7 +1,8 @@
 //! The statuses of the program, its usual port, limits, timeout and workers, and how long a client waits.
 ghost use Rattle.std.specs.Prelude.{◌≡◌};
 ghost use Rattle.epmd.specs.declared.TheConstants.{CONNECTING};
-ghost use Rattle.epmd.specs.declared.actions.TheConstants.{CONNECTIONS_MOST, DONE, FAILED, NAMES_MOST, NOT_DONE, PORT, REFUSED};
+ghost use Rattle.epmd.specs.declared.actions.TheConstants.{CONNECTIONS_MOST, DONE, FAILED, NAMES_MOST, NOT_DONE, PORT};
+ghost use Rattle.epmd.specs.declared.actions.TheConstants.{REFUSED};
 ghost use Rattle.epmd.specs.declared.plan.TheConstants.{TIMEOUT, WORKERS};
 
 /// A law: the numbers that definitions take from the code are those of this profile.

@@ -3,7 +3,8 @@
 /// The first descriptor that is handed over.
 pub const FIRST: i32 = 3;
 
-/// How many sockets are handed over to the process of this id, by what the environment says: for which process, and how many.
+/// How many sockets are handed over to the process of this id, by what the environment says: for which process, and how
+/// many.
 pub fn handed_count(process: Option<&str>, count: Option<&str>, own: u32) -> u32 {
     let is_own = process.is_some_and(|process| process.parse::<u32>() == Ok(own));
     match count {

@@ -1,5 +1,6 @@
 //! What one word of the command says, with its value.
-ghost use Rattle.std.specs.Prelude.{◌≡◌, ◌∷◌, ◌<◌, ◌≤◌, ◌^◌, ℕ, List, true, false, length, map, string_bytes, IfOk, IfErr, IfSome};
+ghost use Rattle.std.specs.Prelude.{◌≡◌, ◌∷◌, ◌<◌, ◌≤◌, ◌^◌, ℕ, List, true, false, length, map, string_bytes, IfOk};
+ghost use Rattle.std.specs.Prelude.{IfErr, IfSome};
 ghost use Rattle.portmap_wire.specs.Name.{IsName};
 ghost use Rattle.epmd.specs.Words.{Begins, item_in, is_action};
 ghost use Rattle.epmd.specs.Meaning.{IsFaultAt};
@@ -137,8 +138,8 @@ fn asks_action(asks: Valued) -> bool
     )
 }
 
-/// What is said by this word and, where it takes a value, by the one behind it; and the words that are left. `place` is the first
-/// word's number, and a second action is refused.
+/// What is said by this word and, where it takes a value, by the one behind it; and the words that are left. `place` is
+/// the first word's number, and a second action is refused.
 pub fn read_word<'a>(
     alloc: Global,
     first: &String,
@@ -147,7 +148,8 @@ pub fn read_word<'a>(
     has_action: bool,
 ) -> Result<(Word, &'a [String]), WordFault>
     requires { place < 2 ^ 63 }
-    ensures spelled { IfOk result (λ read. Begins (item_in read.0) (string_bytes first.now ∷ map string_bytes behind.now)
+    ensures spelled { IfOk result (λ read. Begins (item_in read.0)
+        (string_bytes first.now ∷ map string_bytes behind.now)
         (map string_bytes read.1.now)) }
     ensures fewer { IfOk result (λ read. length read.1.now ≤ length behind.now) }
     ensures one { IfOk result (λ read. is_action (item_in read.0) ≡ true → has_action ≡ false) }

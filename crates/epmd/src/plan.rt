@@ -48,7 +48,8 @@ fn usual_port(text: &Option<String>) -> Result<u16, WordFault>
 
 /// These addresses, else the usual ones.
 fn usual_addresses(alloc: Global, addresses: Option<Vec<[u8; 4]>>) -> Result<Vec<[u8; 4]>, NoMemory>
-    ensures { IfOk result (λ found. found.items ≡ unwrap_or (option_map (λ those. those.items) addresses) (anywhere ∷ [])) }
+    ensures { IfOk result (λ found. found.items
+        ≡ unwrap_or (option_map (λ those. those.items) addresses) (anywhere ∷ [])) }
 {
     match addresses {
         Some(addresses) => Ok(addresses),

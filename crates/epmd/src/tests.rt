@@ -1,5 +1,5 @@
-//! What no clause says of the program: its words, settings, texts and statuses, and what it takes from the system. The tests of the
-//! crates below stand in crates of their own.
+//! What no clause says of the program: its words, settings, texts and statuses, and what it takes from the system. The
+//! tests of the crates below stand in crates of their own.
 mod actions;
 mod auditing;
 mod commands;
@@ -11,7 +11,8 @@ mod words;
 
 use std::alloc::{AllocError, Global};
 
-/// The byte that one of a table stands for: `~` for a blank, `|` for an end of line, and `?` for 0xFF, which is in no UTF-8.
+/// The byte that one of a table stands for: `~` for a blank, `|` for an end of line, and `?` for 0xFF, which is in no
+/// UTF-8.
 fn meant(byte: u8) -> u8 {
     match byte {
         b'~' => b' ',
@@ -30,8 +31,8 @@ fn bytes_of(alloc: Global, text: &str) -> Result<Vec<u8>, AllocError> {
     Ok(bytes)
 }
 
-/// How an action ends: the status, behind `out` what is written and behind `err` what is told of errors, where there is any. `|` is an
-/// end of line, and `\u{a6}` a `|`.
+/// How an action ends: the status, behind `out` what is written and behind `err` what is told of errors, where there is
+/// any. `|` is an end of line, and `\u{a6}` a `|`.
 fn ending(alloc: Global, status: u8, output: &[u8], errors: &[u8]) -> Result<String, AllocError> {
     let mut told = format!(in alloc; "{status}")?;
     for (word, bytes) in [("out", output), ("err", errors)] {

@@ -150,7 +150,8 @@ pub fn refuse<E: Write>(errors: &mut Writing<E>, fault: WordFault) -> u8
 
 /// What these words say, one behind the other.
 fn read_all(alloc: Global, words: &[String]) -> Result<Plan, WordFault>
-    ensures said { IfOk result (λ plan. (items : List Item) × Spells (map string_bytes words.now) items × Holds items plan) }
+    ensures said { IfOk result (λ plan. (items : List Item) × Spells (map string_bytes words.now) items
+        × Holds items plan) }
     ensures fault { IfErr result (λ fault. NamesWord (length words.now) fault) }
 {
     let mut plan = Plan::new();
@@ -164,9 +165,9 @@ fn read_all(alloc: Global, words: &[String]) -> Result<Plan, WordFault>
     Ok(plan)
 }
 
-/// The command that the words, behind the program's own name, and the environment say. Words are read from left to right and the
-/// first fault ends the reading; at one word the order is `Unknown`, `TwoCommands`, `MissingValue`, `BadValue`. The environment's
-/// port is looked at last, where no word says one. Want of memory can come at any value.
+/// The command that the words, behind the program's own name, and the environment say. Words are read from left to
+/// right and the first fault ends the reading; at one word the order is `Unknown`, `TwoCommands`, `MissingValue`,
+/// `BadValue`. The environment's port is looked at last, where no word says one. Want of memory can come at any value.
 pub fn read_words(alloc: Global, words: &[String], env: &Env) -> Result<Command, WordFault>
     ensures port { IfOk result (λ command. IsWithin 1 65535 command.port) }
     ensures timeout { IfOk result (λ command. IsWithin 1 86400 command.timeout) }

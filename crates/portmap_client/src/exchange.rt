@@ -1,7 +1,8 @@
 //! One request out, and its answer in.
 ghost use Rattle.std.specs.Prelude.{◌≡◌, ◌≢◌, ℕ, ◌+◌, ◌^◌, ◌<◌, ◌≤◌, true, List, ◌++◌, length, Err, IfErr};
 ghost use Rattle.std.specs.Io.KnownBytes.{Keeps};
-ghost use Rattle.portmap_client.specs.Exchange.{view, Answers, Exchanges, IsRead, IsUnfinished, Writes, is_device_fault};
+ghost use Rattle.portmap_client.specs.Exchange.{view, Answers, Exchanges, IsRead, IsUnfinished, Writes};
+ghost use Rattle.portmap_client.specs.Exchange.{is_device_fault};
 ghost use Rattle.portmap_client.specs.Laters.{laters, Waits, Waited};
 ghost use Rattle.portmap_client.specs.declared.exchange.TheConstants.{LATERS_MOST, LIST_MOST};
 
@@ -57,7 +58,8 @@ fn missing(awaited: Awaited, read: &[u8]) -> usize
 fn ask<S: Output>(stream: &mut S, bytes: &[u8]) -> Result<u64, GivenUp>
     ensures writes { Writes bytes.now (S.held stream.old) (S.held stream.new) result }
     ensures memory { result ≢ Err GivenUp.NoMemory }
-    ensures waited { Waited (laters (S.pulls stream.old) (S.puts stream.old)) (laters (S.pulls stream.new) (S.puts stream.new)) result }
+    ensures waited { Waited (laters (S.pulls stream.old) (S.puts stream.old))
+        (laters (S.pulls stream.new) (S.puts stream.new)) result }
     ensures broken { IfErr result (λ f. is_device_fault f ≡ true → S.broken stream.new ≡ true) }
     ensures left { Keeps (S.left stream.old) (S.left stream.new) }
     ensures pulls { S.pulls stream.new ≡ S.pulls stream.old }
@@ -78,9 +80,11 @@ fn hear<S: Input>(
     met: u64,
 ) -> Result<Vec<u8>, GivenUp>
     requires { met < LATERS_MOST }
-    ensures heard { Answers awaited IsRead (S.left stream.old) (S.left stream.new) (S.pulls stream.old) (S.pulls stream.new) result }
+    ensures heard { Answers awaited IsRead (S.left stream.old) (S.left stream.new) (S.pulls stream.old)
+        (S.pulls stream.new) result }
     ensures reads { result ≢ Err GivenUp.Write }
-    ensures waits { Waits (laters (S.pulls stream.old) (S.puts stream.old)) (met + laters (S.pulls stream.new) (S.puts stream.new)) result }
+    ensures waits { Waits (laters (S.pulls stream.old) (S.puts stream.old))
+        (met + laters (S.pulls stream.new) (S.puts stream.new)) result }
     ensures broken { IfErr result (λ f. is_device_fault f ≡ true → S.broken stream.new ≡ true) }
     ensures held { Keeps (S.held stream.old) (S.held stream.new) }
 {

@@ -40,8 +40,8 @@ pub fn names<S: Input + Output>(
     Ok(read_names(alloc, &bytes)?)
 }
 
-/// Asks for the port mapper's own port and for the text of all that it knows (DUMP_REQ), which is not looked at. It reads
-/// to the end.
+/// Asks for the port mapper's own port and for the text of all that it knows (DUMP_REQ), which is not looked at. It
+/// reads to the end.
 pub fn dump<S: Input + Output>(alloc: Global, stream: &mut S) -> Result<(u32, Vec<u8>), ClientFault>
     ensures { let seen = view S.left S.held S.pulls S.puts S.broken in
         Calls request.Dump SaysDump (seen stream.old) (seen stream.new) result }

@@ -1,4 +1,5 @@
-//! The answers to a registration and to a look-up, in the caller's bytes. What follows an answer there is not looked at.
+//! The answers to a registration and to a look-up, in the caller's bytes. What follows an answer there is not looked
+//! at.
 ghost use Rattle.std.specs.Prelude.{◌≡◌, ◌≢◌, ◌+◌, ◌<◌, ◌≤◌, List, ℕ, ◌++◌, length, Err, IsOk};
 ghost use Rattle.portmap_wire.specs.ReplyReading.{alive_answer, port2_answer};
 ghost use Rattle.portmap_client_c.specs.Answers.{PlacesIn, TellsAlive, TellsFound};
@@ -10,8 +11,8 @@ use portmap_wire::{
 };
 use std::alloc::Global;
 
-/// How many bytes more the answer to a registration has at least, where these are its first ones; 0 where it is whole, or is no such
-/// answer.
+/// How many bytes more the answer to a registration has at least, where these are its first ones; 0 where it is whole,
+/// or is no such answer.
 #[unsafe(no_mangle)]
 pub extern "C" fn epmd_alive_missing(bytes: &[u8]) -> usize
     ensures none { result ≡ 0 → alive_answer bytes.now ≢ Err ReplyFault.Short }

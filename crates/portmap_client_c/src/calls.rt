@@ -3,7 +3,8 @@ ghost use Rattle.std.specs.Prelude.{◌≡◌, ◌≢◌, ◌++◌, List, ℕ, �
 ghost use Rattle.portmap_wire.specs.RequestReading.{name_in};
 ghost use Rattle.portmap_client.specs.Exchange.{view};
 ghost use Rattle.portmap_client_c.specs.Calls.{Asks, Dumps, IfSaid, Kills, ListsNames, LooksUp, Registers, Stops};
-ghost use Rattle.portmap_client_c.specs.Calls.{TellsCreation, TellsDump, TellsLookup, TellsNames, TellsNode, alive_after, kill_status};
+ghost use Rattle.portmap_client_c.specs.Calls.{TellsCreation, TellsDump, TellsLookup, TellsNames, TellsNode};
+ghost use Rattle.portmap_client_c.specs.Calls.{alive_after, kill_status};
 ghost use Rattle.portmap_client_c.specs.Calls.{stop_status};
 ghost use Rattle.portmap_client_c.specs.Writing.{node_said, with_name};
 ghost use Rattle.portmap_client_c.specs.declared.status.TheConstants.{EPMD_NO_MEMORY};
@@ -48,9 +49,11 @@ pub(crate) fn register<S: Input + Output>(
 ) -> (i32, S)
     ensures told { let seen = view S.left S.held S.pulls S.puts S.broken in
         result.0 ≢ EPMD_NO_MEMORY → IfSaid (node_said node.now name.now extra.now)
-        (λ g. Asks (Registers g) (seen stream) (seen result.1) (λ answer. TellsCreation answer alive.old alive.new result.0))
+        (λ g. Asks (Registers g) (seen stream) (seen result.1)
+        (λ answer. TellsCreation answer alive.old alive.new result.0))
         (λ status. (result.0 ≡ status) × (alive.new ≡ alive.old)) }
-    ensures memory { result.0 ≡ EPMD_NO_MEMORY → IsOk (node_said node.now name.now extra.now) × (alive.new ≡ alive.old) }
+    ensures memory { result.0 ≡ EPMD_NO_MEMORY → IsOk (node_said node.now name.now extra.now)
+        × (alive.new ≡ alive.old) }
 {
     let reg = match made_node(alloc, node, name, extra) {
         Ok(reg) => reg,
@@ -107,7 +110,8 @@ pub(crate) fn lookup<S: Input + Output>(
     }
 }
 
-/// Asks for the port mapper's own port and the registered names with their ports: the answer to NAMES_REQ comes to the front of `out`.
+/// Asks for the port mapper's own port and the registered names with their ports: the answer to NAMES_REQ comes to the
+/// front of `out`.
 pub(crate) fn names<S: Input + Output>(
     alloc: Global,
     stream: &mut S,
@@ -115,7 +119,8 @@ pub(crate) fn names<S: Input + Output>(
     size: &mut usize,
 ) -> i32
     ensures told { let seen = view S.left S.held S.pulls S.puts S.broken in
-        Asks ListsNames (seen stream.old) (seen stream.new) (λ answer. TellsNames answer out.old out.new size.new result) }
+        Asks ListsNames (seen stream.old) (seen stream.new)
+        (λ answer. TellsNames answer out.old out.new size.new result) }
     ensures memory { result ≡ EPMD_NO_MEMORY → (out.new ≡ out.old) × (size.new ≡ 0) }
 {
     *size = 0;
@@ -125,7 +130,8 @@ pub(crate) fn names<S: Input + Output>(
     }
 }
 
-/// Asks for the port mapper's own port and for the text of all that it knows: the answer to DUMP_REQ comes to the front of `out`.
+/// Asks for the port mapper's own port and for the text of all that it knows: the answer to DUMP_REQ comes to the front
+/// of `out`.
 pub(crate) fn dump<S: Input + Output>(
     alloc: Global,
     stream: &mut S,

@@ -15,7 +15,8 @@ pub(crate) struct Descriptor {
     puts: Past<Put>,
 }
 
-/// What a call of the system told that moved so many bytes, or that failed with this number where it moved fewer than none.
+/// What a call of the system told that moved so many bytes, or that failed with this number where it moved fewer than
+/// none.
 pub(crate) fn call_result(count: isize, errno: i32) -> io::Result<usize>
     ensures { MatchResult result (λ n. count ≡ pos n)
         (λ error. (raw_os_error error ≡ Some errno) × (error_kind error ≡ os_error_kind errno)) }

@@ -1,4 +1,5 @@
-//! The answer to NAMES_REQ, spelled into the caller's buffer. How many bytes it has is reckoned first, which takes no memory.
+//! The answer to NAMES_REQ, spelled into the caller's buffer. How many bytes it has is reckoned first, which takes no
+//! memory.
 ghost use Rattle.std.specs.Prelude.{◌≡◌, ◌*◌, ◌≤◌, ◌^◌, IfOk, length};
 ghost use Rattle.std.specs.List.{flat_map};
 ghost use Rattle.portmap_wire.specs.List.{names_line, names_reply};
@@ -22,7 +23,8 @@ fn line_size(line: &Line) -> usize
     NAMES_LINE_REST - DIGITS_MOST + Buffer::new().format(line.port).len() + line.name.bytes().len()
 }
 
-/// How many bytes a list of these lines has, behind the port mapper's own port. One that was read has at most 2^24, and no more lines.
+/// How many bytes a list of these lines has, behind the port mapper's own port. One that was read has at most 2^24, and
+/// no more lines.
 fn lines_size(lines: &[Line]) -> usize
     requires { length lines.now ≤ 2 ^ 24 }
     ensures exact { result ≡ length (flat_map names_line lines.now) }

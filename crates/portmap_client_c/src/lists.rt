@@ -1,5 +1,6 @@
 //! The two lists of names in the caller's bytes, which are all that the port mapper sent.
-ghost use Rattle.std.specs.Prelude.{◌≡◌, ◌≢◌, ◌↔◌, ◌+◌, ◌<◌, ◌≤◌, ◌++◌, ℕ, List, drop, length, max, position, slice_index_or};
+ghost use Rattle.std.specs.Prelude.{◌≡◌, ◌≢◌, ◌↔◌, ◌+◌, ◌<◌, ◌≤◌, ◌++◌, ℕ, List, drop, length, max, position};
+ghost use Rattle.std.specs.Prelude.{slice_index_or};
 ghost use Rattle.std.specs.Prelude.{IfSome, IfNone, IfOk, IfErr};
 ghost use Rattle.portmap_wire.specs.Reply.{be4};
 ghost use Rattle.portmap_wire.specs.ListReading.{IsStrange, ReadsLine, is_newline};
@@ -15,7 +16,8 @@ use std::alloc::Global;
 /// How many bytes stand in front of the lines of a list: the port mapper's own port.
 pub(crate) const HEAD: usize = 4;
 
-/// Reads the head of the answer to NAMES_REQ or DUMP_REQ: the port mapper's own port, and where the lines begin, or the text.
+/// Reads the head of the answer to NAMES_REQ or DUMP_REQ: the port mapper's own port, and where the lines begin, or the
+/// text.
 #[unsafe(no_mangle)]
 pub extern "C" fn epmd_read_list(bytes: &[u8], port: &mut u32, at: &mut usize) -> i32
     ensures found { result ≡ EPMD_OK → (at.new ≡ 4) × (bytes.now ≡ be4 port.new ++ drop 4 bytes.now) }
@@ -55,7 +57,8 @@ fn first_line(lines: Vec<Line>) -> Option<Line>
 fn one_line(alloc: Global, list: &[u8]) -> Result<Line, ListFault>
     requires { 4 ≤ length list.now }
     ensures found { IfOk result (λ line. (front : List ℕ) → IsOneLine (drop 4 list.now) front → ReadsLine front line) }
-    ensures fault { IfErr result (λ fault. (front : List ℕ) → IsOneLine (drop 4 list.now) front → IsReadingFault front fault) }
+    ensures fault { IfErr result (λ fault. (front : List ℕ) → IsOneLine (drop 4 list.now) front
+        → IsReadingFault front fault) }
 {
     match read_names(alloc, list) {
         Ok((_, lines)) => match first_line(lines) {
@@ -92,8 +95,8 @@ fn line_at(alloc: Global, bytes: &[u8], at: usize) -> Result<(EpmdLine, usize), 
     }
 }
 
-/// Reads the line of the answer to NAMES_REQ that begins at this place, below 4 the first one. With `EPMD_OK` the place is set to where
-/// the next line begins.
+/// Reads the line of the answer to NAMES_REQ that begins at this place, below 4 the first one. With `EPMD_OK` the place
+/// is set to where the next line begins.
 #[unsafe(no_mangle)]
 pub extern "C" fn epmd_read_names_line(
     alloc: Global,

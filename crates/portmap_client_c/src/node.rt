@@ -1,6 +1,7 @@
 //! Nodes, lines and answers in numbers. Of a text it is told where it lies in bytes of the caller's.
 
-/// The numbers that a node registers, by the fields of ALIVE2_REQ in the ERTS User's Guide. Any number is taken in each.
+/// The numbers that a node registers, by the fields of ALIVE2_REQ in the ERTS User's Guide. Any number is taken in
+/// each.
 #[repr(C)]
 #[derive(Clone, Copy)]
 pub struct EpmdNode {

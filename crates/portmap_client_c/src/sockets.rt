@@ -1,10 +1,11 @@
-//! Calls over a connected socket, each over one of its own. No clause can say what a socket gave and took: they say that there is an
-//! answer of which the result tells. Which bytes are asked, and that the answer is what was read, is said of each call's body, in `calls`,
-//! over any stream that tells its bytes.
+//! Calls over a connected socket, each over one of its own. No clause can say what a socket gave and took: they say
+//! that there is an answer of which the result tells. Which bytes are asked, and that the answer is what was read, is
+//! said of each call's body, in `calls`, over any stream that tells its bytes.
 ghost use Rattle.std.specs.Prelude.{◌≡◌, ◌≢◌, Ok, IsOk};
 ghost use Rattle.portmap_wire.specs.RequestReading.{name_in};
 ghost use Rattle.portmap_client_c.specs.Calls.{AsksOnce, Dumps, IfSaid, Kills, ListsNames, LooksUp, Registers, Stops};
-ghost use Rattle.portmap_client_c.specs.Calls.{TellsCreation, TellsDump, TellsLookup, TellsNames, kill_status, stop_status};
+ghost use Rattle.portmap_client_c.specs.Calls.{TellsCreation, TellsDump, TellsLookup, TellsNames, kill_status};
+ghost use Rattle.portmap_client_c.specs.Calls.{stop_status};
 ghost use Rattle.portmap_client_c.specs.Writing.{node_said, with_name};
 ghost use Rattle.portmap_client_c.specs.declared.status.TheConstants.{EPMD_NO_MEMORY};
 
@@ -50,7 +51,8 @@ pub extern "C" fn epmd_lookup(
     lookup(alloc, &mut Descriptor::new(socket), name, texts, found)
 }
 
-/// Asks for the port mapper's own port and the registered names with their ports: the answer to NAMES_REQ comes to the front of `out`.
+/// Asks for the port mapper's own port and the registered names with their ports: the answer to NAMES_REQ comes to the
+/// front of `out`.
 #[unsafe(no_mangle)]
 pub extern "C" fn epmd_names(alloc: Global, socket: i32, out: &mut [u8], size: &mut usize) -> i32
     ensures told { AsksOnce ListsNames (λ answer. TellsNames answer out.old out.new size.new result) }
@@ -59,7 +61,8 @@ pub extern "C" fn epmd_names(alloc: Global, socket: i32, out: &mut [u8], size: &
     names(alloc, &mut Descriptor::new(socket), out, size)
 }
 
-/// Asks for the port mapper's own port and for the text of all that it knows: the answer to DUMP_REQ comes to the front of `out`.
+/// Asks for the port mapper's own port and for the text of all that it knows: the answer to DUMP_REQ comes to the front
+/// of `out`.
 #[unsafe(no_mangle)]
 pub extern "C" fn epmd_dump(alloc: Global, socket: i32, out: &mut [u8], size: &mut usize) -> i32
     ensures told { AsksOnce Dumps (λ answer. TellsDump answer out.old out.new size.new result) }

@@ -2,11 +2,16 @@
 ghost use Rattle.std.specs.Prelude.{◌≡◌, pos};
 ghost use Rattle.portmap_client_c.specs.Status.{client_status, line_status, name_status, reply_status};
 ghost use Rattle.portmap_client_c.specs.declared.status.TheConstants.{EPMD_OK, EPMD_NAME_EMPTY, EPMD_NAME_TOO_LONG};
-ghost use Rattle.portmap_client_c.specs.declared.status.TheConstants.{EPMD_NAME_BAD_BYTE, EPMD_EXTRA_TOO_LONG, EPMD_SHORT};
-ghost use Rattle.portmap_client_c.specs.declared.status.TheConstants.{EPMD_BAD_TAG, EPMD_STRANGE, EPMD_REFUSED, EPMD_NOT_REGISTERED};
-ghost use Rattle.portmap_client_c.specs.declared.status.TheConstants.{EPMD_STRANGE_LINE, EPMD_LIST_END, EPMD_WRITE, EPMD_READ};
-ghost use Rattle.portmap_client_c.specs.declared.status.TheConstants.{EPMD_TOO_MANY_TURNS, EPMD_TOO_LONG, EPMD_NO_EXIST};
-ghost use Rattle.portmap_client_c.specs.declared.status.TheConstants.{EPMD_NOT_ALLOWED, EPMD_BUFFER_TOO_SMALL, EPMD_NO_MEMORY};
+ghost use Rattle.portmap_client_c.specs.declared.status.TheConstants.{EPMD_NAME_BAD_BYTE, EPMD_EXTRA_TOO_LONG};
+ghost use Rattle.portmap_client_c.specs.declared.status.TheConstants.{EPMD_SHORT};
+ghost use Rattle.portmap_client_c.specs.declared.status.TheConstants.{EPMD_BAD_TAG, EPMD_STRANGE, EPMD_REFUSED};
+ghost use Rattle.portmap_client_c.specs.declared.status.TheConstants.{EPMD_NOT_REGISTERED};
+ghost use Rattle.portmap_client_c.specs.declared.status.TheConstants.{EPMD_STRANGE_LINE, EPMD_LIST_END, EPMD_WRITE};
+ghost use Rattle.portmap_client_c.specs.declared.status.TheConstants.{EPMD_READ};
+ghost use Rattle.portmap_client_c.specs.declared.status.TheConstants.{EPMD_TOO_MANY_TURNS, EPMD_TOO_LONG};
+ghost use Rattle.portmap_client_c.specs.declared.status.TheConstants.{EPMD_NO_EXIST};
+ghost use Rattle.portmap_client_c.specs.declared.status.TheConstants.{EPMD_NOT_ALLOWED, EPMD_BUFFER_TOO_SMALL};
+ghost use Rattle.portmap_client_c.specs.declared.status.TheConstants.{EPMD_NO_MEMORY};
 
 use portmap_client::ClientFault;
 use portmap_wire::{ListFault, NameFault, ReplyFault};
@@ -59,12 +64,15 @@ pub(crate) const EPMD_NO_MEMORY: i32 = 19;
 
 /// A law: the numbers that definitions take from the code are those of the header.
 pub fn numbers_are_the_headers()
-    ensures names { (EPMD_OK ≡ pos 0) × (EPMD_NAME_EMPTY ≡ pos 1) × (EPMD_NAME_TOO_LONG ≡ pos 2) × (EPMD_NAME_BAD_BYTE ≡ pos 3)
+    ensures names { (EPMD_OK ≡ pos 0) × (EPMD_NAME_EMPTY ≡ pos 1) × (EPMD_NAME_TOO_LONG ≡ pos 2)
+        × (EPMD_NAME_BAD_BYTE ≡ pos 3)
         × (EPMD_EXTRA_TOO_LONG ≡ pos 4) }
     ensures answers { (EPMD_SHORT ≡ pos 5) × (EPMD_BAD_TAG ≡ pos 6) × (EPMD_STRANGE ≡ pos 7) × (EPMD_REFUSED ≡ pos 8)
         × (EPMD_NOT_REGISTERED ≡ pos 9) × (EPMD_STRANGE_LINE ≡ pos 10) × (EPMD_LIST_END ≡ pos 11) }
-    ensures calls { (EPMD_WRITE ≡ pos 12) × (EPMD_READ ≡ pos 13) × (EPMD_TOO_MANY_TURNS ≡ pos 14) × (EPMD_TOO_LONG ≡ pos 15)
-        × (EPMD_NO_EXIST ≡ pos 16) × (EPMD_NOT_ALLOWED ≡ pos 17) × (EPMD_BUFFER_TOO_SMALL ≡ pos 18) × (EPMD_NO_MEMORY ≡ pos 19) }
+    ensures calls { (EPMD_WRITE ≡ pos 12) × (EPMD_READ ≡ pos 13) × (EPMD_TOO_MANY_TURNS ≡ pos 14)
+        × (EPMD_TOO_LONG ≡ pos 15)
+        × (EPMD_NO_EXIST ≡ pos 16) × (EPMD_NOT_ALLOWED ≡ pos 17) × (EPMD_BUFFER_TOO_SMALL ≡ pos 18)
+        × (EPMD_NO_MEMORY ≡ pos 19) }
 {}
 
 /// What a call answers where its name is none.

@@ -1,5 +1,5 @@
-//! What no clause says: that calls succeed where memory is ample, and that each over a socket is made over the one whose number it is
-//! given. The bytes are those of FORMATS.md.
+//! What no clause says: that calls succeed where memory is ample, and that each over a socket is made over the one
+//! whose number it is given. The bytes are those of FORMATS.md.
 mod failures;
 mod lists;
 mod nodes;

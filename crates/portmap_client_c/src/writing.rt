@@ -1,11 +1,12 @@
-//! Requests into the caller's buffer. `size` is set to how many bytes the request takes, also where the buffer is too small for it, and
-//! then nothing is written; it is set to 0 where the request can't be spelled.
+//! Requests into the caller's buffer. `size` is set to how many bytes the request takes, also where the buffer is too
+//! small for it, and then nothing is written; it is set to 0 where the request can't be spelled.
 ghost use Rattle.std.specs.Prelude.{◌≡◌, ◌≢◌, ◌+◌, ◌≤◌, ◌^◌, ◌++◌, ℤ, Ok, Result, length};
 ghost use Rattle.portmap_wire.specs.Request.{sent};
 ghost use Rattle.portmap_wire.specs.RequestReading.{name_in};
 ghost use Rattle.portmap_wire.specs.declared.request.Request.{Request};
 ghost use Rattle.portmap_wire.specs.declared.request.Request.TheVariants as request;
-ghost use Rattle.portmap_client_c.specs.Writing.{LacksMemory, Makes, MakesName, MakesNode, Puts, Writes, alive_said, named_said, node_said};
+ghost use Rattle.portmap_client_c.specs.Writing.{LacksMemory, Makes, MakesName, MakesNode, Puts, Writes, alive_said};
+ghost use Rattle.portmap_client_c.specs.Writing.{named_said, node_said};
 ghost use Rattle.portmap_client_c.specs.Writing.{unmade_status};
 
 use crate::node::EpmdNode;

@@ -173,8 +173,8 @@ refusal high result = if nat_lt high 6 then 121 ∷ result ∷ 0 ∷ 0 ∷ [] el
 -- a name that is active is refused with result 1
 abbrev pub ActiveNamesAreTaken : Type 0
 ActiveNamesAreTaken =
-    (cfg : Configuration) (s s' : State) (g : Node) (row : Row) (reply : List ℕ) (fate : Fate) → IsTold cfg s (request.Alive g) reply fate s'
-    → active_row g.name s.names ≡ Some row → IsRefused s (refusal g.high 1) reply fate s'
+    (cfg : Configuration) (s s' : State) (g : Node) (row : Row) (reply : List ℕ) (fate : Fate)
+    → IsTold cfg s (request.Alive g) reply fate s' → active_row g.name s.names ≡ Some row → IsRefused s (refusal g.high 1) reply fate s'
 
 -- and one that is not known with result 2, where as many are active as may be known
 abbrev pub NewNamesWantRoom : Type 0

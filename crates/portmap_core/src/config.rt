@@ -45,7 +45,8 @@ impl Model for Config {
     ghost invariant = { λ c. IsConfiguration
         (record { port = c.port; relaxed = c.relaxed; conn_max = c.conn_max; known_max = c.known_max }) };
 
-    ghost inverse = { λ v. record { port = v.port; relaxed = v.relaxed; conn_max = v.conn_max; known_max = v.known_max } };
+    ghost inverse = { λ v.
+        record { port = v.port; relaxed = v.relaxed; conn_max = v.conn_max; known_max = v.known_max } };
 }
 
 impl Config {

@@ -87,8 +87,8 @@ impl Connections {
         }
     }
 
-    /// Takes the stage from an open slot, with whether its connection comes from this host. The connection is done, until
-    /// another stage is put there.
+    /// Takes the stage from an open slot, with whether its connection comes from this host. The connection is done,
+    /// until another stage is put there.
     pub(crate) fn take(&mut self, slot: u64) -> Connection
         requires { IsSome (map.get self.old slot) }
         ensures was { map.get self.old slot ≡ Some result }

@@ -1,5 +1,6 @@
 //! The open connections of a plain state, by rising slot: slots of any number.
-ghost use Rattle.std.specs.Prelude.{◌≡◌, ◌↔◌, [], Some, None, IfOk, IfSome, IsTrue, MatchResult, OnErr, OnOk, option_map};
+ghost use Rattle.std.specs.Prelude.{◌≡◌, ◌↔◌, [], Some, None, IfOk, IfSome, IsTrue, MatchResult, OnErr, OnOk};
+ghost use Rattle.std.specs.Prelude.{option_map};
 ghost use Rattle.std.specs.FinMap as map;
 ghost use Rattle.portmap_core.specs.declared.connection.Connection.{Connection};
 ghost use Rattle.portmap_core.specs.declared.connection.Stage.TheVariants as stage;
@@ -83,8 +84,8 @@ impl Slots {
         Some(&self.held[at])
     }
 
-    /// Open connections in this order, unless a slot is not above the one before, or bytes are kept of one that does not wait.
-    /// It takes no memory.
+    /// Open connections in this order, unless a slot is not above the one before, or bytes are kept of one that does
+    /// not wait. It takes no memory.
     pub(crate) fn of(held: Vec<Held>) -> Option<Slots>
         ensures same { IfSome result (λ s. s ≡ connections_held held.items) }
         ensures fit { IfSome result (λ s. AreHeld held.items) }
@@ -106,7 +107,8 @@ impl Slots {
     /// Opens a free slot. The connection waits, and sent nothing yet.
     pub(crate) fn open(&mut self, alloc: Global, slot: u64, local: bool) -> Result<(), NoMemory>
         requires { map.get self.old slot ≡ None }
-        ensures ok { OnOk result (self.new ≡ map.insert self.old slot (record { local = local; stage = stage.Waiting [] })) }
+        ensures ok { OnOk result (self.new ≡ map.insert self.old slot
+            (record { local = local; stage = stage.Waiting [] })) }
         ensures err { OnErr result (self.new ≡ self.old) }
     {
         let Err(at) = place(self.held.as_slice(), slot) else {

@@ -1,7 +1,10 @@
 //! What always holds of the machine, as laws of its definitions.
-ghost use Rattle.portmap_core.specs.Laws.{ActiveNamesAreFound, ActiveNamesAreListed, ActiveNamesAreTaken, EndsAreFinal, EndsLeaveNoName};
-ghost use Rattle.portmap_core.specs.Laws.{EntriesDetermine, HoldersOutlastTheirTime, KillsAreRefused, KillsEnd, MalformedChangesNoName};
-ghost use Rattle.portmap_core.specs.Laws.{NamesBelongToConnections, NewNamesWantRoom, OthersAreToldNothing, RunsKeepLimits};
+ghost use Rattle.portmap_core.specs.Laws.{ActiveNamesAreFound, ActiveNamesAreListed, ActiveNamesAreTaken, EndsAreFinal};
+ghost use Rattle.portmap_core.specs.Laws.{EndsLeaveNoName};
+ghost use Rattle.portmap_core.specs.Laws.{EntriesDetermine, HoldersOutlastTheirTime, KillsAreRefused, KillsEnd};
+ghost use Rattle.portmap_core.specs.Laws.{MalformedChangesNoName};
+ghost use Rattle.portmap_core.specs.Laws.{NamesBelongToConnections, NewNamesWantRoom, OthersAreToldNothing};
+ghost use Rattle.portmap_core.specs.Laws.{RunsKeepLimits};
 ghost use Rattle.portmap_core.specs.Laws.{StepsKeepOwned, TakenCreationsAreNew, WrittenIsWhole};
 
 /// The first request of what was written, whatever follows it, is the request written.
@@ -19,8 +22,8 @@ pub fn steps_keep_owned()
     ensures { StepsKeepOwned }
 {}
 
-/// After any run each active name belongs to exactly one open connection: its slot is open and holds it, no name is known
-/// twice, and no slot owns two.
+/// After any run each active name belongs to exactly one open connection: its slot is open and holds it, no name is
+/// known twice, and no slot owns two.
 pub fn names_belong_to_connections()
     ensures { NamesBelongToConnections }
 {}
@@ -45,8 +48,8 @@ pub fn ends_leave_no_name()
     ensures { EndsLeaveNoName }
 {}
 
-/// After any run no more names are known and no more connections are open than may be, and one that waits has sent no whole
-/// request.
+/// After any run no more names are known and no more connections are open than may be, and one that waits has sent no
+/// whole request.
 pub fn runs_keep_limits()
     ensures { RunsKeepLimits }
 {}
@@ -67,14 +70,15 @@ pub fn others_are_told_nothing()
     ensures { OthersAreToldNothing }
 {}
 
-/// A local peer whose registration is refused is told why: result 1 where the name is active, and 2 where it is not known and
-/// as many are active as may be known.
+/// A local peer whose registration is refused is told why: result 1 where the name is active, and 2 where it is not
+/// known and as many are active as may be known.
 pub fn refused_names_are_told_why()
     ensures taken { ActiveNamesAreTaken }
     ensures full { NewNamesWantRoom }
 {}
 
-/// A local peer's KILL ends the port mapper where no name is active, or its checks are relaxed, and is refused elsewhere.
+/// A local peer's KILL ends the port mapper where no name is active, or its checks are relaxed, and is refused
+/// elsewhere.
 pub fn kills_end_where_they_may()
     ensures ends { KillsEnd }
     ensures refused { KillsAreRefused }

@@ -1,19 +1,21 @@
 //! The port mapper's machine: events in, answers out.
 //!
 //! What the crates above may build on, beside the clauses themselves:
-//! - `Core::event`: a step of the machine, or the first refusal that holds, which changes nothing. A close or fault of an open slot of a
-//!   machine that hasn't ended is always answered, and takes no memory; nor does a timeout, or a piece on a connection that holds a name or
-//!   is done. The state stays owned. `Core::entry`: the same, with the entry for a log. `Core::refusal`: the refusal that `event` gives,
-//!   whatever memory there is. `Core::run`: any events over any slots in any order; an error has done nothing. Which slot and creation come
-//!   next is left open.
-//! - `State::build`: the state of these parts; none exactly where slots don't rise, or one that doesn't wait has bytes. `State::owned`:
-//!   whether it is one that a machine of the configuration may come to. `State::step`, of an owned state: true and moved exactly where the
-//!   machine allows the entry, false and unchanged exactly where not; of any other state false, and unchanged. `Replay`, made of an owned
-//!   state alone, moves so and stays owned, and finds names without a walk.
-//! - `State::follow`: the step of an entry that a machine has made in this very state. It trusts the entry, so one that changes no name
-//!   costs no walk. Only a connect wants memory, a piece that does more than end its connection, and the end of a connection that holds a
-//!   name.
-//! - `name_to_register`: a name only of a piece that is a whole registration of it; that it is found where memory is ample: tests.
+//! - `Core::event`: a step of the machine, or the first refusal that holds, which changes nothing. A close or fault of
+//!   an open slot of a machine that hasn't ended is always answered, and takes no memory; nor does a timeout, or a
+//!   piece on a connection that holds a name or is done. The state stays owned. `Core::entry`: the same, with the entry
+//!   for a log. `Core::refusal`: the refusal that `event` gives, whatever memory there is. `Core::run`: any events over
+//!   any slots in any order; an error has done nothing. Which slot and creation come next is left open.
+//! - `State::build`: the state of these parts; none exactly where slots don't rise, or one that doesn't wait has bytes.
+//!   `State::owned`: whether it is one that a machine of the configuration may come to. `State::step`, of an owned
+//!   state: true and moved exactly where the machine allows the entry, false and unchanged exactly where not; of any
+//!   other state false, and unchanged. `Replay`, made of an owned state alone, moves so and stays owned, and finds
+//!   names without a walk.
+//! - `State::follow`: the step of an entry that a machine has made in this very state. It trusts the entry, so one that
+//!   changes no name costs no walk. Only a connect wants memory, a piece that does more than end its connection, and
+//!   the end of a connection that holds a name.
+//! - `name_to_register`: a name only of a piece that is a whole registration of it; that it is found where memory is
+//!   ample: tests.
 #![tactic(auto)]
 
 mod asked;

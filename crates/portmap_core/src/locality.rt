@@ -41,8 +41,8 @@ fn is_loopback(bytes: &[u8]) -> bool
     }
 }
 
-/// Whether a connection's peer is on this host, by the peer's address and the connection's own: the peer's is a loopback
-/// address, or both are one.
+/// Whether a connection's peer is on this host, by the peer's address and the connection's own: the peer's is a
+/// loopback address, or both are one.
 pub fn is_local(peer: Ip, own: Ip) -> bool
     ensures { result ≡ is_local_to peer own }
 {

@@ -1,6 +1,8 @@
 //! The names that a plain state knows, as plain lists.
-ghost use Rattle.std.specs.Prelude.{◌≡◌, ◌==◌, ◌↔◌, ◌<◌, Some, false, position, vec_len, vec_capacity, IfOk, IsTrue, OnErr, OnOk};
-ghost use Rattle.portmap_table.specs.Rows.{is_active, owner_of, registered, retired_at, retired_of, same_name, with_room};
+ghost use Rattle.std.specs.Prelude.{◌≡◌, ◌==◌, ◌↔◌, ◌<◌, Some, false, position, vec_len, vec_capacity, IfOk, IsTrue};
+ghost use Rattle.std.specs.Prelude.{OnErr, OnOk};
+ghost use Rattle.portmap_table.specs.Rows.{is_active, owner_of, registered, retired_at, retired_of, same_name};
+ghost use Rattle.portmap_table.specs.Rows.{with_room};
 ghost use Rattle.portmap_core.specs.Names.{left_by};
 
 use portmap_table::{Old, Row, Table};
@@ -13,8 +15,8 @@ use std::marker::Model;
 pub(crate) struct NameLists {
     /// In order of registration.
     pub(crate) active: Vec<Row>,
-    /// In order of retirement. Rows that are registered or copied here reserve room in it, so that in practice they retire without
-    /// asking for memory. No clause says so.
+    /// In order of retirement. Rows that are registered or copied here reserve room in it, so that in practice they
+    /// retire without asking for memory. No clause says so.
     pub(crate) retired: Vec<Old>,
 }
 
@@ -51,10 +53,11 @@ fn leave(active: &mut Vec<Row>, retired: &mut Vec<Old>, at: usize)
     retired.push_reserved(Old::of(row));
 }
 
-/// A name is a retired one no more, if it was one; for a new one the name that was retired longest is forgotten where as many are
-/// known as may be.
+/// A name is a retired one no more, if it was one; for a new one the name that was retired longest is forgotten where
+/// as many are known as may be.
 fn make_way(retired: &mut Vec<Old>, name: &Name, is_full: bool)
-    ensures { retired.new.items ≡ left_by (position (λ old. same_name old.name name.now) retired.old.items) is_full retired.old.items }
+    ensures { retired.new.items ≡ left_by
+        (position (λ old. same_name old.name name.now) retired.old.items) is_full retired.old.items }
 {
     match retired_place(retired.as_slice(), name) {
         Some(at) => drop(retired.remove(at)),
@@ -121,11 +124,12 @@ impl NameLists {
             .map(|row| row.slot)
     }
 
-    /// A name that is not active becomes so. Where it is new and as many are known as may be, the one retired longest is forgotten.
-    /// Memory is asked for before anything changes.
+    /// A name that is not active becomes so. Where it is new and as many are known as may be, the one retired longest
+    /// is forgotten. Memory is asked for before anything changes.
     pub(crate) fn register(&mut self, known_max: u32, row: Row) -> Result<(), NoMemory>
         requires { is_active row.reg.name self.old ≡ false }
-        ensures ok { OnOk result (self.new ≡ registered row.reg row.creation row.slot (with_room known_max row.reg.name self.old)) }
+        ensures ok { OnOk result (self.new ≡ registered row.reg row.creation row.slot
+            (with_room known_max row.reg.name self.old)) }
         ensures err { OnErr result (self.new ≡ self.old) }
     {
         self.retired.reserve(self.active.len() + 1)?;

@@ -15,7 +15,8 @@ use std::alloc::Global;
 
 /// Whether an open connection may own a name, where it owns one, or may own none.
 fn may_own(alloc: Global, held: &Held, owns: bool) -> Result<bool, NoMemory>
-    ensures { IfOk result (λ may. IsTrue may ↔ IsStageFor owns held.now.local (stage_held held.now.phase held.now.bytes)) }
+    ensures { IfOk result (λ may. IsTrue may
+        ↔ IsStageFor owns held.now.local (stage_held held.now.phase held.now.bytes)) }
 {
     match held.phase {
         Phase::Waiting if owns => Ok(false),
@@ -41,7 +42,8 @@ fn owners_are_open(table: &Table, connections: &Slots) -> bool
 
 /// Whether each connection is one that these names are owned by, and each active name is owned by an open one.
 pub(crate) fn fit(alloc: Global, table: &Table, connections: &Slots) -> Result<bool, NoMemory>
-    ensures { IfOk result (λ fit. IsTrue fit ↔ ((slot : ℕ) → IsSlotFor (owns_name slot table.now.names) (map.get connections.now slot))) }
+    ensures { IfOk result (λ fit. IsTrue fit
+        ↔ ((slot : ℕ) → IsSlotFor (owns_name slot table.now.names) (map.get connections.now slot))) }
 {
     for h in connections.held() {
         if !may_own(alloc, h, table.holds(h.slot))? {

@@ -6,7 +6,8 @@ use portmap_feed::{Feed, Seen};
 use portmap_wire::{ALIVE2_REQ, Name, Request, read_request};
 use std::alloc::Global;
 
-/// The name that a piece asks to register, where it is a whole ALIVE2_REQ from its first byte on. None too where memory runs out.
+/// The name that a piece asks to register, where it is a whole ALIVE2_REQ from its first byte on. None too where memory
+/// runs out.
 pub fn name_to_register(alloc: Global, piece: &[u8]) -> Option<Name>
     ensures { IfSome result (λ name. Registers piece.now name) }
 {

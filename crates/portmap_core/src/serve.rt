@@ -8,7 +8,8 @@ ghost use Rattle.portmap_table.specs.Rows.{owns_name, standing};
 ghost use Rattle.portmap_core.specs.declared.connection.Phase.TheVariants.{Done};
 ghost use Rattle.portmap_core.specs.declared.event.Fate.TheVariants.{Close};
 ghost use Rattle.portmap_core.specs.declared.serve.Change.TheVariants.{Nothing};
-ghost use Rattle.portmap_core.specs.Serving.{Serves, ServesBody, ToldAt, dump_lines, dump_served, kill_served, list_of, names_served};
+ghost use Rattle.portmap_core.specs.Serving.{Serves, ServesBody, ToldAt, dump_lines, dump_served, kill_served, list_of};
+ghost use Rattle.portmap_core.specs.Serving.{names_served};
 ghost use Rattle.portmap_core.specs.Serving.{port_served, stop_served};
 ghost use Rattle.portmap_core.specs.Telling.{Answers, AnswersAll, MayChange, TellsAll, names_after, stopped_by};
 
@@ -37,8 +38,8 @@ pub(crate) enum Change {
 }
 
 impl Change {
-    /// It is made, for the connection in this slot: for want of memory nothing changes. The slot of another connection, whose name
-    /// it retired.
+    /// It is made, for the connection in this slot: for want of memory nothing changes. The slot of another connection,
+    /// whose name it retired.
     pub(crate) fn commit(self, table: &mut Table, slot: u64) -> Result<Option<u64>, NoMemory>
         requires may { MayChange table.old.known_max table.old.names self }
         requires slot { owns_name slot table.old.names ≡ false }

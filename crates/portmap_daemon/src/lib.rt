@@ -1,13 +1,14 @@
-//! The daemon over sockets: its threads, `mio`, and its start and end. What a worker is: `portmap_worker`, whose calls are this crate's
-//! too.
+//! The daemon over sockets: its threads, `mio`, and its start and end. What a worker is: `portmap_worker`, whose calls
+//! are this crate's too.
 //!
 //! What is promised, beside the clauses themselves:
-//! - `run`, `run_gated` ask for one address, 1 to 64 workers, a timeout of 1 to 86,400 seconds: one count for each worker. `Listen(i)`: an
-//!   address of the list. `run_over` is the same over sockets that listen already. Of sockets and threads only safety is proved: what the
-//!   counts are, and that `recorded` tells of a recording that is not whole, is tested.
-//! - Exact are: where a socket listens (`address_at`), what a poll reports (`report_of`), whether it may have more to report (`is_full`),
-//!   the address of a peer (`ip_in`), what an end tells of the recording (`has_recorded`), and with which fault (`fault_of`). That they are
-//!   asked: tests.
+//! - `run`, `run_gated` ask for one address, 1 to 64 workers, a timeout of 1 to 86,400 seconds: one count for each
+//!   worker. `Listen(i)`: an address of the list. `run_over` is the same over sockets that listen already. Of sockets
+//!   and threads only safety is proved: what the counts are, and that `recorded` tells of a recording that is not
+//!   whole, is tested.
+//! - Exact are: where a socket listens (`address_at`), what a poll reports (`report_of`), whether it may have more to
+//!   report (`is_full`), the address of a peer (`ip_in`), what an end tells of the recording (`has_recorded`), and with
+//!   which fault (`fault_of`). That they are asked: tests.
 #![tactic(auto)]
 
 mod daemon;

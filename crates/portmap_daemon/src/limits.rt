@@ -8,8 +8,8 @@ pub const TIMEOUT_SECONDS_MOST: u32 = 86_400;
 /// For so many seconds after its end a daemon waits for the last write of its recording.
 pub(crate) const FLUSH_SECONDS_MOST: u64 = 5;
 
-/// How many bytes a thread asks for as it starts: the C library gives it a heap of its own then, which it could not have once
-/// memory is short.
+/// How many bytes a thread asks for as it starts: the C library gives it a heap of its own then, which it could not
+/// have once memory is short.
 pub(crate) const FIRST_BYTES: usize = 64;
 
 /// A law: the numbers that definitions take from the code are those of this profile.

@@ -46,7 +46,8 @@ impl<T: Drop> From<AllocFailed<T>> for HandedFault {
     }
 }
 
-/// Listens on each of the addresses at this port, and on the IPv6 address beside it, where it has one and the system has IPv6.
+/// Listens on each of the addresses at this port, and on the IPv6 address beside it, where it has one and the system
+/// has IPv6.
 pub(crate) fn listen<R: Net>(
     rt: &R,
     alloc: Global,
@@ -79,7 +80,8 @@ fn address_at(address: [u8; 4], port: u16) -> SocketAddr
     SocketAddr::new(IpAddr::from(address), port)
 }
 
-/// The IPv6 address that a daemon listens on beside this one: every address of the host beside every one, its loopback beside its loopback.
+/// The IPv6 address that a daemon listens on beside this one: every address of the host beside every one, its loopback
+/// beside its loopback.
 pub fn beside(address: [u8; 4]) -> Option<Ipv6Addr> {
     match address {
         [0, 0, 0, 0] => Some(Ipv6Addr::UNSPECIFIED),
@@ -126,7 +128,8 @@ fn address_of(ip: Ipv6Addr, port: u16) -> [u8; _SS_SIZE] {
     address
 }
 
-/// The sockets that are handed over, so many, from this descriptor on. They no longer block, and are closed with what is given.
+/// The sockets that are handed over, so many, from this descriptor on. They no longer block, and are closed with what
+/// is given.
 pub fn handed_over(
     alloc: Global,
     first: i32,
@@ -160,7 +163,8 @@ pub(crate) fn port_of(socket: &net::TcpListener) -> Option<u16> {
     (port > 0).then_some(port)
 }
 
-/// Whether it is a TCP socket with an address that takes connections. One that has an address and took none before does from now on.
+/// Whether it is a TCP socket with an address that takes connections. One that has an address and took none before does
+/// from now on.
 fn is_listening(socket: &net::TcpListener) -> bool {
     let mut value = [0; 16];
     let mut length = 4;

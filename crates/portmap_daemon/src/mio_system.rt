@@ -1,5 +1,6 @@
 //! The system as `mio` and the kernel give it.
-ghost use Rattle.std.specs.Prelude.{◌≡◌, ◌≢◌, ◌↔◌, ◌-◌, ◌<◌, ◌≤◌, ◌∷◌, [], ◌&&◌, not, true, take, drop, IfSome, IfNone, IfErr};
+ghost use Rattle.std.specs.Prelude.{◌≡◌, ◌≢◌, ◌↔◌, ◌-◌, ◌<◌, ◌≤◌, ◌∷◌, [], ◌&&◌, not, true, take, drop, IfSome, IfNone};
+ghost use Rattle.std.specs.Prelude.{IfErr};
 ghost use Rattle.std.specs.Net.Addr.{ipv4_octets, ipv6_segments, segments_of, IsV4And, IsV6And};
 ghost use Rattle.portmap_daemon.specs.Running.{IsOfAddresses};
 ghost use Rattle.portmap_worker.specs.declared.limits.TheConstants.{EVENTS_MOST};
@@ -108,7 +109,8 @@ impl Wake for MioWaker {
     }
 }
 
-/// A poll with what it reported last, and a thread's shares of the listening sockets. The program has it by `run`, and tests call it.
+/// A poll with what it reported last, and a thread's shares of the listening sockets. The program has it by `run`, and
+/// tests call it.
 #[derive(Drop)]
 pub struct MioSystem {
     poll: Poll,
@@ -199,8 +201,8 @@ impl System for MioSystem {
         }
     }
 
-    /// Calls on the connection don't wait: the system is told so as it gives the connection. The kit's own `accept` takes one call
-    /// more.
+    /// Calls on the connection don't wait: the system is told so as it gives the connection. The kit's own `accept`
+    /// takes one call more.
     fn accept(&mut self, place: usize) -> io::Result<(MioStream, IpAddr)> {
         let Some(listener) = self.listeners.get(place) else {
             return Err(io::Error::from(io::ErrorKind::WouldBlock));
@@ -223,7 +225,8 @@ impl System for MioSystem {
 
 /// The IP address in an address of the system, if it is of a family that has one.
 fn ip_in(address: &[u8; _SS_SIZE]) -> Option<IpAddr>
-    ensures ipv4 { take 2 address.now ≡ 2 ∷ 0 ∷ [] → IfSome result (λ ip. IsV4And ip (λ ip. ipv4_octets ip ≡ take 4 (drop 4 address.now))) }
+    ensures ipv4 { take 2 address.now ≡ 2 ∷ 0 ∷ []
+        → IfSome result (λ ip. IsV4And ip (λ ip. ipv4_octets ip ≡ take 4 (drop 4 address.now))) }
     ensures ipv6 { take 2 address.now ≡ 10 ∷ 0 ∷ []
         → IfSome result (λ ip. IsV6And ip (λ ip. ipv6_segments ip ≡ segments_of (take 16 (drop 8 address.now)))) }
     ensures other { IfNone result ((take 2 address.now ≢ 2 ∷ 0 ∷ []) × (take 2 address.now ≢ 10 ∷ 0 ∷ [])) }

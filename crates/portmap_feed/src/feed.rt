@@ -1,6 +1,7 @@
 //! A request in the making: the bytes received of it so far, as far as they matter.
 
-ghost use Rattle.std.specs.Prelude.{◌≡◌, ◌≢◌, ◌≤◌, ◌+◌, ◌*◌, ℕ, List, [], ◌++◌, length, take, max, vec_capacity, IsOk, IfOk, OnOk, OnErr};
+ghost use Rattle.std.specs.Prelude.{◌≡◌, ◌≢◌, ◌≤◌, ◌+◌, ◌*◌, ℕ, List, [], ◌++◌, length, take, max, vec_capacity, IsOk};
+ghost use Rattle.std.specs.Prelude.{IfOk, OnOk, OnErr};
 ghost use Rattle.std.specs.Prelude.{option_map};
 ghost use Rattle.portmap_wire.specs.declared.request.TheConstants.{BODY_MOST};
 ghost use Rattle.portmap_feed.specs.Seen.{seen_of};
@@ -92,7 +93,8 @@ fn wanted_of(held: &[u8], piece: &[u8]) -> usize
 fn take_room(held: &mut Vec<u8>, piece: &[u8]) -> Result<(), NoMemory>
     requires { room held.old.items ≤ vec_capacity held.old }
     ensures items { held.new.items ≡ held.old.items }
-    ensures exact { OnOk result (vec_capacity held.new ≡ max (vec_capacity held.old) (room (held.old.items ++ piece.now))) }
+    ensures exact { OnOk result (vec_capacity held.new
+        ≡ max (vec_capacity held.old) (room (held.old.items ++ piece.now))) }
     ensures err { OnErr result (vec_capacity held.new ≡ vec_capacity held.old) }
     ensures known { 2 ≤ length held.old.items → IsOk result }
     ensures empty { piece.now ≡ [] → IsOk result }

@@ -47,7 +47,8 @@ fn write_once<W: Write>(inner: &mut W, failed: &mut bool, bytes: &[u8]) -> Put
     answer
 }
 
-/// What a device answers to a pull, by what a read into a buffer with room told: one that gave nothing has found the end.
+/// What a device answers to a pull, by what a read into a buffer with room told: one that gave nothing has found the
+/// end.
 pub fn pull_from(told: io::Result<usize>) -> Pull
     ensures { result ≡ pull_of told }
 {

@@ -1,5 +1,6 @@
 //! Bytes that wait to be written.
-ghost use Rattle.std.specs.Prelude.{◌≡◌, ℕ, ◌+◌, ◌-◌, ◌≤◌, ◌||◌, ◌↔◌, List, [], ◌++◌, length, take, drop, vec_len, vec_capacity, IfOk};
+ghost use Rattle.std.specs.Prelude.{◌≡◌, ℕ, ◌+◌, ◌-◌, ◌≤◌, ◌||◌, ◌↔◌, List, [], ◌++◌, length, take, drop, vec_len};
+ghost use Rattle.std.specs.Prelude.{vec_capacity, IfOk};
 ghost use Rattle.std.specs.Prelude.{OnOk, OnErr};
 ghost use Rattle.std.specs.Io.KnownBytes.{Keeps, Appends};
 ghost use Rattle.portmap_link.specs.Flush.{flush_is_fault, Sends, Moves};
@@ -95,9 +96,9 @@ impl Outbox {
         flush
     }
 
-    /// Adds bytes at the end, and puts what waits, as `push` and `flush` after it would. Room is taken before anything is put, so
-    /// where memory runs out nothing is. Bytes before which none wait are put as they are, and copied only as far as they are not
-    /// taken.
+    /// Adds bytes at the end, and puts what waits, as `push` and `flush` after it would. Room is taken before anything
+    /// is put, so where memory runs out nothing is. Bytes before which none wait are put as they are, and copied only
+    /// as far as they are not taken.
     pub fn write<W: Output>(&mut self, output: &mut W, bytes: &[u8]) -> Result<Flush, NoMemory>
         ensures written { OnOk result (Moves (W.held output.old) (W.held output.new) (self.old ++ bytes.now) self.new) }
         ensures empty { IfOk result (λ flush. (flush ≡ Flush.Empty) ↔ (self.new ≡ [])) }
@@ -140,8 +141,8 @@ fn keep(kept: &mut Vec<u8>, bytes: &[u8])
     };
 }
 
-// Drops the bytes that were sent once they are as many as the rest, so that they don't pile up. No more bytes move than are
-// dropped, so all calls together take time in proportion to what was sent.
+// Drops the bytes that were sent once they are as many as the rest, so that they don't pile up. No more bytes move than
+// are dropped, so all calls together take time in proportion to what was sent.
 fn drop_sent(bytes: &mut Vec<u8>, sent: &mut usize)
     requires { sent.old ≤ vec_len bytes.old }
     ensures rest { drop sent.new bytes.new.items ≡ drop sent.old bytes.old.items }

@@ -52,7 +52,8 @@ impl Limit {
 pub fn send_all<W: Output>(output: &mut W, bytes: &[u8], limit: Limit) -> Sent
     ensures within { result.count ≤ length bytes.now }
     ensures written { Appends (W.held output.old) (W.held output.new) (take result.count bytes.now) }
-    ensures answers { SendsOn limit (length bytes.now) (W.puts output.old) (W.puts output.new) result.count result.laters result.flush }
+    ensures answers { SendsOn limit (length bytes.now) (W.puts output.old)
+        (W.puts output.new) result.count result.laters result.flush }
     ensures calls { length (W.puts output.new) ≤ length (W.puts output.old) + puts_most limit (length bytes.now) }
     ensures broken { W.broken output.new ≡ (flush_is_fault result.flush || W.broken output.old) }
     ensures left { Keeps (W.left output.old) (W.left output.new) }

@@ -1,7 +1,8 @@
 //! Which creation a node is given.
 ghost use Rattle.std.specs.Prelude.{◌≡◌, ◌↔◌, ℕ, IsTrue, Some, None};
 ghost use Rattle.portmap_table.specs.declared.creation.TheConstants.{COUNTER_LEAST, SHORT_MOST};
-ghost use Rattle.portmap_table.specs.Creation.{IsCounter, IsLegalCreation, IsCreationFor, ChoiceIsLegal, choice, counter_after};
+ghost use Rattle.portmap_table.specs.Creation.{IsCounter, IsLegalCreation, IsCreationFor, ChoiceIsLegal, choice};
+ghost use Rattle.portmap_table.specs.Creation.{counter_after};
 ghost use Rattle.portmap_table.specs.Creation.{short_choice, successor, wide_choice};
 
 use portmap_wire::WIDE_VERSION;
@@ -76,7 +77,8 @@ fn choice(counter: u32, high: u16, last: Option<u32>) -> u32
     }
 }
 
-/// The creation that is wanted, where a node of this highest version may get it whose name had the last one; else the choice.
+/// The creation that is wanted, where a node of this highest version may get it whose name had the last one; else the
+/// choice.
 pub fn creation_for(wanted: Option<u32>, counter: u32, high: u16, last: Option<u32>) -> u32
     requires { IsCounter counter }
     ensures wanted { (creation : ℕ) → wanted ≡ Some creation → IsLegalCreation high last creation → creation ≡ result }

@@ -1,9 +1,11 @@
 //! What is kept of each name, at a place that stays the name's own for as long as it is known.
-ghost use Rattle.std.specs.Prelude.{◌≡◌, ◌<◌, ◌^◌, ℕ, length, slice_get, option_copied, option_map, Some, None, IfSome, IfOk, OnOk, OnErr};
+ghost use Rattle.std.specs.Prelude.{◌≡◌, ◌<◌, ◌^◌, ℕ, length, slice_get, option_copied, option_map, Some, None, IfSome};
+ghost use Rattle.std.specs.Prelude.{IfOk, OnOk, OnErr};
 ghost use Rattle.std.specs.Prelude.{[], ◌++◌, ◌∷◌};
 ghost use Rattle.portmap_table.specs.declared.entries.Kept.{Kept};
 ghost use Rattle.portmap_table.specs.declared.row.Row.{Row};
-ghost use Rattle.portmap_table.specs.Places.{AreNamed, IsActiveAt, IsNamed, IsNew, Puts, StandsAs, active_entry, active_in, retired_entry};
+ghost use Rattle.portmap_table.specs.Places.{AreNamed, IsActiveAt, IsNamed, IsNew, Puts, StandsAs, active_entry};
+ghost use Rattle.portmap_table.specs.Places.{active_in, retired_entry};
 ghost use Rattle.portmap_table.specs.Places.{retired_in};
 ghost use Rattle.portmap_table.specs.Rows.{old_name, retired_name};
 
@@ -66,7 +68,8 @@ impl Entries {
     pub(crate) fn place(&self, name: &Name) -> Option<usize>
         ensures found { IfSome result (λ place. StandsAs name.now self.now place) }
         ensures within { IfSome result (λ place. place < length self.now) }
-        ensures only { (place : ℕ) (kept : Kept) → slice_get self.now place ≡ Some (name.now, kept) → result ≡ Some place }
+        ensures only { (place : ℕ) (kept : Kept) → slice_get self.now place ≡ Some (name.now, kept)
+            → result ≡ Some place }
     {
         self.kept.get_index_of(name)
     }

@@ -1,7 +1,10 @@
 //! What registering and retiring do to each name.
-ghost use Rattle.portmap_table.specs.Laws.{ActiveNamesStay, KnownNamesCostNone, LastCreationsAreRemembered, NamesOutliveConnections};
-ghost use Rattle.portmap_table.specs.Laws.{NoneIsRefusedForRetiredNames, OldestMakesRoom, OthersStayAtRegistration, OthersStayAtRetirement};
-ghost use Rattle.portmap_table.specs.Laws.{RegisteredNamesAreActive, RegisteredNamesStandLast, RetiredNamesStandLast, RetiredNamesStay};
+ghost use Rattle.portmap_table.specs.Laws.{ActiveNamesStay, KnownNamesCostNone, LastCreationsAreRemembered};
+ghost use Rattle.portmap_table.specs.Laws.{NamesOutliveConnections};
+ghost use Rattle.portmap_table.specs.Laws.{NoneIsRefusedForRetiredNames, OldestMakesRoom, OthersStayAtRegistration};
+ghost use Rattle.portmap_table.specs.Laws.{OthersStayAtRetirement};
+ghost use Rattle.portmap_table.specs.Laws.{RegisteredNamesAreActive, RegisteredNamesStandLast, RetiredNamesStandLast};
+ghost use Rattle.portmap_table.specs.Laws.{RetiredNamesStay};
 ghost use Rattle.portmap_table.specs.Laws.{ReturningNamesGetAnother, RoomCostsNone};
 
 /// A name that registers is active. When its connection is lost it is so no more, and its port and its creation are
@@ -25,7 +28,8 @@ pub fn newest_names_stand_last()
     ensures stay { RetiredNamesStay }
 {}
 
-/// Where a new name comes and as many are known as may be, the one retired longest is forgotten; else none is, and an active one never.
+/// Where a new name comes and as many are known as may be, the one retired longest is forgotten; else none is, and an
+/// active one never.
 #[tactic(auto, using(crate::proofs::NameLaws::forgetting))]
 pub fn oldest_names_are_forgotten()
     ensures active { ActiveNamesStay }
@@ -40,8 +44,8 @@ pub fn none_is_refused_for_retired_names()
     ensures { NoneIsRefusedForRetiredNames }
 {}
 
-/// What is remembered of a name that outlives its connection is its port and the creation that it had, and it gets another one
-/// when it returns.
+/// What is remembered of a name that outlives its connection is its port and the creation that it had, and it gets
+/// another one when it returns.
 pub fn returning_names_get_another_creation()
     ensures remembered { LastCreationsAreRemembered }
     ensures another { ReturningNamesGetAnother }

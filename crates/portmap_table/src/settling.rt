@@ -1,5 +1,6 @@
 //! The places of names.
-ghost use Rattle.std.specs.Prelude.{◌≡◌, ℕ, ◌+◌, ◌<◌, ◌≤◌, length, remove, slice_get, vec_len, vec_capacity, IfOk, OnErr, Some};
+ghost use Rattle.std.specs.Prelude.{◌≡◌, ℕ, ◌+◌, ◌<◌, ◌≤◌, length, remove, slice_get, vec_len, vec_capacity, IfOk};
+ghost use Rattle.std.specs.Prelude.{OnErr, Some};
 ghost use Rattle.portmap_table.specs.declared.row.Row.{Row};
 ghost use Rattle.portmap_table.specs.Places.{HasEach, IsNew, IsRetiredAt, TakesPlace, active_entry};
 
@@ -30,7 +31,8 @@ fn index_of(places: &[u32], place: u32) -> usize
 /// A place is taken out of a list that has it.
 pub(crate) fn take_out(places: &mut Vec<u32>, place: u32)
     requires { (i : ℕ) × (slice_get places.old.items i ≡ Some place) }
-    ensures items { (i : ℕ) × (slice_get places.old.items i ≡ Some place) × (places.new.items ≡ remove places.old.items i) }
+    ensures items { (i : ℕ) × (slice_get places.old.items i ≡ Some place)
+        × (places.new.items ≡ remove places.old.items i) }
     ensures len { vec_len places.new + 1 ≡ vec_len places.old }
     ensures room { vec_capacity places.new ≡ vec_capacity places.old }
 {
@@ -38,8 +40,8 @@ pub(crate) fn take_out(places: &mut Vec<u32>, place: u32)
     places.remove(at);
 }
 
-/// A name settles at a place: a retired one at its own, a new one behind all others, or, where as many are known as may be, at that
-/// of the name retired longest, which is forgotten. Memory is asked for before anything changes.
+/// A name settles at a place: a retired one at its own, a new one behind all others, or, where as many are known as may
+/// be, at that of the name retired longest, which is forgotten. Memory is asked for before anything changes.
 pub(crate) fn settle(
     entries: &mut Entries,
     retired: &mut Vec<u32>,
@@ -47,11 +49,13 @@ pub(crate) fn settle(
     row: Row,
 ) -> Result<u32, NoMemory>
     requires places { HasEach (IsRetiredAt entries.old) retired.old.items }
-    requires name { (place : ℕ) (active : Row) → slice_get entries.old place ≡ Some (active_entry active) → active.reg.name ≡ row.reg.name
+    requires name { (place : ℕ) (active : Row) → slice_get entries.old place ≡ Some (active_entry active)
+        → active.reg.name ≡ row.reg.name
         → ⊥ }
     requires few { length entries.old ≤ known_max }
     requires oldest { IsNew row.reg.name entries.old → known_max ≤ length entries.old → 0 < length retired.old.items }
-    ensures ok { IfOk result (λ place. TakesPlace known_max row entries.old entries.new retired.old.items retired.new.items place) }
+    ensures ok { IfOk result (λ place. TakesPlace known_max row entries.old entries.new retired.old.items
+        retired.new.items place) }
     ensures few { vec_len retired.new ≤ vec_len retired.old }
     ensures room { vec_capacity retired.new ≡ vec_capacity retired.old }
     ensures err_entries { OnErr result (entries.new ≡ entries.old) }

@@ -7,7 +7,7 @@ pub enum Standing {
     Active,
     /// It is not known, and as many names are active as may be known.
     NoRoom,
-    /// It may be registered. This creation is remembered for it, where it is retired. A new name may take the room of the one that was
-    /// retired longest.
+    /// It may be registered. This creation is remembered for it, where it is retired. A new name may take the room of
+    /// the one that was retired longest.
     Free(Option<u32>),
 }

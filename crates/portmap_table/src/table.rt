@@ -1,9 +1,12 @@
 //! The table of names.
-ghost use Rattle.std.specs.Prelude.{◌≡◌, false, length, slice_get, option_copied, option_map, Ok, Err, None, IfOk, IfSome, OnOk, OnErr};
+ghost use Rattle.std.specs.Prelude.{◌≡◌, false, length, slice_get, option_copied, option_map, Ok, Err, None, IfOk};
+ghost use Rattle.std.specs.Prelude.{IfSome, OnOk, OnErr};
 ghost use Rattle.std.specs.Prelude.{IsOk, ◌^◌, ◌<◌, ◌≤◌};
 ghost use Rattle.portmap_table.specs.Creation.{IsCounter, IsCreationFor, IsLegalCreation};
-ghost use Rattle.portmap_table.specs.Rows.{AreKept, active_row, and_retired, is_active, is_full_for, is_known, known_len, owner_of};
-ghost use Rattle.portmap_table.specs.Rows.{owns_name, registered, remembered, retired_name, retired_of, standing, with_room};
+ghost use Rattle.portmap_table.specs.Rows.{AreKept, active_row, and_retired, is_active, is_full_for, is_known};
+ghost use Rattle.portmap_table.specs.Rows.{known_len, owner_of};
+ghost use Rattle.portmap_table.specs.Rows.{owns_name, registered, remembered, retired_name, retired_of, standing};
+ghost use Rattle.portmap_table.specs.Rows.{with_room};
 ghost use Rattle.portmap_table.specs.Table.{GivesOffer, new_table, offered, with_names, with_registration};
 
 use crate::creation::{COUNTER_LEAST, counter_after, creation_for, is_creation_for};
@@ -36,14 +39,15 @@ impl From<NoMemory> for RegFault {
     }
 }
 
-/// The names that a port mapper knows, with what it gives creations from. Each name has a place of its own; their orders are lists of
-/// places.
+/// The names that a port mapper knows, with what it gives creations from. Each name has a place of its own; their
+/// orders are lists of places.
 #[derive(Debug, Drop)]
 pub struct Table {
     entries: Entries,
     // The places of the active names, in order of registration.
     active: Vec<u32>,
-    // Those of the retired names, in order of retirement, with room for each active one besides: so retiring takes no memory.
+    // Those of the retired names, in order of retirement, with room for each active one besides: so retiring takes no
+    // memory.
     retired: Vec<u32>,
     // The place of the active name of each slot that owns one.
     owners: IndexMap<u64, u32>,
@@ -70,11 +74,13 @@ impl Model for Table {
 
     ghost invariant = { λ t. AreInPlace t.entries t.active.items t.retired.items (get nat_eq t.owners)
         × (vec_len t.active + vec_len t.retired ≤ vec_capacity t.retired)
-        × AreKept t.known_max (names_at t.entries t.active.items t.retired.items) × IsCounter t.counter × (t.known_max < 2 ^ 32) };
+        × AreKept t.known_max (names_at t.entries t.active.items t.retired.items) × IsCounter t.counter
+        × (t.known_max < 2 ^ 32) };
 }
 
 impl Table {
-    /// A table with no names, that will know at most so many. The counter starts at `first`, or at 4 where that is less.
+    /// A table with no names, that will know at most so many. The counter starts at `first`, or at 4 where that is
+    /// less.
     pub fn new(alloc: Global, known_max: u32, first: u32) -> Result<Table, NoMemory>
         ensures empty { IfOk result (λ t. t ≡ new_table known_max first) }
         ensures kept { IfOk result (λ t. AreKept t.known_max t.names) }
@@ -99,8 +105,10 @@ impl Table {
     ) -> Result<Option<Table>, NoMemory>
         ensures same { IfOk result (λ o. IfSome o
             (λ t. t ≡ with_names (new_table known_max first) (record { active = active.now; retired = retired.now }))) }
-        ensures kept { IfOk result (λ o. IfSome o (λ t. AreKept known_max (record { active = active.now; retired = retired.now }))) }
-        ensures none { result ≡ Ok None → AreKept known_max (record { active = active.now; retired = retired.now }) → ⊥ }
+        ensures kept { IfOk result (λ o. IfSome o
+            (λ t. AreKept known_max (record { active = active.now; retired = retired.now }))) }
+        ensures none { result ≡ Ok None → AreKept known_max
+            (record { active = active.now; retired = retired.now }) → ⊥ }
     {
         if active.len().saturating_add(retired.len()) > known_max as usize {
             return Ok(None);
@@ -139,8 +147,8 @@ impl Table {
         Ok(())
     }
 
-    /// A name becomes active. Where it is new and as many are known as may be, the one retired longest is forgotten. Memory is asked
-    /// for before anything changes.
+    /// A name becomes active. Where it is new and as many are known as may be, the one retired longest is forgotten.
+    /// Memory is asked for before anything changes.
     fn enter(&mut self, row: Row) -> Result<(), NoMemory>
         requires name { is_active row.reg.name self.old.names ≡ false }
         requires room { is_full_for self.old.known_max row.reg.name self.old.names ≡ false }
@@ -184,8 +192,8 @@ impl Table {
         }
     }
 
-    /// Registers a name for the connection in this slot, and returns its creation. Where the name is new and as many are known as may
-    /// be, the one retired longest is forgotten.
+    /// Registers a name for the connection in this slot, and returns its creation. Where the name is new and as many
+    /// are known as may be, the one retired longest is forgotten.
     pub fn register(&mut self, reg: Reg, slot: u64) -> Result<u32, RegFault>
         requires { owns_name slot self.old.names ≡ false }
         ensures gives { GivesOffer result (offered self.old reg.name reg.high) }

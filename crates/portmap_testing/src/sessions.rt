@@ -39,7 +39,8 @@ pub const REMOTE_OPEN: &[u8] = &[
     0, 0, 0, 0, 0, 0, 0, 0, 0, 2,
 ];
 
-/// A remote peer comes by worker 3 and a local one by worker 1; the first leaves by worker 2, and the other by worker 4.
+/// A remote peer comes by worker 3 and a local one by worker 1; the first leaves by worker 2, and the other by worker
+/// 4.
 pub const MIXED: &[u8] = &[
     0x45, 0x50, 0x4D, 0x53, 2, 0, 0x11, 0x11, 0, 0, 0, 2, 0, 0, 0, 2, //
     0, 0, 0, 0, 0, 0, 1, 0, 0, 0, 0, 0, 0, 0, 0, 0, 0, 0, 0, 0, 0, //

@@ -5,8 +5,8 @@ use portmap_link::{Device, Input, Output, Past, Pull, Put};
 use std::alloc::Global;
 use std::sync::atomic::{AtomicU64, Ordering};
 
-/// How a device answers its calls, pulls and puts counted together from 0: those from one number up to another are Later, one
-/// and all after it are faults, and the others move so many bytes at most.
+/// How a device answers its calls, pulls and puts counted together from 0: those from one number up to another are
+/// Later, one and all after it are faults, and the others move so many bytes at most.
 #[derive(Clone, Copy)]
 pub struct DevicePlan {
     pub most: usize,

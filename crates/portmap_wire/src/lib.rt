@@ -1,14 +1,17 @@
 //! The port mapper's requests and replies as bytes.
 //!
 //! What the crates above may build on, beside the clauses themselves:
-//! - `Name::read`, `Reg::new`, `read_request`: exactly where the bytes are a name, a registration, a request; else the first fault from
-//!   left to right. `write_*`: the bytes of FORMATS.md. `write_alive` asks that a creation which goes into two bytes is below 65,536.
-//!   `ListReply` builds a list line by line, in room that is taken at once where its size is told.
-//! - `read_alive`, `read_port2`: what the front of the bytes says as an answer. `alive_missing`, `port2_missing`: how many bytes are
-//!   missing at least, 0 exactly where the answer is not `Short`; so who pulls no more than that reads no further than the answer.
-//! - `read_names`: port and lines exactly where the bytes are that list; a strange line is the first one. `read_dump`: the port, and the
-//!   text.
-//! - Copies equal their sources; `==` is equality. Errors leave nothing behind, and want of memory is the last refusal of a call.
+//! - `Name::read`, `Reg::new`, `read_request`: exactly where the bytes are a name, a registration, a request; else the
+//!   first fault from left to right. `write_*`: the bytes of FORMATS.md. `write_alive` asks that a creation which goes
+//!   into two bytes is below 65,536. `ListReply` builds a list line by line, in room that is taken at once where its
+//!   size is told.
+//! - `read_alive`, `read_port2`: what the front of the bytes says as an answer. `alive_missing`, `port2_missing`: how
+//!   many bytes are missing at least, 0 exactly where the answer is not `Short`; so who pulls no more than that reads
+//!   no further than the answer.
+//! - `read_names`: port and lines exactly where the bytes are that list; a strange line is the first one. `read_dump`:
+//!   the port, and the text.
+//! - Copies equal their sources; `==` is equality. Errors leave nothing behind, and want of memory is the last refusal
+//!   of a call.
 #![tactic(auto)]
 
 mod fields_reading;

@@ -1,9 +1,12 @@
 //! Reading the two lists of names.
-ghost use Rattle.std.specs.Prelude.{◌≡◌, ◌++◌, ◌<◌, ℕ, List, [], length, position, IfOk, IfSome, IfErr, MatchBool, MatchOption, None, Err};
+ghost use Rattle.std.specs.Prelude.{◌≡◌, ◌++◌, ◌<◌, ℕ, List, [], length, position, IfOk, IfSome, IfErr, MatchBool};
+ghost use Rattle.std.specs.Prelude.{MatchOption, None, Err};
 ghost use Rattle.std.specs.Str.Parse.{AllDigits};
 ghost use Rattle.portmap_wire.specs.Reply.{be4};
-ghost use Rattle.portmap_wire.specs.ListReading.{WritesPort, EndsInDigits, HasShape, HasNoReading, ReadsLine, is_newline, HasNoNewline};
-ghost use Rattle.portmap_wire.specs.ListReading.{IsCut, ListsTo, IsLines, Lists, IsList, StrangeIn, IsLinesFault, IsListFault};
+ghost use Rattle.portmap_wire.specs.ListReading.{WritesPort, EndsInDigits, HasShape, HasNoReading, ReadsLine};
+ghost use Rattle.portmap_wire.specs.ListReading.{is_newline, HasNoNewline};
+ghost use Rattle.portmap_wire.specs.ListReading.{IsCut, ListsTo, IsLines, Lists, IsList, StrangeIn, IsLinesFault};
+ghost use Rattle.portmap_wire.specs.ListReading.{IsListFault};
 ghost use Rattle.portmap_wire.specs.ListReading.{LinesHaveOneReading, ListsHaveOneReading, NamesAreReadBack};
 
 use crate::NoMemory;
@@ -210,8 +213,8 @@ pub fn read_dump(bytes: &[u8]) -> Result<(u32, &[u8]), ListFault>
     }
 }
 
-/// The port and the lines of the answer to NAMES_REQ, all of it. The end of a line is byte 10, and the last ` at port ` in
-/// it stands between its name and its port.
+/// The port and the lines of the answer to NAMES_REQ, all of it. The end of a line is byte 10, and the last ` at port `
+/// in it stands between its name and its port.
 pub fn read_names(alloc: Global, bytes: &[u8]) -> Result<(u32, Vec<Line>), ListFault>
     ensures found { IfOk result (λ list. Lists bytes.now list.0 list.1.items) }
     ensures fault { IfErr result (λ fault. IsListFault bytes.now fault) }

@@ -16,8 +16,8 @@ pub const NAMES_LINE_REST: usize = 20;
 /// The same of a line of the answer to DUMP_REQ, with a slot of twenty digits.
 pub const DUMP_LINE_REST: usize = 58;
 
-/// A list's reply in the making: one buffer, to which lines are added with no copy of their names. Where memory runs out
-/// the reply is given up whole.
+/// A list's reply in the making: one buffer, to which lines are added with no copy of their names. Where memory runs
+/// out the reply is given up whole.
 #[derive(Debug, Drop)]
 pub struct ListReply {
     bytes: Vec<u8>,
@@ -56,7 +56,8 @@ fn put_dump_line(
     port: u16,
     slot: Option<u64>,
 ) -> Result<(), NoMemory>
-    ensures { OnOk result (out.new.items ≡ out.old.items ++ dump_line (record { name = name.now; port = port; slot = slot })) }
+    ensures { OnOk result (out.new.items ≡ out.old.items
+        ++ dump_line (record { name = name.now; port = port; slot = slot })) }
 {
     match slot {
         Some(slot) => {

@@ -61,7 +61,8 @@ fn first_control(bytes: &[u8]) -> Option<usize>
 /// The first fault of bytes that are no name, in the order of `NameFault`.
 fn check_name(bytes: &[u8]) -> Result<(), NameFault>
     ensures name { MatchResult result (λ _. IsName bytes.now) (λ _. IsName bytes.now → ⊥) }
-    ensures exact { MatchResult result (λ _. name_in bytes.now ≡ Ok bytes.now) (λ fault. name_in bytes.now ≡ Err fault) }
+    ensures exact { MatchResult result (λ _. name_in bytes.now ≡ Ok bytes.now)
+        (λ fault. name_in bytes.now ≡ Err fault) }
     ensures memory { result ≢ Err NameFault.NoMemory }
 {
     if bytes.is_empty() {

@@ -1,8 +1,10 @@
 //! The numbers of the protocol.
 ghost use Rattle.std.specs.Prelude.{◌≡◌};
 ghost use Rattle.portmap_wire.specs.declared.name.TheConstants.{NAME_MOST};
-ghost use Rattle.portmap_wire.specs.declared.reply_writing.TheConstants.{ALIVE2_RESP, ALIVE2_X_RESP, PORT2_RESP, WIDE_VERSION};
-ghost use Rattle.portmap_wire.specs.declared.request.TheConstants.{ALIVE2_REQ, BODY_MOST, DUMP_REQ, KILL_REQ, NAMES_REQ, PORT_PLEASE2_REQ};
+ghost use Rattle.portmap_wire.specs.declared.reply_writing.TheConstants.{ALIVE2_RESP, ALIVE2_X_RESP, PORT2_RESP};
+ghost use Rattle.portmap_wire.specs.declared.reply_writing.TheConstants.{WIDE_VERSION};
+ghost use Rattle.portmap_wire.specs.declared.request.TheConstants.{ALIVE2_REQ, BODY_MOST, DUMP_REQ, KILL_REQ};
+ghost use Rattle.portmap_wire.specs.declared.request.TheConstants.{NAMES_REQ, PORT_PLEASE2_REQ};
 ghost use Rattle.portmap_wire.specs.declared.request.TheConstants.{STOP_REQ};
 
 /// A law: the numbers that definitions take from the code are those of the protocol.

@@ -26,8 +26,8 @@ impl From<NoMemory> for ExtraFault {
     }
 }
 
-/// A node's registration, by the fields of ALIVE2_REQ in the ERTS User's Guide. Any number is taken in each field, and is
-/// given back as it came. A request that holds it has at most 8,192 bytes.
+/// A node's registration, by the fields of ALIVE2_REQ in the ERTS User's Guide. Any number is taken in each field, and
+/// is given back as it came. A request that holds it has at most 8,192 bytes.
 #[derive(Debug, Drop)]
 pub struct Reg {
     /// PortNo, the port that the node listens on.
@@ -61,8 +61,15 @@ impl Model for Reg {
       extra = g.extra.items;
     } };
 
-    ghost invariant = { λ g. IsNode (record
-        { port = g.port; kind = g.kind; proto = g.proto; high = g.high; low = g.low; name = g.name; extra = g.extra.items }) };
+    ghost invariant = { λ g. IsNode (record {
+      port = g.port;
+      kind = g.kind;
+      proto = g.proto;
+      high = g.high;
+      low = g.low;
+      name = g.name;
+      extra = g.extra.items;
+    }) };
 }
 
 impl Reg {

@@ -1,6 +1,7 @@
 //! Reading the answers to a registration and to a look-up.
 ghost use Rattle.std.specs.Prelude.{◌≡◌, ◌≢◌, ◌+◌, ◌<◌, ◌≤◌, List, ℕ, ◌++◌, length, Err, IsOk, IfOk, IfSome};
-ghost use Rattle.portmap_wire.specs.ReplyReading.{wide_answer, short_answer, alive_answer, registered_answer, port2_result, port2_answer};
+ghost use Rattle.portmap_wire.specs.ReplyReading.{wide_answer, short_answer, alive_answer, registered_answer};
+ghost use Rattle.portmap_wire.specs.ReplyReading.{port2_result, port2_answer};
 ghost use Rattle.portmap_wire.specs.ReplyReading.{GivesReply, IsFound, AlivesAreReadBack, LookUpsAreReadBack};
 ghost use Rattle.portmap_wire.specs.RequestReading.{fields_in};
 
@@ -82,8 +83,8 @@ fn read_short(rest: &[u8]) -> Result<AliveReply, ReplyFault>
     }
 }
 
-/// The answer to a registration that is at the front of these bytes: ALIVE2_X_RESP or ALIVE2_RESP. What follows it is not
-/// looked at.
+/// The answer to a registration that is at the front of these bytes: ALIVE2_X_RESP or ALIVE2_RESP. What follows it is
+/// not looked at.
 pub fn read_alive(bytes: &[u8]) -> Result<AliveReply, ReplyFault>
     ensures { result ≡ alive_answer bytes.now }
 {
@@ -134,8 +135,8 @@ fn read_tagged(alloc: Global, bytes: &[u8]) -> Result<Option<Reg>, ReplyFault>
     }
 }
 
-/// The answer to a look-up that is at the front of these bytes, PORT2_RESP: what is registered, none where the result is
-/// above 0. What follows it is not looked at.
+/// The answer to a look-up that is at the front of these bytes, PORT2_RESP: what is registered, none where the result
+/// is above 0. What follows it is not looked at.
 pub fn read_port2(alloc: Global, bytes: &[u8]) -> Result<Option<Reg>, ReplyFault>
     // What is found is spelled so.
     ensures found { IfOk result (λ found. IfSome found (λ g. IsFound bytes.now g)) }
@@ -161,8 +162,8 @@ pub fn alive_missing(bytes: &[u8]) -> usize
     }
 }
 
-/// How many bytes more the answer to a look-up has at least, where these are its first ones: 0 exactly where `read_port2`
-/// doesn't find it `Short`.
+/// How many bytes more the answer to a look-up has at least, where these are its first ones: 0 exactly where
+/// `read_port2` doesn't find it `Short`.
 pub fn port2_missing(bytes: &[u8]) -> usize
     ensures none { result ≡ 0 → port2_answer bytes.now ≢ Err ReplyFault.Short }
     ensures missing { (more : List ℕ) → length more < result → port2_answer (bytes.now ++ more) ≡ Err ReplyFault.Short }

@@ -17,8 +17,8 @@ pub const PORT2_RESP: u8 = 119;
 /// The least highest version of a node that is answered by ALIVE2_X_RESP, with a creation of 4 bytes.
 pub const WIDE_VERSION: u16 = 6;
 
-/// The answer to a registration by a node whose highest version is `high`: ALIVE2_X_RESP with a creation of 4 bytes where
-/// that is at least 6, else ALIVE2_RESP with one of 2 bytes. Code 0 is success; with any other the creation is 0.
+/// The answer to a registration by a node whose highest version is `high`: ALIVE2_X_RESP with a creation of 4 bytes
+/// where that is at least 6, else ALIVE2_RESP with one of 2 bytes. Code 0 is success; with any other the creation is 0.
 pub fn write_alive(alloc: Global, high: u16, code: u8, creation: u32) -> Result<Vec<u8>, NoMemory>
     requires { high < WIDE_VERSION → creation < 2 ^ 16 }
     ensures { IfOk result (λ v. v.items ≡ alive_reply high code creation) }

@@ -1,5 +1,5 @@
-//! Which workers accept connections: the first ones, as many as there is work for, since each that does is woken by every connection
-//! that comes.
+//! Which workers accept connections: the first ones, as many as there is work for, since each that does is woken by
+//! every connection that comes.
 ghost use Rattle.std.specs.Prelude.{◌≡◌, ◌↔◌, ◌≢◌, ◌+◌, ◌-◌, ◌<◌, ◌≤◌, ◌⊎◌, min, true, false};
 ghost use Rattle.portmap_worker.specs.declared.limits.TheConstants.{HELD_MS, LOAD_POLLS, LOAD_US, REST_US};
 ghost use Rattle.portmap_worker.specs.declared.shared.TheConstants.{IDLE};
@@ -84,7 +84,8 @@ impl LoadMeter {
     /// The worker has polled. Whether it has been without a rest for so long that it may want help.
     pub(crate) fn note_poll(&mut self, before: u64, after: u64) -> bool
         ensures rest { REST_US ≤ after - before → (result ≡ false) × (self.new.since ≡ after) × (self.new.polls ≡ 0) }
-        ensures loaded { result ≡ true → (LOAD_US ≤ after - self.old.since) × (LOAD_POLLS ≤ self.old.polls + 1) × (self.new.since ≡ after)
+        ensures loaded { result ≡ true → (LOAD_US ≤ after - self.old.since) × (LOAD_POLLS ≤ self.old.polls + 1)
+            × (self.new.since ≡ after)
             × (self.new.polls ≡ 0) }
         ensures goes_on { result ≡ false → after - before < REST_US
             → (self.new.since ≡ self.old.since) × (self.new.polls ≡ min (self.old.polls + 1) 4294967295)

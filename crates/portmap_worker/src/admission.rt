@@ -82,8 +82,8 @@ impl<S: Stream> Door<S> {
         self.newcomer.is_none()
     }
 
-    /// Whether something is to be done here at once: connections may wait at a listener, or, while one waits for a place, there may be one
-    /// for it, unless the last search for one was in vain.
+    /// Whether something is to be done here at once: connections may wait at a listener, or, while one waits for a
+    /// place, there may be one for it, unless the last search for one was in vain.
     pub(crate) fn is_busy(&self, is_waiting: bool, now: u64) -> bool
         ensures none { IfNone self.now.newcomer (result ≡ is_waiting) }
         ensures some { IfSome self.now.newcomer (λ _. (result ≡ true) ↔ (self.now.room_backoff ≤ now)) }
@@ -183,8 +183,8 @@ impl<'a, L: Ledger, S: System, R: Host + Wait + Clock> SocketSource<'a, L, S, R>
         fresh
     }
 
-    /// Holds a new connection. It is looked at without waiting for the poll, since its request is most likely there. More are held at
-    /// once than ever were only if memory is left that others may need.
+    /// Holds a new connection. It is looked at without waiting for the poll, since its request is most likely there.
+    /// More are held at once than ever were only if memory is left that others may need.
     fn hold(&mut self, newcomer: Newcomer<S::Stream>, permit: Permit<'a>) -> Option<Turn>
         ensures fresh { IfSome result (λ turn. IsFreshFrom newcomer.is_local turn) }
         ensures told { self.new.ready.told ≡ self.old.ready.told }
@@ -202,8 +202,8 @@ impl<'a, L: Ledger, S: System, R: Host + Wait + Clock> SocketSource<'a, L, S, R>
         Some(Turn::Fresh { key, local })
     }
 
-    /// There is no place for a new connection: one is given up for it, here or, for a local peer, by another worker soon. A
-    /// connection is closed for which none can be.
+    /// There is no place for a new connection: one is given up for it, here or, for a local peer, by another worker
+    /// soon. A connection is closed for which none can be.
     fn make_room(&mut self, newcomer: Newcomer<S::Stream>) -> Option<Turn>
         ensures { self.new.ready.told ≡ self.old.ready.told }
     {
@@ -251,8 +251,8 @@ fn give_way<S: Stream>(links: &mut Links<'_, S>, key: usize, now: u64) -> Turn
     Turn::Late(key as u64)
 }
 
-/// The one that goes first of the links that may be given up for another one: of those of remote peers, and, with local ones, of all. None
-/// that is pending is.
+/// The one that goes first of the links that may be given up for another one: of those of remote peers, and, with local
+/// ones, of all. None that is pending is.
 fn first_to_go<S: Stream>(links: &Links<'_, S>, with_local: bool, now: u64) -> Option<usize> {
     let mut first: Option<Candidate> = None;
     for key in 0..links.keys() {

@@ -5,7 +5,8 @@ ghost use Rattle.portmap_core.specs.declared.event.Event.TheVariants as event;
 ghost use Rattle.portmap_book.specs.Told.{AsksPiece, SaysTo};
 ghost use Rattle.portmap_link.specs.Asking.{devices};
 ghost use Rattle.portmap_link.specs.Flush.{Moves};
-ghost use Rattle.portmap_worker.specs.Carrying.{IsLate, IsRead, FollowsAnswer, FollowsNothing, added, bytes_of, fate_of, is_close};
+ghost use Rattle.portmap_worker.specs.Carrying.{IsLate, IsRead, FollowsAnswer, FollowsNothing, added, bytes_of};
+ghost use Rattle.portmap_worker.specs.Carrying.{fate_of, is_close};
 ghost use Rattle.portmap_worker.specs.Carrying.{next_after, next_of};
 
 use crate::limits::PULL_BYTES_MOST;
@@ -22,7 +23,8 @@ use std::sync::ledger::Ledger;
 pub enum Next {
     /// Nothing, until there is news of its link.
     Keep,
-    /// To close it: its peer has ended it, the desk has refused it, or its close was due and nothing waits to be written.
+    /// To close it: its peer has ended it, the desk has refused it, or its close was due and nothing waits to be
+    /// written.
     Close,
     /// To give it up as failed: its link has.
     Fault,
@@ -56,10 +58,10 @@ impl<L: Ledger> Carrier<L> {
         }
     }
 
-    /// Goes on with the connection: writes what waits, and, unless a close is due, pulls once for a piece of `PULL_BYTES_MOST` bytes at
-    /// most, has the desk answer it, and writes the answer as far as the link takes it. The gate is passed with
-    /// the seat's number before the answer is written and after. Gives the place and the answer that the desk told, if it did, and what is
-    /// to be done next.
+    /// Goes on with the connection: writes what waits, and, unless a close is due, pulls once for a piece of
+    /// `PULL_BYTES_MOST` bytes at most, has the desk answer it, and writes the answer as far as the link takes it. The
+    /// gate is passed with the seat's number before the answer is written and after. Gives the place and the answer
+    /// that the desk told, if it did, and what is to be done next.
     pub fn ready<I: Input + Output, G: Gate, R: Wait>(
         &mut self,
         rt: &R,
@@ -78,7 +80,8 @@ impl<L: Ledger> Carrier<L> {
             Moves (I.held link.old) (I.held link.new) (self.old.out ++ added told.1 result.1) self.new.out) }
         ensures due { IfSome result.0 (λ told. (self.old.due ≡ false) × (self.new.due ≡ is_close (fate_of told.1))) }
         ensures counted { IfSome result.0 (λ told. (seat.new.count ≡ seat.old.count + 1) × (seat.old.count ≤ told.0)) }
-        ensures next { IfSome result.0 (λ told. FollowsAnswer told.1 (I.puts link.old) (I.puts link.new) self.new.out result.1) }
+        ensures next { IfSome result.0 (λ told. FollowsAnswer told.1 (I.puts link.old)
+            (I.puts link.new) self.new.out result.1) }
         ensures same { IfNone result.0 ((seat.new ≡ seat.old) × (self.new.due ≡ self.old.due)) }
         ensures worker { seat.new.worker ≡ seat.old.worker }
         ensures flushed { IfNone result.0 (Moves (I.held link.old) (I.held link.new) self.old.out self.new.out) }
@@ -112,7 +115,8 @@ impl<L: Ledger> Carrier<L> {
     /// Has the answer written, as far as the link takes it.
     fn reply<I: Output>(&mut self, link: &mut I, answer: &Answer) -> Next
         requires { self.old.due ≡ false }
-        ensures written { Moves (I.held link.old) (I.held link.new) (self.old.out ++ added answer.now result) self.new.out }
+        ensures written { Moves (I.held link.old) (I.held link.new)
+            (self.old.out ++ added answer.now result) self.new.out }
         ensures due { self.new.due ≡ is_close (fate_of answer.now) }
         ensures next { FollowsAnswer answer.now (I.puts link.old) (I.puts link.new) self.new.out result }
         ensures left { Keeps (I.left link.old) (I.left link.new) }
@@ -127,8 +131,8 @@ impl<L: Ledger> Carrier<L> {
         }
     }
 
-    /// The time that the connection has for its request, or for what waits to be written, is over. What is to be done next: what
-    /// waits does not keep it from being closed.
+    /// The time that the connection has for its request, or for what waits to be written, is over. What is to be done
+    /// next: what waits does not keep it from being closed.
     pub(crate) fn late<R: Wait>(
         &self,
         rt: &R,

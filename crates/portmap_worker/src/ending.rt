@@ -12,7 +12,8 @@ pub enum Failure {
     NoMemory,
 }
 
-/// Why they do, by whether nothing gets through any more for want of memory, and whether readiness can no longer be had.
+/// Why they do, by whether nothing gets through any more for want of memory, and whether readiness can no longer be
+/// had.
 fn failure_of(is_starved: bool, has_poll_failed: bool) -> Option<Failure>
     ensures starved { is_starved ≡ true → result ≡ Some Failure.NoMemory }
     ensures poll { is_starved ≡ false → has_poll_failed ≡ true → result ≡ Some Failure.Poll }

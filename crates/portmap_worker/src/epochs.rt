@@ -1,8 +1,8 @@
 //! Poll epochs: all workers look for connections that have ended.
 //!
-//! They have numbers from 1. As one begins there may be connections that have ended and of whose end no worker knows yet. A worker
-//! has passed it once it has gone through all that its poll reported after the epoch began: then it knows of each end that was
-//! there when it began.
+//! They have numbers from 1. As one begins there may be connections that have ended and of whose end no worker knows
+//! yet. A worker has passed it once it has gone through all that its poll reported after the epoch began: then it knows
+//! of each end that was there when it began.
 ghost use Rattle.std.specs.Prelude.{◌≡◌, ◌↔◌, ◌-◌, ◌<◌, [], true, cond, IfSome};
 
 use crate::host::Host;
@@ -74,7 +74,8 @@ pub(crate) struct Polled {
 /// How far a worker is with what its poll has reported.
 #[derive(Default, Drop)]
 pub(crate) struct Pass {
-    /// The epoch that is passed once all is told that was to be told when the poll had answered, and how much of that is left.
+    /// The epoch that is passed once all is told that was to be told when the poll had answered, and how much of that
+    /// is left.
     epoch: u64,
     left: usize,
 }
@@ -105,7 +106,8 @@ impl Pass {
         self.left == 0
     }
 
-    /// All is told that the poll knew of when it answered: so of the epoch that had begun before. The one that has begun last is next.
+    /// All is told that the poll knew of when it answered: so of the epoch that had begun before. The one that has
+    /// begun last is next.
     pub(crate) fn end<W: Wake>(
         &self,
         shared: &Shared<W>,

@@ -27,8 +27,8 @@ impl FirstPiece {
         }
     }
 
-    /// Reads the stream. The first piece is kept back if it asks to register a name, as long as there is memory for that: then the
-    /// read is cut short, and the next one gives it.
+    /// Reads the stream. The first piece is kept back if it asks to register a name, as long as there is memory for
+    /// that: then the read is cut short, and the next one gives it.
     pub(crate) fn read<S: Read>(&mut self, stream: &mut S, buffer: &mut [u8]) -> io::Result<usize>
         ensures bound { ReadsAtMost result buffer.new }
     {

@@ -9,8 +9,8 @@ pub enum Point {
     Sent,
 }
 
-/// What every worker passes, twice for each piece that the desk has answered: at `Answered` and then at `Sent`. So that a test
-/// can hold one worker where it is while others go on.
+/// What every worker passes, twice for each piece that the desk has answered: at `Answered` and then at `Sent`. So that
+/// a test can hold one worker where it is while others go on.
 pub trait Gate {
     /// Returns once the worker may go on.
     fn pass(&self, worker: u32, point: Point);

@@ -1,28 +1,30 @@
-//! What a worker is: it carries bytes between links and a desk, whichever system its links come from. No threads and no sockets: these are
-//! `portmap_daemon`'s, and a simulation has a world of its own.
+//! What a worker is: it carries bytes between links and a desk, whichever system its links come from. No threads and no
+//! sockets: these are `portmap_daemon`'s, and a simulation has a world of its own.
 //!
 //! What is promised, beside the clauses themselves:
-//! - `Carrier::ready`, over any link and gate: offers what waits, then pulls once, unless a close is due. Where it tells a place and an
-//!   answer, these are the desk's for the bytes of that pull, and what it wrote, followed by what waits, is what waited and the answer.
-//!   What is next is exact. Where it tells nothing, nothing is lost, the seat is as it was, and what is next says why.
-//! - `serve`: the seat back, with a count higher by what it says it served. That it goes on through `ready` alone, answers every connection
-//!   and ends: tests and the simulation.
-//! - `Recorder::begin`, `add`: true: all text was written; false: a front of it, or nothing, and nothing from then on. One thread owns the
-//!   file and its `Recorder`. How much of a write that failed may stay is exact (`kept_size`). That the file is cut there, that the files
-//!   meet, and have all: tests and the simulation.
-//! - Where each link of a worker stands, and that each is told in its turn: `portmap_ready`. By clauses of the source, a turn tells of the
-//!   queue's first (`pop`), what was told last is put to a place before the next one is told, and the poll may wait only while nothing is
-//!   queued (`ask`). So many turns at most pass between two polls (`take_turn`), and the epoch that is passed had begun before the poll was
-//!   asked (`ask_behind`).
-//! - Each place that is taken is a `Permit`, made by `Quota::take` alone and given back as it is dropped: so what the quota counts is what
-//!   links have.
-//! - Which connections are open is decided by functions over values, each exact (`is_free`, `goes_before`, `spares_local`, `poll_timeout`,
-//!   `note_poll`, `is_held`, `acceptors_without`, `accept_error`, `starved_for`, `failure_of`), and so are a link's times (`may_move`,
-//!   `since_at`, `expire`, `take_late`), how a registration waits (`told_at_once`, `Waiting::next`), when the log is taken out, what waits
-//!   and when a file is full (`is_due`, `fits`, `is_full`), and what the operator is told (`notice`, `Refused`). That they are asked: tests
-//!   and the simulation.
-//! - `System`, `Stream`, `Wake`: what workers ask of the system. Nothing is asked of who answers but that a read or a write moves no more
-//!   bytes than there is room for.
+//! - `Carrier::ready`, over any link and gate: offers what waits, then pulls once, unless a close is due. Where it
+//!   tells a place and an answer, these are the desk's for the bytes of that pull, and what it wrote, followed by what
+//!   waits, is what waited and the answer. What is next is exact. Where it tells nothing, nothing is lost, the seat is
+//!   as it was, and what is next says why.
+//! - `serve`: the seat back, with a count higher by what it says it served. That it goes on through `ready` alone,
+//!   answers every connection and ends: tests and the simulation.
+//! - `Recorder::begin`, `add`: true: all text was written; false: a front of it, or nothing, and nothing from then on.
+//!   One thread owns the file and its `Recorder`. How much of a write that failed may stay is exact (`kept_size`). That
+//!   the file is cut there, that the files meet, and have all: tests and the simulation.
+//! - Where each link of a worker stands, and that each is told in its turn: `portmap_ready`. By clauses of the source,
+//!   a turn tells of the queue's first (`pop`), what was told last is put to a place before the next one is told, and
+//!   the poll may wait only while nothing is queued (`ask`). So many turns at most pass between two polls
+//!   (`take_turn`), and the epoch that is passed had begun before the poll was asked (`ask_behind`).
+//! - Each place that is taken is a `Permit`, made by `Quota::take` alone and given back as it is dropped: so what the
+//!   quota counts is what links have.
+//! - Which connections are open is decided by functions over values, each exact (`is_free`, `goes_before`,
+//!   `spares_local`, `poll_timeout`, `note_poll`, `is_held`, `acceptors_without`, `accept_error`, `starved_for`,
+//!   `failure_of`), and so are a link's times (`may_move`, `since_at`, `expire`, `take_late`), how a registration waits
+//!   (`told_at_once`, `Waiting::next`), when the log is taken out, what waits and when a file is full (`is_due`,
+//!   `fits`, `is_full`), and what the operator is told (`notice`, `Refused`). That they are asked: tests and the
+//!   simulation.
+//! - `System`, `Stream`, `Wake`: what workers ask of the system. Nothing is asked of who answers but that a read or a
+//!   write moves no more bytes than there is room for.
 #![tactic(auto)]
 
 mod accept_scheduler;

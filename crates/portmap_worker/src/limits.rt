@@ -1,6 +1,7 @@
 //! What workers are tuned by. `MS` are milliseconds, `US` microseconds.
 ghost use Rattle.std.specs.Prelude.{◌≡◌, ◌+◌, ◌*◌, ◌^◌};
-ghost use Rattle.portmap_worker.specs.declared.limits.TheConstants.{ACCEPT_BACKOFF_MS, FILE_BYTES_MOST, KEPT_SHARE, LATERS_MOST};
+ghost use Rattle.portmap_worker.specs.declared.limits.TheConstants.{ACCEPT_BACKOFF_MS, FILE_BYTES_MOST, KEPT_SHARE};
+ghost use Rattle.portmap_worker.specs.declared.limits.TheConstants.{LATERS_MOST};
 ghost use Rattle.portmap_worker.specs.declared.limits.TheConstants.{LOG_BYTES_HEAVY, PULL_BYTES_MOST, QUEUE_BYTES_MOST};
 ghost use Rattle.portmap_record.specs.declared.playing.TheConstants.{SESSION_MOST};
 
@@ -11,8 +12,8 @@ use portmap_record::SESSION_MOST;
 /// The most bytes that one pull of a link asks for.
 pub const PULL_BYTES_MOST: usize = 4096;
 
-/// How often the last reply is tried again if its link says Later, before the worker ends. With the Later that its first try
-/// ended with, a link has said so a thousand times when it is given up.
+/// How often the last reply is tried again if its link says Later, before the worker ends. With the Later that its
+/// first try ended with, a link has said so a thousand times when it is given up.
 pub(crate) const LAST_TRIES_MOST: u32 = 999;
 
 /// The last eighth of all places is for local peers alone.
@@ -29,7 +30,8 @@ pub(crate) const REMOTE_FIRST_MS: u64 = 50;
 /// If no connection may be given up for another one, so much later the next one is looked for.
 pub(crate) const ROOM_BACKOFF_MS: u64 = 10;
 
-/// So many links are read in a millisecond at most that were answered and go on sending: what they send is of no use, but is logged.
+/// So many links are read in a millisecond at most that were answered and go on sending: what they send is of no use,
+/// but is logged.
 pub(crate) const RESTS_MOST: u32 = 4;
 
 // ---- pending registrations
@@ -37,7 +39,8 @@ pub(crate) const RESTS_MOST: u32 = 4;
 /// The most that are pending at one worker.
 pub(crate) const PENDING_MOST: usize = 64;
 
-/// For so long one waits for its name alone, and then until every worker has passed an epoch, or for so long and so many rounds.
+/// For so long one waits for its name alone, and then until every worker has passed an epoch, or for so long and so
+/// many rounds.
 pub(crate) const NAME_TIMEOUT_MS: u64 = 50;
 
 pub(crate) const EPOCH_TIMEOUT_MS: u64 = 1000;
@@ -55,8 +58,8 @@ pub(crate) const TURNS_MOST: u32 = 64;
 /// How often the poll is asked within one turn if what it reports comes to nothing: other workers took it.
 pub(crate) const POLLS_MOST: u32 = 64;
 
-/// So much time passes between two looks at what no event tells: whether another worker has stopped a connection, and whose
-/// time is over.
+/// So much time passes between two looks at what no event tells: whether another worker has stopped a connection, and
+/// whose time is over.
 pub(crate) const LOOK_INTERVAL_MS: u64 = 450;
 
 /// How long a poll waits at most if there is nothing to look at: a connection that comes or another thread ends it.
@@ -70,7 +73,8 @@ pub(crate) const SHORT_TIMEOUT_MS: u64 = 1;
 /// For so long a listener is left alone at which nothing can be accepted.
 pub(crate) const ACCEPT_BACKOFF_MS: u64 = 20;
 
-/// After so many reports in a row that came to nothing, since other workers took what waited, a worker leaves the listeners.
+/// After so many reports in a row that came to nothing, since other workers took what waited, a worker leaves the
+/// listeners.
 pub(crate) const IDLE_REPORTS_MOST: u32 = 2;
 
 /// A worker that accepts and has not polled for so long is held by something.
@@ -88,8 +92,8 @@ pub(crate) const BACKLOG_MOST: u32 = 32;
 
 // ---- the log and its recording
 
-/// The log is taken out each time that a second is over, each 50 milliseconds while memory is short, and at once if its entries
-/// take so many bytes: so few that the memory of a log serves the next ones. Then it is looked at again soon.
+/// The log is taken out each time that a second is over, each 50 milliseconds while memory is short, and at once if its
+/// entries take so many bytes: so few that the memory of a log serves the next ones. Then it is looked at again soon.
 pub(crate) const SECOND_MS: u64 = 1000;
 
 pub(crate) const SHORT_OF_MEMORY_MS: u64 = 50;
@@ -118,13 +122,14 @@ pub(crate) const CHUNK_ENTRIES: usize = 256;
 /// The most bytes that the entries take which wait to be recorded. If there were more the recording has failed.
 pub(crate) const QUEUE_BYTES_MOST: u64 = 16_777_216;
 
-/// A file of a recording that has so many bytes is full. With all that may wait for it, it has no more than are read again.
+/// A file of a recording that has so many bytes is full. With all that may wait for it, it has no more than are read
+/// again.
 pub const FILE_BYTES_MOST: u64 = SESSION_MOST as u64 - QUEUE_BYTES_MOST;
 
 // ---- memory
 
-/// How many bytes are kept for the time when no other memory can be had: so many that the system has them back at once, or, as long as
-/// these can't be had, the most of the others that can. Names that have left leave memory in pieces.
+/// How many bytes are kept for the time when no other memory can be had: so many that the system has them back at once,
+/// or, as long as these can't be had, the most of the others that can. Names that have left leave memory in pieces.
 pub(crate) const RESERVE_BYTES: [usize; 5] = [1_048_576, 524_288, 262_144, 131_072, 65_536];
 
 /// If so many can't be had memory is short.
@@ -133,12 +138,14 @@ pub(crate) const PROBE_BYTES: usize = 65_536;
 /// After so many seconds on end in which nothing got through for want of memory the daemon ends.
 pub(crate) const STARVED_SECONDS_MOST: u32 = 5;
 
-/// Between two notices of a kind, that no connection can be accepted or that names were refused, so many seconds pass at least.
+/// Between two notices of a kind, that no connection can be accepted or that names were refused, so many seconds pass
+/// at least.
 pub(crate) const NOTICE_SECONDS: u32 = 10;
 
 /// A law: the numbers that definitions take from the code are those of this profile.
 pub fn numbers_are_the_profiles()
     ensures serving { (PULL_BYTES_MOST ≡ 4096) × (KEPT_SHARE ≡ 8) × (ACCEPT_BACKOFF_MS ≡ 20) }
-    ensures recording { (LATERS_MOST ≡ 1000) × (LOG_BYTES_HEAVY ≡ 2 ^ 18) × (QUEUE_BYTES_MOST ≡ 2 ^ 24) × (FILE_BYTES_MOST ≡ 240 * 2 ^ 20) }
+    ensures recording { (LATERS_MOST ≡ 1000) × (LOG_BYTES_HEAVY ≡ 2 ^ 18) × (QUEUE_BYTES_MOST ≡ 2 ^ 24)
+        × (FILE_BYTES_MOST ≡ 240 * 2 ^ 20) }
     ensures file { FILE_BYTES_MOST + QUEUE_BYTES_MOST ≡ SESSION_MOST }
 {}

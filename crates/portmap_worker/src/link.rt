@@ -48,8 +48,8 @@ pub struct Link<S: Read + Write> {
     pub(crate) is_local: bool,
     /// When it came.
     pub(crate) came: u64,
-    /// It was answered and goes on sending: what it sends is of no use, and is read piece by piece with rests in between. Or the poll
-    /// has refused to report it.
+    /// It was answered and goes on sending: what it sends is of no use, and is read piece by piece with rests in
+    /// between. Or the poll has refused to report it.
     is_resting: bool,
     /// How many bytes have moved since that was last asked.
     moved_bytes: usize,
@@ -61,8 +61,8 @@ fn would_block(told: &io::Result<usize>) -> bool {
 }
 
 impl<S: Read + Write> Link<S> {
-    /// One that comes now, of which there is something to tell: it may have bytes. If a local peer asks to register a name at once, that
-    /// is kept back for one pull.
+    /// One that comes now, of which there is something to tell: it may have bytes. If a local peer asks to register a
+    /// name at once, that is kept back for one pull.
     pub fn new(alloc: Global, stream: S, is_local: bool, now: u64) -> Link<S>
         ensures pulls { result.history.pulls ≡ [] }
         ensures puts { result.history.puts ≡ [] }
@@ -123,18 +123,20 @@ impl<S: Read + Write> Link<S> {
         mem::replace(&mut self.moved_bytes, 0)
     }
 
-    /// Whether its peer has only so much time: for its request, or for the bytes that wait to be written. One that was answered
-    /// and has read the answer may be silent for as long as it likes.
+    /// Whether its peer has only so much time: for its request, or for the bytes that wait to be written. One that was
+    /// answered and has read the answer may be silent for as long as it likes.
     fn is_timed(&self) -> bool
         ensures { result ≡ is_timed self.now.progress self.now.readiness.writing }
     {
         !self.is_answered() || self.readiness.is_unsent()
     }
 
-    /// Whether it may be given up for another one: it has been there for a while, and waits for its peer. One that is answered and has read
-    /// its answer may not, so none that holds a name, but for the moment in which its answer waits to be written.
+    /// Whether it may be given up for another one: it has been there for a while, and waits for its peer. One that is
+    /// answered and has read its answer may not, so none that holds a name, but for the moment in which its answer
+    /// waits to be written.
     pub(crate) fn may_go(&self, now: u64) -> bool
-        ensures { (result ≡ true) ↔ ((is_timed self.now.progress self.now.readiness.writing ≡ true) × (YOUNG_MS < now - self.now.came)) }
+        ensures { (result ≡ true) ↔ ((is_timed self.now.progress self.now.readiness.writing ≡ true)
+            × (YOUNG_MS < now - self.now.came)) }
     {
         self.is_timed() && now.saturating_sub(self.came) > YOUNG_MS
     }
@@ -172,7 +174,8 @@ impl<S: Read + Write> Link<S> {
         };
     }
 
-    /// Memory is short: a local peer that has sent a part of a request, perhaps of a long registration, is late with the rest.
+    /// Memory is short: a local peer that has sent a part of a request, perhaps of a long registration, is late with
+    /// the rest.
     pub(crate) fn refuse_part(&mut self) {
         let is_part = self.is_local && !self.is_answered() && !self.readiness.is_unsent();
         if is_part && matches!(self.first, FirstPiece::Past) {
@@ -212,7 +215,8 @@ impl<S: Read + Write> Link<S> {
         if self.readiness.is_watched() {
             return self.timer.expire(rounds.time, timeout);
         }
-        // The poll has refused to report it, so it was asked after the look before, and no more is known of it than up to then.
+        // The poll has refused to report it, so it was asked after the look before, and no more is known of it than up
+        // to then.
         if !self.timer.expire(rounds.looked, timeout) {
             self.readiness.note_report();
         }
@@ -254,8 +258,8 @@ impl<S: Read + Write> Link<S> {
 }
 
 impl<S: Stream> Link<S> {
-    /// Where it goes, now that it was told. If no call on it is to be made the poll is asked to report it, and if that refuses, it is
-    /// asked again once the link has rested.
+    /// Where it goes, now that it was told. If no call on it is to be made the poll is asked to report it, and if that
+    /// refuses, it is asked again once the link has rested.
     pub(crate) fn fate<P: System<Stream = S>>(&mut self, system: &mut P, key: usize) -> Fate {
         let is_asked = !self.is_resting && self.may_move();
         if !is_asked && !self.readiness.is_watched() {

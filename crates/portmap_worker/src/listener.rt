@@ -44,8 +44,8 @@ fn accept_error(kind: ErrorKind) -> AcceptError
     }
 }
 
-/// One worker's share of a listening socket. The system reports it to every worker that watches it, and one of them gets the
-/// connection.
+/// One worker's share of a listening socket. The system reports it to every worker that watches it, and one of them
+/// gets the connection.
 #[derive(Clone, Copy, Debug, PartialEq, Eq)]
 struct Listener {
     /// Which of them it is.
@@ -122,7 +122,8 @@ impl Listener {
 #[derive(Drop)]
 pub(crate) struct Listeners {
     listeners: Vec<Listener>,
-    /// The place of the listener that is asked first: behind the one that gave last, so that none is served before the others.
+    /// The place of the listener that is asked first: behind the one that gave last, so that none is served before the
+    /// others.
     first: usize,
     /// The worker accepts.
     is_on: bool,
@@ -245,8 +246,8 @@ impl Listeners {
         mem::replace(&mut self.exhausted, false)
     }
 
-    /// Watches the listeners from now on, or leaves them, as the worker accepts or not. Those that are to be watched again are, if it
-    /// is time.
+    /// Watches the listeners from now on, or leaves them, as the worker accepts or not. Those that are to be watched
+    /// again are, if it is time.
     pub(crate) fn pass<S: System>(&mut self, system: &mut S, now: u64, is_on: bool) {
         let turns = is_on != self.is_on;
         if turns {

@@ -7,7 +7,8 @@ use crate::news::News;
 use std::alloc::Global;
 use std::sync::atomic::{AtomicBool, Ordering};
 
-/// Memory that is kept for the time when no other can be had: as much as can be had and more beside it, if that is more than is held.
+/// Memory that is kept for the time when no other can be had: as much as can be had and more beside it, if that is more
+/// than is held.
 fn reserve<R: Host>(rt: &R, alloc: Global, held: usize) -> Option<Vec<u8>> {
     for size in RESERVE_BYTES {
         if size <= held || !rt.has_memory(alloc) {
@@ -22,10 +23,11 @@ fn reserve<R: Host>(rt: &R, alloc: Global, held: usize) -> Option<Vec<u8>> {
     None
 }
 
-/// For how many seconds on end nothing has got through for want of memory, after one more: in it no peer was answered, and entries
-/// could not be taken out of the log, or memory was short and peers went unanswered.
+/// For how many seconds on end nothing has got through for want of memory, after one more: in it no peer was answered,
+/// and entries could not be taken out of the log, or memory was short and peers went unanswered.
 fn starved_for(seconds: u32, stuck: bool, short: bool, news: News) -> u32
-    ensures goes_on { (not news.answered && (stuck || (short && news.unanswered))) ≡ true → result ≡ min (seconds + 1) 4294967295 }
+    ensures goes_on { (not news.answered && (stuck || (short && news.unanswered))) ≡ true
+        → result ≡ min (seconds + 1) 4294967295 }
     ensures ends { (not news.answered && (stuck || (short && news.unanswered))) ≡ false → result ≡ 0 }
 {
     if !news.answered && (stuck || (short && news.unanswered)) {
@@ -55,7 +57,8 @@ impl Memory {
         self.reserve.is_none()
     }
 
-    /// Gives the reserve back, for others to have but for registrations: memory is short from before that on. Whether there was one.
+    /// Gives the reserve back, for others to have but for registrations: memory is short from before that on. Whether
+    /// there was one.
     pub(crate) fn relieve(&mut self, short: &AtomicBool) -> bool {
         short.store(true, Ordering::SeqCst);
         self.reserve.take().is_some()
@@ -68,8 +71,8 @@ impl Memory {
         }
     }
 
-    /// Takes a look, once a second, by whether entries are left in the log that could not be taken out, and what has become of
-    /// connections. Whether nothing has got through for so long that the daemon is to end.
+    /// Takes a look, once a second, by whether entries are left in the log that could not be taken out, and what has
+    /// become of connections. Whether nothing has got through for so long that the daemon is to end.
     pub(crate) fn look<R: Host>(
         &mut self,
         rt: &R,

@@ -25,7 +25,8 @@ pub struct Noted {
 }
 
 impl Noted {
-    /// Adds what a worker knows. Whether a connection has ended unanswered, and none had that was noted: that is to be looked into soon.
+    /// Adds what a worker knows. Whether a connection has ended unanswered, and none had that was noted: that is to be
+    /// looked into soon.
     fn add(&self, news: News) -> bool {
         self.answered.fetch_or(news.answered, Ordering::SeqCst);
         self.exhausted.fetch_or(news.exhausted, Ordering::SeqCst);

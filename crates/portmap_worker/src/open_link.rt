@@ -19,8 +19,8 @@ pub(crate) enum Fate {
     Waits,
 }
 
-/// A link that a worker holds. However it is given up, a peer that doesn't have all of its answer sees that: its connection ends by a
-/// reset in place of an end.
+/// A link that a worker holds. However it is given up, a peer that doesn't have all of its answer sees that: its
+/// connection ends by a reset in place of an end.
 pub(crate) struct OpenLink<'a, S: Stream> {
     pub(crate) link: Link<S>,
     /// How long its registration goes on waiting, while it is pending.
@@ -64,8 +64,8 @@ pub(crate) fn put_in_place<S: System>(
     bytes
 }
 
-/// The poll has reported a link, and perhaps that its peer sends no more. There is something to tell of it, unless it rests and goes on
-/// sending.
+/// The poll has reported a link, and perhaps that its peer sends no more. There is something to tell of it, unless it
+/// rests and goes on sending.
 pub(crate) fn report<S: Stream>(links: &mut Links<'_, S>, key: usize, is_closed: bool) {
     let rests = links.place(key) == Some(Place::Resting);
     if let Some(held) = links.get_mut(key) {

@@ -34,7 +34,8 @@ pub(crate) fn is_local_by(peer: IpAddr, own: Option<IpAddr>) -> bool
     is_local_peer(peer, own.unwrap_or(NO_PEER))
 }
 
-/// A connection's own address. It is asked for only if the peer's doesn't decide, since that takes a call of the system.
+/// A connection's own address. It is asked for only if the peer's doesn't decide, since that takes a call of the
+/// system.
 pub(crate) fn own_ip<S: Stream>(stream: &S, peer: IpAddr) -> Option<IpAddr> {
     if is_local_by(peer, None) {
         None

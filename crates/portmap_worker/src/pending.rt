@@ -1,7 +1,7 @@
 //! Registrations that wait for their names.
 //!
-//! If a name is active when it is asked for, perhaps the connection that owns it has ended, or is ending: then the name is free soon.
-//! What the machine says after that is final.
+//! If a name is active when it is asked for, perhaps the connection that owns it has ended, or is ending: then the name
+//! is free soon. What the machine says after that is final.
 ghost use Rattle.std.specs.Prelude.{◌≡◌, ◌↔◌, ◌<◌, ◌≤◌, true, false, Some, None};
 ghost use Rattle.portmap_worker.specs.Pending.{GivesUp, GoesOn, earliest, until};
 ghost use Rattle.portmap_worker.specs.declared.limits.TheConstants.{PENDING_MOST};
@@ -28,7 +28,8 @@ pub(crate) enum Waiting {
     Asked,
     /// It waits for its name alone until this time.
     Name { until: u64 },
-    /// It has, and waits for this epoch. It was looked at so often since then: time alone passes also while the process is stopped.
+    /// It has, and waits for this epoch. It was looked at so often since then: time alone passes also while the process
+    /// is stopped.
     Epoch { until: u64, epoch: u64, rounds: u32 },
 }
 
@@ -43,8 +44,8 @@ impl Waiting {
         }
     }
 
-    /// How one whose name is active goes on waiting, if it does: for its name, and then until every worker has looked for connections
-    /// that have ended.
+    /// How one whose name is active goes on waiting, if it does: for its name, and then until every worker has looked
+    /// for connections that have ended.
     fn next<W: Wake>(self, now: u64, shared: &Shared<W>, worker: usize) -> Option<Waiting>
         ensures { GoesOn self now result }
     {
@@ -75,7 +76,8 @@ impl Waiting {
     }
 }
 
-/// What is told at once of the link with this key that keeps a registration back, while so many are pending; none if it is to wait.
+/// What is told at once of the link with this key that keeps a registration back, while so many are pending; none if it
+/// is to wait.
 fn told_at_once(key: u64, is_short: bool, is_active: bool, pending: usize) -> Option<Turn>
     ensures short { is_short ≡ true → result ≡ Some (Turn.Late key) }
     ensures free { is_short ≡ false → is_active ≡ false → result ≡ Some (Turn.Ready key) }
@@ -91,7 +93,8 @@ fn told_at_once(key: u64, is_short: bool, is_active: bool, pending: usize) -> Op
     }
 }
 
-/// Whether one that waits for an epoch gives up after so many rounds, at this time: it has waited for its name alone until then.
+/// Whether one that waits for an epoch gives up after so many rounds, at this time: it has waited for its name alone
+/// until then.
 fn gives_up(rounds: u32, now: u64, until: u64) -> bool
     ensures { (result ≡ true) ↔ GivesUp rounds now until }
 {
@@ -110,8 +113,8 @@ impl<L: Ledger, S: System, R: Host + Wait + Clock> SocketSource<'_, L, S, R> {
         self.shared.short.load(Ordering::SeqCst) || !self.rt.has_memory(self.alloc)
     }
 
-    /// What the link that was told last keeps back is told at once, unless its name is active and there is room for one more that
-    /// waits, or no memory is left that others may need.
+    /// What the link that was told last keeps back is told at once, unless its name is active and there is room for one
+    /// more that waits, or no memory is left that others may need.
     pub(crate) fn hold_back(&mut self) -> Option<Turn> {
         let key = self.ready.told()?;
         let is_active = self.is_name_active(key)?;
@@ -126,7 +129,8 @@ impl<L: Ledger, S: System, R: Host + Wait + Clock> SocketSource<'_, L, S, R> {
         None
     }
 
-    /// Has the registrations told whose names are free by now, or that have waited for long enough. The poll is asked next.
+    /// Has the registrations told whose names are free by now, or that have waited for long enough. The poll is asked
+    /// next.
     pub(crate) fn retry_pending(&mut self)
         requires { self.old.ready.told ≡ None }
     {

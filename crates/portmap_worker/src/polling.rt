@@ -78,8 +78,8 @@ impl<L: Ledger, S: System, R: Host + Wait + Clock> SocketSource<'_, L, S, R> {
         self.sockets.listeners.until(self.rounds.until(is_idle))
     }
 
-    /// For how many milliseconds the poll may wait: not at all while something is to be told, something is to be done at the door, or this
-    /// epoch is not passed.
+    /// For how many milliseconds the poll may wait: not at all while something is to be told, something is to be done
+    /// at the door, or this epoch is not passed.
     fn timeout(&self, begun: Begun) -> u64
         ensures queue { 0 < result → self.now.ready.queue ≡ [] }
     {
@@ -109,8 +109,9 @@ impl<L: Ledger, S: System, R: Host + Wait + Clock> SocketSource<'_, L, S, R> {
         is_all
     }
 
-    /// Looks at every link: whether its time is over, and whether the poll has refused to report it. The time was read before, and
-    /// however long this thread was stopped since, all that came meanwhile is noted first. False if the poll has failed.
+    /// Looks at every link: whether its time is over, and whether the poll has refused to report it. The time was read
+    /// before, and however long this thread was stopped since, all that came meanwhile is noted first. False if the
+    /// poll has failed.
     fn look_round(&mut self) -> bool {
         if !self.sockets.ask_for_all(&mut self.ready) {
             return false;

@@ -18,8 +18,8 @@ pub(crate) struct Candidate {
     pub(crate) key: usize,
 }
 
-/// How many places remote peers may have together while local ones have so many: all others but the kept ones, or but a half if
-/// that is less.
+/// How many places remote peers may have together while local ones have so many: all others but the kept ones, or but a
+/// half if that is less.
 fn remote_most(most: u64, local: u64) -> u64
     ensures { result ≡ remote_most most local }
 {
@@ -38,7 +38,8 @@ fn is_free(is_local: bool, most: u64, local: u64, remote: u64) -> bool
     }
 }
 
-/// Whether a connection is given up before another one: a remote one before a local one, of two alike one without news, and else the older.
+/// Whether a connection is given up before another one: a remote one before a local one, of two alike one without news,
+/// and else the older.
 fn goes_before(one: Candidate, other: Candidate) -> bool
     ensures { (result ≡ true) ↔ GoesBefore one other }
 {
@@ -63,16 +64,16 @@ pub(crate) fn first_of(first: Option<Candidate>, other: Candidate) -> Option<Can
     }
 }
 
-/// Whether a local peer that has waited for so many milliseconds still spares local connections, while remote ones have so many
-/// places: another worker may hold one of those.
+/// Whether a local peer that has waited for so many milliseconds still spares local connections, while remote ones have
+/// so many places: another worker may hold one of those.
 pub(crate) fn spares_local(waited: u64, remote: u64) -> bool
     ensures { (result ≡ true) ↔ ((waited < REMOTE_FIRST_MS) × (0 < remote)) }
 {
     waited < REMOTE_FIRST_MS && remote > 0
 }
 
-/// A place that a connection has. Nobody else makes one than `Quota::take`, and the place is free again once it is dropped: so what is
-/// taken is what its holders have.
+/// A place that a connection has. Nobody else makes one than `Quota::take`, and the place is free again once it is
+/// dropped: so what is taken is what its holders have.
 pub(crate) struct Permit<'a> {
     quota: &'a Quota,
     is_local: bool,

@@ -100,9 +100,9 @@ impl Readiness {
         }
     }
 
-    /// A pull with so much room has answered so, and would have waited or not. If fewer bytes came than there was room for no more were
-    /// there. A stream that no poll reports yet is reported, once it is to be, with all that has come by then: so it needn't be asked
-    /// whether it is dry.
+    /// A pull with so much room has answered so, and would have waited or not. If fewer bytes came than there was room
+    /// for no more were there. A stream that no poll reports yet is reported, once it is to be, with all that has come
+    /// by then: so it needn't be asked whether it is dry.
     pub(crate) fn note_pull(&mut self, answer: &Pull, room: usize, is_blocked: bool) {
         let is_dry = match answer {
             Pull::Piece(count) => *count < room && !self.is_known(),

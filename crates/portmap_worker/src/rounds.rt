@@ -1,13 +1,16 @@
-//! When a worker asks its poll, and when it looks at all of its links. Times are in milliseconds since the daemon began.
+//! When a worker asks its poll, and when it looks at all of its links. Times are in milliseconds since the daemon
+//! began.
 ghost use Rattle.std.specs.Prelude.{◌≡◌, ◌↔◌, ◌+◌, ◌-◌, ◌/◌, ◌≤◌, ◌<◌, ◌^◌, true, false, cond, min, max, Some};
 ghost use Rattle.portmap_worker.specs.Pending.{earliest};
-ghost use Rattle.portmap_worker.specs.declared.limits.TheConstants.{IDLE_TIMEOUT_MS, LOOK_INTERVAL_MS, SHORT_TIMEOUT_MS, TURNS_MOST};
+ghost use Rattle.portmap_worker.specs.declared.limits.TheConstants.{IDLE_TIMEOUT_MS, LOOK_INTERVAL_MS};
+ghost use Rattle.portmap_worker.specs.declared.limits.TheConstants.{SHORT_TIMEOUT_MS, TURNS_MOST};
 
 use crate::accept_scheduler::LoadMeter;
 use crate::epochs::Pass;
 use crate::limits::{IDLE_TIMEOUT_MS, LOOK_INTERVAL_MS, SHORT_TIMEOUT_MS, TURNS_MOST};
 
-/// How many milliseconds a poll may wait: not at all while there is something to do; else until this time, but at least a moment.
+/// How many milliseconds a poll may wait: not at all while there is something to do; else until this time, but at least
+/// a moment.
 pub(crate) fn poll_timeout(is_busy: bool, now: u64, until: u64) -> u64
     ensures busy { is_busy ≡ true → result ≡ 0 }
     ensures waits { is_busy ≡ false → result ≡ max (until - now) SHORT_TIMEOUT_MS }
@@ -96,7 +99,8 @@ impl Rounds {
         self.pending_until = Some(earliest(self.pending_until, until));
     }
 
-    /// Until when a poll may wait: for what is pending, and for the next look, or a while where there is nothing to look at.
+    /// Until when a poll may wait: for what is pending, and for the next look, or a while where there is nothing to
+    /// look at.
     pub(crate) fn until(&self, is_idle: bool) -> u64
         ensures { result ≡ earliest self.now.pending_until
             (cond is_idle (min (self.now.time + IDLE_TIMEOUT_MS) (2 ^ 64 - 1)) self.now.look_due) }
@@ -118,7 +122,11 @@ impl Rounds {
 
     /// All links were looked at.
     pub(crate) fn note_look(&mut self)
-        ensures { self.new ≡ record self.old { looked = self.old.time; look_due = min (self.old.time + LOOK_INTERVAL_MS) (2 ^ 64 - 1) } }
+        ensures { self.new ≡ record self.old {
+          looked = self.old.time;
+          look_due = min (self.old.time + LOOK_INTERVAL_MS)
+              (2 ^ 64 - 1);
+        } }
     {
         self.looked = self.time;
         self.look_due = self.time.saturating_add(LOOK_INTERVAL_MS);

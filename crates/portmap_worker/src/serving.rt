@@ -257,8 +257,9 @@ impl<'a, L: Ledger, S: Source + Drop, G: Gate, R: Wait> Worker<'a, L, S, G, R> {
     }
 }
 
-/// Serves what the source brings at the desk, until the source stops or the port mapper has ended, and closes what it still
-/// holds. The gate is passed with this number, which is the seat's. It waits: for the desk's lock, and as the source does.
+/// Serves what the source brings at the desk, until the source stops or the port mapper has ended, and closes what it
+/// still holds. The gate is passed with this number, which is the seat's. It waits: for the desk's lock, and as the
+/// source does.
 pub fn serve<'a, L: Ledger, S: Source + Drop, G: Gate, R: Wait>(
     rt: &'a R,
     alloc: Global,

@@ -22,8 +22,8 @@ use std::sync::Wait;
 use std::sync::atomic::Ordering;
 use std::sync::ledger::Ledger;
 
-/// A worker's sockets and links, with the desk and what it shares with the other workers. Times are in milliseconds since the daemon
-/// began.
+/// A worker's sockets and links, with the desk and what it shares with the other workers. Times are in milliseconds
+/// since the daemon began.
 #[derive(Drop)]
 pub struct SocketSource<'a, L: Ledger, S: System, R: Host + Wait + Clock> {
     pub(crate) rt: &'a R,
@@ -65,7 +65,8 @@ impl<'a, L: Ledger, S: System, R: Host + Wait + Clock> SocketSource<'a, L, S, R>
         })
     }
 
-    /// The microseconds since the daemon began. If the clock can't be read, a millisecond passes with each answer of the poll.
+    /// The microseconds since the daemon began. If the clock can't be read, a millisecond passes with each answer of
+    /// the poll.
     pub(crate) fn time_us(&self) -> u64 {
         let next = self.rounds.time.saturating_add(1).saturating_mul(1000);
         self.shared.time_us(self.rt).unwrap_or(next)

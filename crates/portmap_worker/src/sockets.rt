@@ -47,8 +47,8 @@ impl<S: System> Sockets<S> {
         u32::try_from(self.worker.saturating_add(1)).unwrap_or(u32::MAX)
     }
 
-    /// Asks the poll, which may wait for so many milliseconds where nothing is to be told, and notes what it reports. False if it has
-    /// failed.
+    /// Asks the poll, which may wait for so many milliseconds where nothing is to be told, and notes what it reports.
+    /// False if it has failed.
     pub(crate) fn ask(&mut self, links: &mut Links<'_, S::Stream>, timeout: u64) -> bool
         requires { 0 < timeout → links.old.queue ≡ [] }
     {
@@ -71,8 +71,8 @@ impl<S: System> Sockets<S> {
         }
     }
 
-    /// Has the poll report all that there is, without waiting. It tells what came first before what came later, so as many answers
-    /// as hold one report of each that is watched are enough. False if it has failed.
+    /// Has the poll report all that there is, without waiting. It tells what came first before what came later, so as
+    /// many answers as hold one report of each that is watched are enough. False if it has failed.
     pub(crate) fn ask_for_all(&mut self, links: &mut Links<'_, S::Stream>) -> bool {
         let watched = links.len().saturating_add(self.listeners.len());
         for _ in 0..watched / EVENTS_MOST + 1 {

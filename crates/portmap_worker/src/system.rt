@@ -1,5 +1,5 @@
-//! What workers ask of the system: readiness, connections and each other's attention. The daemon has it of `mio` and the kernel; a
-//! simulation has a world of its own.
+//! What workers ask of the system: readiness, connections and each other's attention. The daemon has it of `mio` and
+//! the kernel; a simulation has a world of its own.
 use std::io;
 use std::io::{Read, Write};
 use std::net::IpAddr;
@@ -18,7 +18,8 @@ pub enum Interest {
 pub enum Report {
     /// Connections may wait at the listener at this place.
     Listener(usize),
-    /// There is news of the stream that is watched under this key. It is closed if its peer sends no more and it has not failed.
+    /// There is news of the stream that is watched under this key. It is closed if its peer sends no more and it has
+    /// not failed.
     Stream { key: usize, is_closed: bool },
     /// Another thread has ended the wait.
     Woken,
@@ -54,7 +55,8 @@ pub trait System: Drop {
     /// Whether the last poll has reported as much as it can at once, so that there may be more.
     fn is_full(&self) -> bool;
 
-    /// Has the poll report a stream under this key from now on, with what there is to report already. It was watched before, or wasn't.
+    /// Has the poll report a stream under this key from now on, with what there is to report already. It was watched
+    /// before, or wasn't.
     fn watch(
         &mut self,
         stream: &mut Self::Stream,
@@ -72,6 +74,7 @@ pub trait System: Drop {
     /// Has the poll report the listener at this place no more.
     fn leave(&mut self, place: usize);
 
-    /// The next connection that waits at the listener at this place, with the address of its peer, or `WouldBlock` if none waits.
+    /// The next connection that waits at the listener at this place, with the address of its peer, or `WouldBlock` if
+    /// none waits.
     fn accept(&mut self, place: usize) -> io::Result<(Self::Stream, IpAddr)>;
 }

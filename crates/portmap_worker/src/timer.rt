@@ -2,8 +2,8 @@
 ghost use Rattle.std.specs.Prelude.{◌≡◌, ◌↔◌, ◌-◌, ◌≤◌, ℕ, Some, None, true, false};
 ghost use Rattle.portmap_worker.specs.Link.{IsOver};
 
-/// Since when the time of a connection goes on, after a look at this time: that of a local peer whose bytes have moved is renewed. Those
-/// of a remote one renew nothing, since who sends one now and then would have its place for ever.
+/// Since when the time of a connection goes on, after a look at this time: that of a local peer whose bytes have moved
+/// is renewed. Those of a remote one renew nothing, since who sends one now and then would have its place for ever.
 fn since_at(since: Option<u64>, is_timed: bool, renews: bool, now: u64) -> Option<u64>
     ensures untimed { is_timed ≡ false → result ≡ None }
     ensures begins { is_timed ≡ true → since ≡ None → result ≡ Some now }
@@ -31,9 +31,10 @@ fn is_over(since: Option<u64>, then: u64, timeout: u64) -> bool
 
 /// The time that a peer has: for its request, or for the bytes that wait to be written.
 ///
-/// It begins anew at looks alone: at the first look after it came, or, for a local peer, after bytes have moved. The time of a look is read
-/// before the poll is asked for all that it has to report, so whatever pauses come, one whose time is over by it had no news up to it. So a
-/// connection times out up to about a second after its time was over, and never before.
+/// It begins anew at looks alone: at the first look after it came, or, for a local peer, after bytes have moved. The
+/// time of a look is read before the poll is asked for all that it has to report, so whatever pauses come, one whose
+/// time is over by it had no news up to it. So a connection times out up to about a second after its time was over, and
+/// never before.
 #[derive(Clone, Copy, Default)]
 pub(crate) struct Timer {
     /// At which look it began.

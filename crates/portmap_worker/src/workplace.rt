@@ -20,8 +20,8 @@ pub struct Workplace<'a, L: Ledger, W: Wake, G: Gate> {
 }
 
 impl<L: Ledger, W: Wake, G: Gate> Workplace<'_, L, W, G> {
-    /// Serves as the worker that has these sockets, until the port mapper has ended or nothing more can be served. Then all others are to
-    /// end too. It waits.
+    /// Serves as the worker that has these sockets, until the port mapper has ended or nothing more can be served. Then
+    /// all others are to end too. It waits.
     pub fn work<S: System<Waker = W>, R: Host + Wait + Clock>(
         &self,
         rt: &R,

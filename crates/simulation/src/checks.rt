@@ -32,7 +32,8 @@ pub const UNSEEN: Wrong = "not all weather was seen";
 /// Who asks within so much time is owed an answer, however late that is seen.
 const PROMPT_US: u64 = 1_000_000;
 
-/// A connection that asks nothing, or reads nothing, is given up so soon once its time is over: a look and a second later.
+/// A connection that asks nothing, or reads nothing, is given up so soon once its time is over: a look and a second
+/// later.
 const GIVEN_UP_US: u64 = 1_500_000;
 
 /// The connection of a node that was stopped is given up so soon: with the next look.
@@ -41,11 +42,12 @@ const STOPPED_US: u64 = 500_000;
 /// One place of so many is kept for this host.
 const KEPT_SHARE: u32 = 8;
 
-/// The most bytes that the log takes for each thread, by its own reckoning: a second's pieces of links that are read slowly.
+/// The most bytes that the log takes for each thread, by its own reckoning: a second's pieces of links that are read
+/// slowly.
 const LOG_BYTES_MOST: u64 = 600_000;
 
-/// The log is taken out before workers have read so many bytes since it was, and each of them so many more: no entry takes less than
-/// was read for it.
+/// The log is taken out before workers have read so many bytes since it was, and each of them so many more: no entry
+/// takes less than was read for it.
 const LOG_BYTES_HEAVY: u64 = 262_144;
 
 const WEIGH_BYTES: u64 = 73_728;
@@ -53,8 +55,8 @@ const WEIGH_BYTES: u64 = 73_728;
 /// While memory is short the log is looked at again after so many milliseconds at most.
 const SHORT_OF_MEMORY_MS: u64 = 50;
 
-/// A worker polls no more than so often in an hour at rest: three times for each look, since the world's poll answers at once, and once
-/// more when the wait is over.
+/// A worker polls no more than so often in an hour at rest: three times for each look, since the world's poll answers
+/// at once, and once more when the wait is over.
 const POLLS_MOST: u64 = 25_000;
 
 const HOUR_US: u64 = 3_600_000_000;
@@ -65,17 +67,18 @@ const STEPS_MOST: u32 = 130;
 /// Who takes the log out looks at it once in so much time.
 const SECOND_US: u64 = 1_000_000;
 
-/// A connection that no poll reports is passed over by a look where it was to be read just then, and by the next one again, but not for so
-/// long.
+/// A connection that no poll reports is passed over by a look where it was to be read just then, and by the next one
+/// again, but not for so long.
 const PASSED_OVER_US: u64 = 3_000_000;
 
-/// When connections have come one by one so many workers are told of the next one: one, and one that was called for its help since.
+/// When connections have come one by one so many workers are told of the next one: one, and one that was called for its
+/// help since.
 const LISTENING_MOST: usize = 2;
 
 /// What one of the people finds wrong. Nobody who is owed nothing does, but for how long a name took.
 impl Person {
-    /// When the daemon is to have given up its connection, which it has accepted at this time: since it asks nothing, or reads nothing, or
-    /// its node was stopped.
+    /// When the daemon is to have given up its connection, which it has accepted at this time: since it asks nothing,
+    /// or reads nothing, or its node was stopped.
     fn kept_until(&self, world: &World, accepted: u64) -> Option<u64> {
         let is_useless = match self.role.given_up {
             GivenUp::Nobody => false,
@@ -101,7 +104,8 @@ impl Person {
         (!wire.is_down_ended).then_some(world.now.saturating_sub(until))
     }
 
-    /// Whether it waits for an answer for longer than this, and the worker that has its connection was not held so long.
+    /// Whether it waits for an answer for longer than this, and the worker that has its connection was not held so
+    /// long.
     fn is_late(&self, world: &World, limit: u64) -> bool {
         let worker = self.own(world).and_then(|wire| wire.worker());
         let since = world.held_until(worker).saturating_add(limit);
@@ -249,7 +253,8 @@ impl<'a> Scene<'a> {
         true
     }
 
-    /// The log is out or is not, who went unanswered was looked into or was not, and each connection that is open is watched.
+    /// The log is out or is not, who went unanswered was looked into or was not, and each connection that is open is
+    /// watched.
     pub(crate) fn judge_rest(&mut self, is_out: bool, is_looked_into: bool) -> Option<()> {
         let are_watched = self.world()?.watched() == self.holding();
         self.check(is_out, "the log at rest is not taken out");

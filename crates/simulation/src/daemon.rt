@@ -42,7 +42,8 @@ fn turn<L: Ledger, S: Source + Drop, R: Wait + Drop>(
 }
 
 impl<'a, L: Ledger, S: Source + Drop, R: Wait + Drop> Daemon<'a, L, S, R> {
-    /// One step of somebody who has something to do, or time passes until somebody has, up to this time. Whether there was memory for it.
+    /// One step of somebody who has something to do, or time passes until somebody has, up to this time. Whether there
+    /// was memory for it.
     pub(crate) fn step(&mut self, until: u64) -> bool {
         let has_parts = self.is_writing && !self.around.queue.is_idle(self.around.host);
         let Some(chosen) = self.scene.choose(has_parts, until) else {

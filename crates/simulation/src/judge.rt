@@ -5,7 +5,8 @@ use portmap_core::Entry;
 use portmap_record::{Record, RecordFault, Version, check, read_record};
 use std::alloc::Global;
 
-/// A file goes on for a second or two once it is full. What comes in these takes no more bytes, also where each place is taken and used.
+/// A file goes on for a second or two once it is full. What comes in these takes no more bytes, also where each place
+/// is taken and used.
 const BEHIND_BYTES: u64 = 36_000;
 
 /// What a node is told whose name is in use begins so.
@@ -92,7 +93,8 @@ impl Replies {
     }
 }
 
-/// What is wrong with what a file has, which is to be a run that begins with this entry; and with which one the next file begins.
+/// What is wrong with what a file has, which is to be a run that begins with this entry; and with which one the next
+/// file begins.
 fn judge_record(alloc: Global, record: &Record, next: &mut u64) -> Result<(), Wrong> {
     if check(alloc, record).is_err() {
         return Err("a file is no run");
@@ -108,8 +110,8 @@ fn judge_record(alloc: Global, record: &Record, next: &mut u64) -> Result<(), Wr
     Ok(())
 }
 
-/// What a file has, as a run that goes on where the files before it have ended. None if it has no beginning: it was cut before that, or
-/// couldn't be begun.
+/// What a file has, as a run that goes on where the files before it have ended. None if it has no beginning: it was cut
+/// before that, or couldn't be begun.
 fn read_file(
     alloc: Global,
     file: &[u8],
@@ -130,7 +132,8 @@ fn read_file(
     Ok(Some(record))
 }
 
-/// What is wrong with the files as a kill has left them: the last one is cut anywhere, since what was written last may be lost.
+/// What is wrong with the files as a kill has left them: the last one is cut anywhere, since what was written last may
+/// be lost.
 fn judge_killed(alloc: Global, world: &mut World) -> Result<(), Wrong> {
     let mut next = 0u64;
     let count = world.killed.len();
@@ -194,8 +197,8 @@ fn judge_kept(alloc: Global, world: &mut World, most: u64) -> Option<Wrong> {
         .or(judge_cut(alloc, world))
 }
 
-/// What is wrong with a daemon that opened these connections in this order and made so many acts, with a recording of which a file that
-/// has so many bytes is full; the outer none is want of memory.
+/// What is wrong with a daemon that opened these connections in this order and made so many acts, with a recording of
+/// which a file that has so many bytes is full; the outer none is want of memory.
 pub fn judge(
     alloc: Global,
     world: &mut World,

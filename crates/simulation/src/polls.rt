@@ -195,8 +195,8 @@ impl World {
         if thread.has_ended { None } else { thread.turn }
     }
 
-    /// A worker has made a turn, and goes on or ends: the fresh connection that it was told, or the late one, with whether there was news
-    /// of it.
+    /// A worker has made a turn, and goes on or ends: the fresh connection that it was told, or the late one, with
+    /// whether there was news of it.
     pub fn met(&mut self, number: usize, goes_on: bool) -> (Option<usize>, Option<(usize, bool)>) {
         let Some(thread) = self.threads.get_mut(number) else {
             return (None, None);

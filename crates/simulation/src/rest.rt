@@ -140,7 +140,8 @@ impl<'a, L: Ledger, S: Source + Drop, R: Wait + Drop> Daemon<'a, L, S, R> {
 
     /// Each of these connections is answered.
     fn try_places(&mut self, numbers: &[usize]) -> Option<()> {
-        // So long that one could be given up for another one, if anybody still waited for a place, and no longer than each may be silent.
+        // So long that one could be given up for another one, if anybody still waited for a place, and no longer than
+        // each may be silent.
         let old_us = OLD_US.min(self.scene.scenario.timeout_us / 5 * 3);
         if self.pass(old_us) && self.scene.send(numbers, &[0x6E]).is_some() && self.hear(numbers) {
             return self.scene.judge_places(numbers);

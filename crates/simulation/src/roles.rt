@@ -1,4 +1,5 @@
-//! What somebody may be, a row for each role: what it asks, how it speaks and reads, when it comes back, and what it is owed.
+//! What somebody may be, a row for each role: what it asks, how it speaks and reads, when it comes back, and what it is
+//! owed.
 
 /// What somebody has to do with names.
 #[derive(Clone, Copy, PartialEq, Eq)]
@@ -96,7 +97,8 @@ pub struct Role {
     pub comes: Comes,
     /// Where it might have stayed it comes back within so many microseconds.
     pub away_us: u64,
-    /// It asks for what is known, once: it comes together with others from the first, and may send no more behind its request.
+    /// It asks for what is known, once: it comes together with others from the first, and may send no more behind its
+    /// request.
     pub asks_once: bool,
     pub owed: Owed,
     pub given_up: GivenUp,
@@ -245,7 +247,8 @@ pub const BABBLER: Role = Role {
     ..USUAL
 };
 
-/// Asks for the list of names, and says the last of that about when its time is over, or with all others where there are bursts.
+/// Asks for the list of names, and says the last of that about when its time is over, or with all others where there
+/// are bursts.
 pub const TARDY: Role = Role {
     pieces: Pieces::UpTo(2),
     pauses: Pauses::UntilLate,

@@ -74,7 +74,8 @@ impl Outcome {
         self.tally.longest / 1000
     }
 
-    /// One number for all counts but those of connections, registrations and restarts, in the order in which they are printed.
+    /// One number for all counts but those of connections, registrations and restarts, in the order in which they are
+    /// printed.
     pub fn checksum(&self) -> u64 {
         let tally = self.tally;
         let mut sum = fnv(FNV_BASIS, u64::from(tally.refused));
@@ -90,7 +91,8 @@ impl Outcome {
 }
 
 impl<'a, L: Ledger, S: Source + Drop, R: Wait + Drop> Daemon<'a, L, S, R> {
-    /// The storm of a case: so many steps, unless something is wrong, or it ends, or is to. Whether it goes on behind them.
+    /// The storm of a case: so many steps, unless something is wrong, or it ends, or is to. Whether it goes on behind
+    /// them.
     fn storm(&mut self, case: &Case) -> Option<bool> {
         let killed_at = self.scene.killed_at(case.steps)?;
         for step in 0..case.steps {

@@ -45,7 +45,8 @@ pub struct Scenario {
     pub name: &'static str,
     /// Who comes; the usual people if it is empty.
     pub people: &'static [Crowd],
-    /// What they do at least in all cases of a run together: about two thirds of what they did in ten when that was written.
+    /// What they do at least in all cases of a run together: about two thirds of what they did in ten when that was
+    /// written.
     pub least: Deeds,
     pub chances: Chances,
     /// What peers ask of the port mapper is not checked: it may be ended, and names may be stopped.
@@ -63,8 +64,8 @@ pub struct Scenario {
     pub end_bytes: u64,
     /// A node that comes back has its name within so many microseconds.
     pub patience_us: u64,
-    /// Who asks comes together with all others who do, each so many microseconds, and nodes leave then: so several workers accept. Who
-    /// asks nothing comes a quarter of that later.
+    /// Who asks comes together with all others who do, each so many microseconds, and nodes leave then: so several
+    /// workers accept. Who asks nothing comes a quarter of that later.
     pub burst_us: u64,
     /// A name that another node holds is refused within so many microseconds.
     pub refusal_us: u64,

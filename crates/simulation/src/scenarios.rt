@@ -1,5 +1,5 @@
-//! The scenarios, a row for each: its name, what its people do at least, who comes if it is not the usual people, the weather, and what
-//! else differs from the usual scenario.
+//! The scenarios, a row for each: its name, what its people do at least, who comes if it is not the usual people, the
+//! weather, and what else differs from the usual scenario.
 use crate::roles;
 use crate::scenario::{Crowd, Deeds, Scenario, USUAL};
 use crate::weather::Fault;
@@ -23,7 +23,8 @@ pub const CALLS: &[Scenario] = scenarios! {
     "calm" (128, 89, 2416, 0) [] [];
     "signals" (120, 80, 2336, 0) [] [Interrupted 100, Short 200];
     "edges" (107, 67, 1852, 0) [] [Late 300, Spurious 50];
-    "accepts" (153, 119, 1676, 0) [] [Unleft 100, Aborted 30, Exhausted 20, Unable 10, Interrupted 20] backlog_most: 3, limit_ms: 3000;
+    "accepts" (153, 119, 1676, 0) []
+        [Unleft 100, Aborted 30, Exhausted 20, Unable 10, Interrupted 20] backlog_most: 3, limit_ms: 3000;
     "exhausted" (980, 846, 2619, 0) [Local NODE 20, Local SEEKER 2] [Exhausted 20, Unable 10] limit_ms: 3000;
     "unheard" (1010, 878, 2740, 0) [Local NODE 20, Local SEEKER 2] [Exhausted 20, Unwatched 100] limit_ms: 3000;
     "surges" (410, 331, 18696, 0) [Local NODE 12, Local SEEKER 45] [Behind 1000] end_bytes: 1_150_000;
@@ -43,7 +44,8 @@ pub const PEOPLE: &[Scenario] = scenarios! {
     "pipes" (131, 91, 2403, 0) [] [] file_bytes_most: 4000, is_plain: false;
     "restarts" (994, 861, 2752, 0) [Local NODE 20, Local SEEKER 2] [Late 200, Reset 100];
     "rivals" (1287, 146, 1989, 552) [Local NODE 3, Local RIVAL 4] [];
-    "strangers" (48, 22, 544, 0) [Remote SILENT 30, Remote DRIPPER 12, Remote BABBLER 12, Remote LISTER 6, Local NODE 4, Local SEEKER 3]
+    "strangers" (48, 22, 544, 0) [Remote SILENT 30, Remote DRIPPER 12, Remote BABBLER 12, Remote LISTER 6,
+        Local NODE 4, Local SEEKER 3]
         [] conn_max: 56;
     "crowded" (240, 214, 849, 0) [Local SILENT 20, Local DRIPPER 10, Local NODE 4, Local SEEKER 4, Remote SILENT 6]
         [] conn_max: 16, hold_us: 300_000, limit_ms: 3000, is_strict: false;
@@ -51,11 +53,14 @@ pub const PEOPLE: &[Scenario] = scenarios! {
     "shouters" (228, 93, 306, 0) [Local TALKER 3, Local NODE 3, Local SEEKER 3] [] hold_us: 100_000, talk_bytes: 1000;
     "crests" (528, 471, 15156, 0) [Local NODE 12, Local TARDY 250]
         [Slow 1000] conn_max: 512, burst_us: 1_000_000, hold_us: 300_000, limit_ms: 10_000;
-    "hung" (700, 100, 2100, 900) [Local NODE 3, Local RIVAL 4] [Hung 2] hold_us: 5_000_000, is_strict: false, limit_ms: 4000;
+    "hung" (700, 100, 2100, 900) [Local NODE 3, Local RIVAL 4]
+        [Hung 2] hold_us: 5_000_000, is_strict: false, limit_ms: 4000;
     "hasty" (1434, 124, 2430, 996) [Local NODE 3, Local RIVAL 4] [Hung 2, Held 10]
         timeout_us: 1_000_000, refusal_us: 60_000_000, hold_us: 5_000_000, limit_ms: 4000;
-    "readers" (162, 83, 856, 0) [Local NODE 12, Local SLOW 10, Local DUMPER 4, Local SEEKER 2] [Short 100, Interrupted 50];
-    "unreading" (198, 171, 1982, 0) [Local UNREADING 6, Remote UNREADING 3, Local SILENT 3, Remote DRIPPER 3, Local NODE 4, Local LISTER 2]
+    "readers" (162, 83, 856, 0) [Local NODE 12, Local SLOW 10, Local DUMPER 4, Local SEEKER 2]
+        [Short 100, Interrupted 50];
+    "unreading" (198, 171, 1982, 0) [Local UNREADING 6, Remote UNREADING 3, Local SILENT 3, Remote DRIPPER 3,
+        Local NODE 4, Local LISTER 2]
         [] conn_max: 32;
 };
 
@@ -66,17 +71,20 @@ pub const TIMES: &[Scenario] = scenarios! {
         [] conn_max: 512, burst_us: 100_000, hold_us: 30_000, patience_us: 25_000;
     "besieged" (0, 0, 1898, 0) [Remote SILENT 40, Local PLODDER 2, Local SEEKER 8]
         [] conn_max: 16, burst_us: 2_000_000, hold_us: 60_000_000, limit_ms: 40;
-    "occupied" (60, 7, 74, 0) [Local NODE 8, Local SEEKER 1] [] conn_max: 8, hold_us: 60_000_000, limit_ms: 250, is_strict: false;
+    "occupied" (60, 7, 74, 0) [Local NODE 8, Local SEEKER 1]
+        [] conn_max: 8, hold_us: 60_000_000, limit_ms: 250, is_strict: false;
     "encamped" (84, 64, 1117, 0) [Remote SILENT 4, Local NODE 3, Local SEEKER 2]
         [] conn_max: 7, burst_us: 2_000_000, hold_us: 60_000_000, limit_ms: 210;
     "placed" (20, 7, 1439, 0) [Remote SILENT 5, Local NODE 2, Local SEEKER 1]
-        [Delayed 1000, Taken 1000] timeout_us: 3_600_000_000, conn_max: 7, burst_us: 4_000_000, hold_us: 3_600_000_000, limit_ms: 1500;
+        [Delayed 1000, Taken 1000]
+        timeout_us: 3_600_000_000, conn_max: 7, burst_us: 4_000_000, hold_us: 3_600_000_000, limit_ms: 1500;
     "loaded" (1053, 945, 22382, 0) [Local NODE 20, Local LISTER 100, Local SEEKER 120]
         [Slow 1000] conn_max: 512, burst_us: 100_000, hold_us: 30_000, limit_ms: 10_000;
     "stuck" (260, 105, 7398, 212) [Local NODE 6, Local RIVAL 6, Local SEEKER 40]
         [Stuck 1] conn_max: 512, burst_us: 100_000, hold_us: 5_000_000, is_strict: false, limit_ms: 10_000;
     "jumps" (123, 83, 2284, 0) [] [Jump 2];
-    "stopped" (267, 232, 3474, 0) [Local NODE 6, Local SEEKER 10, Local LISTER 10] [Stopped 5, Late 200, Lost 200] limit_ms: 30_000;
+    "stopped" (267, 232, 3474, 0) [Local NODE 6, Local SEEKER 10, Local LISTER 10]
+        [Stopped 5, Late 200, Lost 200] limit_ms: 30_000;
     "frozen" (1940, 1876, 1940, 0) [Local NODE 12] [Stopped 100, Late 200] limit_ms: 1_000_000;
     "tardy" (0, 0, 5870, 0) [Local TARDY 180, Local SEEKER 1] [] conn_max: 256;
 };
@@ -91,7 +99,8 @@ pub const ENDS: &[Scenario] = scenarios! {
     "full" (138, 98, 2384, 0) [] [Full 400];
     "kills" (50, 40, 80, 0) [Local NODE 4, Local SEEKER 4, Local STOPPER 2, Local KILLER 1]
         [] hold_us: 5_000, is_relaxed: true, is_strict: false, may_end: true;
-    "stops" (646, 606, 5827, 0) [Local NODE 6, Local STOPPER 3, Local SEEKER 2] [] hold_us: 5_000_000, is_relaxed: true, is_strict: false;
+    "stops" (646, 606, 5827, 0) [Local NODE 6, Local STOPPER 3, Local SEEKER 2]
+        [] hold_us: 5_000_000, is_relaxed: true, is_strict: false;
     "unheeded" (130, 110, 2100, 0) [Local SILENT 6, Remote SILENT 3, Remote DRIPPER 3, Local NODE 3, Local SEEKER 3]
         [Unreported 1000] limit_ms: 10;
     "floods" (654, 577, 14512, 0) [Local TARDY 750, Local NODE 30]

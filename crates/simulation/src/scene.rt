@@ -79,8 +79,8 @@ impl<'a> Scene<'a> {
 
     // ---- who does something next
 
-    /// From when on somebody may do something: workers, then who takes the log out, who writes it, and people; none if there is nothing
-    /// to do.
+    /// From when on somebody may do something: workers, then who takes the log out, who writes it, and people; none if
+    /// there is nothing to do.
     fn due_at(&self, world: &World, actor: usize, has_parts: bool) -> Option<u64> {
         if actor < self.workers || (actor == self.workers && !self.is_drained) {
             return world.due_at(actor);
@@ -107,8 +107,8 @@ impl<'a> Scene<'a> {
         Some(next)
     }
 
-    /// Who does something now, where there may be parts to be written. The inner none if nobody has anything to do, so that time passes
-    /// until somebody has, up to this time, or if a fault keeps him from it.
+    /// Who does something now, where there may be parts to be written. The inner none if nobody has anything to do, so
+    /// that time passes until somebody has, up to this time, or if a fault keeps him from it.
     pub(crate) fn choose(&mut self, has_parts: bool, until: u64) -> Option<Option<usize>> {
         let mut world = self.world()?;
         let next = self.find_due(&world, has_parts)?;
@@ -152,8 +152,8 @@ impl<'a> Scene<'a> {
         Some(self.world()?.is_starved())
     }
 
-    /// Notes a turn of a worker: whether it goes on, whether it has acted, and whether a connection has ended unanswered, as none had since
-    /// that was last looked into.
+    /// Notes a turn of a worker: whether it goes on, whether it has acted, and whether a connection has ended
+    /// unanswered, as none had since that was last looked into.
     pub(crate) fn note_turn(
         &mut self,
         number: usize,
@@ -176,8 +176,8 @@ impl<'a> Scene<'a> {
         }
     }
 
-    /// Who takes the log out waits for so many milliseconds; memory was owed to somebody, or it was not, and the log is empty, or it is
-    /// not.
+    /// Who takes the log out waits for so many milliseconds; memory was owed to somebody, or it was not, and the log is
+    /// empty, or it is not.
     pub(crate) fn wait(&mut self, timeout: u64, is_owed: bool, is_out: bool) -> Option<()> {
         self.judge_wait(timeout, is_owed);
         self.world()?.wait_out(self.workers, timeout, is_out);

@@ -16,8 +16,8 @@ const OWN: [u8; 4] = [10, 0, 0, 1];
 
 const OTHER: [u8; 4] = [10, 0, 0, 2];
 
-/// The address of a host as the connection of this number has it: of three one each by IPv4, by IPv4 at a socket of both families, and by
-/// IPv6.
+/// The address of a host as the connection of this number has it: of three one each by IPv4, by IPv4 at a socket of
+/// both families, and by IPv6.
 fn address(host: [u8; 4], number: usize) -> IpAddr {
     let ipv4 = Ipv4Addr::from(host);
     match number % 3 {

@@ -62,7 +62,8 @@ pub enum Fault {
     Deaf,
     /// The poll refuses to report a stream, and no listener.
     Unreported,
-    /// One thread is told of a connection that comes a millisecond before the others are, and these no more once all are accepted.
+    /// One thread is told of a connection that comes a millisecond before the others are, and these no more once all
+    /// are accepted.
     Taken,
     /// The polls of a thread begin at the other end of its streams from now on: they report no more than so many.
     Reversed,

@@ -458,9 +458,9 @@ impl World {
         (asked > time).then_some(told)
     }
 
-    /// Whether of the connections of its worker that were never answered none goes before one that is given up, and of which there is news
-    /// or is not: one of another host, where it is of this one, else one of which nothing was reported, where there is news of it, and else
-    /// one that came earlier.
+    /// Whether of the connections of its worker that were never answered none goes before one that is given up, and of
+    /// which there is news or is not: one of another host, where it is of this one, else one of which nothing was
+    /// reported, where there is news of it, and else one that came earlier.
     pub fn goes_first(&self, number: usize, has_news: bool) -> Option<bool> {
         let given_up = self.wires.get(number)?;
         let (worker, came) = given_up.accepted?;
@@ -483,7 +483,8 @@ impl World {
         Some(true)
     }
 
-    /// A connection is told that its time is over. Whether it was not told so within this time before, as a daemon with a clock can tell.
+    /// A connection is told that its time is over. Whether it was not told so within this time before, as a daemon with
+    /// a clock can tell.
     pub fn note_late(&mut self, number: usize, age: u64) -> Option<bool> {
         let now = self.now.saturating_add(self.jumped);
         let before = self.wires.get_mut(number)?.late_at.replace(now);

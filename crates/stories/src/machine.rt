@@ -37,8 +37,8 @@ pub struct Machine {
 }
 
 impl Machine {
-    /// A machine on port 4369 that is set to what is usual: checks are not relaxed, 1,024 connections and 4,096 names at most, and
-    /// creations from 4 on.
+    /// A machine on port 4369 that is set to what is usual: checks are not relaxed, 1,024 connections and 4,096 names
+    /// at most, and creations from 4 on.
     pub fn new(alloc: Global) -> Result<Box<Machine>> {
         let config = wanted(Config::new(4369, false, 1024, 4096), "no settings")?;
         Ok(Box::new(alloc, Machine::of(alloc, config, 4, State::empty(alloc))?)?)
@@ -161,8 +161,8 @@ impl Machine {
         Ok(came)
     }
 
-    /// Adds the line of an event that was logged to the transcript, and its ticket; where entries are taken out as they come, this one
-    /// is.
+    /// Adds the line of an event that was logged to the transcript, and its ticket; where entries are taken out as they
+    /// come, this one is.
     fn show(&mut self, alloc: Global, words: &[&str], came: &str) -> Result<()> {
         if self.book.log().len() as u64 == self.lines_told {
             return Ok(());
@@ -292,7 +292,8 @@ impl Machine {
         runs_so(alloc, *config, self.first, &self.told, &state)
     }
 
-    /// Fails unless the tickets of all acts are the log, where nothing was taken out of it but as segments. None are left.
+    /// Fails unless the tickets of all acts are the log, where nothing was taken out of it but as segments. None are
+    /// left.
     fn is_gathered(&mut self, alloc: Global) -> Result<()> {
         let tickets = mem::replace(&mut self.tickets, Vec::new(alloc));
         if self.book.first() > 0 && self.segments.is_empty() {

@@ -1,6 +1,7 @@
 //! Stories of the protocol, told in files: what comes to a part of the port mapper, and what is wanted of it.
 //!
-//! Each argument is a file of stories. The output has a line for each story that holds, and one for each line that does not.
+//! Each argument is a file of stories. The output has a line for each story that holds, and one for each line that does
+//! not.
 #![tactic(auto)]
 
 mod audited;

@@ -10,8 +10,8 @@ use portmap_testing::marks::begin;
 use portmap_testing::tape::Tape;
 use std::alloc::Global;
 
-/// How it ends, and what is written, where bytes are served as one connection, or a session is shown whole, by its verdict alone, or left
-/// without its remote peers; of a connection also how many pulls it takes.
+/// How it ends, and what is written, where bytes are served as one connection, or a session is shown whole, by its
+/// verdict alone, or left without its remote peers; of a connection also how many pulls it takes.
 pub fn played(alloc: Global, act: &str, bytes: &[u8], devices: &[&str]) -> Result<String> {
     let [input, output, turns] = *devices else {
         return wrong("no two devices and a number of turns");

@@ -43,7 +43,8 @@ fn upgraded(alloc: Global, bytes: &[u8]) -> Result<Vec<u8>> {
     }
 }
 
-/// The bytes of a segment's record, from the place and the state on that it begins with. It is a run that is shown by these lines.
+/// The bytes of a segment's record, from the place and the state on that it begins with. It is a run that is shown by
+/// these lines.
 pub fn recorded_part(alloc: Global, segment: &mut Segment, lines: &str) -> Result<String> {
     let bytes = segment_bytes(alloc, segment)?;
     let shown = run_lines(alloc, lines, &segment.entries)?;
@@ -78,8 +79,8 @@ fn written(alloc: Global, session: &Record) -> Result<Vec<u8>> {
     wanted(write_record(alloc, session), "it is not recorded")
 }
 
-/// Fails unless bytes are read as the record of these entries, which is a run, is written as these bytes, and is shown so from one device
-/// to another.
+/// Fails unless bytes are read as the record of these entries, which is a run, is written as these bytes, and is shown
+/// so from one device to another.
 fn is_run(alloc: Global, bytes: &[u8], entries: &[Entry], shown: &str) -> Result<()> {
     is_record(alloc, &record_in(alloc, bytes)?, bytes, entries)?;
     is_played(alloc, bytes, shown)

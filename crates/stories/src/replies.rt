@@ -39,7 +39,8 @@ fn sent(alloc: Global, found: Option<&Reg>) -> Result<String> {
     }
 }
 
-/// How many bytes are missing at least of each front of an answer to a registration, or to a look-up, of none of its bytes to all of them.
+/// How many bytes are missing at least of each front of an answer to a registration, or to a look-up, of none of its
+/// bytes to all of them.
 pub fn missing(alloc: Global, reply: &str, to_registration: bool) -> Result<String> {
     let reply = bytes(alloc, reply)?;
     let mut counts = String::new(alloc);

@@ -94,7 +94,8 @@ fn read(alloc: Global, word: &str) -> Result<Request> {
     wanted(read_request(alloc, &bytes(alloc, word)?), "no request")
 }
 
-/// What a normal node of this port, highest version, name and extra bytes registers, or why these are too many. Its lowest version is 5.
+/// What a normal node of this port, highest version, name and extra bytes registers, or why these are too many. Its
+/// lowest version is 5.
 fn made(
     alloc: Global,
     port: u16,

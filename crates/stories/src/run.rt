@@ -16,8 +16,8 @@ pub struct Happened {
 /// What a run tells of its events, and whether memory was refused to it.
 type Results = (Vec<(Event, Result<Answer, Refusal>)>, bool);
 
-/// Fails unless a run over the events of a story answers them as they were answered one by one, and ends in the same state. What
-/// memory was refused to is skipped.
+/// Fails unless a run over the events of a story answers them as they were answered one by one, and ends in the same
+/// state. What memory was refused to is skipped.
 pub fn runs_so(
     alloc: Global,
     config: Config,
@@ -83,7 +83,8 @@ fn follows(alloc: Global, other: &mut Core, told: &[Happened], results: Results)
     Ok(is_whole)
 }
 
-/// Fails unless another machine answers an event like this, and it was answered so where memory was refused to none before.
+/// Fails unless another machine answers an event like this, and it was answered so where memory was refused to none
+/// before.
 fn answers(
     alloc: Global,
     other: &mut Core,

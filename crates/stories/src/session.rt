@@ -130,7 +130,8 @@ fn put(bytes: &mut Vec<u8>, place: usize, new: u8) {
     }
 }
 
-/// Whether these bytes are a record. Fails unless its verdict, or why they are none, is what is told of them from one device to another.
+/// Whether these bytes are a record. Fails unless its verdict, or why they are none, is what is told of them from one
+/// device to another.
 fn is_judged(alloc: Global, bytes: &[u8]) -> Result<bool> {
     let session = read_record(alloc, bytes);
     let wanted = match &session {
@@ -268,8 +269,9 @@ fn left(alloc: Global, bytes: &[u8]) -> Result<String> {
     }
 }
 
-/// The settings of a record, and where it begins: the place of its first entry, whether the port mapper has ended, the active names with
-/// their creations and slots, the retired ones with their creations, the connections, and the worker of each entry.
+/// The settings of a record, and where it begins: the place of its first entry, whether the port mapper has ended, the
+/// active names with their creations and slots, the retired ones with their creations, the connections, and the worker
+/// of each entry.
 fn beginning(alloc: Global, session: &Record) -> Result<String> {
     let config = &session.config;
     let mut told = format!(in alloc;

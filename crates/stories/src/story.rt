@@ -55,8 +55,8 @@ impl<'a, R: Wait> Story<'a, R> {
         }))
     }
 
-    /// What is wrong with a line, if anything is: one that begins with `times 1 9` is told for each number from 1 to 9, which stands
-    /// there as `$`.
+    /// What is wrong with a line, if anything is: one that begins with `times 1 9` is told for each number from 1 to 9,
+    /// which stands there as `$`.
     pub fn wrong(
         &mut self,
         alloc: Global,
@@ -75,7 +75,8 @@ impl<'a, R: Wait> Story<'a, R> {
         Ok(None)
     }
 
-    /// What is wrong with acts that ` && ` joins, if anything is: one that begins with `each 1 9` is told for each number, as `@`.
+    /// What is wrong with acts that ` && ` joins, if anything is: one that begins with `each 1 9` is told for each
+    /// number, as `@`.
     fn first_wrong(
         &mut self,
         alloc: Global,
@@ -182,8 +183,8 @@ fn range<'a>(line: &'a str, word: &str) -> Option<(u32, u32, &'a str)> {
     Some((from.parse::<u32>().ok()?, until.parse::<u32>().ok()?, line))
 }
 
-/// A line with a number in the place of its mark, with eight digits of base 16 in that of `%`, and with the next number where `+1` stands
-/// behind the mark.
+/// A line with a number in the place of its mark, with eight digits of base 16 in that of `%`, and with the next number
+/// where `+1` stands behind the mark.
 fn numbered(alloc: Global, line: &str, mark: &str, number: u32) -> Result<String> {
     let next = format!(in alloc; "{mark}+1")?;
     let line = replaced(alloc, line, next.as_str(), number.saturating_add(1))?;

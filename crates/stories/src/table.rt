@@ -36,7 +36,8 @@ fn write_old(told: &mut String, old: &Old) -> Result<()> {
     Ok(write!(told, " {} {}", Digits(old.name.bytes()), old.creation)?)
 }
 
-/// The active names, each with its slot and its creation, and the retired ones, each with its creation; by copies of both.
+/// The active names, each with its slot and its creation, and the retired ones, each with its creation; by copies of
+/// both.
 fn known(alloc: Global, names: &Table) -> Result<String> {
     let mut told = String::from_str(alloc, "active")?;
     for place in 0..names.active_len() {
@@ -89,7 +90,8 @@ pub fn came(alloc: Global, table: &mut Table, words: &[&str]) -> Result<String> 
     }
 }
 
-/// Begins anew with these settings; with the names behind `active` if there are any, and then whether there is such a table.
+/// Begins anew with these settings; with the names behind `active` if there are any, and then whether there is such a
+/// table.
 fn set(alloc: Global, table: &mut Table, settings: &[&str]) -> Result<String> {
     match *settings {
         ["known", known_max, "first", first] => {

@@ -53,8 +53,8 @@ impl Names {
         Ok(())
     }
 
-    /// A line with digits in the place of quoted text, of repeats as `61*3`, and of names; `+` joins them. A name that is given digits
-    /// stands for itself.
+    /// A line with digits in the place of quoted text, of repeats as `61*3`, and of names; `+` joins them. A name that
+    /// is given digits stands for itself.
     pub fn spelled(&self, alloc: Global, line: &str) -> Result<String> {
         let mut spelled = String::new(alloc);
         self.spell(&mut spelled, unquoted(alloc, line)?.as_str())?;
@@ -87,8 +87,8 @@ impl Names {
         Ok(())
     }
 
-    /// What a part of a word stands for: the digits of a name, of its first bytes as `NAME[..3]` or of those behind them as `NAME[3..]`,
-    /// or itself.
+    /// What a part of a word stands for: the digits of a name, of its first bytes as `NAME[..3]` or of those behind
+    /// them as `NAME[3..]`, or itself.
     fn part<'a>(&'a self, part: &'a str) -> Result<&'a str> {
         let Some((name, range)) = part.split_once('[') else {
             return Ok(self.meant(part));

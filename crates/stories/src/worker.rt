@@ -18,7 +18,8 @@ use std::slice::Iter;
 use std::sync::Wait;
 use std::sync::ledger::{Blank, Ledger};
 
-/// What a source brings to a worker. Each line is told over a new one, which makes all turns up to there and then stops.
+/// What a source brings to a worker. Each line is told over a new one, which makes all turns up to there and then
+/// stops.
 #[derive(Drop)]
 pub struct Scene {
     is_relaxed: bool,
@@ -36,8 +37,8 @@ pub struct Scene {
 /// How many entries, bytes of link 7, bytes of link 8 and ended links were told.
 type Amounts = [usize; 4];
 
-/// The links 7 and 8, which were given up, what is logged before the worker is told to stop, and how many turns are made before one to
-/// which memory may be refused.
+/// The links 7 and 8, which were given up, what is logged before the worker is told to stop, and how many turns are
+/// made before one to which memory may be refused.
 #[derive(Drop)]
 struct Wires<'a> {
     unmarked: usize,
@@ -191,8 +192,8 @@ impl Scene {
         Ok(())
     }
 
-    /// Tells what has come of all turns and was not told. Where memory is refused to the last one, its link is given up, and all are made
-    /// once more.
+    /// Tells what has come of all turns and was not told. Where memory is refused to the last one, its link is given
+    /// up, and all are made once more.
     fn came_new<R: Wait>(&mut self, rt: &R, alloc: Global) -> Result<String> {
         let is_marked = !end_of(alloc, self.turns.last())?.is_empty();
         let (line, told) = self.line(rt, alloc, is_marked)?;
@@ -213,7 +214,8 @@ impl Scene {
         Ok(line)
     }
 
-    /// What has come of all turns and was not told, and how much that is with it. Memory may be refused to the last one.
+    /// What has come of all turns and was not told, and how much that is with it. Memory may be refused to the last
+    /// one.
     fn line<R: Wait>(&self, rt: &R, alloc: Global, is_marked: bool) -> Result<(String, Amounts)> {
         let mut wires = self.wires(alloc, self.plan, is_marked)?;
         let is_over = serve_all(rt, alloc, self, &mut wires)?;
@@ -252,7 +254,8 @@ fn serve_all<R: Wait>(rt: &R, alloc: Global, scene: &Scene, wires: &mut Wires<'_
     }
 }
 
-/// The same, if a worker has served what it says and its seat has counted, and as it stops it closes what is open, and does nothing else.
+/// The same, if a worker has served what it says and its seat has counted, and as it stops it closes what is open, and
+/// does nothing else.
 fn served<L: Ledger, R: Wait>(
     rt: &R,
     alloc: Global,

@@ -118,8 +118,8 @@ enum Ended {
     Missing(u64, u64),
 }
 
-/// Whether the book has each ticket as the entry of the worker that was told it: of the first so many of worker 1, and of the
-/// others of worker 2.
+/// Whether the book has each ticket as the entry of the worker that was told it: of the first so many of worker 1, and
+/// of the others of worker 2.
 fn are_of_workers(book: &Book, tickets: &[Ticket], first: u64) -> bool {
     for (at, ticket) in tickets.iter().enumerate() {
         let worker = if (at as u64) < first { 1 } else { 2 };
@@ -243,7 +243,8 @@ fn is_part(segment: &Segment, first: u64, entries: usize) -> bool {
     segment.first == first && segment.entries.len() == entries
 }
 
-/// Whether a desk's log, which weighs something, is sealed to so many entries, the first at this place, and weighs nothing then.
+/// Whether a desk's log, which weighs something, is sealed to so many entries, the first at this place, and weighs
+/// nothing then.
 fn is_sealed_to<L: Ledger, R: Wait>(
     rt: &R,
     alloc: Global,
@@ -258,8 +259,8 @@ fn is_sealed_to<L: Ledger, R: Wait>(
     }
 }
 
-/// Whether a desk's log of six entries is sealed after one more, while a connection is open, and again after its close, which has its
-/// place.
+/// Whether a desk's log of six entries is sealed after one more, while a connection is open, and again after its close,
+/// which has its place.
 fn is_sealed_at_desk<L: Ledger, R: Wait>(
     rt: &R,
     alloc: Global,

@@ -83,8 +83,8 @@ fn tickets_are_the_log_or_the_first_fault_is_told(rt: HostRuntime) -> Result<(),
     all_hold(&rt, GATHERED)
 }
 
-/// Which segments of a log are handed over with the book behind the second, whether they are of a relaxed port mapper, as
-/// the book is not, and what is found of the tickets of all.
+/// Which segments of a log are handed over with the book behind the second, whether they are of a relaxed port mapper,
+/// as the book is not, and what is found of the tickets of all.
 struct Chained(&'static [usize], bool, Result<(), GatherFault>);
 
 /// A node connects, registers and leaves, and another one connects.

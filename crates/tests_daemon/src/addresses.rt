@@ -17,7 +17,8 @@ fn looked_up(rt: &HostRuntime, last: u8) -> Result<bool, ErrorKind> {
     told_at(rt, IpAddr::from([127, 0, 0, last]), PORT, PORT_A, NOT_FOUND)
 }
 
-/// What comes of look-ups at three addresses of the host, of which a daemon listens on the first two, and whether it ends then.
+/// What comes of look-ups at three addresses of the host, of which a daemon listens on the first two, and whether it
+/// ends then.
 fn told(rt: &HostRuntime) -> ([Result<bool, ErrorKind>; 3], Option<bool>) {
     let is_first = is_answered(rt, PORT, PORT_A, NOT_FOUND) == Some(true);
     let told = [Ok(is_first), looked_up(rt, 2), looked_up(rt, 3)];

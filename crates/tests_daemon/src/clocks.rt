@@ -10,8 +10,8 @@ use std::sync::{Arc, Wait};
 use std::thread::Threads;
 use std::time::Duration;
 
-/// A runtime whose clock can be pushed forward, and whose memory can be short. It counts what the operator is told, and records also to
-/// a file that a link leads to.
+/// A runtime whose clock can be pushed forward, and whose memory can be short. It counts what the operator is told, and
+/// records also to a file that a link leads to.
 #[derive(Drop)]
 pub struct Pushed<R: Clock> {
     rt: R,

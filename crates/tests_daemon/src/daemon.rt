@@ -29,7 +29,8 @@ enum Story {
     Resets,
     /// A connection says nothing, for longer than it may, and a node that is registered neither.
     Silent,
-    /// A peer asks for a list that is longer than what the system holds of it, and reads it only when another one was answered.
+    /// A peer asks for a list that is longer than what the system holds of it, and reads it only when another one was
+    /// answered.
     Stalls,
     /// Eight peers ask for the list of names, one after the other, and read nothing.
     Crowds,
@@ -75,7 +76,8 @@ fn begins(stream: &mut TcpStream, reply: &[u8]) -> Option<bool> {
     Some(*got == *reply)
 }
 
-/// What comes of a request to this address of the host: whether it is answered by these bytes at first, or why it can't be asked.
+/// What comes of a request to this address of the host: whether it is answered by these bytes at first, or why it can't
+/// be asked.
 pub fn told_at(
     rt: &HostRuntime,
     ip: IpAddr,
@@ -187,8 +189,8 @@ fn pass<R: Net<Stream = TcpStream> + Clock>(rt: &R, alloc: Global, port: u16) ->
 /// The list of names of the daemon at port 14,372, which is 0x3824, with none in it.
 const NONE_LISTED: &[u8] = &[0x00, 0x00, 0x38, 0x24];
 
-/// Each of the lines `old/unused name NAME at port 5000, fd = -1` has 1,059 bytes. All have more than loopback holds of what a peer
-/// doesn't read: 4 MB, and what the peer has room for.
+/// Each of the lines `old/unused name NAME at port 5000, fd = -1` has 1,059 bytes. All have more than loopback holds of
+/// what a peer doesn't read: 4 MB, and what the peer has room for.
 const DUMP_LENGTH: usize = 5_083_204;
 
 fn stalls<R: Net<Stream = TcpStream> + Clock>(rt: &R, alloc: Global, port: u16) -> Option<bool> {
@@ -264,7 +266,8 @@ fn settings(alloc: Global, story: Story, recording: Option<&str>) -> Result<Sett
     settings_at(alloc, story.port(), timeout, 2, recording)
 }
 
-/// Whether each of two workers has told what it served, together one act at least, and whether all was recorded is told so.
+/// Whether each of two workers has told what it served, together one act at least, and whether all was recorded is told
+/// so.
 fn have_served(ended: &Result<RunEnd, RunFault>, recorded: bool) -> bool {
     match ended {
         Ok(end) => {

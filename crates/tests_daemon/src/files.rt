@@ -116,8 +116,8 @@ fn hand_on<R: Wait + Clock>(
     is_handed_on::<Brand, R>(rt, alloc, Blank::new(PARTS), queue, turn)
 }
 
-/// Whether all of that, which is handed on before any of it is written, is written to a file that is full once it has so many bytes, and
-/// whether the queue says then that it is full.
+/// Whether all of that, which is handed on before any of it is written, is written to a file that is full once it has
+/// so many bytes, and whether the queue says then that it is full.
 fn written<R: Files<File = File> + Wait + Clock>(
     rt: &R,
     alloc: Global,

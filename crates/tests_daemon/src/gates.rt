@@ -12,8 +12,8 @@ pub trait Order: Gate {
     fn follow(&self);
 }
 
-/// A gate at which two workers meet with no lock held: the one that comes first at `Answered` is held there until one with
-/// another number has passed. After a million looks it lets go, and notes it.
+/// A gate at which two workers meet with no lock held: the one that comes first at `Answered` is held there until one
+/// with another number has passed. After a million looks it lets go, and notes it.
 #[derive(Drop)]
 pub struct Meet<'a, R: Clock> {
     rt: &'a R,
@@ -83,8 +83,8 @@ impl<R: Clock> Order for Meet<'_, R> {
     fn follow(&self) {}
 }
 
-/// A gate for a worker 0 and one that comes behind it: it holds worker 0 at `Sent` until the other one is there too. After ten
-/// seconds it lets go, and notes it.
+/// A gate for a worker 0 and one that comes behind it: it holds worker 0 at `Sent` until the other one is there too.
+/// After ten seconds it lets go, and notes it.
 #[derive(Drop)]
 pub struct Relay<'a, R: Clock> {
     rt: &'a R,

@@ -23,7 +23,8 @@ fn write_public(rt: &HostRuntime, path: &str, bytes: &[u8]) -> Result<(), Fail> 
     Ok(())
 }
 
-/// Makes the file at the path by the host and writes to it. Whether it has that alone, and is its owner's. It is removed then.
+/// Makes the file at the path by the host and writes to it. Whether it has that alone, and is its owner's. It is
+/// removed then.
 fn records_to(rt: &HostRuntime, path: &str) -> Result<bool, Fail> {
     let mut file: File = rt.make(path)?;
     file.write_all(b"new")?;
@@ -80,7 +81,8 @@ fn a_device_is_taken_as_it_is(rt: HostRuntime) -> Result<(), Fail> {
     Ok(())
 }
 
-/// Whether a file has the first bytes alone of what was written to it once it was cut, and is a plain one. It is removed.
+/// Whether a file has the first bytes alone of what was written to it once it was cut, and is a plain one. It is
+/// removed.
 fn is_cut(rt: &HostRuntime, path: &str) -> Result<bool, Fail> {
     let mut file: File = rt.make(path)?;
     file.write_all(b"whole half")?;

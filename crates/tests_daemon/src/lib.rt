@@ -1,4 +1,5 @@
-//! What no clause and no story shows of the daemon: two workers over memory, the daemon over sockets of this host, and its recordings.
+//! What no clause and no story shows of the daemon: two workers over memory, the daemon over sockets of this host, and
+//! its recordings.
 #![tactic(auto)]
 
 #[cfg(test)]

@@ -24,8 +24,9 @@ const CUT_SHORT: CallOutcome = CallOutcome::Error(ErrorKind::Interrupted);
 
 const WAITS: CallOutcome = CallOutcome::Error(ErrorKind::WouldBlock);
 
-/// A call that a signal cut short says nothing of the stream: only one that would have waited does, and a pull that gave less than
-/// there was room for, which a put that was taken doesn't change. While a put waits for a report nothing else is tried.
+/// A call that a signal cut short says nothing of the stream: only one that would have waited does, and a pull that
+/// gave less than there was room for, which a put that was taken doesn't change. While a put waits for a report nothing
+/// else is tried.
 const STEPS: &[Step] = &[
     Step(Call::Pull, CUT_SHORT, true, true),
     Step(Call::Pull, CallOutcome::Count(8), false, true),
@@ -77,8 +78,8 @@ const FIRST: &[(&[u8], bool, bool)] = &[
     (&[0x00], true, false),
 ];
 
-/// Whether a link gives these bytes at once, once it has said Later where its stream fails so first. If they are kept back, that it is
-/// asked to register `a`, it says Later to one pull before.
+/// Whether a link gives these bytes at once, once it has said Later where its stream fails so first. If they are kept
+/// back, that it is asked to register `a`, it says Later to one pull before.
 fn gives(
     alloc: Global,
     first: Option<ErrorKind>,

@@ -32,7 +32,8 @@ fn beside_an_ipv4_address_stands_one_of_ipv6(rt: HostRuntime) -> Result<(), Fail
     Ok(())
 }
 
-/// What comes of a look-up and of a registration at the host's IPv6 address, and whether the daemon at 127.0.0.1 ends then.
+/// What comes of a look-up and of a registration at the host's IPv6 address, and whether the daemon at 127.0.0.1 ends
+/// then.
 fn told(rt: &HostRuntime) -> ([Option<bool>; 2], bool) {
     let is_up = is_answered(rt, PORT, PORT_A, NOT_FOUND) == Some(true);
     let looked_up = told_at(rt, LOOPBACK_OF_IPV6, PORT, PORT_A, NOT_FOUND).ok();

@@ -44,7 +44,8 @@ fn is_taken_in_two<R: Net<Stream = TcpStream> + Clock>(rt: &R) -> Option<bool> {
     Some(is_sent && stream.read_exact(&mut [0; 6]).is_ok())
 }
 
-/// Memory can be had again, but that which is kept for want of it is not yet: whether a look-up is answered then, and no name registered.
+/// Memory can be had again, but that which is kept for want of it is not yet: whether a look-up is answered then, and
+/// no name registered.
 fn is_spared<R: Net<Stream = TcpStream> + Clock>(rt: &R, host: &Pushing) -> Option<bool> {
     host.is_short.store(false, Ordering::SeqCst);
     let is_answered = is_answered(rt, PORT, PORT_A, NOT_FOUND)?;

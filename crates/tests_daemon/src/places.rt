@@ -50,8 +50,8 @@ fn comes_to_be_found<R: Net<Stream = TcpStream> + Clock>(
     false
 }
 
-/// A node is registered, and a connection says nothing: there is no place for others. Whether one who asks for the node comes to have
-/// that of the silent one, and a silent one that comes after that keeps it.
+/// A node is registered, and a connection says nothing: there is no place for others. Whether one who asks for the node
+/// comes to have that of the silent one, and a silent one that comes after that keeps it.
 fn makes_room<R: Net<Stream = TcpStream> + Clock>(
     rt: &R,
     port: u16,

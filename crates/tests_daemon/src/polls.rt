@@ -1,4 +1,5 @@
-//! The system as `mio` and the kernel give it, over sockets of this host: what a poll reports, and for how long it waits.
+//! The system as `mio` and the kernel give it, over sockets of this host: what a poll reports, and for how long it
+//! waits.
 use mio::net;
 use portmap_daemon::{MioStream, MioSystem};
 use portmap_testing::peers::connect;

@@ -1,5 +1,5 @@
-//! Recordings of a daemon: where the file stalls it serves on, and ends when it is told to; where the file is full it goes on in a
-//! further one.
+//! Recordings of a daemon: where the file stalls it serves on, and ends when it is told to; where the file is full it
+//! goes on in a further one.
 use crate::clocks::Pushed;
 use crate::daemon::{acts_of, is_answered, registered, settings_at};
 use portmap_daemon::{Open, RunEnd, RunFault, run, run_over};
@@ -24,7 +24,8 @@ const MUTE_PORT: u16 = 14_422;
 
 const UNSTARTED_PORT: u16 = 14_423;
 
-/// So many look-ups are more than a pipe takes that nobody reads: each is 41 bytes of a recording, and a pipe has room for 65,536.
+/// So many look-ups are more than a pipe takes that nobody reads: each is 41 bytes of a recording, and a pipe has room
+/// for 65,536.
 const LOOK_UPS: u32 = 2000;
 
 /// The path by which the system opens a pipe once more.

@@ -1,5 +1,5 @@
-//! What is told of a recording where memory is refused to who takes the log out. Here memory is ample; `make faults` starts this test once
-//! for each request that it makes between two marks, and has that one refused.
+//! What is told of a recording where memory is refused to who takes the log out. Here memory is ample; `make faults`
+//! starts this test once for each request that it makes between two marks, and has that one refused.
 ghost use Rattle.std.specs.Prelude.{◌≡◌};
 
 use crate::clocks::Pushed;

@@ -1,4 +1,5 @@
-//! Workers at one desk, over memory: what is written where a worker passes its gate, and two that meet there or follow one another.
+//! Workers at one desk, over memory: what is written where a worker passes its gate, and two that meet there or follow
+//! one another.
 ghost use Rattle.std.specs.Prelude.{◌≡◌};
 
 use crate::gates::{Meet, Order, Relay};
@@ -131,7 +132,8 @@ fn ending_of<L: Ledger>(
     Some([served[0], served[1], book.count()])
 }
 
-/// The same of two workers that pass the same gate, if each writes the reply to its request. The second one comes when the gate says so.
+/// The same of two workers that pass the same gate, if each writes the reply to its request. The second one comes when
+/// the gate says so.
 fn two_workers<L: Ledger + Send + Sync, G: Order + Sync, R: Threads + Wait + Sync>(
     rt: &R,
     alloc: Global,

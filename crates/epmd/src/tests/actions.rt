@@ -76,8 +76,8 @@ fn name_of(bytes: &[u8]) -> &[u8] {
     bytes
 }
 
-/// The bytes that a word names, `WRONG` being those of a session that ends in a wrong reply, or that it stands for; behind a `:` how many
-/// of them.
+/// The bytes that a word names, `WRONG` being those of a session that ends in a wrong reply, or that it stands for;
+/// behind a `:` how many of them.
 fn input_of(alloc: Global, word: &str) -> Result<Vec<u8>, Fail> {
     let (word, count) = word.split_once(':').unwrap_or((word, "1000"));
     let mut bytes = match NAMED.iter().find(|named| named.0 == word) {
@@ -115,8 +115,8 @@ fn status_of<R: Read + Drop, W: Write>(
     do_file(alloc, &action_of(alloc, word), &mut input, output, errors)
 }
 
-/// The status that an action on an input ends with, and what is told of errors. `broken` is an input that fails, and `interrupted:2` one
-/// that is interrupted twice and then asks for the names.
+/// The status that an action on an input ends with, and what is told of errors. `broken` is an input that fails, and
+/// `interrupted:2` one that is interrupted twice and then asks for the names.
 fn acted<W: Write>(
     alloc: Global,
     given: &str,
@@ -142,8 +142,8 @@ fn unshown<W: Write + Drop>(alloc: Global, given: &str, output: W) -> Result<Str
     Ok(ending(alloc, status, b"", &errors)?)
 }
 
-/// An action, its input, and behind `to` its output where that is no memory: `full:2` has room for two bytes, and `broken` takes all and
-/// passes nothing on.
+/// An action, its input, and behind `to` its output where that is no memory: `full:2` has room for two bytes, and
+/// `broken` takes all and passes nothing on.
 struct Acts;
 
 impl Trial for Acts {

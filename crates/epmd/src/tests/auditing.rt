@@ -60,7 +60,8 @@ fn events(alloc: Global, node: &[u8]) -> Result<Vec<Event>, AllocError> {
     Ok(events)
 }
 
-/// That port mapper with so many connections at most, from an entry on up to another one: as it begins, and the entries.
+/// That port mapper with so many connections at most, from an entry on up to another one: as it begins, and the
+/// entries.
 fn session(
     alloc: Global,
     node: &[u8],
@@ -82,8 +83,9 @@ fn session(
     }
     Ok((start, entries))
 }
-/// The bytes of a file: `a2..5` has the entries 2, 3 and 4 where the node's name is `a`. Behind a `/` stands how many connections there may
-/// be, and behind a `:` how many bytes are there; in one that ends in `!` the last entry stands twice.
+/// The bytes of a file: `a2..5` has the entries 2, 3 and 4 where the node's name is `a`. Behind a `/` stands how many
+/// connections there may be, and behind a `:` how many bytes are there; in one that ends in `!` the last entry stands
+/// twice.
 pub fn file_of(alloc: Global, word: &str) -> Result<Vec<u8>, Fail> {
     let (word, count) = word.split_once(':').unwrap_or((word, "1000"));
     let (word, most) = word.split_once('/').unwrap_or((word, "8"));

@@ -27,8 +27,8 @@ fn asked(alloc: Global, word: &str) -> Result<(Action, Bytes), Fail>
     })
 }
 
-/// How a stream answers its calls, the first one being the put of the request: `fails:1` fails at its second call, and `later:999` is
-/// not ready for so many from that one on.
+/// How a stream answers its calls, the first one being the put of the request: `fails:1` fails at its second call, and
+/// `later:999` is not ready for so many from that one on.
 fn plan(word: &str) -> DevicePlan {
     let fault = word
         .strip_prefix("fails:")

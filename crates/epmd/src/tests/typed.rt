@@ -8,8 +8,8 @@ use crate::words::{Command, WordFault};
 use std::alloc::Global;
 use std::env::{Env, FillError};
 
-/// A line as it is typed: variables, the program's own name and its words, with blanks between. A blank in one of them is written `~`,
-/// an end of line `|`, a byte that is not UTF-8 `?`, and the empty word `''`.
+/// A line as it is typed: variables, the program's own name and its words, with blanks between. A blank in one of them
+/// is written `~`, an end of line `|`, a byte that is not UTF-8 `?`, and the empty word `''`.
 #[derive(Clone, Copy)]
 struct Typed<'a>(&'a str);
 

@@ -158,7 +158,8 @@ fn a_daemon_listens_on_the_host_too(rt: HostRuntime) -> Result<(), Fail> {
 
 #[test]
 fn a_daemon_records_to_the_last_path(rt: HostRuntime) -> Result<(), Fail> {
-    // The last path counts, the word behind `-record` is one whatever it begins with, and it is taken with every action.
+    // The last path counts, the word behind `-record` is one whatever it begins with, and it is taken with every
+    // action.
     let table = "
         epmd -record x -> serve record <x>
         epmd -d -record x -> serve debug record <x>

@@ -10,8 +10,8 @@ use std::test::Fail;
 /// The port of a port mapper on 4369.
 const HEAD: &[u8] = b"\x00\x00\x11\x11";
 
-/// The length of the first name of a list, what follows it, and how often both stand there; how many lines these are, and the last one's
-/// port.
+/// The length of the first name of a list, what follows it, and how often both stand there; how many lines these are,
+/// and the last one's port.
 const NAMES: &[(usize, &[u8], usize, usize, u16)] = &[
     (1, b"", 0, 0, 0),
     (1, b" at port 5000\n", 1, 1, 5000),

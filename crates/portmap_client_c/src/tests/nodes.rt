@@ -13,8 +13,8 @@ const NAME: &[u8; 1020] = &[b'a'; 1020];
 
 const EXTRA: &[u8; 7159] = &[b'e'; 7159];
 
-/// The length of a name, with Nlen; of its extra bytes, with Elen; and that of the bodies of ALIVE2_REQ, and of PORT_PLEASE2_REQ and
-/// STOP_REQ.
+/// The length of a name, with Nlen; of its extra bytes, with Elen; and that of the bodies of ALIVE2_REQ, and of
+/// PORT_PLEASE2_REQ and STOP_REQ.
 type Lengths = (usize, Bytes, usize, Bytes, Bytes, Bytes);
 
 const NODES: &[Lengths] = &[

@@ -37,7 +37,8 @@ impl<S: Read + Write> Both<S> {
     /// The stream within, to be set or registered. Who reads or writes it goes around the device.
     pub fn get_mut(&mut self) -> &mut S
         ensures value { result.now ≡ both_inner self.old }
-        ensures* writes_back { sem 𝓛 (Lends (the_row S.row) S.row self.entry result (λ w. record self.old { inner = w })) }
+        ensures* writes_back { sem 𝓛 (Lends (the_row S.row) S.row self.entry result
+            (λ w. record self.old { inner = w })) }
     {
         &mut self.inner
     }
