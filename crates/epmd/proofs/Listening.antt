@@ -43,8 +43,3 @@ listening_by_case listed false =
 
 pub are_listening : (text : List ℕ) (addresses : List (List ℕ)) → ListensOn text addresses → AreListening addresses
 are_listening text addresses l = subst AreListening (sym l.2) (listening_by_case l.0 (is_in l.0 anywhere))
-
--- it is something
-pub some_listening : (addresses : List (List ℕ)) → AreListening addresses → 0 < length addresses
-some_listening addresses (inl e) = omega (arith, ap length e)
-some_listening addresses (inr h) = let at = h.0.1 in omega arith

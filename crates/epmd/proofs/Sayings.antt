@@ -88,9 +88,6 @@ says_more words rest after item old new s begins a first = record {
   holds = holds_more s.items item old new s.holds a first;
 }
 
-pub says_none : (words : List (List ℕ)) (plan : Plan) → Holds [] plan → Says words words plan
-says_none words plan h = record { items = []; with_more = λ more spells. spells; holds = h }
-
 pub says_all : {X : Type 0} (f : X → List ℕ) (words : List (List ℕ)) (rest : List X) (plan : Plan) → length rest < 1
     → Says words (map f rest) plan → (items : List Item) × Spells words items × Holds items plan
 says_all f words [] plan none s = (s.items, subst (Spells words) (append-nil s.items) (s.with_more [] refl), s.holds)

@@ -47,11 +47,6 @@ reads_first list front port [] line l some is one = absurd (omega (arith, some))
 reads_first list front port (m ∷ lines) line l some is one =
     subst (ReadsLine front) (sym is) (first_reads (drop 4 list) front m lines (behind_head list port (m ∷ lines) l) one)
 
-pub reads_some : (list front : List ℕ) (port : ℕ) (lines : List Line) → Lists list port lines → length lines ≡ 0
-    → IsOneLine (drop 4 list) front → ⊥
-reads_some list front port [] l none one = not_empty (drop 4 list) front (behind_head list port [] l) one
-reads_some list front port (m ∷ lines) l none one = absurd (omega (arith, none))
-
 -- or why it isn't
 reads_list : (list front : List ℕ) (port : ℕ) (lines : List Line) → Lists list port lines → IsOneLine (drop 4 list) front
     → (line : Line) × ReadsLine front line

@@ -3,4 +3,3 @@ pub mod Tables
 pub mod Steps
 pub mod Calls
 pub mod Turns
-pub mod Callers

@@ -58,11 +58,6 @@ pub take_read : {X : Type 0} (xs : List X) (i : ℕ) (x : X) → slice_get xs i 
 take_read xs i x e = ap (λ n. take n xs) (add-one i) ∙ take-suc xs i x (slice_get_within xs i x e)
     ∙ ap (λ y. take i xs ++ y ∷ []) (get_or_from_slice_get xs i x x e)
 
--- two lists that agree before this place, and at it, agree up to and with it
-pub same_through : {X : Type 0} (xs ys : List X) (i : ℕ) (x : X) → take i xs ≡ take i ys → slice_get xs i ≡ Some x
-    → slice_get ys i ≡ Some x → take (i + 1) xs ≡ take (i + 1) ys
-same_through xs ys i x same one other = take_read xs i x one ∙ ap (λ l. l ++ x ∷ []) same ∙ sym (take_read ys i x other)
-
 -- ---- keys that differ, when one is added and when one changes its place
 
 -- a key that the others differ from is that of none

@@ -300,10 +300,10 @@ same_slot : (r row : Row) → Active r ≡ Active row → r.slot ≡ row.slot
 same_slot r row e = let same : r ≡ row = cc in ap (λ (x : Row). x.slot) same
 
 -- an active name comes
-owners_more : (entries new : List Entry) (at : ℕ) (row : Row) (owner owner' : ℕ → Option ℕ) → Puts entries new at (active_entry row)
+owners_more : {entries new : List Entry} {at : ℕ} {row : Row} {owner owner' : ℕ → Option ℕ} → Puts entries new at (active_entry row)
     → (IsActiveAt entries at → ⊥) → AreOwners entries owner → owner row.slot ≡ None
     → owner' row.slot ≡ Some at → ((q : ℕ) → q ≢ row.slot → owner' q ≡ owner q) → AreOwners new owner'
-owners_more entries new at row owner owner' puts free owners none there others = record {
+owners_more {entries} {new} {at} {row} {owner} {owner'} puts free owners none there others = record {
   active = λ place r e. elim (cases_eq place at) [
     | inl same ↦
         let both : active_entry r ≡ active_entry row =
@@ -326,11 +326,11 @@ owners_more entries new at row owner owner' puts free owners none there others =
 }
 
 -- none of the active names is that of this place any more
-owners_less : (entries new : List Entry) (at : ℕ) (old : RetiredName) (owner owner' : ℕ → Option ℕ)
+owners_less : {entries new : List Entry} {at : ℕ} {old : RetiredName} {owner owner' : ℕ → Option ℕ}
     → Puts entries new at (retired_entry old) → AreOwners entries owner
     → ((q place : ℕ) → place ≢ at → owner q ≡ Some place → owner' q ≡ Some place)
     → ((q place : ℕ) → owner' q ≡ Some place → (place ≢ at) × (owner q ≡ Some place)) → AreOwners new owner'
-owners_less entries new at old owner owner' puts owners stay were = record {
+owners_less {entries} {new} {at} {old} puts owners stay were = record {
   active = λ place r e. elim (cases_eq place at) [
     | inl same ↦ absurd (never_both new at (r, ap (slice_get new) (sym same) ∙ e) (old, puts.there))
     | inr other ↦ stay r.slot place other (owners.active place r (sym (puts.others place other) ∙ e))
@@ -374,7 +374,7 @@ module _ {entries new : List Entry} {active retired : List ℕ} {owner : ℕ →
   retires_places = record {
     active_places = rows_left.each;
     retired_places = olds_left.each;
-    owners = owners_less entries new place (old_name mine.0) owner owner' changed placed.owners
+    owners = owners_less changed placed.owners
         (λ q there other e. others q (λ same. other (same_place q there e same)) ∙ e)
         (λ q there e. elim (cases_eq q slot) [
           | inl same ↦ absurd (none-some there (sym none ∙ sym (ap owner' same) ∙ e))
@@ -424,7 +424,7 @@ module _ {entries : List Entry} {active retired : List ℕ} {owner : ℕ → Opt
   appended_places = record {
     active_places = rows_stay.each;
     retired_places = olds_more.each;
-    owners = owners_less entries longer last old owner owner (puts_last entries (retired_entry old)) placed.owners (λ q place other e. e)
+    owners = owners_less (puts_last entries (retired_entry old)) placed.owners (λ q place other e. e)
         (λ q place e. let row = placed.owners.slots q place e in (past (active_entry row.0) place row.1, e));
     count = omega (arith, length-append retired (last ∷ []), length-append entries (retired_entry old ∷ []), placed.count);
   }
@@ -513,6 +513,6 @@ module _ {entries new : List Entry} {active retired left : List ℕ} {owner : �
   settled_places owner' none there others = record {
     active_places = rows_with.each;
     retired_places = olds_with.each;
-    owners = owners_more entries new place row owner owner' settles.puts free placed.owners none there others;
+    owners = owners_more settles.puts free placed.owners none there others;
     count = omega (arith, length-append active (place ∷ []), settles.count, placed.count);
   }

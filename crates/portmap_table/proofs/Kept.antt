@@ -69,14 +69,14 @@ new_owner rows row slot d free e =
     (key_is_new nat_eq_equiv slot_of slot rows (none_at (λ row. row.slot == slot) rows free)) tt (rw append-nil d) in
     rw (map-append slot_of rows (row ∷ []), e) (rw append-nil at keys)
 
-kept_with : (known_max c slot : ℕ) (names : Names) (g : Node) (o : Option ℕ) → AreKept known_max names → is_active g.name names ≡ false
+kept_with : {known_max c slot : ℕ} {names : Names} {g : Node} (o : Option ℕ) → AreKept known_max names → is_active g.name names ≡ false
     → (is_some (retired_row g.name names) ≡ false → known_len names < known_max) → owns_name slot names ≡ false → IsCreationFor g.high c
     → position (had_name g.name) names.retired ≡ o
     → AreKept known_max (record {
       active = names.active ++ record { reg = g; creation = c; slot = slot } ∷ [];
       retired = without_at o names.retired;
     })
-kept_with known_max c slot names g None k inactive room free legal none =
+kept_with {known_max} {c} {slot} {names} {g} None k inactive room free legal none =
     let row : Row = record { reg = g; creation = c; slot = slot } in
     let past : NonePass (had_name g.name) names.retired = none_at (had_name g.name) names.retired (ap is_some none) in
     let few : known_len names < known_max = room (ap is_some (finds_none (had_name g.name) names.retired past)) in
@@ -90,7 +90,7 @@ kept_with known_max c slot names g None k inactive room free legal none =
       active_creations = All-push IsRowKept names.active row k.active_creations legal;
       retired_creations = k.retired_creations;
     }
-kept_with known_max c slot names g (Some at) k inactive room free legal found =
+kept_with {known_max} {c} {slot} {names} {g} (Some at) k inactive room free legal found =
     let row : Row = record { reg = g; creation = c; slot = slot } in
     let d : RetiredName = old_name row in
     let place = position-Some (had_name g.name) names.retired at d found in
@@ -127,10 +127,10 @@ kept_without known_max names k = record {
 }
 
 -- what always holds of names does so after a registration
-pub kept_enters : (known_max c slot : ℕ) (names : Names) (g : Node) → AreKept known_max names → is_active g.name names ≡ false
+pub kept_enters : {known_max c slot : ℕ} {names : Names} {g : Node} → AreKept known_max names → is_active g.name names ≡ false
     → is_full_for known_max g.name names ≡ false → owns_name slot names ≡ false
     → IsCreationFor g.high c → AreKept known_max (registered g c slot (with_room known_max g.name names))
-kept_enters known_max c slot names g k inactive room free range =
+kept_enters {known_max} {c} {slot} {names} {g} k inactive room free range =
     by (nat_le known_max (known_len names) && not (is_known g.name names)) refl
   where
     less : (active known : ℕ) (is : Bool) → (nat_le known_max known && not is) ≡ true → (nat_le known_max active && not is) ≡ false
@@ -141,17 +141,12 @@ kept_enters known_max c slot names g k inactive room free range =
         → AreKept known_max (registered g c slot (if b then without_oldest names else names))
     by true e =
         let few = less (length names.active) (known_len names) (is_known g.name names) e room in
-        kept_with known_max c slot (without_oldest names) g (position (had_name g.name) (drop 1 names.retired))
+        kept_with (position (had_name g.name) (drop 1 names.retired))
         (kept_without known_max names k) inactive (λ unknown. omega (arith, few, k.few, length-drop 1 names.retired)) free range refl
     by false e =
-        kept_with known_max c slot names g (position (had_name g.name) names.retired) k inactive
+        kept_with (position (had_name g.name) names.retired) k inactive
         (λ unknown. has_room known_max (known_len names) (is_active g.name names)
         (is_some (retired_row g.name names)) e inactive unknown) free range refl
-
-pub kept_registers : (known_max c slot : ℕ) (names : Names) (g : Node) → AreKept known_max names → is_active g.name names ≡ false
-    → is_full_for known_max g.name names ≡ false → owns_name slot names ≡ false
-    → IsLegalCreation g.high (remembered g.name names) c → AreKept known_max (registered g c slot (with_room known_max g.name names))
-kept_registers known_max c slot names g k inactive room free legal = kept_enters known_max c slot names g k inactive room free legal.range
 
 -- ---- a name retires
 

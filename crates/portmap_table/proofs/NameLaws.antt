@@ -179,22 +179,22 @@ unfolding IsDistinct
 distinct_second same [] ys d = d
 distinct_second same (x ∷ xs) ys d = distinct_second same xs ys d.1
 
-part_read : {X K : Type 0} (P : K → Type 0) (key : X → K) (xs : List X) (ys : List K) (i : ℕ) (x : X) → AllByRecursion P (map key xs ++ ys)
+part_read : {X K : Type 0} (P : K → Type 0) (key : X → K) (xs : List X) (ys : List K) (i : ℕ) {x : X} → AllByRecursion P (map key xs ++ ys)
     → slice_get xs i ≡ Some x → P (key x)
-part_read P key [] ys i x all e = absurd cc
-part_read P key (y ∷ xs) ys zero x all e = rw (let same : x ≡ y = cc in same) all.0
-part_read P key (y ∷ xs) ys (suc i) x all e = part_read P key xs ys i x all.1 e
+part_read P key [] ys i all e = absurd cc
+part_read P key (y ∷ xs) ys zero {x} all e = rw (let same : x ≡ y = cc in same) all.0
+part_read P key (y ∷ xs) ys (suc i) all e = part_read P key xs ys i all.1 e
 
 -- and from those of a second part
-differs_before : {X K : Type 0} {same : K → K → Bool} → IsEquivalence same → (key : X → K) (xs : List X) (ys : List K) (i : ℕ) (x : X)
+differs_before : {X K : Type 0} {same : K → K → Bool} → IsEquivalence same → (key : X → K) (xs : List X) (ys : List K) (i : ℕ) {x : X}
     → IsDistinct same (map key xs ++ ys) → slice_get xs i ≡ Some x
     → AllByRecursion (λ y. same (key x) y ≡ false) (map key (take i xs) ++ ys)
 unfolding IsDistinct
-differs_before laws key [] ys i x d e = absurd cc
-differs_before {X} {K} {same} laws key (z ∷ xs) ys zero x d e =
+differs_before laws key [] ys i d e = absurd cc
+differs_before {X} {K} {same} laws key (z ∷ xs) ys zero {x} d e =
     (parts (λ y. same (key x) y ≡ false) (map key xs) ys (rw (let is : x ≡ z = cc in is) d.0)).1
-differs_before {X} {K} {same} laws key (z ∷ xs) ys (suc i) x d e =
-    (laws.symm (key x) (key z) ∙ part_read (λ y. same (key z) y ≡ false) key xs ys i x d.0 e, differs_before laws key xs ys i x d.1 e)
+differs_before {X} {K} {same} laws key (z ∷ xs) ys (suc i) {x} d e =
+    (laws.symm (key x) (key z) ∙ part_read (λ y. same (key z) y ≡ false) key xs ys i d.0 e, differs_before laws key xs ys i d.1 e)
 
 -- ---- a name that is known twice, and a slot that owns two
 
@@ -206,20 +206,20 @@ module _ {known_max : ℕ} {names : Names} (k : AreKept known_max names) (i : �
   pub new_active : (row : Row) → slice_get names.active i ≡ Some row
       → is_known row.reg.name (record { active = take i names.active; retired = names.retired }) ≡ false
   new_active row e = is_unknown row.reg.name (record { active = take i names.active; retired = names.retired })
-      (differs_before nat_list_eq_equiv name_of names.active (map old_name_of names.retired) i row k.distinct e)
+      (differs_before nat_list_eq_equiv name_of names.active (map old_name_of names.retired) i k.distinct e)
 
   pub new_owner : (row : Row) → slice_get names.active i ≡ Some row
       → owns_name row.slot (record { active = take i names.active; retired = names.retired }) ≡ false
   new_owner row e =
       ap is_some (no_place (has_slot row.slot) (take i names.active)
       (keys_pass_not nat_eq_equiv slot_of row.slot (take i names.active)
-      (rw append-nil at (differs_before nat_eq_equiv slot_of names.active [] i row (rw append-nil k.owners) e))))
+      (rw append-nil at (differs_before nat_eq_equiv slot_of names.active [] i (rw append-nil k.owners) e))))
 
   pub new_retired : (old : RetiredName) → slice_get names.retired i ≡ Some old
       → is_known old.name (record { active = []; retired = take i names.retired }) ≡ false
   new_retired old e =
       is_unknown old.name (record { active = []; retired = take i names.retired })
-      (rw append-nil at (differs_before nat_list_eq_equiv old_name_of names.retired [] i old
+      (rw append-nil at (differs_before nat_list_eq_equiv old_name_of names.retired [] i
       (rw append-nil (distinct_second same_name (map name_of names.active) (map old_name_of names.retired) k.distinct)) e))
 
 -- ---- one more

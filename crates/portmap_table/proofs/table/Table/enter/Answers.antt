@@ -44,7 +44,7 @@ kept : (c : goal.In-Ok) → AreKept c.self.inside.known_max
     (names_at c.settle.new.entries c.push_reserved.new.self.items c.settle.new.retired.items)
 kept c =
     rw (named c)
-    (kept_enters c.self.inside.known_max c.args.row.creation c.args.row.slot (old_names c) c.args.row.reg c.self.invariant.2 (inactive c)
+    (kept_enters c.self.invariant.2 (inactive c)
     (ap (λ (t : TableState). is_full_for t.known_max c.args.row.reg.name t.names) c.self.view_is ∙ c.requires.room)
     (free c) c.requires.creation)
 
