@@ -69,28 +69,34 @@ new_owner rows row slot d free e =
     (key_is_new nat_eq_equiv slot_of slot rows (none_at (λ row. row.slot == slot) rows free)) tt (rw append-nil d) in
     rw (map-append slot_of rows (row ∷ []), e) (rw append-nil at keys)
 
-kept_with : {known_max c slot : ℕ} {names : Names} {g : Node} (o : Option ℕ) → AreKept known_max names → is_active g.name names ≡ false
-    → (is_some (retired_row g.name names) ≡ false → known_len names < known_max) → owns_name slot names ≡ false → IsCreationFor g.high c
-    → position (had_name g.name) names.retired ≡ o
+-- a name that is to be registered: it is not active, its slot owns none, and its creation is one that it may have
+pub record IsNew (known_max : ℕ) (names : Names) (g : Node) (creation slot : ℕ) : Type 0 where
+  pub kept : AreKept known_max names
+  pub inactive : is_active g.name names ≡ false
+  pub free : owns_name slot names ≡ false
+  pub range : IsCreationFor g.high creation
+
+kept_with : {known_max c slot : ℕ} {names : Names} {g : Node} (o : Option ℕ) → IsNew known_max names g c slot
+    → (is_some (retired_row g.name names) ≡ false → known_len names < known_max) → position (had_name g.name) names.retired ≡ o
     → AreKept known_max (record {
       active = names.active ++ record { reg = g; creation = c; slot = slot } ∷ [];
       retired = without_at o names.retired;
     })
-kept_with {known_max} {c} {slot} {names} {g} None k inactive room free legal none =
+kept_with {known_max} {c} {slot} {names} {g} None is room none =
     let row : Row = record { reg = g; creation = c; slot = slot } in
     let past : NonePass (had_name g.name) names.retired = none_at (had_name g.name) names.retired (ap is_some none) in
     let few : known_len names < known_max = room (ap is_some (finds_none (had_name g.name) names.retired past)) in
     record {
       distinct = rw (map-append name_of names.active (row ∷ []))
           (distinct_with nat_list_eq_equiv g.name (map name_of names.active) (map old_name_of names.retired)
-          (key_is_new nat_list_eq_equiv name_of g.name names.active (none_found (has_name g.name) names.active inactive))
-          (key_is_new nat_list_eq_equiv old_name_of g.name names.retired past) k.distinct);
+          (key_is_new nat_list_eq_equiv name_of g.name names.active (none_found (has_name g.name) names.active is.inactive))
+          (key_is_new nat_list_eq_equiv old_name_of g.name names.retired past) is.kept.distinct);
       few = omega (arith, length-append names.active (row ∷ []));
-      owners = new_owner names.active row slot k.owners free refl;
-      active_creations = All-push IsRowKept names.active row k.active_creations legal;
-      retired_creations = k.retired_creations;
+      owners = new_owner names.active row slot is.kept.owners is.free refl;
+      active_creations = All-push IsRowKept names.active row is.kept.active_creations is.range;
+      retired_creations = is.kept.retired_creations;
     }
-kept_with {known_max} {c} {slot} {names} {g} (Some at) k inactive room free legal found =
+kept_with {known_max} {c} {slot} {names} {g} (Some at) is room found =
     let row : Row = record { reg = g; creation = c; slot = slot } in
     let d : RetiredName = old_name row in
     let place = position-Some (had_name g.name) names.retired at d found in
@@ -101,11 +107,11 @@ kept_with {known_max} {c} {slot} {names} {g} (Some at) k inactive room free lega
     record {
       distinct = rw (map-append name_of names.active (row ∷ []), ← same)
           (distinct_forward nat_list_eq_equiv old.name (map name_of names.active) (map old_name_of names.retired)
-          (map old_name_of (remove names.retired at)) moved k.distinct);
-      few = omega (arith, length-append names.active (row ∷ []), length-remove names.retired at lt, k.few);
-      owners = new_owner names.active row slot k.owners free refl;
-      active_creations = All-push IsRowKept names.active row k.active_creations legal;
-      retired_creations = All-remove IsOldKept names.retired at k.retired_creations;
+          (map old_name_of (remove names.retired at)) moved is.kept.distinct);
+      few = omega (arith, length-append names.active (row ∷ []), length-remove names.retired at lt, is.kept.few);
+      owners = new_owner names.active row slot is.kept.owners is.free refl;
+      active_creations = All-push IsRowKept names.active row is.kept.active_creations is.range;
+      retired_creations = All-remove IsOldKept names.retired at is.kept.retired_creations;
     }
 
 -- ---- the oldest is forgotten
@@ -127,11 +133,9 @@ kept_without known_max names k = record {
 }
 
 -- what always holds of names does so after a registration
-pub kept_enters : {known_max c slot : ℕ} {names : Names} {g : Node} → AreKept known_max names → is_active g.name names ≡ false
-    → is_full_for known_max g.name names ≡ false → owns_name slot names ≡ false
-    → IsCreationFor g.high c → AreKept known_max (registered g c slot (with_room known_max g.name names))
-kept_enters {known_max} {c} {slot} {names} {g} k inactive room free range =
-    by (nat_le known_max (known_len names) && not (is_known g.name names)) refl
+pub kept_enters : {known_max c slot : ℕ} {names : Names} {g : Node} → IsNew known_max names g c slot
+    → is_full_for known_max g.name names ≡ false → AreKept known_max (registered g c slot (with_room known_max g.name names))
+kept_enters {known_max} {c} {slot} {names} {g} is room = by (nat_le known_max (known_len names) && not (is_known g.name names)) refl
   where
     less : (active known : ℕ) (is : Bool) → (nat_le known_max known && not is) ≡ true → (nat_le known_max active && not is) ≡ false
         → active < known_max
@@ -141,12 +145,14 @@ kept_enters {known_max} {c} {slot} {names} {g} k inactive room free range =
         → AreKept known_max (registered g c slot (if b then without_oldest names else names))
     by true e =
         let few = less (length names.active) (known_len names) (is_known g.name names) e room in
-        kept_with (position (had_name g.name) (drop 1 names.retired))
-        (kept_without known_max names k) inactive (λ unknown. omega (arith, few, k.few, length-drop 1 names.retired)) free range refl
+        let older : IsNew known_max (without_oldest names) g c slot =
+        record { kept = kept_without known_max names is.kept; inactive = is.inactive; free = is.free; range = is.range } in
+        kept_with (position (had_name g.name) (drop 1 names.retired)) older
+        (λ unknown. omega (arith, few, is.kept.few, length-drop 1 names.retired)) refl
     by false e =
-        kept_with (position (had_name g.name) names.retired) k inactive
+        kept_with (position (had_name g.name) names.retired) is
         (λ unknown. has_room known_max (known_len names) (is_active g.name names)
-        (is_some (retired_row g.name names)) e inactive unknown) free range refl
+        (is_some (retired_row g.name names)) e is.inactive unknown) refl
 
 -- ---- a name retires
 

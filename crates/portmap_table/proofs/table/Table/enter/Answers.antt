@@ -44,9 +44,8 @@ kept : (c : goal.In-Ok) → AreKept c.self.inside.known_max
     (names_at c.settle.new.entries c.push_reserved.new.self.items c.settle.new.retired.items)
 kept c =
     rw (named c)
-    (kept_enters c.self.invariant.2 (inactive c)
-    (ap (λ (t : TableState). is_full_for t.known_max c.args.row.reg.name t.names) c.self.view_is ∙ c.requires.room)
-    (free c) c.requires.creation)
+    (kept_enters (record { kept = c.self.invariant.2; inactive = inactive c; free = free c; range = c.requires.creation })
+    (ap (λ (t : TableState). is_full_for t.known_max c.args.row.reg.name t.names) c.self.view_is ∙ c.requires.room))
 
 pub invariant_of-self-2 : goal.invariant_of-self-2
 invariant_of-self-2 c = (
