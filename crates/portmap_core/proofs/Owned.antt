@@ -13,7 +13,7 @@ use Rattle.portmap_wire.specs.declared.request.Request.TheVariants.{Alive, Port,
 use Rattle.portmap_wire.specs.declared.request.Request.TheVariants as request
 use Rattle.portmap_table.specs.Rows.{AreKept, owns_name, is_active, is_full_for, owner_of, registered, retired_of, with_room}
 use Rattle.portmap_table.specs.Rows as rows
-use Rattle.portmap_table.proofs.Kept.{kept_empty, kept_registers, kept_retired}
+use Rattle.portmap_table.proofs.Kept.{IsNew, kept_empty, kept_enters, kept_retired}
 use Rattle.portmap_table.proofs.Owners.{owns_in_room, owns_registered, owns_registered_other, owns_retired, owns_retired_other}
 use Rattle.portmap_core.specs.declared.connection.Connection.{Connection}
 use Rattle.portmap_core.specs.declared.connection.Stage.{Stage}
@@ -154,12 +154,14 @@ module _ (w : WaitsAt) (owned : IsOwned w.config w.state) where
       → IsOwned cfg (settled s slot connection (registers cfg.known_max s.names slot g creation))
   register_owned g creation local inactive fits legal =
       let room = with_room cfg.known_max g.name s.names in
+      let new : IsNew cfg.known_max s.names g creation slot =
+      record { kept = owned.names; inactive = inactive; free = free; range = legal.range } in
       let turns : Turns s.names (registered g creation slot room) s.connections slot = record {
         others = λ q ne. owns_registered_other q g creation slot room ne ∙ owns_in_room cfg.known_max g.name q s.names;
         all = owned.slots;
       } in
       record {
-        names = kept_registers cfg.known_max creation slot s.names g owned.names inactive fits free legal;
+        names = kept_enters new fits;
         few = rw (len_open s.connections slot (at_stage connection Holding) connection w.is_open) owned.few;
         slots = slots_with turns (at_stage connection Holding) (owns_registered g creation slot room, local);
       }
