@@ -1,0 +1,75 @@
+"""Lemmas take few arguments in a row: what is assumed again and again is a record, or a parameter of a module."""
+import glob
+import os
+import re
+import unittest
+
+TOP = os.path.join(os.path.dirname(os.path.abspath(__file__)), "..", "..")
+CRATES = ["portmap_table", "portmap_core", "portmap_book", "portmap_record"]
+ARGUMENTS_MOST = 7
+OPENING, CLOSING = "({[", ")}]"
+HEAD = re.compile(r"( *)(?:abbrev )?(?:pub )?([^\s(){}:,.]+) : (.*)")
+
+
+def indented(line):
+    return len(line) - len(line.lstrip())
+
+
+def signatures(text):
+    """The name and the type of each declaration."""
+    lines = [*text.split("\n"), ""]
+    for at, line in enumerate(lines):
+        head = None if line.lstrip().startswith(("--", "let ", "|")) else HEAD.fullmatch(line)
+        if head:
+            end = next(i for i in range(at + 1, len(lines)) if indented(lines[i]) <= len(head[1]))
+            yield head[2], " ".join([head[3], *(line.strip() for line in lines[at + 1 : end])])
+
+
+def outside(text, mark):
+    """The parts between these marks that stand in no brackets."""
+    parts, depth = [""], 0
+    for character in text:
+        depth += (character in OPENING) - (character in CLOSING)
+        if depth == 0 and character == mark:
+            parts.append("")
+        else:
+            parts[-1] += character
+    return parts
+
+
+def arguments(signature):
+    """How many are written where it is used: those in braces are not."""
+    count = 0
+    for part in outside(signature, "→")[:-1]:
+        binders = [binder.strip() for binder in outside(part.replace(") (", ")\n(").replace(") {", ")\n{").replace("} (", "}\n("), "\n")]
+        names = [re.match(r"[({]([^(){}:]+) : ", binder) for binder in binders]
+        if all(names):
+            count += sum(len(name[1].split()) for binder, name in zip(binders, names) if binder[0] == "(")
+        else:
+            count += 1
+    return count
+
+
+class Proofs(unittest.TestCase):
+    def test_arguments_are_counted(self):
+        for signature, count in {
+            "ℕ": 0,
+            "(a b : ℕ) {c : ℕ} (d : List ℕ) → a ≡ b → ((x : ℕ) → f x) → ⊥": 5,
+            "{a : ℕ} → (f : ℕ → ℕ) → f a ≡ a": 1,
+        }.items():
+            self.assertEqual(arguments(signature), count, signature)
+
+    def test_a_lemma_takes_few_arguments(self):
+        many, seen = [], 0
+        for crate in CRATES:
+            for path in glob.glob(f"{TOP}/crates/{crate}/proofs/**/*.antt", recursive=True):
+                with open(path, encoding="utf-8") as file:
+                    counts = [(os.path.relpath(path, TOP), name, arguments(type)) for name, type in signatures(file.read())]
+                seen += len(counts)
+                many += [found for found in counts if found[-1] > ARGUMENTS_MOST]
+        self.assertGreater(seen, 0)
+        self.assertEqual(many, [])
+
+
+if __name__ == "__main__":
+    unittest.main()
