@@ -1,18 +1,17 @@
 -- What each call does to what is held, and to what callers see: lemmas.
 use Rattle.std.proofs.Common.{◌≡◌, ◌≢◌, ◌↔◌, ℕ, ◌+◌, ◌-◌, ◌<◌, ◌≤◌, Bool, true, false, ◌&&◌, not, cond, List, [], ◌∷◌, ◌++◌}
-use Rattle.std.proofs.Common.{length, Option, Some, None, is_some, IsSome, refl, sym, ap, subst, ◌∙◌, inl, inr, arith}
+use Rattle.std.proofs.Common.{length, Option, Some, None, is_some, IsSome, refl, sym, ap, subst, ◌∙◌, arith}
 use Rattle.std.specs.Prelude.{drop, option_map, nat_lt, nat_le, slice_get}
 use Rattle.std.specs.FinMap as map
 use Rattle.std.specs.Ordering.{nat_cmp}
 use Rattle.std.specs.Cmp.{nat_cmp_total}
-use Rattle.std.proofs.lemmas.Bool.{cases_eq}
 use Rattle.std.proofs.lemmas.Bool.Decides.{nat_tests}
 use Rattle.std.proofs.lemmas.List.Sums.{count_by-le-length, length-filter, sum_by-set}
 use Rattle.slab.specs.Slab.{Slab, get, slab_len, Updates, with_value}
 use Rattle.slab.proofs.SlabLemmas.{ContainsKey-within, Updates-with_value}
 use Rattle.portmap_ready.specs.declared.Held.{Held}
 use Rattle.portmap_ready.specs.declared.Place.{Place}
-use Rattle.portmap_ready.specs.declared.Place.TheVariants.{Idle, Queued, Pending, Resting, Told}
+use Rattle.portmap_ready.specs.declared.Place.TheVariants.{Idle, Queued, Resting, Told}
 use Rattle.portmap_ready.specs.declared.Ready.TheInside.{Inside}
 use Rattle.portmap_ready.specs.Links.{Links, IsButForRoom, IsReady, at_place, first_at, inserted, is_queued, is_pending, is_resting}
 use Rattle.portmap_ready.specs.Links.{is_told, link_at, moved, not_key, one_at, place_at, pushed, put_at, removed, rest_ended, taken_next}
@@ -26,20 +25,15 @@ use Rattle.portmap_ready.proofs.Tables.{marks_is, held_as, some_map, to_place, w
 use Rattle.portmap_ready.proofs.Tables.{shows-cleared, free_marks}
 use Rattle.portmap_ready.proofs.Steps.{one_most, IsStep, whole_step, seen_is, kept_same, kept_absent, kept_pushed, kept_others, kept_out}
 use Rattle.portmap_ready.proofs.Steps.{get-links_of, links_put, links_cut, links_same, links_to, counted_to, len_most}
+use Rattle.std.proofs.Common.{rules}
 
 pub not_key_here : (k : ℕ) (t : Option ℕ) → is_key (not_key k t) k ≡ false
 not_key_here k None = refl
-not_key_here k (Some j) = elim (cases_eq j k) [
-  | inl same ↦ grind (arith, nat_tests, same)
-  | inr differs ↦ grind (arith, nat_tests, differs)
-]
+not_key_here k (Some j) = search rules
 
 pub not_key_other : (k j : ℕ) (t : Option ℕ) → j ≢ k → is_key (not_key k t) j ≡ is_key t j
 not_key_other k j None d = refl
-not_key_other k j (Some i) d = elim (cases_eq i k) [
-  | inl same ↦ grind (arith, nat_tests, same, d)
-  | inr differs ↦ grind (arith, nat_tests, differs)
-]
+not_key_other k j (Some i) d = search rules
 
 key_is : (t : Option ℕ) (k : ℕ) → (is_key t k ≡ true) ↔ (t ≡ Some k)
 key_is None k = (λ e. absurd (cc), λ e. absurd (cc))
@@ -51,20 +45,14 @@ less false n = omega arith
 
 module _ {T : Type 0} where
   slab_len-with_value : (s : Slab (Held T)) (k : ℕ) (h : Held T) → is_some (get s k) ≡ true → slab_len (with_value s k h) ≡ slab_len s
-  slab_len-with_value s k h e =
-      let one_more = sum_by-set (λ o. cond (is_some o) 1 0) s.slots k (Some h) None (ContainsKey-within s k e) in
-      omega (arith, one_more, ap one e)
+  slab_len-with_value s k h e = search (rules, ContainsKey-within, sum_by-set)
 
   pub some_live : (o : Option (Held T)) → is_live o ≡ true → is_some o ≡ true
   some_live None e = e
   some_live (Some h) e = refl
 
   no_link : (o : Option (Held T)) → is_live o ≡ false → link_of o ≡ None
-  no_link o e = go (link_of o) e
-    where
-      go : (l : Option (T × Place)) → is_some l ≡ false → l ≡ None
-      go None f = refl
-      go (Some x) f = absurd (cc)
+  no_link o e = search rules
 
   -- ---- a link goes to another place
 
@@ -88,12 +76,7 @@ module _ {T : Type 0} where
 
   out_absent : (p : Place) (o : Option (Held T)) → is_out p o ≡ true → (marks_of o).resting ≡ 0
   out_absent p None e = refl
-  out_absent p (Some h) e = go (is_resting p) h.is_listed e
-    where
-      go : (x b : Bool) → (x && not b) ≡ true → one b ≡ 0
-      go true true e = absurd (cc)
-      go true false e = refl
-      go false b e = absurd (cc)
+  out_absent p (Some h) e = search rules
 
   pub out_room : {r : Inside T} (p : Place) (k : ℕ) → IsWhole r → is_out p (get r.held k) ≡ true → times k r.resting.items ≡ 0
   out_room {r} p k i e = ap (λ m. m.resting) (i.marks k) ∙ out_absent p (get r.held k) e
@@ -119,10 +102,8 @@ module _ {T : Type 0} where
     pub put_whole : is_told p ≡ false → IsWhole new
     put_whole to =
         let shows = shows-placed p o free.live in
-        let queue : times k new.queue.items ≡ one (is_queued p) = omega
-        (arith, joined (is_queued p) k old.queue.items puts.queue, free.queue) in
-        let pending : times k new.pending.items ≡ one (is_pending p) =
-        omega (arith, joined (is_pending p) k old.pending.items puts.pending, free.pending) in
+        let queue : times k new.queue.items ≡ one (is_queued p) = search (rules, joined) in
+        let pending : times k new.pending.items ≡ one (is_pending p) = search (rules, joined) in
         let resting : times k new.resting.items ≡ (marks_of o).resting + one out =
         omega (arith, joined out k old.resting.items puts.resting, ap (λ m. m.resting) (i.marks k)) in
         whole_step i (record {
@@ -190,14 +171,7 @@ module _ {T : Type 0} where
       → WasFirst o x y
   was_first true None e f = absurd (omega arith)
   was_first false None e f = absurd (omega arith)
-  was_first b (Some h) {x} {y} e f = go b h.place e f
-    where
-      go : (b : Bool) (p : Place) → one b + x ≡ one (is_queued p) → one (not b) + y ≡ one (is_pending p)
-          → WasFirst (held_as p h.value h.is_listed) x y
-      go true Queued e f = record { queue = omega arith; pending = omega arith; rests = refl; some = refl }
-      go false Pending e f = record { queue = omega arith; pending = omega arith; rests = refl; some = refl }
-      go true p e f = absurd (omega arith)
-      go false p e f = absurd (omega arith)
+  was_first b (Some h) {x} {y} e f = search rules
 
   kept-front : (b c : Bool) {s s' : Slab (Held T)} {k : ℕ} {o : Option (Held T)} (xs : List ℕ) → Updates s s' k o → times k xs ≡ 0
       → is_live (get s k) ≡ c → kept is_live s (front b k xs) ≡ front (b && c) k (kept is_live s' xs)
@@ -313,14 +287,7 @@ module _ {T : Type 0} where
 
   end_link_is : (o : Option (Held T)) → option_map wake (link_of o) ≡ end_link (rests o) (link_of o)
   end_link_is None = refl
-  end_link_is (Some h) = go h.place h.value
-    where
-      go : (p : Place) (v : Option T)
-          → option_map wake (link_of (held_as p v h.is_listed)) ≡ end_link (is_resting p) (link_of (held_as p v h.is_listed))
-      go Resting None = refl
-      go Resting (Some x) = refl
-      go p None = refl
-      go p (Some x) = refl
+  end_link_is (Some h) = search rules
 
   module _ {k : ℕ} {old new : Inside T} (i : IsWhole old) (ends : Ends k old new) where
     abbrev rested : Option (Held T)
@@ -527,15 +494,7 @@ module _ {T : Type 0} where
 
   agrees : (o : Option (Held T)) → is_fine o ≡ true → Agrees o
   agrees None f = record { queue = refl; pending = refl; resting = refl; told = (λ e. absurd (cc), λ e. absurd (cc)) }
-  agrees (Some h) f = go h.place h.value h.is_listed f
-    where
-      go : (p : Place) (v : Option T) (b : Bool) → may_stand p (is_some v) b ≡ true → Agrees (held_as p v b)
-      go Resting None b f = absurd (cc)
-      go Told None b f = absurd (cc)
-      go Resting (Some x) b f = record { queue = refl; pending = refl; resting = ap one f; told = (λ e. absurd (cc), λ e. absurd (cc)) }
-      go Told (Some x) b f = record { queue = refl; pending = refl; resting = refl; told = (λ e. refl, λ e. refl) }
-      go p None b f = record { queue = refl; pending = refl; resting = refl; told = (λ e. absurd (cc), λ e. absurd (cc)) }
-      go p (Some x) b f = record { queue = refl; pending = refl; resting = refl; told = (λ e. absurd (cc), λ e. absurd (cc)) }
+  agrees (Some h) f = search rules
 
   pub whole_ready : {r : Inside T} → IsWhole r → IsReady (seen r)
   whole_ready {r} i =
@@ -553,10 +512,7 @@ module _ {T : Type 0} where
         resting = λ k.
             times-filter _ k r.resting.items ∙ ap (λ m. cond (rests (get r.held k)) m.resting 0) (i.marks k) ∙ (at k).resting
             ∙ ap (one_at is_resting) (sym (link k));
-        told = λ k. (
-          λ e. (key_is r.told k).0 (mark k ∙ (at k).told.1 (sym (place k) ∙ e)),
-          λ e. place k ∙ (at k).told.0 (sym (mark k) ∙ (key_is r.told k).1 e),
-        );
+        told = search rules;
       }
 
   -- ---- what the fields say of what callers see
@@ -568,11 +524,7 @@ module _ {T : Type 0} where
   key_below r k e some = ContainsKey-within r.held k (some_live (get r.held k) (some_seen r k e some))
 
   pub room_enough : (r : Inside T) {v : Links T} → seen r ≡ v → v.has_room ≡ true → r.held.capacity ≤ room r
-  room_enough r e has = go (nat_lt (slab_len r.held) r.held.capacity) (ap (λ v. v.has_room) e ∙ has)
-    where
-      go : (b : Bool) → (b && nat_le r.held.capacity (room r)) ≡ true → r.held.capacity ≤ room r
-      go true f = grind (arith, nat_tests, f)
-      go false f = absurd (cc)
+  room_enough r e has = search rules
 
   pub count_most : {r : Inside T} → IsWhole r → r.count ≤ room r
   count_most {r} i =

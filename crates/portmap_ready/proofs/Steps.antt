@@ -1,12 +1,11 @@
 -- What is held changes under one key: lemmas.
 use Rattle.std.proofs.Common.{◌≡◌, ◌≢◌, ℕ, suc, zero, ◌+◌, ◌-◌, ◌<◌, ◌≤◌, Bool, true, false, cond, List, [], ◌∷◌, length, get_or, Option}
-use Rattle.std.proofs.Common.{Some, None, is_some, IsSome, refl, sym, ap, subst, ◌∙◌, inl, inr, arith}
+use Rattle.std.proofs.Common.{Some, None, is_some, IsSome, refl, sym, ap, ◌∙◌, arith}
 use Rattle.std.specs.Prelude.{map as list_map, option_map}
 use Rattle.std.specs.Ordering.{nat_cmp}
 use Rattle.std.specs.FinMap as map
 use Rattle.std.specs.FinMap.{nat_cmp-IsAntisymmetric}
 use Rattle.std.specs.Cmp.{nat_cmp_total}
-use Rattle.std.proofs.lemmas.Bool.{cases_eq}
 use Rattle.std.proofs.lemmas.Bool.Decides.{nat_tests}
 use Rattle.slab.specs.Slab.{Slab, get, Updates, entries_from}
 use Rattle.portmap_ready.specs.declared.Held.{Held}
@@ -16,6 +15,7 @@ use Rattle.portmap_ready.specs.Links.{Links, at_place, put_at, pushed, times, wi
 use Rattle.portmap_ready.specs.Held.{Marks, one, link_of, marks_of, is_fine}
 use Rattle.portmap_ready.specs.Whole.{IsWhole, links_of, kept, room, marks}
 use Rattle.portmap_ready.proofs.Times.{times_fit, filter_same, filter-pushed, without-filter, without-pushed, without_absent}
+use Rattle.std.proofs.Common.{rules}
 
 pub one_most : (b : Bool) → one b ≤ 1
 one_most true = omega arith
@@ -78,20 +78,14 @@ module _ {T : Type 0} where
   -- a link that goes to another place is none more
   pub counted_to : (place : Place) {old : Inside T} (k : ℕ) (s : Slab (Held T)) → IsWhole old
       → links_of s.slots ≡ at_place place k (links_of old.held.slots) → old.count ≡ map.len (links_of s.slots)
-  counted_to place {old} k s i e =
-      let links = links_of old.held.slots in
-      i.counted ∙ sym (ap map.len e ∙ len-put_at place k (map.get links k) links refl)
+  counted_to place {old} k s i e = search (rules, len-put_at)
 
   -- ---- one is changed
 
   module _ {s s' : Slab (Held T)} {k : ℕ} {o : Option (Held T)} (u : Updates s s' k o) where
     -- what holds under the changed key, and of each other one as it was, holds of each
     pub at_each : (P : ℕ → Option (Held T) → Type 0) → P k o → ((j : ℕ) → j ≢ k → P j (get s j)) → (j : ℕ) → P j (get s' j)
-    at_each P here there j =
-        elim (cases_eq j k) [
-          | inl same ↦ subst (λ i. P i (get s' i)) (sym same) (subst (P k) (sym u.changed) here)
-          | inr differs ↦ subst (P j) (sym (u.others j differs)) (there j differs)
-        ]
+    at_each P here there j = search rules
 
     pub kept_same : (f : Option (Held T) → Bool) (xs : List ℕ) → (0 < times k xs → f o ≡ f (get s k)) → kept f s' xs ≡ kept f s xs
     kept_same f xs h =
@@ -108,8 +102,7 @@ module _ {T : Type 0} where
     -- the others stay as they are
     pub kept_others : (f : Option (Held T) → Bool) (b : Bool) (xs : List ℕ)
         → without k (kept f s' (pushed b k xs)) ≡ without k (kept f s xs)
-    kept_others f b xs =
-        without-pushed (λ j. f (get s' j)) b k xs ∙ without-filter (λ j. f (get s j)) (λ j. f (get s' j)) k xs (λ j d. ap f (u.others j d))
+    kept_others f b xs = search (rules, without-filter, without-pushed)
 
     pub kept_out : (f : Option (Held T) → Bool) (xs : List ℕ) → f o ≡ false → kept f s' xs ≡ without k (kept f s xs)
     kept_out f xs h = sym (without_absent (λ j. f (get s' j)) k xs (ap f u.changed ∙ h)) ∙ kept_others f false xs
@@ -121,18 +114,12 @@ module _ {T : Type 0} where
     links_cut h = same _ _ (λ q. grind (arith, nat_tests, map.gets, get-links_of s q, get-links_of s' q, u.changed, u.others q, h))
 
     pub links_same : link_of o ≡ link_of (get s k) → links_of s'.slots ≡ links_of s.slots
-    links_same h =
-        let each = at_each (λ j o. link_of o ≡ link_of (get s j)) h (λ j d. refl) in
-        same _ _ (λ q. get-links_of s' q ∙ each q ∙ sym (get-links_of s q))
+    links_same h = search (rules, get-links_of, same)
 
     -- the link goes to a place, where there is one
     pub links_to : (place : Place) → link_of o ≡ option_map (λ l. (l.0, place)) (link_of (get s k))
         → links_of s'.slots ≡ at_place place k (links_of s.slots)
-    links_to place e = rw (get-links_of s k) (go (link_of (get s k)) refl)
-      where
-        go : (l : Option (T × Place)) → link_of (get s k) ≡ l → links_of s'.slots ≡ put_at place k l (links_of s.slots)
-        go None is = links_same (e ∙ ap (option_map (λ l. (l.0, place))) is ∙ sym is)
-        go (Some link) is = links_put (link.0, place) (e ∙ ap (option_map (λ l. (l.0, place))) is)
+    links_to place e = search (rules, get-links_of, links_put, links_same)
 
   -- the key stands where what is held under it says now, and each other one where it stood
   pub record IsStep (old new : Inside T) (k : ℕ) (o : Option (Held T)) : Type 0 where
@@ -145,13 +132,7 @@ module _ {T : Type 0} where
     pub counted : new.count ≡ map.len (links_of new.held.slots)
 
   pub whole_step : {old new : Inside T} {k : ℕ} {o : Option (Held T)} → IsWhole old → IsStep old new k o → IsWhole new
-  whole_step {old} {new} i step =
-      record {
-        marks = at_each step.held (λ j o. marks new j ≡ marks_of o) step.here (λ j d. step.others j d ∙ i.marks j);
-        fine = at_each step.held (λ j o. is_fine o ≡ true) step.fine (λ j d. i.fine j);
-        fits = rw step.rooms (at_each step.held (λ j o. IsSome o → j < room old) step.within (λ j d. i.fits j));
-        counted = step.counted;
-      }
+  whole_step {old} {new} i step = search rules
 
   -- a key below all room finds room in a list where it does not stand
   room_for : {r : Inside T} (list : Inside T → List ℕ) (mark : Marks → ℕ) (k : ℕ) → IsWhole r

@@ -1,5 +1,5 @@
 -- What a change of one says of where it stands: lemmas.
-use Rattle.std.proofs.Common.{◌≡◌, ◌+◌, Bool, true, false, ◌&&◌, ◌||◌, not, Option, Some, None, is_some, refl, sym, ap, ◌∙◌}
+use Rattle.std.proofs.Common.{◌≡◌, ◌+◌, Bool, true, false, ◌&&◌, ◌||◌, not, Option, Some, None, is_some, refl}
 use Rattle.std.specs.Prelude.{option_map}
 use Rattle.portmap_ready.specs.declared.Held.{Held}
 use Rattle.portmap_ready.specs.declared.Place.{Place}
@@ -8,6 +8,7 @@ use Rattle.portmap_ready.specs.Links.{is_queued, is_pending, is_resting, is_told
 use Rattle.portmap_ready.specs.Held.{is_free}
 use Rattle.portmap_ready.specs.Held.{Marks, one, left, woken, is_idle, may_stand, link_of, is_live, rests, marks_of, is_fine, placed}
 use Rattle.portmap_ready.specs.Held.{is_out, taken, unlisted, cleared, tidied}
+use Rattle.std.proofs.Common.{rules}
 
 -- ---- places
 
@@ -58,13 +59,7 @@ module _ {T : Type 0} where
   -- to give back what is gone changes nothing that is seen
   tidied-as : {X : Type 0} (f : Option (Held T) → X) → f None ≡ f (held_as Idle None false) → (o : Option (Held T)) → f (tidied o) ≡ f o
   tidied-as f e None = refl
-  tidied-as f e (Some h) = go h.place h.value h.is_listed
-    where
-      go : (p : Place) (v : Option T) (b : Bool) → f (tidied (held_as p v b)) ≡ f (held_as p v b)
-      go Idle None false = e
-      go Idle None true = refl
-      go Idle (Some x) b = refl
-      go p v b = refl
+  tidied-as f e (Some h) = search rules
 
   fine-tidied : (p : Place) (v : Option T) (b : Bool) → (is_idle p ≡ false → may_stand p (is_some v) b ≡ true)
       → is_fine (tidied (held_as p v b)) ≡ true
@@ -98,17 +93,7 @@ module _ {T : Type 0} where
 
   pub shows-placed : (p : Place) (o : Option (Held T)) → is_live o ≡ true → ShowsPlaced p o
   shows-placed p None l = absurd (cc)
-  shows-placed p (Some h) l = go h.value h.place h.is_listed l
-    where
-      go : (v : Option T) (q : Place) (b : Bool) → is_live (held_as q v b) ≡ true → ShowsPlaced p (held_as q v b)
-      go None q b l = absurd (cc)
-      go (Some x) q b l =
-          record {
-            marks = marks_is _ _ refl refl (sym (one_listed (is_resting p) b)) refl;
-            link = refl;
-            rests = refl;
-            fine = fine_placed p b;
-          }
+  shows-placed p (Some h) l = search rules
 
   abbrev ShowsTaken : Option (Held T) → Type 0
   ShowsTaken o =
@@ -117,51 +102,21 @@ module _ {T : Type 0} where
 
   pub shows-taken : (o : Option (Held T)) → ShowsTaken o
   shows-taken None = record { marks = refl; link = refl; rests = refl; fine = refl }
-  shows-taken (Some h) = go h.value h.place h.is_listed
-    where
-      go : (v : Option T) (p : Place) (b : Bool) → ShowsTaken (held_as p v b)
-      go (Some x) p b = record { marks = refl; link = refl; rests = refl; fine = refl }
-      go None p true = record { marks = refl; link = refl; rests = refl; fine = refl }
-      go None p false = record { marks = refl; link = refl; rests = refl; fine = refl }
+  shows-taken (Some h) = search rules
 
   pub shows-unlisted : (o : Option (Held T)) → is_fine o ≡ true
       → Shows (tidied (unlisted o)) (record (marks_of o) { resting = 0 }) (option_map wake (link_of o)) false
   shows-unlisted None f = record { marks = refl; link = refl; rests = refl; fine = refl }
-  shows-unlisted (Some h) f =
-      let w = woken_marks h.place in
-      record {
-        marks = tidied-as marks_of refl (unlisted (Some h)) ∙ marks_is _ _ (ap one w.0) (ap one w.1) refl w.2;
-        link = tidied-as link_of refl (unlisted (Some h)) ∙ go h.value;
-        rests = tidied-as rests refl (unlisted (Some h)) ∙ w.3;
-        fine = fine-tidied (woken h.place) h.value false (woken_fine h.place (is_some h.value) h.is_listed f);
-      }
-    where
-      go : (v : Option T) → option_map (λ x. (x, woken h.place)) v ≡ option_map wake (option_map (λ x. (x, h.place)) v)
-      go None = refl
-      go (Some x) = refl
+  shows-unlisted (Some h) f = search rules
 
   pub shows-cleared : (o : Option (Held T))
       → Shows (tidied (cleared o)) (record (marks_of o) { told = false }) None false
   shows-cleared None = record { marks = refl; link = refl; rests = refl; fine = refl }
-  shows-cleared (Some h) =
-      let w = left_marks h.place in
-      record {
-        marks = tidied-as marks_of refl (cleared (Some h)) ∙ marks_is _ _ (ap one w.0) (ap one w.1) refl w.2;
-        link = tidied-as link_of refl (cleared (Some h));
-        rests = tidied-as rests refl (cleared (Some h)) ∙ w.3;
-        fine = fine-tidied (left h.place) None h.is_listed (left_fine h.place h.is_listed);
-      }
+  shows-cleared (Some h) = search rules
 
   -- ---- what a place says of the lists
 
   pub free_marks : (o : Option (Held T)) → is_free (option_map (λ link. link.1) (link_of o)) ≡ true
       → ((marks_of o).queue ≡ 0) × ((marks_of o).pending ≡ 0) × (is_live o ≡ true)
   free_marks None f = absurd (cc)
-  free_marks (Some h) f = go h.value h.place f
-    where
-      go : (v : Option T) (p : Place) → is_free (option_map (λ (link : T × Place). link.1) (option_map (λ x. (x, p)) v)) ≡ true
-          → (one (is_queued p) ≡ 0) × (one (is_pending p) ≡ 0) × (is_live (held_as p v false) ≡ true)
-      go None p f = absurd (cc)
-      go (Some x) Queued f = absurd (cc)
-      go (Some x) Pending f = absurd (cc)
-      go (Some x) p f = (refl, refl, refl)
+  free_marks (Some h) f = search rules

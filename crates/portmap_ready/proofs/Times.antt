@@ -1,15 +1,16 @@
 -- How often a key stands in a list of keys: lemmas.
-use Rattle.std.proofs.Common.{◌≡◌, ◌≢◌, ℕ, ◌+◌, ◌<◌, ◌≤◌, Bool, true, false, not, cond, eqb, List, [], ◌∷◌, ◌++◌, length, refl, sym, ap}
+use Rattle.std.proofs.Common.{◌≡◌, ◌≢◌, ℕ, ◌+◌, ◌<◌, ◌≤◌, Bool, true, false, cond, eqb, List, [], ◌∷◌, length, refl, sym, ap}
 use Rattle.std.proofs.Common.{◌∙◌, inl, inr, arith, filter}
 use Rattle.std.specs.List.{All, IsDistinct, list_any}
 use Rattle.std.proofs.lemmas.Bool.{cases_eq, cases_Bool, false≢true}
 use Rattle.std.proofs.lemmas.Bool.Decides.{nat_tests}
-use Rattle.std.proofs.lemmas.List.{append-nil}
 use Rattle.std.proofs.lemmas.List.Sums.{sum_by-append, sum_by-cons}
-use Rattle.std.proofs.lemmas.List.Elements.{All-nil, All-cons, filter-append, recursion_from_All}
+use Rattle.std.proofs.lemmas.List.Elements.{All-nil, filter-append, recursion_from_All}
 use Rattle.std.proofs.lemmas.Map.Steps.{length-le_from_distinct_below}
 use Rattle.portmap_ready.specs.Held.{one}
 use Rattle.portmap_ready.specs.Links.{pushed, times, without}
+use Rattle.std.proofs.Common.{rules}
+use Rattle.std.proofs.lemmas.Grind.{common_steps}
 
 pub times-cons : (k x : ℕ) (xs : List ℕ) → times k (x ∷ xs) ≡ one (eqb x k) + times k xs
 times-cons k x xs = sum_by-cons (λ j. cond (eqb j k) 1 0) x xs
@@ -54,9 +55,7 @@ times-filter p k (x ∷ xs) = elim (cases_Bool (p x)) [
 
 absent_all : (x : ℕ) (xs : List ℕ) → times x xs ≡ 0 → All (λ y. eqb x y ≡ false) xs
 absent_all x [] h = All-nil (λ y. eqb x y ≡ false)
-absent_all x (y ∷ ys) h =
-    All-cons (λ z. eqb x z ≡ false) y ys (grind (arith, nat_tests, times-cons x y ys))
-    (absent_all x ys (grind (arith, nat_tests, times-cons x y ys)))
+absent_all x (y ∷ ys) h = grind (arith, common_steps)
 
 distinct_from_times : (xs : List ℕ) → ((k : ℕ) → times k xs ≤ 1) → IsDistinct eqb xs
 unfolding IsDistinct
@@ -99,16 +98,11 @@ filter-pushed p true x xs h = filter-append p xs (x ∷ []) ∙ rw h
 
 -- what is kept without a key, whether the key passes or not
 without-first : (p : ℕ → Bool) (k : ℕ) (xs : List ℕ) → without k (filter p (k ∷ xs)) ≡ without k (filter p xs)
-without-first p k xs = elim (cases_Bool (p k)) [
-  | inl passes ↦ grind (arith, nat_tests, passes)
-  | inr fails ↦ grind (arith, nat_tests, fails)
-]
+without-first p k xs = search rules
 
 pub without-pushed : (p : ℕ → Bool) (b : Bool) (k : ℕ) (xs : List ℕ) → without k (filter p (pushed b k xs)) ≡ without k (filter p xs)
 without-pushed p false k xs = refl
-without-pushed p true k xs =
-    ap (without k) (filter-append p xs (k ∷ [])) ∙ filter-append (λ j. not (eqb j k)) (filter p xs) (filter p (k ∷ []))
-    ∙ ap (λ ys. without k (filter p xs) ++ ys) (without-first p k []) ∙ append-nil _
+without-pushed p true k xs = search (rules, filter-append)
 
 -- tests that agree but at one key keep the same others
 pub without-filter : (p q : ℕ → Bool) (k : ℕ) (xs : List ℕ) → ((j : ℕ) → j ≢ k → q j ≡ p j)

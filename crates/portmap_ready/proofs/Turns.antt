@@ -1,17 +1,18 @@
 -- A key that waits in a list comes in its turn: lemmas.
-use Rattle.std.proofs.Common.{◌≡◌, ◌≢◌, ℕ, ◌+◌, ◌<◌, ◌≤◌, Bool, true, false, not, cond, eqb, List, [], ◌∷◌, length, Some}
-use Rattle.std.proofs.Common.{refl, sym, ap, subst, ◌∙◌, inl, inr, arith}
-use Rattle.std.specs.Prelude.{slice_get, drop, option_to_list}
+use Rattle.std.proofs.Common.{◌≡◌, ◌≢◌, ℕ, ◌+◌, ◌<◌, ◌≤◌, Bool, true, false, not, cond, eqb, List, [], ◌∷◌, length}
+use Rattle.std.proofs.Common.{refl, ap, ◌∙◌, inl, inr, arith}
+use Rattle.std.specs.Prelude.{slice_get, drop}
 use Rattle.std.proofs.lemmas.Bool.{cases_eq}
 use Rattle.std.proofs.lemmas.Bool.Decides.{nat_tests}
 use Rattle.std.proofs.lemmas.List.Sums.{count_by-le-length, length-filter, sum_by-append}
 use Rattle.portmap_ready.specs.Held.{one}
-use Rattle.portmap_ready.specs.Links.{Links, is_quiet, moved, place_at, pushed, times, without}
-use Rattle.portmap_ready.specs.declared.Place.TheVariants.{Queued}
+use Rattle.portmap_ready.specs.Links.{Links, pushed, times, without}
 use Rattle.portmap_ready.specs.Runs.{AllSpare, Call, Change, ComesInOrder, ComesInTurn, Does, Line, Run, Spares, all_taken, before, change}
 use Rattle.portmap_ready.specs.Runs.{first_taken, keys_of, turn, turns, Queue, Held, Stays, Joins, Takes, Leaves, Insert, Report, Next}
 use Rattle.portmap_ready.specs.Runs.{NextPending, PutBack, Hold, Rest}
-use Rattle.portmap_ready.proofs.Times.{times-cons, times-filter, joined_other, times-pushed}
+use Rattle.portmap_ready.proofs.Times.{times-cons, times-filter}
+use Rattle.std.proofs.Common.{rules}
+use Rattle.std.proofs.lemmas.Grind.{common_steps}
 
 -- what a change does to a list
 abbrev pub Becomes : Change → List ℕ → List ℕ → Type 0
@@ -48,24 +49,14 @@ before-without k j (y ∷ ys) d = elim (cases_eq y j) [
 ]
 
 still_there : (b : Bool) (k j : ℕ) (xs : List ℕ) → 0 < times k xs → 0 < times k (pushed b j xs)
-still_there b k j xs h = elim (cases_eq k j) [
-  | inl same ↦ rw same (omega (arith, times-pushed b j xs, rw same at h))
-  | inr differs ↦ rw (joined_other b j xs refl k differs) h
-]
+still_there b k j xs h = grind (arith, common_steps)
 
 one_turn : (k : ℕ) (change : Change) (old new : List ℕ) → Becomes change old new → 0 < times k old → Spares k change
     → Comes k (turn change) (first_taken change) old new
 one_turn k Stays old new d h s = same_before k old new (rw d h) (ap (before k) d)
-one_turn k (Joins j) old new d h s = same_before k old new (rw d.1 (still_there d.0 k j old h))
-    (ap (before k) d.1 ∙ before-pushed d.0 k j old h)
+one_turn k (Joins j) old new d h s = grind (arith, common_steps, before-pushed)
 one_turn k (Takes first) [] new d h s = absurd (omega (arith, h))
-one_turn k (Takes first) (x ∷ rest) new d h s =
-    let differs : x ≢ k = λ e. s (d.0 ∙ ap Some e) in
-    subst (λ f. Comes k 1 (option_to_list f) (x ∷ rest) new) (sym d.0) (record {
-      there = rw d.1 (grind (arith, nat_tests, times-cons k x rest, differs, h));
-      nearer = rw d.1 (grind (arith, nat_tests, differs));
-      ordered = λ j. rw d.1 (grind (arith, nat_tests, differs, times-cons j x [], times-cons j x (before k rest)));
-    })
+one_turn k (Takes first) (x ∷ rest) new d h s = grind (arith, common_steps)
 one_turn k (Leaves j) old new d h s =
     let less = ap (before k) d ∙ before-without k j old s in
     record {
@@ -83,21 +74,13 @@ module _ {T : Type 0} where
   becomes : (line : Line) (call : Call T) (old new : Links T) → Does call old new
       → Becomes (change line call) (keys_of line old) (keys_of line new)
   becomes Queue (Insert j value) old new d = (true, ap (λ r. r.queue) d)
-  becomes Queue (Report j) old new d = (is_quiet (place_at old j), ap (λ r. r.queue) d ∙ go (is_quiet (place_at old j)))
-    where
-      go : (b : Bool) → (cond b (moved Queued j old) old).queue ≡ pushed b j old.queue
-      go true = refl
-      go false = refl
+  becomes Queue (Report j) old new d = search rules
   becomes Queue (Next told) old new d = (d.0, ap (λ r. r.queue) d.1)
   becomes Queue (PutBack j) old new d = (true, ap (λ r. r.queue) d)
   becomes Queue (NextPending told) old new d = ap (λ r. r.queue) d.1
   becomes Queue (Rest j) old new d = ap (λ r. r.queue) d.moved
   becomes Queue call old new d = ap (λ r. r.queue) d
-  becomes Held (Report j) old new d = ap (λ r. r.pending) d ∙ go (is_quiet (place_at old j))
-    where
-      go : (b : Bool) → (cond b (moved Queued j old) old).pending ≡ old.pending
-      go true = refl
-      go false = refl
+  becomes Held (Report j) old new d = search rules
   becomes Held (Next told) old new d = ap (λ r. r.pending) d.1
   becomes Held (NextPending told) old new d = (d.0, ap (λ r. r.pending) d.1)
   becomes Held (Hold j) old new d = (true, ap (λ r. r.pending) d)

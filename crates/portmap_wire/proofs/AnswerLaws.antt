@@ -1,6 +1,6 @@
 -- What was written is read back.
 use Rattle.std.proofs.Common.{◌≡◌, ℕ, suc, ◌+◌, ◌≤◌, Bool, true, false, cond, ltb, eqb, List, [], ◌∷◌, ◌++◌, length, Option, Some, None}
-use Rattle.std.proofs.Common.{Result, Ok, Err, refl, ap, subst, ◌∙◌, arith}
+use Rattle.std.proofs.Common.{Result, Ok, Err, refl, subst}
 use Rattle.std.specs.Prelude.{IfOk, IfSome}
 use Rattle.std.proofs.lemmas.Bool.{ltb-false, eqb-true}
 use Rattle.portmap_wire.specs.Node.{Node, IsNode, fields}
@@ -10,21 +10,16 @@ use Rattle.portmap_wire.specs.declared.request.TheConstants.{BODY_MOST}
 use Rattle.portmap_wire.specs.declared.reply_writing.TheConstants.{PORT2_RESP}
 use Rattle.portmap_wire.specs.declared.reply_reading.ReplyFault.{ReplyFault}
 use Rattle.portmap_wire.proofs.NameLemmas.{IsBytes}
-use Rattle.std.proofs.lemmas.Bool.{le-ltb}
 use Rattle.portmap_wire.specs.declared.reply_reading.ReplyFault.TheVariants as fault
 use Rattle.portmap_wire.specs.ReplyReading.{registered_answer, with_name, port2_result, port2_answer, GivesReply, IsFound}
 use Rattle.portmap_wire.specs.ReplyReading.{LookUpsAreReadBack}
-use Rattle.portmap_wire.proofs.FieldLemmas.{FitsFields, fields_again, fields_take}
+use Rattle.portmap_wire.proofs.FieldLemmas.{fields_again, fields_take}
 use Rattle.portmap_wire.proofs.RequestLaws.{guard, guard_after, name_again, name_takes}
+use Rattle.std.proofs.Common.{rules}
 
 pub look_ups : LookUpsAreReadBack
 look_ups None more h = refl
-look_ups (Some g) more is =
-    let total : 13 + length g.name + length g.extra ≤ BODY_MOST = is.fits in
-    let fits : FitsFields g = record { port = is.port; kind = is.kind; proto = is.proto; high = is.high; low = is.low } in
-    let t : ltb BODY_MOST (13 + length g.name + length g.extra) ≡ false = le-ltb _ _ total in
-    ap registered_answer (fields_again g more fits (omega arith) (omega arith))
-    ∙ (ap (with_name g) (name_again g.name is.name) ∙ ap (λ (b : Bool). cond b (Err fault.Strange) (Ok (Some g))) t)
+look_ups (Some g) more is = search (rules, fields_again, name_again)
 
 -- ---- what is found is spelled so
 
@@ -57,23 +52,13 @@ fields_behind rest g fits e =
     let t = fields_take rest h w.0.1 fits w.1 in
     let m = named_takes h g (name_in h.name) w.2 in
     let short : 13 + length h.name + length h.extra ≤ BODY_MOST = ltb-false _ _ m.2 in
-    let is : IsNode h = record {
-      port = t.fits.port;
-      kind = t.fits.kind;
-      proto = t.fits.proto;
-      high = t.fits.high;
-      low = t.fits.low;
-      name = (name_takes h.name m.0 t.name_fits m.1).1;
-      fits = short;
-    } in
+    let is : IsNode h = search (rules, name_takes) in
     subst (λ (x : Node). IsNode x × ((more : List ℕ) × (rest ≡ fields x ++ more))) m.3 (is, (w.0.1, t.text))
 
 pub look_up_takes : (q : List ℕ) (g : Node) → IsBytes q → port2_answer q ≡ Ok (Some g) → IsFound q g
 unfolding Behind
 look_up_takes [] g fits e = absurd cc
-look_up_takes (tag ∷ []) g fits e = absurd
-    (let a = guard_after (eqb tag PORT2_RESP) (fault.BadTag tag) (Err fault.Short) (Some g) e in
-    let no : ◌≡◌ {A = Result (Option Node) ReplyFault} (Err fault.Short) (Ok (Some g)) = a.1 in cc)
+look_up_takes (tag ∷ []) g fits e = search rules
 look_up_takes (tag ∷ code ∷ rest) g fits e =
     let a = guard_after (eqb tag PORT2_RESP) (fault.BadTag tag) (port2_result (code ∷ rest)) (Some g) e in
     let b = coded (eqb code 0) (registered_answer (fields_in rest)) g a.1 in

@@ -1,14 +1,15 @@
 -- Fields that are read are those that were written, and what was written is read again.
 use Rattle.std.proofs.Common.{◌≡◌, ℕ, ◌+◌, ◌^◌, ◌<◌, ◌≤◌, Bool, true, false, cond, ltb, List, [], ◌∷◌, ◌++◌, length, get_or, take, drop}
-use Rattle.std.proofs.Common.{Option, Some, None, refl, sym, ap, subst, ◌∙◌, arith, append_assoc, inl, inr}
+use Rattle.std.proofs.Common.{Option, Some, None, refl, sym, ap, subst, ◌∙◌, arith, append_assoc}
 use Rattle.std.specs.Int.{w16, from_be_bytes}
-use Rattle.std.proofs.lemmas.Bool.{ltb-false, le-ltb, cases_lt}
-use Rattle.std.proofs.lemmas.List.{take_at, drop_at, take-append-drop, drop-drop, length-append, length-take, length-drop, get_or-drop}
-use Rattle.std.proofs.lemmas.List.{get_or-take, get_or_past}
+use Rattle.std.proofs.lemmas.Bool.{ltb-false}
+use Rattle.std.proofs.lemmas.List.{take_at, drop_at, take-append-drop, drop-drop, length-append, length-take, length-drop}
 use Rattle.std.proofs.lemmas.Nat.{be_bytes_2, from_be_bytes-to_be_bytes_2}
 use Rattle.portmap_wire.specs.Node.{Node, fields, be2}
 use Rattle.portmap_wire.specs.RequestReading.{u16_in, fields_in}
 use Rattle.portmap_wire.proofs.NameLemmas.{IsBytes}
+use Rattle.std.proofs.lemmas.Grind.{common_steps}
+use Rattle.std.proofs.Common.{rules}
 
 -- the numbers are in range
 pub record FitsFields (g : Node) : Type 0 where
@@ -31,11 +32,7 @@ cut : (n i : ℕ) (q : List ℕ) → drop i q ≡ take n (drop i q) ++ drop (i +
 cut n i q = sym (take-append-drop n (drop i q)) ∙ ap (λ (t : List ℕ). take n (drop i q) ++ t) (drop-drop n i q)
 
 in_part : (n i : ℕ) (q : List ℕ) → IsBytes q → IsBytes (take n (drop i q))
-in_part n i q fits k =
-    elim (cases_lt k n) [
-      | inl lt ↦ rw (get_or-take n (drop i q) k 0 lt, get_or-drop i q k 0) (fits (i + k))
-      | inr le ↦ rw (get_or_past (take n (drop i q)) k 0 (omega (arith, length-take n (drop i q)))) (omega arith)
-    ]
+in_part n i q fits k = grind (arith, common_steps)
 
 two : (q : List ℕ) (i : ℕ) → IsBytes q → i + 2 ≤ length q → be2 (u16_in q i) ≡ take 2 (drop i q)
 two q i fits long = be_bytes_2 (take 2 (drop i q)) (u16_in q i) (omega (arith, length-take 2 (drop i q), length-drop i q))
@@ -98,8 +95,7 @@ spelled q fits long =
     let four = two q 6 fits (omega arith) in
     let both = pair q (omega arith) in
     let parts : fields (read_at q) ≡ take 2 q ++ take 2 (drop 2 q) ++ take 2 (drop 4 q) ++ take 2 (drop 6 q) ++ take 2 (drop 8 q)
-    ++ take n (drop 10 q) ++ take 2 (drop (10 + n) q) ++ take x (drop (12 + n) q) =
-    λ i. one i ++ both i ++ three i ++ four i ++ five i ++ take n (drop 10 q) ++ seven i ++ take x (drop (12 + n) q) in
+    ++ take n (drop 10 q) ++ take 2 (drop (10 + n) q) ++ take x (drop (12 + n) q) = search rules in
     in_parts q n x ∙ sym (ap (λ (t : List ℕ). t ++ drop (12 + n + x) q) parts
     ∙ regroup (take 2 q) (take 2 (drop 2 q)) (take 2 (drop 4 q)) (take 2 (drop 6 q)) (take 2 (drop 8 q)) (take n (drop 10 q))
     (take 2 (drop (10 + n) q)) (take x (drop (12 + n) q)) (drop (12 + n + x) q))
@@ -131,8 +127,7 @@ head g = be2 g.port ++ (g.kind ∷ g.proto ∷ []) ++ be2 g.high ++ be2 g.low ++
 
 split_fields : (g : Node) (rest : List ℕ) → fields g ++ rest ≡ (head g ++ g.name) ++ (be2 (length g.extra) ++ (g.extra ++ rest))
 unfolding head
-split_fields g rest = let e : (head g ++ g.name ++ be2 (length g.extra) ++ g.extra) ++ rest
-    ≡ (head g ++ g.name) ++ (be2 (length g.extra) ++ (g.extra ++ rest)) = simp append_assoc in e
+split_fields g rest = grind (arith, common_steps)
 
 at_extra : (q front more : List ℕ) (x i : ℕ) → x < 2 ^ 16 → length front ≡ i → q ≡ front ++ (be2 x ++ more)
     → (u16_in q i ≡ x) × (drop (i + 2) q ≡ more)
@@ -151,15 +146,7 @@ reads : (q : List ℕ) (g : Node) (rest : List ℕ) (n x : ℕ) → 12 + n + x �
     → u16_in q 0 ≡ g.port → get_or q 2 0 ≡ g.kind → get_or q 3 0 ≡ g.proto → u16_in q 4 ≡ g.high → u16_in q 6 ≡ g.low
     → take n (drop 10 q) ≡ g.name → take x (drop (12 + n) q) ≡ g.extra → drop (12 + n + x) q ≡ rest → fields_in q ≡ Some (g, rest)
 unfolding fields_in
-reads q g rest n x long en ex p0 p1 p2 p3 p4 p5 p6 p7 =
-    let t1 : ltb (length q) 12 ≡ false = le-ltb _ _ (omega arith) in
-    let t2 : ltb (length q) (12 + n) ≡ false = le-ltb _ _ (omega arith) in
-    let t3 : ltb (length q) (12 + n + x) ≡ false = le-ltb _ _ long in
-    rw (t1, en, t2, ex, t3) (λ i. Some (
-      record
-          { port = p0 i; kind = p1 i; proto = p2 i; high = p3 i; low = p4 i; name = p5 i; extra = p6 i },
-      p7 i,
-    ))
+reads q g rest n x long en ex p0 p1 p2 p3 p4 p5 p6 p7 = search rules
 
 pub fields_again : (g : Node) (rest : List ℕ) → FitsFields g → length g.name < 2 ^ 16 → length g.extra < 2 ^ 16
     → fields_in (fields g ++ rest) ≡ Some (g, rest)
@@ -173,15 +160,7 @@ fields_again g rest fits name_fits extra_fits =
     let extra = at_extra q (head g ++ g.name) (g.extra ++ rest) x (10 + n) extra_fits front_len parts in
     let e12 : 10 + n + 2 ≡ 12 + n = omega arith in
     let behind : drop (12 + n) q ≡ g.extra ++ rest = ap (λ (k : ℕ). drop k q) (sym e12) ∙ extra.1 in
-    let long : 12 + n + x ≤ length q = omega (
-      arith,
-      ap length behind,
-      length-append g.extra rest,
-      length-drop (12 + n) q,
-      ap length parts,
-      length-append (head g ++ g.name) (be2 x ++ (g.extra ++ rest)),
-      front_len,
-    ) in
+    let long : 12 + n + x ≤ length q = search (rules, length-append) in
     reads q g rest n x long (from_be_bytes-to_be_bytes_2 n name_fits) extra.0
     (from_be_bytes-to_be_bytes_2 g.port fits.port) refl refl (from_be_bytes-to_be_bytes_2 g.high fits.high)
     (from_be_bytes-to_be_bytes_2 g.low fits.low)

@@ -1,14 +1,12 @@
 -- Lines, each ended by byte 10, are told in one way.
-use Rattle.std.proofs.Common.{◌≡◌, ◌≢◌, ℕ, suc, ◌<◌, ◌^◌, true, false, ltb, List, [], ◌∷◌, ◌++◌, length, get_or, take, drop, Some, None}
-use Rattle.std.proofs.Common.{refl, sym, ap, subst, ◌∙◌, arith, append_assoc, add-one, eqb, inl, inr}
+use Rattle.std.proofs.Common.{◌≡◌, ◌≢◌, ℕ, suc, ◌<◌, ◌^◌, List, [], ◌∷◌, ◌++◌, length, get_or, take, drop, Some, None}
+use Rattle.std.proofs.Common.{refl, sym, ap, subst, ◌∙◌, arith, append_assoc, add-one}
 use Rattle.std.specs.Prelude.{All, codes, position}
 use Rattle.std.specs.List.{flat_map, position_or_len}
 use Rattle.std.specs.Fmt.{decimal}
 use Rattle.std.specs.Str.Parse.{AllDigits}
-use Rattle.std.specs.Int.{w32, from_be_bytes}
-use Rattle.std.proofs.lemmas.Nat.{from_be_bytes-to_be_bytes_4}
-use Rattle.std.proofs.lemmas.Bool.{cases_lt, lt-ltb, le-ltb, eqb-true, eqb-false}
-use Rattle.std.proofs.lemmas.List.{append-nil, length-append, length-take, drop-drop, get_or-take}
+use Rattle.std.proofs.lemmas.Bool.{eqb-false}
+use Rattle.std.proofs.lemmas.List.{append-nil, length-append, drop-drop, get_or-take}
 use Rattle.std.proofs.lemmas.List.Elements.{All-from_get_or}
 use Rattle.std.proofs.lemmas.List.Sums.{fails_before_first, passes_at_first}
 use Rattle.std.proofs.Math.Seq.{split_at}
@@ -24,6 +22,7 @@ use Rattle.portmap_wire.specs.ListReading.{WritesPort, ReadsLine, HasNoReading, 
 use Rattle.portmap_wire.specs.ListReading.{IsListFault, IsLine, IsReadBack, NamesAreReadBack}
 use Rattle.portmap_wire.proofs.NameLemmas.{each_fails}
 use Rattle.portmap_wire.proofs.ListingLemmas.{one_reading}
+use Rattle.std.proofs.Common.{rules}
 
 -- ---- a line has no byte 10
 
@@ -55,13 +54,7 @@ plain_head = (omega arith, (omega arith, (omega arith, (omega arith, (omega arit
 
 plain_middle : Plain (codes " at port ")
 unfolding Plain
-plain_middle = (
-  omega arith,
-  (
-    omega arith,
-    (omega arith, (omega arith, (omega arith, (omega arith, (omega arith, (omega arith, (omega arith, tt))))))),
-  ),
-)
+plain_middle = omega arith
 
 plain_line : (text : List ℕ) (line : Line) → ReadsLine text line → Plain text
 plain_line text line r =
@@ -98,24 +91,16 @@ plain_from_all text h = plain_by_index text (λ k lt. h k 0 lt)
 
 -- the first byte 10 is found
 at_first : (text : List ℕ) (at : ℕ) → Some at ≡ position is_newline text → (at ≡ position_or_len is_newline text) × (at < length text)
-at_first text at e = elim (cases_lt (position_or_len is_newline text) (length text)) [
-  | inl below ↦ let t : ltb (position_or_len is_newline text) (length text) ≡ true = lt-ltb _ _ below in let e2 = rw t at e in
-      let same : at ≡ position_or_len is_newline text = cc in (same, omega (arith, same))
-  | inr above ↦ absurd (let t : ltb (position_or_len is_newline text) (length text) ≡ false = le-ltb _ _ above in let e2 = rw t at e in cc)
-]
+at_first text at e = search rules
 
 pub cut_at : (text : List ℕ) (at : ℕ) → Some at ≡ position is_newline text → IsCut text (take at text) (drop 1 (drop at text))
 cut_at text at e =
     let f = at_first text at e in
-    let newline : get_or text at 0 ≡ 10 = eqb-true _ _
-    (ap (λ (k : ℕ). eqb (get_or text k 0) 10) f.0 ∙ passes_at_first is_newline text 0 (omega (arith, f.0, f.1))) in
+    let newline : get_or text at 0 ≡ 10 = search (rules, passes_at_first) in
     record {
       text_is = split_at text at 0 f.1 ∙ ap (λ (x : ℕ). take at text ++ x ∷ drop (suc at) text) newline
           ∙ ap (λ (t : List ℕ). take at text ++ 10 ∷ t) (rw add-one at (sym (drop-drop 1 at text)));
-      front_is = All-from_get_or (λ (b : ℕ). b ≢ 10) (take at text) 0 (λ k lt is.
-          let less : k < at = omega (arith, length-take at text, lt) in
-          let same : get_or text k 0 ≡ 10 = sym (get_or-take at text k 0 less) ∙ is in
-          eqb-false _ _ (fails_before_first is_newline text k 0 (omega (arith, less, f.0))) same);
+      front_is = search (rules, fails_before_first, get_or-take);
     }
 
 pub not_cut : (text : List ℕ) → None ≡ position is_newline text → HasNoNewline text
@@ -129,9 +114,7 @@ strange_uncut text some h = record { some = some; unread = λ front after line e
 pub strange_cut : (text front after : List ℕ) → IsCut text front after → HasNoReading front → IsStrange text
 strange_cut text front after cut unread = record {
   some = omega (arith, ap length cut.text_is, length-append front (10 ∷ after));
-  unread = λ other behind line e r.
-      let s = one_cut front after other behind (plain_from_all front cut.front_is) (plain_line other line r) (sym cut.text_is ∙ e) in
-      unread line (subst (λ (t : List ℕ). ReadsLine t line) (sym s.front) r);
+  unread = search (rules, one_cut, plain_from_all, plain_line);
 }
 
 -- ---- lines
@@ -178,10 +161,7 @@ writes_port port small =
     }
 
 reads_line : (line : Line) → IsLine line → ReadsLine (codes "name " ++ line.name ++ codes " at port " ++ decimal line.port) line
-reads_line line is = record {
-  shape = record { digits = decimal line.port; text_is = refl; port_is = writes_port line.port is.port };
-  name = is.name;
-}
+reads_line line is = search (rules, writes_port)
 
 written : (lines : List Line) → All IsLine lines → ListsTo (flat_map names_line lines) lines []
 written [] is = refl
@@ -198,12 +178,7 @@ record SameHead (p q : ℕ) (t u : List ℕ) : Type 0 where
   pub text : t ≡ u
 
 same_head : (p q : ℕ) (t u : List ℕ) → p < 2 ^ 32 → q < 2 ^ 32 → be4 p ++ t ≡ be4 q ++ u → SameHead p q t u
-same_head p q t u small less e =
-    let heads : be4 p ≡ be4 q = ap (λ (x : List ℕ). take 4 x) e in
-    record {
-      port = sym (from_be_bytes-to_be_bytes_4 p small) ∙ ap (from_be_bytes w32) heads ∙ from_be_bytes-to_be_bytes_4 q less;
-      text = ap (λ (x : List ℕ). drop 4 x) e;
-    }
+same_head p q t u small less e = search rules
 
 module _ (bytes : List ℕ) (port : ℕ) (lines : List Line) (l : Lists bytes port lines) where
   head_of : (other : ℕ) (others : List Line) (h : Lists bytes other others) → SameHead port other l.text h.text

@@ -7,7 +7,7 @@ use Rattle.std.specs.Str.Parse.{AllDigits, digits_value}
 use Rattle.std.proofs.lemmas.Bool.{cases_lt}
 use Rattle.std.proofs.lemmas.List.{take_at, drop_at, take-append-drop, length-append, get_or-drop, length-drop, get_or_append_left}
 use Rattle.std.proofs.lemmas.List.{get_or-append_right, get_or-append-add, append_cancel_left, append_cancel_right}
-use Rattle.std.proofs.lemmas.Str.Parse.{numerals_by_value, tells_digits, tells_by_index, digit_at, digits_value_short, digits_value-take-le}
+use Rattle.std.proofs.lemmas.Str.Parse.{numerals_by_value, tells_by_index, digit_at}
 use Rattle.std.proofs.lemmas.Str.{digit_value_digit}
 use Rattle.std.proofs.lemmas.Int.Digits.{digits_value_more}
 use Rattle.portmap_wire.specs.Name.{IsName}
@@ -16,6 +16,7 @@ use Rattle.portmap_wire.specs.declared.name.NameFault.{NameFault}
 use Rattle.portmap_wire.specs.declared.name.NameFault.TheVariants as name_fault
 use Rattle.portmap_wire.specs.declared.list.Line.{Line}
 use Rattle.portmap_wire.specs.ListReading.{WritesPort, HasShape, ReadsLine, HasNoReading, EndsInDigits, LinesHaveOneReading}
+use Rattle.std.proofs.Common.{rules}
 
 -- ---- digits
 
@@ -30,11 +31,7 @@ next_digit ds i each short lt =
     record {
       digit = d;
       value = omega (arith, digits_value_more 10 ds i lt, digit_value_digit (get_or ds i 0) d);
-      small = omega (
-        arith,
-        digits_value-take-le 10 ds (i + 1) (omega arith),
-        digits_value_short (numerals_by_value (AllDigits 10) tells_digits) ds 5 each short,
-      );
+      small = search rules;
     }
 
 pub digits_behind : (text : List ℕ) (start : ℕ) → EndsInDigits text start → AllDigits 10 (drop start text)
@@ -56,13 +53,11 @@ same_split text front digits n start e each len last ends =
     elim (cases_lt (n + 1) start) [
       | inl lt ↦
           let k = start - 1 in
-          let is : get_or text k 0 ≡ get_or digits (k - (n + 1)) 0 = ap (λ (t : List ℕ). get_or t k 0) e
-          ∙ get_or-append_right front digits (n + 1) k 0 len (omega arith) in
+          let is : get_or text k 0 ≡ get_or digits (k - (n + 1)) 0 = search (rules, get_or-append_right) in
           let d = digit_at digits (k - (n + 1)) each (omega arith) in
           absurd (let low : 57 < get_or text k 0 = ends.before k (omega arith) (omega (arith, is, d)) in omega (arith, is, d, low))
       | inr le ↦ elim (cases_lt start (n + 1)) [
-        | inl less ↦ absurd (let d : IsInRange 48 57 (get_or text n 0) = ends.digits n (omega arith) (omega arith) in
-            omega (arith, d, blank))
+        | inl less ↦ search rules
         | inr more ↦ omega arith
       ]
     ]
@@ -78,8 +73,7 @@ at_split text name digits start e each ends =
     let n = length (codes "name " ++ name) + 8 in
     let e2 : text ≡ stem name ++ digits = e in
     let len : length (stem name) ≡ n + 1 = omega (arith, length-append (codes "name " ++ name) (codes " at port ")) in
-    let place : n + 1 ≡ start = same_split text (stem name) digits n start e2 each len
-    (get_or-append-add (codes "name " ++ name) (codes " at port ") 8 0) ends in
+    let place : n + 1 ≡ start = search (rules, get_or-append-add, same_split) in
     record {
       front = ap (λ (t : List ℕ). take start t) e2 ∙ take_at (stem name) digits start (len ∙ place);
       back = ap (λ (t : List ℕ). drop start t) e2 ∙ drop_at (stem name) digits start (len ∙ place);
@@ -97,13 +91,8 @@ ends_behind text name digits e each =
     ∙ get_or-append-add (codes "name " ++ name) (codes " at port ") 8 0 in
     record {
       within = omega arith;
-      digits = λ k le lt.
-          let is : get_or text k 0 ≡ get_or digits (k - length (stem name)) 0 = ap (λ (t : List ℕ). get_or t k 0) e2
-          ∙ get_or-append_right (stem name) digits (length (stem name)) k 0 refl le in
-          let d = digit_at digits (k - length (stem name)) each (omega arith) in
-          (omega (arith, is, d), omega (arith, is, d));
-      before = λ k at low. absurd (let same : k ≡ n = omega arith in let here : get_or text k 0 ≡ 32 = ap (λ (j : ℕ). get_or text j 0) same
-          ∙ blank in omega (arith, here, low));
+      digits = search (rules, digit_at, get_or-append_right);
+      before = search rules;
     }
 
 -- ---- one reading

@@ -1,14 +1,13 @@
 -- A scan for control characters finds none exactly at a name.
-use Rattle.std.proofs.Common.{◌≡◌, ℕ, ◌<◌, ◌≤◌, Bool, true, false, List, length, get_or, Some, None, sym, arith, ltb, inl, inr}
+use Rattle.std.proofs.Common.{◌≡◌, ℕ, ◌<◌, ◌≤◌, Bool, true, false, List, length, get_or, Some, None, sym, arith}
 use Rattle.std.specs.Prelude.{position}
-use Rattle.std.specs.List.{position_or_len}
-use Rattle.std.proofs.lemmas.Bool.{cases_lt, lt-ltb}
 use Rattle.std.proofs.lemmas.Bool.Decides.{nat_tests}
 use Rattle.std.proofs.lemmas.List.Sums.{fails_before_first}
 use Rattle.std.proofs.lemmas.List.Quantifiers.{position-Some}
 use Rattle.std.proofs.lemmas.List.Elements.{All-from_get_or}
 use Rattle.portmap_wire.specs.declared.name.TheConstants.{NAME_MOST}
 use Rattle.portmap_wire.specs.Name.{is_control, IsNameByte, IsName}
+use Rattle.std.proofs.Common.{rules}
 
 -- each element is in a byte's range
 abbrev pub IsBytes : List ℕ → Type 0
@@ -27,10 +26,7 @@ no_control bytes at e name =
 
 -- where none is found, no byte passes
 pub each_fails : (p : ℕ → Bool) (bytes : List ℕ) → None ≡ position p bytes → (i : ℕ) → i < length bytes → p (get_or bytes i 0) ≡ false
-each_fails p bytes e i lt = fails_before_first p bytes i 0 (elim (cases_lt (position_or_len p bytes) (length bytes)) [
-  | inl below ↦ absurd (let t : ltb (position_or_len p bytes) (length bytes) ≡ true = lt-ltb _ _ below in let e2 = rw t at e in cc)
-  | inr above ↦ omega arith
-])
+each_fails p bytes e i lt = search (rules, fails_before_first)
 
 pub is_name : (bytes : List ℕ) → IsBytes bytes → 0 < length bytes → length bytes ≤ NAME_MOST → None ≡ position is_control bytes
     → IsName bytes

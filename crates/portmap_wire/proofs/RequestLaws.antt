@@ -1,14 +1,12 @@
 -- The two laws: what is read is spelled so, and what is spelled so is read.
-use Rattle.std.proofs.Common.{◌≡◌, ◌⊎◌, ℕ, suc, ◌+◌, ◌<◌, ◌≤◌, Bool, true, false, cond, ltb, eqb, List, [], ◌∷◌, ◌++◌, length, Option, Some}
+use Rattle.std.proofs.Common.{◌≡◌, ◌⊎◌, ℕ, suc, ◌+◌, ◌≤◌, Bool, true, false, cond, ltb, eqb, List, [], ◌∷◌, ◌++◌, length, Option, Some}
 use Rattle.std.proofs.Common.{None, Result, Ok, Err, refl, sym, ap, subst, ◌∙◌, arith, inl, inr}
 use Rattle.std.specs.Prelude.{IfOk, IfErr, ◌≢◌, position}
-use Rattle.std.proofs.lemmas.Bool.{ltb-false, le-ltb, eqb-true, eqb-false, ne_eqb}
-use Rattle.std.proofs.lemmas.List.{append-nil, nil_from_length, length-append}
+use Rattle.std.proofs.lemmas.Bool.{ltb-false, le-ltb, eqb-true}
+use Rattle.std.proofs.lemmas.List.{append-nil, length-append}
 use Rattle.portmap_wire.specs.Name.{is_control, IsName}
 use Rattle.portmap_wire.specs.Node.{Node, IsNode, fields, be2}
 use Rattle.portmap_wire.specs.declared.name.NameFault.{NameFault}
-use Rattle.portmap_wire.specs.declared.name.NameFault.TheVariants as name_fault
-use Rattle.portmap_wire.specs.declared.name.TheConstants.{NAME_MOST}
 use Rattle.portmap_wire.specs.declared.request.TheConstants.{BODY_MOST, ALIVE2_REQ, PORT_PLEASE2_REQ, NAMES_REQ, DUMP_REQ, KILL_REQ}
 use Rattle.portmap_wire.specs.declared.request.TheConstants.{STOP_REQ}
 use Rattle.portmap_wire.specs.declared.request.Malformed.{Malformed}
@@ -20,6 +18,8 @@ use Rattle.portmap_wire.specs.RequestReading.{request_in, Gives}
 use Rattle.portmap_wire.specs.Request.{body_of, IsRequest, Spells, IsMalformed, SpellsOneRequest}
 use Rattle.portmap_wire.proofs.NameLemmas.{IsBytes, is_name, no_control}
 use Rattle.portmap_wire.proofs.FieldLemmas.{FitsFields, fields_take, fields_again}
+use Rattle.std.proofs.lemmas.Grind.{common_steps}
+use Rattle.std.proofs.Common.{rules}
 
 -- which way a test went, where one way fails
 pub guard : {A E : Type 0} (b : Bool) (d : E) (r : Result A E) (y : A) → cond b (Err d) r ≡ Ok y → (b ≡ false) × (r ≡ Ok y)
@@ -42,23 +42,14 @@ scanned bytes n None e = (refl, cc)
 scanned bytes n (Some at) e = absurd cc
 
 pub name_takes : (bytes n : List ℕ) → IsBytes bytes → name_in bytes ≡ Ok n → (bytes ≡ n) × IsName bytes
-name_takes bytes n fits e =
-    let a = guard (eqb (length bytes) 0) name_fault.Empty _ n e in
-    let b = guard (ltb NAME_MOST (length bytes)) name_fault.TooLong _ n a.1 in
-    let c = scanned bytes n (position is_control bytes) b.1 in
-    let some : length bytes ≡ 0 → ⊥ = eqb-false _ _ a.0 in
-    (c.1, is_name bytes fits (omega arith) (ltb-false _ _ b.0) c.0)
+name_takes bytes n fits e = search (rules, is_name)
 
 unscanned : (bytes : List ℕ) (o : Option ℕ) → o ≡ position is_control bytes → IsName bytes → unless_found o bytes ≡ Ok bytes
 unscanned bytes None e name = refl
 unscanned bytes (Some at) e name = absurd (no_control bytes at e name)
 
 pub name_again : (bytes : List ℕ) → IsName bytes → name_in bytes ≡ Ok bytes
-name_again bytes name =
-    let some : 0 < length bytes = name.some in
-    let t1 : eqb (length bytes) 0 ≡ false = ne_eqb _ _ (omega arith) in
-    let t2 : ltb NAME_MOST (length bytes) ≡ false = le-ltb _ _ name.short in
-    rw (t1, t2) (unscanned bytes (position is_control bytes) refl name)
+name_again bytes name = search (rules, unscanned)
 
 -- ---- requests
 
@@ -82,9 +73,7 @@ with_name_takes g (Err f) r e = absurd cc
 filled_takes : (o : Option (Node × List ℕ)) (r : Request) → filled o ≡ Ok r
     → (f : Node × List ℕ) × (o ≡ Some f) × (f.1 ≡ []) × (with_name f.0 (name_in f.0.name) ≡ Ok r)
 filled_takes None r e = absurd cc
-filled_takes (Some f) r e =
-    let g = guard_after (eqb (length f.1) 0) malformed.LengthsDisagree _ r e in
-    (f, refl, nil_from_length f.1 (eqb-true _ _ g.0), g.1)
+filled_takes (Some f) r e = grind (arith, common_steps)
 
 length-fields : (g : Node) → length (fields g) ≡ 12 + length g.name + length g.extra
 length-fields g = omega (arith, length-append (g.name ++ be2 (length g.extra)) g.extra, length-append g.name (be2 (length g.extra)))
@@ -100,40 +89,19 @@ alive_takes rest r fits e =
     let text : rest ≡ fields g = t.text ∙ ap (λ (z : List ℕ). fields g ++ z) w.2 ∙ append-nil (fields g) in
     let m = with_name_takes g (name_in g.name) r w.3 in
     let short : 1 + length rest ≤ BODY_MOST = ltb-false _ _ b.0 in
-    let is : IsNode g = record {
-      port = t.fits.port;
-      kind = t.fits.kind;
-      proto = t.fits.proto;
-      high = t.fits.high;
-      low = t.fits.low;
-      name = (name_takes g.name m.0 t.name_fits m.1).1;
-      fits = omega (arith, ap length text, length-fields g);
-    } in
+    let is : IsNode g = search (rules, length-fields, name_takes) in
     let all : Spells (ALIVE2_REQ ∷ rest) (Alive g) = record { request_is = is; text = ap (λ (z : List ℕ). ALIVE2_REQ ∷ z) text } in
     subst (λ (x : Request). Spells (ALIVE2_REQ ∷ rest) x) m.2 all
 
 port_takes : (rest : List ℕ) (r : Request) → IsBytes rest → named (λ n. Port n) (name_in rest) ≡ Ok r → Spells (PORT_PLEASE2_REQ ∷ rest) r
-port_takes rest r fits e =
-    let m = named_takes (λ n. Port n) (name_in rest) r e in
-    let t = name_takes rest m.0 fits m.1 in
-    let all : Spells (PORT_PLEASE2_REQ ∷ rest) (Port m.0) =
-    record { request_is = subst IsName t.0 t.1; text = ap (λ (z : List ℕ). PORT_PLEASE2_REQ ∷ z) t.0 } in
-    subst (λ (x : Request). Spells (PORT_PLEASE2_REQ ∷ rest) x) m.2 all
+port_takes rest r fits e = search (rules, name_takes)
 
 stop_takes : (rest : List ℕ) (r : Request) → IsBytes rest → named (λ n. Stop n) (name_in rest) ≡ Ok r → Spells (STOP_REQ ∷ rest) r
-stop_takes rest r fits e =
-    let m = named_takes (λ n. Stop n) (name_in rest) r e in
-    let t = name_takes rest m.0 fits m.1 in
-    let all : Spells (STOP_REQ ∷ rest) (Stop m.0) =
-    record { request_is = subst IsName t.0 t.1; text = ap (λ (z : List ℕ). STOP_REQ ∷ z) t.0 } in
-    subst (λ (x : Request). Spells (STOP_REQ ∷ rest) x) m.2 all
+stop_takes rest r fits e = search (rules, name_takes)
 
 one_takes : (tag : ℕ) (only r : Request) (rest : List ℕ) → IsRequest only → tag ∷ [] ≡ body_of only → alone only rest ≡ Ok r
     → Spells (tag ∷ rest) r
-one_takes tag only r rest is text e =
-    let a = alone_takes only r rest e in
-    let all : Spells (tag ∷ rest) only = record { request_is = is; text = ap (λ (z : List ℕ). tag ∷ z) a.0 ∙ text } in
-    subst (λ (x : Request). Spells (tag ∷ rest) x) a.1 all
+one_takes tag only r rest is text e = search rules
 
 pub request_takes : (body : List ℕ) (r : Request) → IsBytes body → request_in body ≡ Ok r → Spells body r
 unfolding by_tag

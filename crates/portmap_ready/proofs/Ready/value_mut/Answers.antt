@@ -1,21 +1,9 @@
-use Rattle.std.proofs.Common.{refl, ap, option_map}
 use Rattle.portmap_ready.proofs.Calls.{link_written, write_whole, write_seen}
 use Rattle.portmap_ready.proofs.Ready.value_mut.Goals as goal
+use Rattle.std.proofs.Common.{rules}
 
 pub invariant_of-self-lent : goal.invariant_of-self-lent
 invariant_of-self-lent g c w = write_whole c.self.inside c.args.key c.self.invariant c.index_mut.ensures.value c.value_mut.ensures.value w
 
 pub returns : goal.returns
-returns g c = (
-  (
-    refl,
-    λ w. rw (← c.self.view_is)
-        (write_seen c.self.inside c.args.key c.self.invariant c.index_mut.ensures.value c.value_mut.ensures.value w),
-  ),
-  record {
-    writes_back = tt;
-    value = rw (← c.self.view_is)
-        (ap (option_map (λ link. link.0))
-        (link_written c.self.inside c.args.key c.self.invariant c.index_mut.ensures.value c.value_mut.ensures.value));
-  },
-)
+returns g c = search (rules, link_written, write_seen)

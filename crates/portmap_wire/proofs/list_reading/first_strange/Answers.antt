@@ -1,4 +1,4 @@
-use Rattle.std.proofs.Common.{[], ◌∷◌, ◌++◌, ◌<◌, length, ap, arith, rules}
+use Rattle.std.proofs.Common.{[], ◌∷◌, ◌++◌, length, ap, arith, rules}
 use Rattle.std.proofs.lemmas.List.{length-append, length_push}
 use Rattle.portmap_wire.proofs.LineLemmas.{strange_uncut, strange_cut, one_more}
 use Rattle.portmap_wire.proofs.list_reading.first_strange.Goals as goal
@@ -18,24 +18,7 @@ loop-rest-preserved c =
     }
 
 pub returns-in_default-clause-found : goal.returns-in_default-clause-found
-returns-in_default-clause-found c =
-    let met = c.loop-rest.invariant.met in
-    record {
-      lines = met.0;
-      rest = c.loop-rest.rest.now;
-      lines_are = met.1;
-      count = met.2;
-      strange = strange_cut c.loop-rest.rest.now c.in-Some.front.now c.in-Some.after.now c.in-Some.ensures.found c.if-is_line.ensures;
-    }
+returns-in_default-clause-found c = search (rules, strange_cut)
 
 pub returns-in_default-2-clause-found : goal.returns-in_default-2-clause-found
-returns-in_default-2-clause-found c =
-    let met = c.loop-rest.invariant.met in
-    let some : 0 < length c.loop-rest.rest.now = search rules in
-    record {
-      lines = met.0;
-      rest = c.loop-rest.rest.now;
-      lines_are = met.1;
-      count = met.2;
-      strange = strange_uncut c.loop-rest.rest.now some (c.cut_line.ensures.none c.in_default.is);
-    }
+returns-in_default-2-clause-found c = search (rules, strange_uncut)

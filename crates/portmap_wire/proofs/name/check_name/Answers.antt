@@ -1,4 +1,4 @@
-use Rattle.std.proofs.Common.{arith, rules}
+use Rattle.std.proofs.Common.{rules}
 use Rattle.portmap_wire.proofs.NameLemmas.{no_control, is_name}
 use Rattle.portmap_wire.proofs.name.check_name.Goals as goal
 
@@ -6,5 +6,4 @@ pub returns-in-Some-clause-name : goal.returns-in-Some-clause-name
 returns-in-Some-clause-name c = no_control c.args.bytes.now c.in-Some.at c.in-Some.ensures
 
 pub returns-in-None-clause-name : goal.returns-in-None-clause-name
-returns-in-None-clause-name c = is_name c.args.bytes.now (λ i. omega (arith, c.type_inv.bytes i)) (search rules)
-    (omega arith) c.in-None.ensures
+returns-in-None-clause-name c = search (rules, is_name)
