@@ -1,11 +1,10 @@
 -- What a search finds in a list to which an element is added, or from which one is removed.
 use Rattle.std.proofs.Common.{◌≡◌, ℕ, suc, zero, Bool, true, false, cond, List, [], ◌∷◌, ◌++◌, ◌+◌, length, map, take, Option, Some, None}
-use Rattle.std.proofs.Common.{refl, sym, ap, ◌∙◌, ltb, arith, ◌<◌, get_or, append_assoc, add-one}
-use Rattle.std.specs.Prelude.{find, position, remove, is_some, slice_get, nat_lt}
+use Rattle.std.proofs.Common.{refl, ap, ◌∙◌, ◌<◌, get_or, append_assoc, add-one}
+use Rattle.std.specs.Prelude.{find, position, remove, is_some, slice_get}
 use Rattle.std.specs.List.{AllByRecursion, position_or_len, IsDistinct}
 use Rattle.std.specs.Option.{option_or}
 use Rattle.std.specs.Cmp.{IsEquivalence}
-use Rattle.std.proofs.lemmas.Bool.{lt-ltb}
 use Rattle.std.proofs.lemmas.List.Folds.{find_at, find-append}
 use Rattle.std.proofs.lemmas.Option.{get_or_from_slice_get, slice_get_within}
 use Rattle.std.proofs.Math.Seq.{take-suc}
@@ -14,6 +13,7 @@ use Rattle.std.proofs.lemmas.List.Sorted.{IsPermutation-refl, IsPermutation-sym,
 use Rattle.std.proofs.lemmas.List.Sorted.{IsPermutation-middle, IsPermutation-remove, IsPermutation-pop_more, IsPermutation-append_comm}
 use Rattle.std.proofs.lemmas.Map.Keys.{IsDistinct-IsPermutation, IsDistinct-tail}
 use Rattle.portmap_table.proofs.First.{NonePass}
+use Rattle.std.proofs.Common.{rules}
 
 or_none : {X : Type 0} (o : Option X) → option_or o None ≡ o
 or_none None = refl
@@ -36,19 +36,13 @@ find-push_other p xs x fails = rw (find-append p xs (x ∷ []), fails) (or_none 
 pub find-remove : {X : Type 0} (p : X → Bool) (xs : List X) (at : ℕ) (x : X) → slice_get xs at ≡ Some x → p x ≡ false
     → find p (remove xs at) ≡ find p xs
 find-remove p [] at x e fails = absurd cc
-find-remove p (y ∷ ys) zero x e fails =
-    let same : y ≡ x = cc in
-    rw (ap p same ∙ fails) refl
+find-remove p (y ∷ ys) zero x e fails = search rules
 find-remove p (y ∷ ys) (suc at) x e fails = ap (cond (p y) (Some y)) (find-remove p ys at x e fails)
 
 -- the place of what is found
 pub position-find : {X : Type 0} (p : X → Bool) (xs : List X) (x : X) → find p xs ≡ Some x
     → (position p xs ≡ Some (position_or_len p xs)) × (slice_get xs (position_or_len p xs) ≡ Some x)
-position-find p xs x e =
-    let at = position_or_len p xs in
-    let there : slice_get xs at ≡ Some x = sym (find_at p xs) ∙ e in
-    let t : ltb at (length xs) ≡ true = lt-ltb _ _ (slice_get_within xs at x there) in
-    (rw t refl, there)
+position-find p xs x e = search (rules, find_at, slice_get_within)
 
 pub parts : {K : Type 0} (P : K → Type 0) (xs ys : List K) → AllByRecursion P (xs ++ ys) → AllByRecursion P xs × AllByRecursion P ys
 parts P [] ys p = (tt, p)

@@ -1,9 +1,9 @@
 -- The first element that passes a test, in a list and in its parts.
-use Rattle.std.proofs.Common.{◌≡◌, ℕ, zero, suc, ◌+◌, ◌<◌, Bool, true, false, not, cond, List, [], ◌∷◌, length, map, drop, ◌⊎◌, Some, None}
-use Rattle.std.proofs.Common.{refl, sym, ap, ◌∙◌, subst, arith, inl, inr}
-use Rattle.std.specs.Prelude.{find, is_some, position, nat_lt, slice_get}
+use Rattle.std.proofs.Common.{◌≡◌, ℕ, zero, suc, ◌+◌, ◌<◌, Bool, true, false, not, cond, List, [], ◌∷◌, length, drop, ◌⊎◌, Some, None}
+use Rattle.std.proofs.Common.{refl, sym, ap, ◌∙◌, arith, inl, inr}
+use Rattle.std.specs.Prelude.{find, is_some, position, slice_get}
 use Rattle.std.specs.List.{AllByRecursion, list_any, position_or_len}
-use Rattle.std.proofs.lemmas.Bool.{lt-ltb, le-ltb}
+use Rattle.std.proofs.Common.{rules}
 
 module _ {X : Type 0} (p : X → Bool) where
   -- none passes
@@ -36,14 +36,10 @@ module _ {X : Type 0} (p : X → Bool) where
   len_none (x ∷ xs) none = one_on x (position_or_len p xs) false none.0 ∙ ap (λ (n : ℕ). 1 + n) (len_none xs none.1) ∙ omega arith
 
   pub first_place : (xs : List X) (at : ℕ) → IsFirst xs at → position p xs ≡ Some at
-  first_place xs at f =
-      ap (λ (n : ℕ). cond (nat_lt n (length xs)) (Some n) None) (len_first xs at f)
-      ∙ ap (λ (b : Bool). cond b (Some at) None) (lt-ltb at (length xs) (within xs at f))
+  first_place xs at f = search (rules, len_first, within)
 
   pub no_place : (xs : List X) → NonePass xs → position p xs ≡ None
-  no_place xs none =
-      ap (λ (n : ℕ). cond (nat_lt n (length xs)) (Some n) None) (len_none xs none)
-      ∙ ap (λ (b : Bool). cond b (Some (length xs)) None) (le-ltb (length xs) (length xs) (omega arith))
+  no_place xs none = search (rules, len_none)
 
   either_with : (x : X) (xs : List X) (b : Bool) → p x ≡ b → NonePass xs ⊎ ((at : ℕ) × IsFirst xs at)
       → NonePass (x ∷ xs) ⊎ ((at : ℕ) × IsFirst (x ∷ xs) at)
@@ -56,10 +52,7 @@ module _ {X : Type 0} (p : X → Bool) where
   either (x ∷ xs) = either_with x xs (p x) refl (either xs)
 
   pub none_at : (xs : List X) → is_some (position p xs) ≡ false → NonePass xs
-  none_at xs e = elim (either xs) [
-    | inl none ↦ none
-    | inr f ↦ absurd (let no = sym (ap is_some (first_place xs f.0 f.1)) ∙ e in cc)
-  ]
+  none_at xs e = search (rules, either, first_place)
 
   any_first : (xs : List X) (at : ℕ) → IsFirst xs at → list_any p xs ≡ true
   any_first [] at f = absurd f
@@ -71,10 +64,7 @@ module _ {X : Type 0} (p : X → Bool) where
   any_none (x ∷ xs) none = rw none.0 (any_none xs none.1)
 
   pub any_place : (xs : List X) → is_some (position p xs) ≡ list_any p xs
-  any_place xs = elim (either xs) [
-    | inl none ↦ ap is_some (no_place xs none) ∙ sym (any_none xs none)
-    | inr f ↦ ap is_some (first_place xs f.0 f.1) ∙ sym (any_first xs f.0 f.1)
-  ]
+  any_place xs = search (rules, any_first, any_none, either, first_place, no_place)
 
   -- ---- what `find` says
 

@@ -1,9 +1,8 @@
 -- Names at places: what is found by name and by slot, and what a registration and a retirement leave.
-use Rattle.std.proofs.Common.{◌≡◌, ◌≢◌, ℕ, ◌+◌, Bool, true, false, not, List, [], ◌∷◌, ◌++◌, length, map, Option, Some, None, refl, sym, ap}
+use Rattle.std.proofs.Common.{◌≡◌, ◌≢◌, ℕ, Bool, true, false, not, List, [], ◌∷◌, ◌++◌, length, map, Option, Some, None, refl, sym, ap}
 use Rattle.std.proofs.Common.{◌∙◌, subst, arith, inl, inr, true≢false}
 use Rattle.std.specs.Prelude.{◌&&◌, ◌||◌, if◌then◌else◌, nat_le, drop, find, position, remove, slice_get, is_some, option_map}
-use Rattle.std.specs.Cmp.Lexicographic.{same_text}
-use Rattle.std.proofs.lemmas.Bool.{cases_eq, eq-eqb, eqb-true, false_from_ne_true, or_parts}
+use Rattle.std.proofs.lemmas.Bool.{cases_eq, eq-eqb, false_from_ne_true, or_parts}
 use Rattle.std.proofs.lemmas.Cmp.{nat_list_eq_equiv}
 use Rattle.std.proofs.lemmas.List.{length-append, length-map, map-append}
 use Rattle.std.proofs.lemmas.List.Edits.{length-remove}
@@ -11,7 +10,7 @@ use Rattle.std.proofs.lemmas.Option.{none-some, slice_get-map, slice_get_within}
 use Rattle.indexmap.proofs.SetLemmas.{map-remove}
 use Rattle.portmap_table.specs.declared.row.Row.{Row}
 use Rattle.portmap_table.specs.declared.entries.Kept.{Kept}
-use Rattle.portmap_table.specs.declared.entries.Kept.TheVariants.{Active, Retired}
+use Rattle.portmap_table.specs.declared.entries.Kept.TheVariants.{Active}
 use Rattle.portmap_table.specs.declared.standing.Standing.{Standing}
 use Rattle.portmap_table.specs.Rows.{Names, RetiredName, active_row, and_retired, is_active, is_known, known_len, old_name, owns_name}
 use Rattle.portmap_table.specs.Rows.{registered, retired_at, retired_last, retired_of, retired_row, same_name, standing, with_room}
@@ -24,9 +23,10 @@ use Rattle.portmap_table.proofs.First.{none_read}
 use Rattle.portmap_table.proofs.Kept.{had_name}
 use Rattle.portmap_table.proofs.NameLaws.{active_names_stay, known_names_cost_none, oldest_makes_room, room_costs_none}
 use Rattle.portmap_table.proofs.Owners.{has_slot}
-use Rattle.portmap_table.proofs.Places.{each_pushed, each_removed, each_same, is_first_place, left_others, map_read, none_pass, is_it}
+use Rattle.portmap_table.proofs.Places.{each_pushed, each_removed, each_same, is_first_place, left_others, map_read, none_pass}
 use Rattle.portmap_table.proofs.Places.{puts_last, stands_as}
 use Rattle.portmap_table.specs.declared.standing.Standing.TheVariants as how
+use Rattle.std.proofs.Common.{rules}
 
 -- ---- what stands at a place: an active name or a retired one
 
@@ -46,12 +46,7 @@ same_itself name other e = ap (λ (n : List ℕ). same_name n name) e ∙ nat_li
 
 -- not both
 never_both : (entries : List Entry) (place : ℕ) → IsActiveAt entries place → IsRetiredAt entries place → ⊥
-never_both entries place active retired =
-    two_kinds active.0 retired.0.port retired.0.creation
-    (ap (λ (e : Entry). e.1) (is_it (slice_get entries place) (active_entry active.0) (retired_entry retired.0) active.1 retired.1))
-  where
-    two_kinds : (row : Row) (port creation : ℕ) → Active row ≡ Retired port creation → ⊥
-    two_kinds row port creation e = absurd cc
+never_both entries place active retired = search rules
 
 module _ {X : Type 0} (k : Kind X) where
   abbrev IsAt : List Entry → ℕ → Type 0
@@ -69,16 +64,12 @@ module _ {X : Type 0} (k : Kind X) where
   -- it stands in the list of those of its kind
   read : (entries : List Entry) (places : List ℕ) (i place : ℕ) (x : X) → slice_get places i ≡ Some place
       → slice_get entries place ≡ Some (k.entry_of x) → slice_get (map (value_at entries) places) i ≡ Some x
-  read entries places i place x at e = slice_get-map (value_at entries) places i ∙ ap (option_map (value_at entries)) at
-      ∙ ap Some (there entries place x e)
+  read entries places i place x at e = search (rules, slice_get-map)
 
   module _ (name : List ℕ) (entries : List Entry) {places : List ℕ} (each : HasEach (IsAt entries) places) where
     its_place : (q : ℕ) → IsAt entries q → is_named name (value_at entries q) ≡ true
         → (kept : Kept) × (slice_get entries q ≡ Some (name, kept))
-    its_place q is passes =
-        let entry = k.entry_of is.0 in
-        let same : entry.0 ≡ name = same_text entry.0 name (sym (sym (ap (is_named name) (there entries q is.0 is.1)) ∙ passes)) in
-        (entry.1, is.1 ∙ ap (λ (n : List ℕ). Some (n, entry.1)) same)
+    its_place q is passes = search rules
 
     named_first : (i place : ℕ) (x : X) → slice_get places i ≡ Some place → slice_get entries place ≡ Some (k.entry_of x)
         → (k.entry_of x).0 ≡ name → StandsOnce name entries place → IsFirst (is_named name) (map (value_at entries) places) i
@@ -142,8 +133,7 @@ module _ {X : Type 0} (k : Kind X) where
         let e = puts.there ∙ ap Some is in
         record {
           each = each_pushed places place each free (x, e) stays was;
-          values_are = map-append (value_at new) places (place ∷ [])
-              ∙ (λ i. same_values places (others_there free) i ++ there new place x e i ∷ []);
+          values_are = search (rules, map-append, same_values);
         }
 
     -- another one in its place
@@ -237,11 +227,7 @@ module _ {entries : List Entry} {active retired : List ℕ} {owner : ℕ → Opt
 
   pub stands_new : (known_max : ℕ) (over : Bool) → IsNew name entries → nat_le known_max (length active) ≡ over
       → standing known_max name (names_at entries active retired) ≡ (if over then how.NoRoom else how.Free None)
-  stands_new known_max over fresh e =
-      (λ i. how_found known_max (length-map active (row_at entries) i) (no_active fresh i)
-      (finds_none (had_name name) (map (old_at entries) retired) (no_old fresh) i))
-      ∙ ap (λ (b : Bool). if b && not (false || false) then how.NoRoom else how.Free None) e
-      ∙ how_new over
+  stands_new known_max over fresh e = search (rules, finds_none, length-map, no_active, no_old)
 
   -- a name that is not active stands at no active place
   pub inactive_there : is_active name (names_at entries active retired) ≡ false → (place : ℕ) (row : Row)
@@ -261,10 +247,7 @@ module _ {entries : List Entry} {active retired : List ℕ} {owner : ℕ → Opt
 module _ {entries : List Entry} {active retired : List ℕ} {owner : ℕ → Option ℕ} (placed : AreInPlace entries active retired owner)
     (slot : ℕ) where
   of_slot : (j q : ℕ) → slice_get active j ≡ Some q → has_slot slot (row_at entries q) ≡ true → owner slot ≡ Some q
-  of_slot j q e passes =
-      let is = placed.active_places.sound j q e in
-      let mine : is.0.slot ≡ slot = eqb-true is.0.slot slot (sym (ap (has_slot slot) (there actives entries q is.0 is.1)) ∙ passes) in
-      sym (ap owner mine) ∙ placed.owners.active q is.0 is.1
+  of_slot j q e passes = search rules
 
   pub slot_place : (place i : ℕ) → owner slot ≡ Some place → slice_get active i ≡ Some place
       → position (has_slot slot) (map (row_at entries) active) ≡ Some i
@@ -303,27 +286,7 @@ same_slot r row e = let same : r ≡ row = cc in ap (λ (x : Row). x.slot) same
 owners_more : {entries new : List Entry} {at : ℕ} {row : Row} {owner owner' : ℕ → Option ℕ} → Puts entries new at (active_entry row)
     → (IsActiveAt entries at → ⊥) → AreOwners entries owner → owner row.slot ≡ None
     → owner' row.slot ≡ Some at → ((q : ℕ) → q ≢ row.slot → owner' q ≡ owner q) → AreOwners new owner'
-owners_more {entries} {new} {at} {row} {owner} {owner'} puts free owners none there others = record {
-  active = λ place r e. elim (cases_eq place at) [
-    | inl same ↦
-        let both : active_entry r ≡ active_entry row =
-        is_it (slice_get new at) (active_entry r) (active_entry row) (ap (slice_get new) (sym same) ∙ e) puts.there in
-        ap owner' (same_slot r row (ap (λ (x : Entry). x.1) both)) ∙ there ∙ ap Some (sym same)
-    | inr other ↦
-        let before : slice_get entries place ≡ Some (active_entry r) = sym (puts.others place other) ∙ e in
-        others r.slot (λ mine. none-some place (sym none ∙ sym (ap owner mine) ∙ owners.active place r before))
-        ∙ owners.active place r before
-  ];
-  slots = λ slot place e. elim (cases_eq slot row.slot) [
-    | inl mine ↦
-        let both : Some place ≡ Some at = sym e ∙ ap owner' mine ∙ there in
-        let same : place ≡ at = cc in
-        (row, ap (slice_get new) same ∙ puts.there, sym mine)
-    | inr other ↦
-        let before = owners.slots slot place (sym (others slot other) ∙ e) in
-        (before.0, puts.others place (λ same. free (before.0, ap (slice_get entries) (sym same) ∙ before.1)) ∙ before.1, before.2)
-  ];
-}
+owners_more {entries} {new} {at} {row} {owner} {owner'} puts free owners none there others = search rules
 
 -- none of the active names is that of this place any more
 owners_less : {entries new : List Entry} {at : ℕ} {old : RetiredName} {owner owner' : ℕ → Option ℕ}
@@ -335,10 +298,7 @@ owners_less {entries} {new} {at} {old} puts owners stay were = record {
     | inl same ↦ absurd (never_both new at (r, ap (slice_get new) (sym same) ∙ e) (old, puts.there))
     | inr other ↦ stay r.slot place other (owners.active place r (sym (puts.others place other) ∙ e))
   ];
-  slots = λ slot place e.
-      let owned = were slot place e in
-      let before = owners.slots slot place owned.1 in
-      (before.0, puts.others place owned.0 ∙ before.1, before.2);
+  slots = search rules;
 }
 
 -- ---- a name retires, whole
@@ -374,26 +334,8 @@ module _ {entries new : List Entry} {active retired : List ℕ} {owner : ℕ →
   retires_places = record {
     active_places = rows_left.each;
     retired_places = olds_left.each;
-    owners = owners_less changed placed.owners
-        (λ q there other e. others q (λ same. other (same_place q there e same)) ∙ e)
-        (λ q there e. elim (cases_eq q slot) [
-          | inl same ↦ absurd (none-some there (sym none ∙ sym (ap owner' same) ∙ e))
-          | inr other ↦
-              let before : owner q ≡ Some there = sym (others q other) ∙ e in
-              let row = placed.owners.slots q there before in (
-                λ same. other (sym row.2 ∙ same_slot row.0 mine.0
-                    (ap (λ (x : Entry). x.1) (is_it (slice_get entries place) (active_entry row.0) (active_entry mine.0)
-                    (ap (slice_get entries) (sym same) ∙ row.1) mine.1)) ∙ mine.2),
-                before,
-              )
-        ]);
-    count = omega (
-      arith,
-      length-remove active i (slice_get_within active i place at),
-      length-append retired (place ∷ []),
-      len,
-      placed.count,
-    );
+    owners = search rules;
+    count = search (rules, length-append, length-remove, slice_get_within);
   }
 
 -- ---- a retired name comes behind the others
@@ -448,13 +390,7 @@ module _ {entries new : List Entry} {active retired left : List ℕ} {owner : �
   len_names = omega (arith, length-map active (row_at entries), length-map retired (old_at entries), placed.count)
 
   free : IsActiveAt entries place → ⊥
-  free is = elim settles.how [
-    | inl r ↦ never_both entries place is (r.known.0, r.known.1)
-    | inr f ↦ elim f [
-      | inl a ↦ absurd (omega (arith, a.last, slice_get_within entries place (active_entry is.0) is.1))
-      | inr p ↦ never_both entries place is (placed.retired_places.sound 0 place p.oldest)
-    ]
-  ]
+  free is = search (rules, slice_get_within)
 
   gone : IsRetiredAt new place → ⊥
   gone is = never_both new place (row, settles.puts.there) is
@@ -465,8 +401,7 @@ module _ {entries new : List Entry} {active retired left : List ℕ} {owner : �
   -- the retired ones, once the name is none of them
   taken : (o : Option ℕ) (xs : List RetiredName) → roomy.retired ≡ xs → position (had_name row.reg.name) xs ≡ o
       → without_at o xs ≡ without_at (position (had_name row.reg.name) roomy.retired) roomy.retired
-  taken o xs is at = sym (ap (λ (ys : List RetiredName). without_at (position (had_name row.reg.name) ys) ys) is
-      ∙ ap (λ (p : Option ℕ). without_at p xs) at)
+  taken o xs is at = search rules
 
   stand_left : {places : List ℕ} {values values' : List RetiredName} → left ≡ places → Stand olds new places values → values ≡ values'
       → Stand olds new left values'

@@ -1,5 +1,5 @@
 -- What always holds of a table's names holds after a registration and after a retirement.
-use Rattle.std.proofs.Common.{◌≡◌, ℕ, ◌+◌, ◌<◌, ◌≤◌, ◌^◌, Bool, true, false, not, List, [], ◌∷◌, ◌++◌, length, map, get_or, Option, Some}
+use Rattle.std.proofs.Common.{◌≡◌, ℕ, ◌<◌, ◌≤◌, ◌^◌, Bool, true, false, not, List, [], ◌∷◌, ◌++◌, length, map, get_or, Option, Some}
 use Rattle.std.proofs.Common.{None, refl, sym, ap, suc, arith}
 use Rattle.std.specs.Prelude.{drop, position, remove, is_some, slice_get, nat_le, All, MatchBool, ◌==◌, ◌&&◌, ◌||◌, if◌then◌else◌}
 use Rattle.std.specs.List.{IsDistinct}
@@ -16,12 +16,13 @@ use Rattle.portmap_wire.specs.Node.{Node}
 use Rattle.portmap_wire.specs.Reply.{is_short}
 use Rattle.portmap_table.specs.declared.creation.TheConstants.{SHORT_MOST, COUNTER_LEAST}
 use Rattle.portmap_table.specs.declared.row.Row.{Row}
-use Rattle.portmap_table.specs.Creation.{IsCreationFor, IsLegalCreation}
+use Rattle.portmap_table.specs.Creation.{IsCreationFor}
 use Rattle.portmap_table.specs.Rows.{name_of, slot_of, is_full_for, is_known, RetiredName, Names, AreKept, same_name, is_active, known_len}
-use Rattle.portmap_table.specs.Rows.{owns_name, remembered, retired_row, without_at, without_oldest, with_room, registered, old_name}
+use Rattle.portmap_table.specs.Rows.{owns_name, retired_row, without_at, without_oldest, with_room, registered, old_name}
 use Rattle.portmap_table.specs.Rows.{retired_last, retired_at}
 use Rattle.portmap_table.proofs.First.{NonePass, none_at, none_found, finds_none}
 use Rattle.portmap_table.proofs.Finding.{key_is_new, distinct_with, distinct_forward, distinct_back, distinct_without, keys_moved}
+use Rattle.std.proofs.Common.{rules}
 
 -- ---- short names for what is scanned
 
@@ -47,13 +48,7 @@ All-remove P xs at all = All-append P _ _ (All-take P at xs all) (All-drop P (su
 
 pub kept_empty : (known_max : ℕ) → AreKept known_max (record { active = []; retired = [] })
 unfolding IsDistinct
-kept_empty known_max = record {
-  distinct = tt;
-  few = omega arith;
-  owners = tt;
-  active_creations = λ k d lt. absurd (omega arith);
-  retired_creations = λ k d lt. absurd (omega arith);
-}
+kept_empty known_max = search rules
 
 -- ---- a name registers
 

@@ -17,8 +17,8 @@ use Rattle.portmap_table.specs.Rows.{known_names, name_of, RetiredName, Names, s
 use Rattle.portmap_table.specs.Rows.{old_name, retired_of, retired_at, retired_last, is_known, known_len, without_oldest, AreKept}
 use Rattle.portmap_table.specs.Rows.{and_retired, owns_name, registered, slot_of, with_room}
 use Rattle.portmap_table.specs.Laws.{row_of, ActiveNamesStay, KnownNamesCostNone, LastCreationsAreRemembered, NoneIsRefusedForRetiredNames}
-use Rattle.portmap_table.specs.Laws.{ReturningNamesGetAnother, OldestMakesRoom, RegisteredNamesAreActive, NamesOutliveConnections}
-use Rattle.portmap_table.specs.Laws.{OthersStayAtRegistration, OthersStayAtRetirement, RegisteredNamesStandLast, RetiredNamesStandLast}
+use Rattle.portmap_table.specs.Laws.{OldestMakesRoom, RegisteredNamesAreActive, NamesOutliveConnections}
+use Rattle.portmap_table.specs.Laws.{OthersStayAtRegistration, OthersStayAtRetirement, RetiredNamesStandLast}
 use Rattle.portmap_table.specs.Laws.{RetiredNamesStay, RoomCostsNone}
 use Rattle.portmap_table.proofs.Finding.{keys_moved, is_none, find-push, find-push_other, find-remove, keys_pass_not, parts, position-find}
 use Rattle.portmap_table.proofs.Finding.{both_parts, distinct_with, key_is_new}
@@ -28,6 +28,7 @@ use Rattle.std.proofs.lemmas.List.Elements.{All-push}
 use Rattle.portmap_table.proofs.First.{finds_none, no_place, none_found}
 use Rattle.portmap_table.proofs.Owners.{has_slot}
 use Rattle.std.proofs.lemmas.Bool.{or_parts}
+use Rattle.std.proofs.Common.{rules}
 
 pub registered_names_are_active : RegisteredNamesAreActive
 registered_names_are_active names reg creation slot inactive =
@@ -136,11 +137,7 @@ room_by : (b c : Bool) (names : Names) → b ≡ c → (if b then without_oldest
 room_by b c names e = ap (λ (d : Bool). if d then without_oldest names else names) e
 
 pub known_names_cost_none : KnownNamesCostNone
-known_names_cost_none known_max names name e =
-    room_by _ false names (cost_none (nat_le known_max (known_len names)) (is_known name names) e)
-  where
-    cost_none : (over known : Bool) → known ≡ true → (over && not known) ≡ false
-    cost_none over known e = grind (arith, nat_tests)
+known_names_cost_none known_max names name e = search rules
 
 few_known : (m n : ℕ) (known : Bool) → n < m → (nat_le m n && not known) ≡ false
 few_known m n known lt = grind (arith, nat_tests)
@@ -152,8 +149,7 @@ pub room_costs_none : RoomCostsNone
 room_costs_none known_max names name lt = room_by _ false names (few_known known_max (known_len names) (is_known name names) lt)
 
 pub oldest_makes_room : OldestMakesRoom
-oldest_makes_room known_max names name le e =
-    ap (λ (after : Names). after.retired) (room_by _ true names (many_known known_max (known_len names) (is_known name names) le e))
+oldest_makes_room known_max names name le e = search rules
 
 pub ruleset forgetting = (active_names_stay, known_names_cost_none, room_costs_none, oldest_makes_room)
 
@@ -163,9 +159,7 @@ full_active : (m n : ℕ) (known : Bool) → (nat_le m n && not known) ≡ true 
 full_active m n known e = grind (arith, nat_tests)
 
 pub none_is_refused_for_retired_names : NoneIsRefusedForRetiredNames
-none_is_refused_for_retired_names known_max names name k e =
-    let most : known_max ≤ length names.active = full_active known_max (length names.active) (is_known name names) e in
-    nil_from_length names.retired (omega (arith, k.few, most))
+none_is_refused_for_retired_names known_max names name k e = search (rules, nil_from_length)
 
 pub last_creations_are_remembered : LastCreationsAreRemembered
 last_creations_are_remembered known_max names slot row k e =

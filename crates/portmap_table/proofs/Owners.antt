@@ -1,10 +1,9 @@
 -- Which slots own a name after a registration and after a retirement.
-use Rattle.std.proofs.Common.{◌≡◌, ◌≢◌, ℕ, zero, suc, ◌+◌, ◌<◌, Bool, true, false, not, cond, List, [], ◌∷◌, length, map, get_or, Option}
-use Rattle.std.proofs.Common.{Some, None, refl, sym, ap, ◌∙◌, arith, inl, inr}
-use Rattle.std.specs.Prelude.{find, position, remove, is_some, slice_get, nat_le, nat_lt, ◌==◌, ◌&&◌, ◌||◌, if◌then◌else◌}
-use Rattle.std.specs.List.{IsDistinct, AllByRecursion, list_any, position_or_len}
-use Rattle.std.proofs.lemmas.Bool.{cases_lt, lt-ltb, le-ltb, eq-eqb, eqb-true, ne_eqb}
-use Rattle.std.proofs.Math.Bool.{or-false, or-true}
+use Rattle.std.proofs.Common.{◌≡◌, ◌≢◌, ℕ, ◌<◌, Bool, true, false, not, List, ◌∷◌, length, map, get_or, Option}
+use Rattle.std.proofs.Common.{Some, None, refl, sym, ap, ◌∙◌}
+use Rattle.std.specs.Prelude.{position, remove, is_some, slice_get, nat_le, ◌==◌, ◌&&◌, ◌||◌, if◌then◌else◌}
+use Rattle.std.specs.List.{IsDistinct, list_any, position_or_len}
+use Rattle.std.proofs.lemmas.Bool.{eq-eqb, ne_eqb}
 use Rattle.std.proofs.lemmas.Cmp.{nat_eq_equiv}
 use Rattle.std.proofs.lemmas.List.Folds.{find_at, list_any-append, list_any_at}
 use Rattle.std.proofs.lemmas.List.Quantifiers.{position-Some}
@@ -18,6 +17,7 @@ use Rattle.portmap_table.specs.Rows.{same_name, slot_of, with_room, without_olde
 use Rattle.portmap_table.specs.Places.{no_row}
 use Rattle.portmap_table.proofs.First.{any_none, any_place}
 use Rattle.portmap_table.proofs.Finding.{keys_moved, keys_pass_not}
+use Rattle.std.proofs.Common.{rules}
 
 abbrev pub has_slot : ℕ → Row → Bool
 has_slot slot row = row.slot == slot
@@ -40,23 +40,16 @@ owner_owns name names row e =
 
 registered_owns : (q : ℕ) (g : Node) (creation slot : ℕ) (names : Names)
     → owns_name q (registered g creation slot names) ≡ (owns_name q names || (slot == q || false))
-registered_owns q g creation slot names =
-    let row : Row = record { reg = g; creation = creation; slot = slot } in
-    owns q (registered g creation slot names) ∙ list_any-append (has_slot q) names.active (row ∷ [])
-    ∙ ap (λ (b : Bool). b || (slot == q || false)) (sym (owns q names))
+registered_owns q g creation slot names = search (rules, list_any-append, owns)
 
 -- the slot owns a name then
 pub owns_registered : (g : Node) (creation slot : ℕ) (names : Names) → owns_name slot (registered g creation slot names) ≡ true
-owns_registered g creation slot names = registered_owns slot g creation slot names
-    ∙ ap (λ (b : Bool). owns_name slot names || (b || false)) (eq-eqb slot slot refl) ∙ or-true (owns_name slot names)
+owns_registered g creation slot names = search (rules, registered_owns)
 
 -- and no other slot does that did not before
 pub owns_registered_other : (q : ℕ) (g : Node) (creation slot : ℕ) (names : Names) → q ≢ slot
     → owns_name q (registered g creation slot names) ≡ owns_name q names
-owns_registered_other q g creation slot names other =
-    let differs : slot ≢ q = λ e. other (sym e) in
-    registered_owns q g creation slot names ∙ ap (λ (b : Bool). owns_name q names || (b || false)) (ne_eqb slot q differs)
-    ∙ or-false (owns_name q names)
+owns_registered_other q g creation slot names other = search (rules, registered_owns)
 
 -- room for a name is made at the cost of no owner
 owns_by : (b : Bool) (q : ℕ) (names : Names) → owns_name q (if b then without_oldest names else names) ≡ owns_name q names
@@ -87,8 +80,7 @@ last_owns slot names at None e found d =
 last_owns slot names at (Some row) e found d =
     let lt : at < length names.active = slice_get_within names.active at row e in
     let here : row ≡ get_or names.active at row = sym (get_or_from_slice_get names.active at row row e) in
-    let is : row.slot ≡ slot = eqb-true row.slot slot
-    (ap (has_slot slot) here ∙ (position-Some (has_slot slot) names.active at row found).1) in
+    let is : row.slot ≡ slot = search (rules, position-Some) in
     let after : Names = retired_last at (Some row) names in (
       owns slot after ∙ rw is at (gone names.active at row lt here d),
       λ q other.

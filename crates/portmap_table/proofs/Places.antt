@@ -1,9 +1,8 @@
 -- Entries at places: what is read there after one is written, added, or takes the place of another.
-use Rattle.std.proofs.Common.{◌≡◌, ◌≢◌, ℕ, zero, suc, ◌-◌, ◌<◌, Bool, true, false, List, [], ◌∷◌, ◌++◌, length, map, take, get_or, Option}
+use Rattle.std.proofs.Common.{◌≡◌, ◌≢◌, ℕ, zero, suc, ◌<◌, Bool, true, false, List, [], ◌∷◌, ◌++◌, length, map, get_or, Option}
 use Rattle.std.proofs.Common.{Some, None, refl, sym, ap, ◌∙◌, subst, arith, inl, inr, ◌⊎◌}
-use Rattle.std.specs.Prelude.{is_some, option_map, position, slice_get, slice_set, slice_index_or, swap_remove, remove}
-use Rattle.std.specs.List.{AllByRecursion, IsDistinct}
-use Rattle.std.specs.Cmp.Lexicographic.{same_text}
+use Rattle.std.specs.Prelude.{is_some, option_map, position, slice_get, slice_set, swap_remove, remove}
+use Rattle.std.specs.List.{IsDistinct}
 use Rattle.std.proofs.lemmas.Bool.{cases_eq}
 use Rattle.std.proofs.lemmas.Cmp.{nat_list_eq_equiv}
 use Rattle.std.proofs.lemmas.List.{get_or-map, length-append, length-map, length-set, get_or-set_same, set-append_left, take_at}
@@ -20,6 +19,7 @@ use Rattle.portmap_table.specs.Rows.{same_name}
 use Rattle.portmap_table.specs.Places.{AreNamed, Entry, IsNamed, IsNew, Puts, StandsAs, HasEach}
 use Rattle.portmap_table.proofs.Finding.{is_none}
 use Rattle.portmap_table.proofs.First.{IsFirst, NonePass}
+use Rattle.std.proofs.Common.{rules}
 
 -- ---- elements at places
 
@@ -46,10 +46,7 @@ set_others (y ∷ xs) (suc at) x (suc i) other = set_others xs at x i (λ e. oth
 
 -- the last one in the place of another
 swap_remove_push : {X : Type 0} (xs : List X) (x d : X) (at : ℕ) → at < length xs → swap_remove (xs ++ x ∷ []) at d ≡ slice_set xs at x
-swap_remove_push xs x d at lt =
-    let last : length (xs ++ x ∷ []) - 1 ≡ length xs = omega (arith, length-append xs (x ∷ [])) in
-    rw (last, get_or-append_seam xs x [] d, set-append_left xs (x ∷ []) at x lt)
-    (take_at (slice_set xs at x) (x ∷ []) (length xs) (length-set xs at x))
+swap_remove_push xs x d at lt = search (rules, get_or-append_seam, length-append, set-append_left, take_at)
 
 -- ---- entries
 
@@ -60,9 +57,7 @@ puts_last entries entry = record { there = push_there entries entry; others = pu
 -- one that takes the place of another
 pub puts_swapped : (entries : List Entry) (entry d : Entry) (at : ℕ) → at < length entries
     → Puts entries (swap_remove (entries ++ entry ∷ []) at d) at entry
-puts_swapped entries entry d at lt =
-    subst (λ (new : List Entry). Puts entries new at entry) (sym (swap_remove_push entries entry d at lt))
-    (record { there = set_there entries at entry lt; others = set_others entries at entry })
+puts_swapped entries entry d at lt = search (rules, set_others, set_there, swap_remove_push)
 
 -- one of the same name
 written_there : (entries : List Entry) (at : ℕ) (name : List ℕ) (was kept : Kept) → slice_get entries at ≡ Some (name, was)
@@ -81,8 +76,7 @@ written_others (x ∷ entries) (suc at) kept (suc place) other = written_others 
 
 pub puts_written : (entries : List Entry) (at : ℕ) (name : List ℕ) (was kept : Kept) → slice_get entries at ≡ Some (name, was)
     → Puts entries (set_value_at entries at kept) at (name, kept)
-puts_written entries at name was kept e =
-    record { there = written_there entries at name was kept e; others = written_others entries at kept }
+puts_written entries at name was kept e = search (rules, written_others, written_there)
 
 -- ---- names
 
@@ -90,10 +84,7 @@ pub is_it : {X : Type 0} (o : Option X) (x y : X) → o ≡ Some x → o ≡ Som
 is_it o x y e f = let both : Some x ≡ Some y = sym e ∙ f in cc
 
 pub named_after : (old new : List Entry) (at : ℕ) (entry : Entry) → Puts old new at entry → IsNamed entry → AreNamed old → AreNamed new
-named_after old new at entry puts named all place other e = elim (cases_eq place at) [
-  | inl same ↦ subst IsNamed (is_it (slice_get new at) entry other puts.there (ap (slice_get new) (sym same) ∙ e)) named
-  | inr differs ↦ all place other (sym (puts.others place differs) ∙ e)
-]
+named_after old new at entry puts named all place other e = search rules
 
 pub named_before : (entries : List Entry) (entry : Entry) → AreNamed (entries ++ entry ∷ []) → AreNamed entries
 named_before entries entry all place other e =
@@ -111,8 +102,7 @@ place_read name entries at e =
     let found = position-Some (same_name name) (map key_of entries) at name e in
     let lt : at < length entries = omega (arith, found.0, length-map entries key_of) in
     let entry = get_or entries at d in
-    let same : name ≡ entry.0 = same_text name entry.0
-    (sym (sym (ap (same_name name) (get_or-map key_of entries at d name lt)) ∙ found.1)) in
+    let same : name ≡ entry.0 = search (rules, get_or-map) in
     (entry.1, slice_get-get_or entries at d lt ∙ ap (λ (n : List ℕ). Some (n, entry.1)) (sym same))
 
 pub read_place : (name : List ℕ) (entries : List Entry) (at : ℕ) (kept : Kept) → IsDistinct same_name (map key_of entries)
@@ -144,8 +134,7 @@ stands_as name entries place (Retired port creation) named e = inr (record { nam
 pub kept_there : (name : List ℕ) (entries : List Entry) (place : ℕ) → StandsAs name entries place
     → (kept : Kept) × (slice_get entries place ≡ Some (name, kept))
 kept_there name entries place (inl row) = (Active row.0, row.1 ∙ ap (λ (n : List ℕ). Some (n, Active row.0)) row.2)
-kept_there name entries place (inr old) =
-    (Retired old.0.port old.0.creation, old.1 ∙ ap (λ (n : List ℕ). Some (n, Retired old.0.port old.0.creation)) old.2)
+kept_there name entries place (inr old) = search rules
 
 -- ---- lists that have each place of a kind once: one is added
 
@@ -154,16 +143,7 @@ module _ {Is Is' : ℕ → Type 0} (places : List ℕ) (place : ℕ) (each : Has
   -- the place that is read is the new one, at the end, or one of before
   read_pushed : (i q : ℕ) → slice_get (places ++ place ∷ []) i ≡ Some q
       → ((i ≡ length places) × (q ≡ place)) ⊎ ((slice_get places i ≡ Some q) × (q ≢ place))
-  read_pushed i q e = elim (cases_eq i (length places)) [
-    | inl same ↦ inl (
-      same,
-      is_it (slice_get (places ++ place ∷ []) i) q place e
-          (ap (slice_get (places ++ place ∷ [])) same ∙ push_there places place),
-    )
-    | inr other ↦
-        let before : slice_get places i ≡ Some q = sym (push_others places place i other) ∙ e in
-        inr (before, λ same. fresh (subst Is same (each.sound i q before)))
-  ]
+  read_pushed i q e = search (rules, push_others, push_there)
 
   once_pushed : (i j q : ℕ) → slice_get (places ++ place ∷ []) i ≡ Some q → slice_get (places ++ place ∷ []) j ≡ Some q → i ≡ j
   once_pushed i j q one two = by (read_pushed i q one) (read_pushed j q two)
@@ -177,15 +157,10 @@ module _ {Is Is' : ℕ → Type 0} (places : List ℕ) (place : ℕ) (each : Has
 
   pub each_pushed : HasEach Is' (places ++ place ∷ [])
   each_pushed = record {
-    sound = λ i q e. elim (read_pushed i q e) [
-      | inl a ↦ subst Is' (sym a.1) there
-      | inr a ↦ stay q a.1 (each.sound i q a.0)
-    ];
+    sound = search (rules, read_pushed);
     whole = λ q is. elim (cases_eq q place) [
       | inl same ↦ (length places, push_there places place ∙ ap Some (sym same))
-      | inr other ↦
-          let at = each.whole q (were q other is) in
-          (at.0, push_others places place at.0 (λ same. absurd (omega (arith, same, slice_get_within places at.0 q at.1))) ∙ at.1)
+      | inr other ↦ search (rules, push_others, slice_get_within)
     ];
     once = once_pushed;
   }
@@ -243,8 +218,7 @@ module _ {Is Is' : ℕ → Type 0} (places : List ℕ) (k place : ℕ) (each : H
         let left = unskip k before.0 (λ same. other
         (is_it (slice_get places before.0) q place before.1 (ap (slice_get places) same ∙ at))) in
         (left.0, read_removed places k left.0 ∙ ap (slice_get places) left.1 ∙ before.1);
-    once = λ i j q one two. skip_once k i j
-        (each.once (skip k i) (skip k j) q (sym (read_removed places k i) ∙ one) (sym (read_removed places k j) ∙ two));
+    once = search (rules, read_removed, skip_once);
   }
 
   -- what is left is not the place itself
@@ -255,11 +229,7 @@ module _ {Is Is' : ℕ → Type 0} (places : List ℕ) (k place : ℕ) (each : H
 
 pub each_same : {Is Is' : ℕ → Type 0} (places : List ℕ) → HasEach Is places → ((q : ℕ) → Is q → Is' q) → ((q : ℕ) → Is' q → Is q)
     → HasEach Is' places
-each_same places each to from = record {
-  sound = λ i q e. to q (each.sound i q e);
-  whole = λ q is. each.whole q (from q is);
-  once = each.once;
-}
+each_same places each to from = search rules
 
 -- ---- what is found there
 

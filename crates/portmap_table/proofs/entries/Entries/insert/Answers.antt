@@ -1,18 +1,15 @@
 use Rattle.std.proofs.Common.{◌≡◌, List, [], ◌∷◌, ◌++◌, length, sym, ap, subst, ◌∙◌}
 use Rattle.indexmap.proofs.CallerLemmas.{insert_entry-new}
-use Rattle.portmap_table.specs.Places.{AreNamed, Entry, IsNew}
-use Rattle.portmap_table.specs.Rows.{same_name}
+use Rattle.portmap_table.specs.Places.{AreNamed, Entry}
 use Rattle.portmap_table.proofs.Places.{new_found, named_after, puts_last}
 use Rattle.portmap_table.proofs.entries.Entries.insert.Goals as goal
+use Rattle.std.proofs.Common.{rules}
 
 abbrev entry : (c : goal.Joined-insert-2) → Entry
 entry c = (c.args.name, c.args.kept)
 
 pushed : (c : goal.Joined-insert-2) → c.insert.new.self.entries ≡ c.self.inside.kept.entries ++ entry c ∷ []
-pushed c =
-    let none : IsNew c.args.name c.self.inside.kept.entries = subst (IsNew c.args.name) (sym c.self.view_is) c.requires.new in
-    c.in-Ok.ensures.entries ∙ insert_entry-new same_name c.self.inside.kept c.args.name c.args.kept
-    (new_found c.args.name c.self.inside.kept.entries none)
+pushed c = search (rules, insert_entry-new, new_found)
 
 pub returns-in-Ok-clause-ok : goal.returns-in-Ok-clause-ok
 returns-in-Ok-clause-ok c = pushed c ∙ ap (λ (entries : List Entry). entries ++ entry c ∷ []) c.self.view_is

@@ -1,24 +1,20 @@
-use Rattle.std.proofs.Common.{◌≡◌, List, Some, length, slice_get, map, sym, ap, subst, ◌∙◌}
+use Rattle.std.proofs.Common.{◌≡◌, List, Some, length, slice_get, ap, ◌∙◌}
 use Rattle.indexmap.specs.IndexMap.{set_value_at}
 use Rattle.indexmap.specs.Layout.{length-set_value_at}
 use Rattle.portmap_table.specs.declared.entries.Kept.{Kept}
 use Rattle.portmap_table.specs.declared.entries.Kept.TheVariants.{Active, Retired}
 use Rattle.portmap_table.specs.declared.row.Row.{Row}
-use Rattle.portmap_table.specs.Places.{Entry, Puts, active_entry, retired_entry}
-use Rattle.portmap_table.specs.Rows.{old_name}
+use Rattle.portmap_table.specs.Places.{Entry, Puts, active_entry}
 use Rattle.portmap_table.proofs.Places.{named_after, puts_written, read_kept}
 use Rattle.portmap_table.proofs.entries.Entries.retire.Goals as goal
+use Rattle.std.proofs.Common.{rules}
 
 abbrev retired : (c : goal.Joined-index_mut) → Kept
 retired c = Retired c.row.inside.0.0.port c.row.inside.0.1.0
 
 -- the row that is read is the one that stands there
 is_row : (c : goal.Joined-index_mut) (row : Row) → slice_get c.args.self.now c.args.place ≡ Some (active_entry row) → c.in-Active.row ≡ row
-is_row c row e =
-    let both : Some (Active c.in-Active.row) ≡ Some (Active row) = ap Some (sym c.in-Active.is) ∙ sym c.index.ensures
-    ∙ ap (λ (entries : List Entry). slice_get (map (λ (e : Entry). e.1) entries) c.args.place) c.self.view_is
-    ∙ read_kept c.args.self.now c.args.place (active_entry row) e in
-    cc
+is_row c row e = search (rules, read_kept)
 
 puts : (c : goal.Joined-index_mut) (row : Row) → slice_get c.args.self.now c.args.place ≡ Some (active_entry row)
     → Puts c.self.inside.kept.entries (set_value_at c.self.inside.kept.entries c.args.place (retired c)) c.args.place
@@ -30,12 +26,7 @@ pub invariant_of-self : goal.invariant_of-self
 invariant_of-self c = named_after _ _ c.args.place (c.requires.0.reg.name, retired c) (puts c c.requires.0 c.requires.1) tt c.self.invariant
 
 pub returns-clause-puts : goal.returns-clause-puts
-returns-clause-puts c row e =
-    let is : (row.reg.name, retired c) ≡ retired_entry (old_name row) =
-    ap (λ (r : Row). (row.reg.name, Retired r.reg.port r.creation)) (c.row.view_is ∙ is_row c row e) in
-    subst (λ (entry : Entry). Puts c.args.self.now (set_value_at c.self.inside.kept.entries c.args.place (retired c)) c.args.place entry) is
-    (subst (λ (old : List Entry). Puts old (set_value_at c.self.inside.kept.entries c.args.place (retired c)) c.args.place
-    (row.reg.name, retired c)) c.self.view_is (puts c row e))
+returns-clause-puts c row e = search (rules, is_row, puts)
 
 pub returns-clause-len : goal.returns-clause-len
 returns-clause-len c = length-set_value_at c.self.inside.kept.entries c.args.place (retired c) ∙ ap length c.self.view_is

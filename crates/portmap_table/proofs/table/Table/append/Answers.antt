@@ -1,16 +1,17 @@
-use Rattle.std.proofs.Common.{◌≡◌, ◌<◌, [], ◌∷◌, ◌++◌, ap, sym, ◌∙◌, arith, subst}
+use Rattle.std.proofs.Common.{◌≡◌, [], ◌∷◌, ◌++◌, ap, ◌∙◌, arith}
 use Rattle.std.specs.Prelude.{nat_eq}
 use Rattle.indexmap.specs.IndexMap.{get}
 use Rattle.portmap_table.specs.Places.{AreInPlace, names_at}
-use Rattle.portmap_table.specs.Rows.{AreKept, Names, and_retired, is_known, known_len}
+use Rattle.portmap_table.specs.Rows.{AreKept, Names, and_retired}
 use Rattle.portmap_table.specs.Table.{TableState, with_names}
 use Rattle.portmap_table.proofs.InPlace.{appended_names, appended_places, unknown_there}
 use Rattle.portmap_table.proofs.NameLaws.{kept_appended}
 use Rattle.portmap_table.proofs.table.Table.append.Goals as goal
+use Rattle.std.proofs.Common.{rules}
+use Rattle.std.proofs.lemmas.Grind.{common_steps}
 
 pub append-requires : goal.append-requires
-append-requires c = unknown_there c.self.invariant.0 c.args.old.now.name
-    (ap (λ (t : TableState). is_known c.args.old.now.name t.names) c.self.view_is ∙ c.requires.unknown) c.len-place.ensures.named
+append-requires c = search (rules, unknown_there)
 
 abbrev old_names : (c : goal.After-push_reserved) → Names
 old_names c = names_at c.self.inside.entries c.self.inside.active.items c.self.inside.retired.items
@@ -28,10 +29,7 @@ named c = rw (pushed c, c.in_ok-append.ensures.ok, c.len-place.ensures.len) (app
 
 kept : (c : goal.After-push_reserved) → AreKept c.self.inside.known_max
     (names_at c.append.new.self c.self.inside.active.items c.push_reserved.new.self.items)
-kept c =
-    let unknown = ap (λ (t : TableState). is_known c.args.old.now.name t.names) c.self.view_is ∙ c.requires.unknown in
-    let room = subst (λ (t : TableState). known_len t.names < t.known_max) (sym c.self.view_is) c.requires.room in
-    rw (named c) (kept_appended c.self.inside.known_max (old_names c) room c.args.old.now c.self.invariant.2 unknown c.requires.creation)
+kept c = grind (arith, common_steps, kept_appended, named)
 
 pub invariant_of-self-2 : goal.invariant_of-self-2
 invariant_of-self-2 c = (

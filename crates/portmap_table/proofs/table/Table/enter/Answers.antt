@@ -1,19 +1,17 @@
 use Rattle.std.proofs.Common.{◌≡◌, ◌≢◌, ℕ, List, [], ◌∷◌, ◌++◌, false, ap, sym, ◌∙◌, arith}
 use Rattle.std.specs.Prelude.{nat_eq}
-use Rattle.std.specs.Map.{lookup}
-use Rattle.std.proofs.lemmas.Bool.{ne_eqb}
 use Rattle.indexmap.specs.IndexMap.{get}
 use Rattle.portmap_table.specs.Places.{TakesPlace, names_at}
 use Rattle.portmap_table.specs.Rows.{AreKept, Names, is_active, is_full_for, owns_name, registered, with_room}
-use Rattle.portmap_table.specs.Table.{TableState, with_names}
+use Rattle.portmap_table.specs.Table.{TableState}
 use Rattle.portmap_table.proofs.Finding.{is_none}
 use Rattle.portmap_table.proofs.InPlace.{inactive_there, owns_placed, settled_names, settled_places}
 use Rattle.portmap_table.proofs.Kept.{kept_enters}
 use Rattle.portmap_table.proofs.table.Table.enter.Goals as goal
+use Rattle.std.proofs.Common.{rules}
 
 pub settle-requires-clause-name : goal.settle-requires-clause-name
-settle-requires-clause-name c = inactive_there c.self.invariant.0 c.args.row.reg.name
-    (ap (λ (t : TableState). is_active c.args.row.reg.name t.names) c.self.view_is ∙ c.requires.name)
+settle-requires-clause-name c = search (rules, inactive_there)
 
 abbrev old_names : (c : goal.In-Ok) → Names
 old_names c = names_at c.self.inside.entries c.self.inside.active.items c.self.inside.retired.items
@@ -33,8 +31,7 @@ pushed : (c : goal.In-Ok) → c.push_reserved.new.self.items ≡ c.self.inside.a
 pushed c = c.push_reserved.ensures.items ∙ ap (λ (active : List ℕ). active ++ c.in_ok-place.place ∷ []) c.reserve-2.ensures.items
 
 others : (c : goal.In-Ok) (q : ℕ) → q ≢ c.args.row.slot → get nat_eq c.insert.new.self q ≡ get nat_eq c.self.inside.owners q
-others c q other = c.in-Ok.ensures.updates.2 q (ne_eqb c.args.row.slot q (λ same. other (sym same)))
-    ∙ ap (λ (entries : List (ℕ × ℕ)). lookup (nat_eq q) entries) c.reserve-3.ensures.entries
+others c q other = search rules
 
 named : (c : goal.In-Ok) → names_at c.settle.new.entries c.push_reserved.new.self.items c.settle.new.retired.items
     ≡ registered c.args.row.reg c.args.row.creation c.args.row.slot (with_room c.self.inside.known_max c.args.row.reg.name (old_names c))
@@ -68,10 +65,7 @@ invariant_of-self-2 c = (
 )
 
 pub returns-clause-ok : goal.returns-clause-ok
-returns-clause-ok c =
-    (λ i. record { names = named c i; known_max = c.self.inside.known_max; counter = c.self.inside.counter })
-    ∙ ap (λ (t : TableState). with_names t (registered c.args.row.reg c.args.row.creation c.args.row.slot
-    (with_room t.known_max c.args.row.reg.name t.names))) c.self.view_is
+returns-clause-ok c = search (rules, named)
 
 pub returns-clause-kept : goal.returns-clause-kept
 returns-clause-kept c = kept c

@@ -8,6 +8,7 @@ use Rattle.portmap_table.specs.Table.{TableState, with_names}
 use Rattle.portmap_table.proofs.InPlace.{owns_placed, retires_names, retires_places, stays_whole}
 use Rattle.portmap_table.proofs.Kept.{kept_retired}
 use Rattle.portmap_table.proofs.table.Table.retire.Goals as goal
+use Rattle.std.proofs.Common.{rules}
 
 pub returns-in_default-clause-found : goal.returns-in_default-clause-found
 returns-in_default-clause-found c =
@@ -15,13 +16,7 @@ returns-in_default-clause-found c =
     ∙ ap (λ (t : TableState). owns_name c.args.slot t.names) c.self.view_is
 
 pub returns-in_default-clause-retired : goal.returns-in_default-clause-retired
-returns-in_default-clause-retired c =
-    (λ i. record {
-      names = sym (stays_whole c.self.invariant.0 c.args.slot (sym c.swap_remove.ensures.value ∙ c.in_default.is)) i;
-      known_max = c.self.inside.known_max;
-      counter = c.self.inside.counter;
-    })
-    ∙ ap (λ (t : TableState). with_names t (retired_of c.args.slot t.names)) c.self.view_is
+returns-in_default-clause-retired c = search (rules, stays_whole)
 
 owned : (c : goal.After-push_reserved) → get nat_eq c.self.inside.owners c.args.slot ≡ Some c.in-Some.place
 owned c = sym c.swap_remove.ensures.value ∙ c.in-Some.is
