@@ -1,45 +1,35 @@
 -- Where the port mapper ends and what comes of it then, the limits that a run keeps, and a connection that holds its name,
 -- whose time is over.
-use Rattle.std.proofs.Common.{◌≡◌, ℕ, Bool, true, false, List, [], length, Option, Some, None, refl, sym, ap, subst, ◌∙◌}
-use Rattle.std.specs.Prelude.{codes, not, ◌==◌, ◌||◌}
-use Rattle.std.specs.FinMap as map
-use Rattle.std.proofs.lemmas.Bool.{cond_both, eqb-true}
+use Rattle.std.proofs.Common.{◌≡◌, ℕ, Bool, true, false, List, [], Option, Some, None, refl, sym, ap, ◌∙◌}
+use Rattle.std.specs.Prelude.{not, ◌||◌}
+use Rattle.std.proofs.lemmas.Bool.{cond_both}
 use Rattle.std.proofs.lemmas.List.{nil_from_length}
-use Rattle.std.proofs.lemmas.Option.{same_Some}
 use Rattle.portmap_feed.specs.Stream.{More, first_request}
 use Rattle.portmap_wire.specs.Node.{Node}
-use Rattle.portmap_wire.specs.Reply.{alive_reply}
 use Rattle.portmap_wire.specs.declared.request.Request.{Request}
 use Rattle.portmap_wire.specs.declared.request.Request.TheVariants.{Alive, Port, Dump, Kill, Stop}
 use Rattle.portmap_wire.specs.declared.request.Request.TheVariants as request
-use Rattle.portmap_table.specs.Rows.{Names, is_active, is_full_for, owner_of, owns_name}
+use Rattle.portmap_table.specs.Rows.{Names}
 use Rattle.portmap_core.specs.declared.connection.Connection.{Connection}
-use Rattle.portmap_core.specs.declared.connection.Stage.{Stage}
-use Rattle.portmap_core.specs.declared.connection.Stage.TheVariants.{Waiting, Holding}
+use Rattle.portmap_core.specs.declared.connection.Stage.TheVariants.{Waiting}
 use Rattle.portmap_core.specs.Config.{Configuration}
 use Rattle.portmap_core.specs.State.{State, empty_state}
 use Rattle.portmap_core.specs.Entry.{Closed, Connected, Faulted, Late, Piece}
-use Rattle.portmap_core.specs.Serving.{Served, closed, dump_served, alive_served, halts, if_local, kill_served}
-use Rattle.portmap_core.specs.Serving.{registers, replied, served, stop_served, stops}
-use Rattle.portmap_core.specs.Step.{Outcome, halted_by, late_at, settled}
-use Rattle.portmap_core.specs.Owned.{IsOwned, IsSlotFor, IsStageFor}
+use Rattle.portmap_core.specs.Serving.{Served, closed, dump_served, if_local, kill_served}
+use Rattle.portmap_core.specs.Serving.{registers, replied, served, stops}
+use Rattle.portmap_core.specs.Step.{halted_by}
+use Rattle.portmap_core.specs.Owned.{IsOwned, IsSlotFor}
 use Rattle.portmap_core.specs.Laws.{EndsAreFinal, EndsLeaveNoName, HoldersOutlastTheirTime, KeepsLimits, RunsKeepLimits}
 use Rattle.portmap_core.proofs.Owned.{owned_empty}
 use Rattle.portmap_core.proofs.Runs.{run_owned}
-use Rattle.portmap_core.proofs.Waits.{expires_leads, said, says_leads, told_by}
+use Rattle.portmap_core.proofs.Waits.{says_leads, told_by}
+use Rattle.std.proofs.Common.{rules}
 
 pub ends_are_final : EndsAreFinal
-ends_are_final cfg s s' e h step =
-    let both : true ≡ false = sym h ∙ step.runs in
-    cc
+ends_are_final cfg s s' e h step = search rules
 
 pub holders_outlast_their_time : HoldersOutlastTheirTime
-holders_outlast_their_time cfg s s' slot fate connection here holds step =
-    let moves = step.moves in
-    let same : moves.connection ≡ connection = same_Some moves.connection connection (sym moves.is_open ∙ here) in
-    let stage : moves.connection.stage ≡ Holding = ap (λ (x : Connection). x.stage) same ∙ holds in
-    let told = subst (λ (st : Stage). said [] fate s' ≡ late_at s slot moves.connection st) stage moves.told in
-    (ap (λ (o : Outcome). o.fate) told, ap (λ (o : Outcome). o.state) told)
+holders_outlast_their_time cfg s s' slot fate connection here holds step = search rules
 
 -- ---- where it ends
 
@@ -64,36 +54,26 @@ none_left true relaxed may strict = refl
 none_left false relaxed may strict = sym strict ∙ may
 
 kills : (cfg : Configuration) (names : Names) → cfg.relaxed ≡ false → LeavesNone names (kill_served cfg names)
-kills cfg names strict =
-    cond_both (length names.active == 0 || cfg.relaxed) (halts names) (replied names (codes "NO")) (LeavesNone names)
-    (λ may ended. nil_from_length names.active
-    (eqb-true (length names.active) 0 (none_left (length names.active == 0) cfg.relaxed may strict)))
-    (λ _. replies names (codes "NO"))
+kills cfg names strict = search (rules, nil_from_length)
 
 if_near : (local : Bool) (names : Names) (told : Served) → LeavesNone names told → LeavesNone names (if_local local names told)
 if_near local names told h = cond_both (not local) (closed names) told (LeavesNone names) (λ _. replies names []) (λ _. h)
 
 module _ (cfg : Configuration) (names : Names) (local : Bool) (slot : ℕ) (strict : cfg.relaxed ≡ false) where
   serves_on : (request : Request) (creation : ℕ) → LeavesNone names (served cfg names local slot request creation)
-  serves_on (Alive g) creation = if_near local names (alive_served cfg names slot g creation)
-      (cond_both (is_active g.name names) _ _ (LeavesNone names) (λ _. replies names (alive_reply g.high 1 0)) (λ _.
-      cond_both (is_full_for cfg.known_max g.name names) _ _ (LeavesNone names) (λ _. replies names (alive_reply g.high 2 0))
-      (λ _. registers_on cfg.known_max names slot g creation)))
+  serves_on (Alive g) creation = search rules
   serves_on (Port name) creation = λ ended. absurd cc
   serves_on request.Names creation = λ ended. absurd cc
   serves_on Dump creation = if_near local names (dump_served cfg names) (λ ended. absurd cc)
   serves_on Kill creation = if_near local names (kill_served cfg names) (kills cfg names strict)
-  serves_on (Stop name) creation = if_near local names (stop_served cfg names name)
-      (cond_both (not cfg.relaxed) (closed names) (stops names (owner_of name names)) (LeavesNone names) (λ _. replies names [])
-      (λ _. stops_on names (owner_of name names)))
+  serves_on (Stop name) creation = search rules
 
 -- it does not end where it ran before and nothing changes that
 runs_on : (s s' : State) → s.halted ≡ false → s'.halted ≡ s.halted → s'.halted ≡ true → s.names.active ≡ []
 runs_on s s' runs same ended = absurd (let both : false ≡ true = sym runs ∙ sym same ∙ ended in cc)
 
 pub ends_leave_no_name : EndsLeaveNoName
-ends_leave_no_name cfg s s' (Connected local slot) strict step ended =
-    runs_on s s' step.runs (ap (λ (x : State). x.halted) step.moves.after) ended
+ends_leave_no_name cfg s s' (Connected local slot) strict step ended = search rules
 ends_leave_no_name cfg s s' (Piece slot piece reply fate) strict step ended =
     says_leads (λ x. x.halted ≡ true → s.names.active ≡ []) step.moves (runs_on s s step.runs refl) (λ connection received o told ended.
     told_by cfg s.names connection.local slot (LeavesNone s.names) received (first_request received) o (λ more ended. absurd cc)
@@ -101,25 +81,17 @@ ends_leave_no_name cfg s s' (Piece slot piece reply fate) strict step ended =
     (ap (λ (b : Bool). halted_by o.fate b) (sym step.runs) ∙ ended)) ended
 ends_leave_no_name cfg s s' (Closed slot) strict step ended = runs_on s s' step.runs (ap (λ (x : State). x.halted) step.moves.after) ended
 ends_leave_no_name cfg s s' (Faulted slot) strict step ended = runs_on s s' step.runs (ap (λ (x : State). x.halted) step.moves.after) ended
-ends_leave_no_name cfg s s' (Late slot fate) strict step ended =
-    expires_leads (λ x. x.halted ≡ true → s.names.active ≡ []) step.moves (runs_on s s step.runs refl)
-    (λ connection. runs_on s (settled s slot connection (closed s.names)) step.runs refl) ended
+ends_leave_no_name cfg s s' (Late slot fate) strict step ended = search rules
 
 -- ---- limits
 
 -- one that waits has sent no whole request
 waits_for_more : (b : Bool) (o : Option Connection) (connection : Connection) (received : List ℕ) → o ≡ Some connection
     → connection.stage ≡ Waiting received → IsSlotFor b o → first_request received ≡ More
-waits_for_more b o connection received e stage h =
-    (subst (λ (x : Stage). IsStageFor b connection.local x) stage (subst (λ (y : Option Connection). IsSlotFor b y) e h)).1
+waits_for_more b o connection received e stage h = search rules
 
 keeps_limits : (cfg : Configuration) (s : State) → IsOwned cfg s → KeepsLimits cfg s
-keeps_limits cfg s owned = record {
-  known = owned.names.few;
-  few = owned.few;
-  waits = λ slot connection received here stage.
-      waits_for_more (owns_name slot s.names) (map.get s.connections slot) connection received here stage (owned.slots slot);
-}
+keeps_limits cfg s owned = search rules
 
 pub runs_keep_limits : RunsKeepLimits
 runs_keep_limits cfg es s run = keeps_limits cfg s (run_owned cfg es empty_state s (owned_empty cfg) run)

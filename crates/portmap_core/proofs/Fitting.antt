@@ -3,7 +3,7 @@ use Rattle.std.proofs.Common.{◌≡◌, ℕ, Bool, true, false, List, [], ◌�
 use Rattle.std.proofs.Common.{eqb-true, inl, inr, IfSome}
 use Rattle.std.specs.Prelude.{All, IsSome}
 use Rattle.std.specs.FinMap as map
-use Rattle.std.specs.Ordering.{nat_cmp, eq_by_cmp}
+use Rattle.std.specs.Ordering.{nat_cmp}
 use Rattle.std.proofs.lemmas.Bool.{cases_eq}
 use Rattle.std.proofs.lemmas.List.Elements.{All-head, All-tail}
 use Rattle.std.proofs.lemmas.List.Folds.{Any-from_list_any, list_any_at}
@@ -16,16 +16,15 @@ use Rattle.portmap_core.specs.Fitting.{IsHeldFor}
 use Rattle.portmap_core.specs.Held.{AreHeld, HeldValue, connection_held, entries_held}
 use Rattle.portmap_core.specs.Owned.{IsSlotFor}
 use Rattle.portmap_core.proofs.HeldLaws.{found}
-use Rattle.portmap_core.proofs.Slots.{other_key, same_key}
+use Rattle.portmap_core.proofs.Slots.{other_key}
+use Rattle.std.proofs.Common.{rules}
 
 -- what holds of each holds of the one that is found at a slot
 found_has : (P : ℕ → Connection → Type 0) (q : ℕ) (held : List HeldValue) → All (λ h. P h.slot (connection_held h)) held
     → IfSome (map.find nat_cmp q (entries_held held)) (P q)
 found_has P q [] each = tt
 found_has P q (x ∷ held) each = elim (cases_eq q x.slot) [
-  | inl is ↦
-      let here : eq_by_cmp nat_cmp q x.slot ≡ true = ap (λ (k : ℕ). eq_by_cmp nat_cmp k x.slot) is ∙ same_key x.slot in
-      rw here (subst (λ (k : ℕ). P k (connection_held x)) (sym is) (All-head (λ h. P h.slot (connection_held h)) x held each))
+  | inl is ↦ search (rules, All-head)
   | inr ne ↦ rw (other_key q x.slot ne) (found_has P q held (All-tail (λ h. P h.slot (connection_held h)) x held each))
 ]
 

@@ -1,7 +1,7 @@
 -- What a machine with one connection says of bytes that came in pieces, it says of them in one piece.
 use Rattle.std.proofs.Common.{◌≡◌, ◌≢◌, ℕ, ◌≤◌, List, [], ◌++◌, Option, Some, None, Bool, true, false, cond, refl, sym, ap, subst, ◌∙◌, inl}
 use Rattle.std.proofs.Common.{inr, arith}
-use Rattle.std.specs.Prelude.{not, length, ◌==◌, ◌||◌}
+use Rattle.std.specs.Prelude.{not}
 use Rattle.std.specs.Ordering.{nat_cmp}
 use Rattle.std.specs.FinMap as map
 use Rattle.portmap_feed.specs.Stream.{Sight, More, Zero, TooLarge, Whole, first_request}
@@ -11,16 +11,17 @@ use Rattle.portmap_table.specs.Rows as rows
 use Rattle.portmap_core.specs.declared.event.Fate.{Fate}
 use Rattle.portmap_core.specs.declared.connection.Connection.{Connection}
 use Rattle.portmap_core.specs.declared.connection.Stage.{Stage}
-use Rattle.portmap_core.specs.declared.connection.Stage.TheVariants.{Waiting, Holding, Done}
+use Rattle.portmap_core.specs.declared.connection.Stage.TheVariants.{Waiting}
 use Rattle.portmap_core.specs.declared.connection.Phase.TheVariants as phase
 use Rattle.portmap_core.specs.Config.{Configuration}
-use Rattle.portmap_core.specs.Connections.{ConnectionMap, at_stage, stopped_in}
-use Rattle.portmap_core.specs.State.{State, empty_state, phase_at, phase_of_connection, phase_of_stage, state_of}
+use Rattle.portmap_core.specs.Connections.{ConnectionMap}
+use Rattle.portmap_core.specs.State.{State, empty_state, phase_at, phase_of_stage, state_of}
 use Rattle.portmap_core.specs.Serving.{Served, ToldAt, awaits, served, stops}
 use Rattle.portmap_core.specs.Step.{Opens, Outcome, Says, Settles, halted_by, outcome_of, settled}
 use Rattle.portmap_core.specs.Run.{Hears, waiting_state}
 use Rattle.portmap_core.proofs.Slots.{get_inserted, insert_again, stopped_alike}
-use Rattle.portmap_core.proofs.Waits.{WaitsAt, said, settles_at}
+use Rattle.portmap_core.proofs.Waits.{said}
+use Rattle.std.proofs.Common.{rules}
 
 -- the connection that has sent these bytes
 abbrev sender : List ℕ → Connection
@@ -63,13 +64,9 @@ module _ (cfg : Configuration) (names : rows.Names) (local : Bool) (slot : ℕ) 
   served_settled Names creation = tt
   served_settled (Port name) creation = tt
   served_settled Dump creation = either_settled (not local) _ _ tt tt
-  served_settled Kill creation =
-      either_settled (not local) _ _ tt (either_settled (length names.active == 0 || cfg.relaxed) _ _ tt tt)
-  served_settled (Stop name) creation =
-      either_settled (not local) _ _ tt (either_settled (not cfg.relaxed) _ _ tt (stops_settled names (rows.owner_of name names)))
-  served_settled (Alive g) creation =
-      either_settled (not local) _ _ tt (either_settled (rows.is_active g.name names) _ _ tt
-      (either_settled (rows.is_full_for cfg.known_max g.name names) _ _ tt tt))
+  served_settled Kill creation = search rules
+  served_settled (Stop name) creation = search rules
+  served_settled (Alive g) creation = search rules
 
   told_awaits : (received : List ℕ) (sight : Sight) (o : Served) → ToldAt cfg names local slot received sight o
       → AwaitsBy received sight o.stage
@@ -110,26 +107,13 @@ module _ {cfg : Configuration} {s s' : State} {slot : ℕ} {piece reply : List �
     (is : s ≡ waiting_state slot read) (says : Says cfg s slot piece reply fate s') where
   -- it is told of all that was read
   settles : Settles cfg (waiting_state slot read) slot (sender read) (read ++ piece) (said reply fate s')
-  settles =
-      let waits : WaitsAt = record {
-        config = cfg;
-        state = waiting_state slot read;
-        slot = slot;
-        connection = sender read;
-        received = read;
-        is_open = get_inserted map.empty slot (sender read);
-        stage = refl;
-      } in
-      settles_at waits (subst (λ (x : State). Says cfg x slot piece reply fate s') is says)
+  settles = search (rules, get_inserted)
 
   after : s' ≡ settled (waiting_state slot read) slot (sender read) settles.served
   after = ap (λ (x : Outcome). x.state) settles.outcome
 
   phase_left : phase_at s' slot ≡ Some (phase_of_stage settles.served.stage)
-  phase_left =
-      let o = settles.served in
-      ap (λ (x : State). phase_at x slot) after ∙ ap phase_of_connection
-      (get_inserted (stopped_in o.stopped (waiting_state slot read).connections) slot (at_stage (sender read) o.stage))
+  phase_left = search (rules, get_inserted)
 
   -- in one piece too
   hears : 1 ≤ cfg.conn_max → Hears cfg (read ++ piece) reply fate
@@ -137,11 +121,7 @@ module _ {cfg : Configuration} {s s' : State} {slot : ℕ} {piece reply : List �
       let heard : Says cfg (waiting_state slot []) slot (read ++ piece) reply fate s' = record {
         connection = sender [];
         is_open = get_inserted map.empty slot (sender []);
-        told = record {
-          served = settles.served;
-          told = settles.told;
-          outcome = settles.outcome ∙ alike slot read [] settles.served;
-        };
+        told = search (rules, alike, settles);
       } in
       record {
         slot = slot;
@@ -164,22 +144,9 @@ module _ {cfg : Configuration} {s s' : State} {slot : ℕ} {piece reply : List �
   -- so it is where the connection still waits
   pub says_more : phase_at s' slot ≡ Some phase.Waiting
       → (first_request (read ++ piece) ≡ More) × (s' ≡ waiting_state slot (read ++ piece))
-  says_more waiting =
-      let all : List ℕ = read ++ piece in
-      let o = settles.served in
-      let both : Some (phase_of_stage o.stage) ≡ Some phase.Waiting = sym phase_left ∙ waiting in
-      let waits : phase_of_stage o.stage ≡ phase.Waiting = cc in
-      let more = awaits_more all (first_request all) o.stage
-      (told_awaits cfg rows.no_names true slot all (first_request all) o settles.told) waits in (
-        more,
-        after ∙ ap (settled (waiting_state slot read) slot (sender read)) (awaits_it more)
-            ∙ ap (λ (m : ConnectionMap). state_of rows.no_names m false) (insert_again map.empty slot (sender read) (sender all)),
-      )
+  says_more waiting = search (rules, insert_again, phase_left, settles)
 
   -- where it waits no more, all that was read is told so
   pub says_all : 1 ≤ cfg.conn_max → phase_at s' slot ≢ Some phase.Waiting
       → (first_request (read ++ piece) ≢ More) × Hears cfg (read ++ piece) reply fate
-  says_all some other = (
-    λ more. other (phase_left ∙ ap (λ (o : Served). Some (phase_of_stage o.stage)) (awaits_it more)),
-    hears some,
-  )
+  says_all some other = search (rules, hears, phase_left)

@@ -16,7 +16,7 @@ use Rattle.std.proofs.lemmas.List.{append-nil, get_or_default, length-map}
 use Rattle.std.proofs.lemmas.List.Elements.{All-append, All-cons, All-drop, All-head, All-set, All-tail, All-take}
 use Rattle.portmap_core.specs.declared.connection.Connection.{Connection}
 use Rattle.portmap_core.specs.declared.connection.Phase.{Phase}
-use Rattle.portmap_core.specs.declared.connection.Phase.TheVariants.{Waiting, Holding, Done}
+use Rattle.portmap_core.specs.declared.connection.Phase.TheVariants.{Waiting}
 use Rattle.portmap_core.specs.declared.connection.Stage.{Stage}
 use Rattle.portmap_core.specs.declared.connection.Stage.TheVariants as stage
 use Rattle.portmap_core.specs.Connections.{ConnectionMap, SlotsRise}
@@ -24,6 +24,7 @@ use Rattle.portmap_core.specs.Held.{AreHeld, HeldValue, IsAt, IsGapFor, IsHeld, 
 use Rattle.portmap_core.specs.Held.{entry_held, stage_held}
 use Rattle.portmap_core.specs.State.{phase_of_stage}
 use Rattle.portmap_core.proofs.Slots.{none_open, same}
+use Rattle.std.proofs.Common.{rules}
 
 abbrev pub any_held : HeldValue
 any_held = record { slot = 0; local = true; phase = Waiting; bytes = [] }
@@ -185,8 +186,7 @@ opened_are held i h are gap keeps = written_are held (insert held i h) h are (pu
 
 pub opened : (held : List HeldValue) (i : ℕ) (h : HeldValue) → AreHeld held → IsGapFor held h.slot i → IsHeld h
     → connections_held (insert held i h) ≡ tree.insert (connections_held held) h.slot (connection_held h)
-opened held i h are gap keeps = written held (insert held i h) h are (put_new held i h gap.within gap.parted)
-    (opened_are held i h are gap keeps)
+opened held i h are gap keeps = search (rules, opened_are, put_new, written)
 
 -- one that is open changes
 pub turned_are : (held : List HeldValue) (i : ℕ) (h : HeldValue) → AreHeld held → IsAt held h.slot i → IsHeld h → AreHeld (set held i h)
@@ -195,8 +195,7 @@ turned_are held i h are at keeps = written_are held (set held i h) h are (put_at
 
 pub turned : (held : List HeldValue) (i : ℕ) (h : HeldValue) → AreHeld held → IsAt held h.slot i → IsHeld h
     → connections_held (set held i h) ≡ tree.insert (connections_held held) h.slot (connection_held h)
-turned held i h are at keeps = written held (set held i h) h are (put_at held i h are.rise at.within at.same)
-    (turned_are held i h are at keeps)
+turned held i h are at keeps = search (rules, put_at, turned_are, written)
 
 -- one that is open is freed
 pub freed_are : (held : List HeldValue) (i : ℕ) → AreHeld held → i < length held → AreHeld (remove held i)

@@ -1,12 +1,12 @@
 -- The lines of a list so far, with one more.
-use Rattle.std.proofs.Common.{◌≡◌, ℕ, ◌+◌, ◌<◌, List, [], ◌++◌, length, map, get_or, take, Some, None, refl, sym, ap, ◌∙◌, append_assoc}
-use Rattle.std.proofs.Common.{inl, inr, arith}
+use Rattle.std.proofs.Common.{◌≡◌, ℕ, ◌+◌, ◌<◌, List, [], ◌++◌, length, map, get_or, take, Some, None, refl, append_assoc}
 use Rattle.std.specs.Prelude.{slice_get}
 use Rattle.std.specs.List.{flat_map}
 use Rattle.std.proofs.lemmas.Grind.{flat_map-append}
 use Rattle.std.proofs.lemmas.List.{append-nil, map_more}
 use Rattle.std.proofs.lemmas.List.Concat.{flat_map-cons}
 use Rattle.std.proofs.lemmas.Option.{slice_get_cases, slice_get_within, get_or_from_slice_get}
+use Rattle.std.proofs.Common.{rules}
 
 module _ {X L : Type 0} (line : L → List ℕ) (f : X → L) (xs : List X) (i : ℕ) (x : X) (here : slice_get xs i ≡ Some x) where
   one_more : flat_map line (map f (take (i + 1) xs)) ≡ flat_map line (map f (take i xs)) ++ line (f x)
@@ -17,13 +17,8 @@ module _ {X L : Type 0} (line : L → List ℕ) (f : X → L) (xs : List X) (i :
 
   pub with_line : {reply after : List ℕ} (base : List ℕ) → reply ≡ base ++ flat_map line (map f (take i xs)) → after ≡ reply ++ line (f x)
       → after ≡ base ++ flat_map line (map f (take (i + 1) xs))
-  with_line base so_far is =
-      is ∙ ap (λ (r : List ℕ). r ++ line (f x)) so_far ∙ append_assoc base (flat_map line (map f (take i xs))) (line (f x))
-      ∙ ap (λ (r : List ℕ). base ++ r) (sym one_more)
+  with_line base so_far is = search (rules, append_assoc, one_more)
 
 -- where a list goes on, something stands
 pub not_past : {X : Type 0} (xs : List X) (i : ℕ) → i < length xs → slice_get xs i ≡ None → ⊥
-not_past xs i lt e = elim (slice_get_cases xs i).1 [
-  | inl here ↦ let both : Some here.0 ≡ None = sym here.2 ∙ e in absurd cc
-  | inr past ↦ omega (arith, lt, past.0)
-]
+not_past xs i lt e = search (rules, slice_get_cases)

@@ -1,7 +1,7 @@
 -- Which result a local peer's registration is refused with, and where its KILL ends the port mapper.
-use Rattle.std.proofs.Common.{◌≡◌, ℕ, Bool, true, false, List, refl, sym, ap, ◌∙◌, inl, inr}
+use Rattle.std.proofs.Common.{◌≡◌, ℕ, Bool, true, List, refl, sym, ap, ◌∙◌}
 use Rattle.std.specs.Prelude.{codes, is_some, length, ◌==◌, ◌||◌}
-use Rattle.std.proofs.lemmas.Bool.{le-leb, ne_eqb, or_parts, or_right}
+use Rattle.std.proofs.lemmas.Bool.{le-leb, ne_eqb, or_parts}
 use Rattle.std.proofs.lemmas.List.{nil_from_length}
 use Rattle.portmap_wire.specs.declared.request.Request.{Request}
 use Rattle.portmap_table.specs.Rows.{is_active, retired_row}
@@ -13,6 +13,7 @@ use Rattle.portmap_core.specs.Step.{Outcome, outcome_of}
 use Rattle.portmap_core.specs.Laws.{ActiveNamesAreTaken, IsRefused, IsTold, KillsAreRefused, KillsEnd, NewNamesWantRoom, refusal}
 use Rattle.portmap_core.proofs.Shown.{completed}
 use Rattle.portmap_core.proofs.Waits.{said}
+use Rattle.std.proofs.Common.{rules}
 
 -- what comes of a request that is told one thing whatever creation it would have
 concluded : {cfg : Configuration} {s s' : State} {request : Request} {reply : List ℕ} {fate : Fate} (t : IsTold cfg s request reply fate s')
@@ -47,10 +48,7 @@ new_names_want_room cfg s s' g reply fate t new full =
 
 pub kills_end : KillsEnd
 kills_end cfg s s' reply fate t may =
-    let ends : (length s.names.active == 0 || cfg.relaxed) ≡ true = elim may [
-      | inl none ↦ rw none refl
-      | inr relaxed ↦ or_right (length s.names.active == 0) cfg.relaxed relaxed
-    ] in
+    let ends : (length s.names.active == 0 || cfg.relaxed) ≡ true = search rules in
     let o = concluded t (halts s.names) (λ creation. rw ends refl) in
     (ap (λ (x : Outcome). x.reply) o, ap (λ (x : Outcome). x.fate) o, ap (λ (x : Outcome). x.state.halted) o)
 

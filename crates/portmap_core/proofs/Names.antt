@@ -1,11 +1,12 @@
 -- What a registration leaves of plain lists.
 use Rattle.std.proofs.Common.{◌≡◌, ℕ, Bool, true, false, cond, List, [], ◌∷◌, ◌++◌, Option, Some, None, refl, sym, ap, ◌∙◌}
-use Rattle.std.specs.Prelude.{◌&&◌, ◌||◌, not, nat_le, drop, find, position, is_some}
+use Rattle.std.specs.Prelude.{◌&&◌, ◌||◌, not, nat_le, find, position, is_some}
 use Rattle.portmap_table.specs.declared.row.Row.{Row}
 use Rattle.portmap_table.specs.Rows.{Names, RetiredName, is_active, known_len, registered, with_room, without_at, without_oldest}
-use Rattle.portmap_table.proofs.First.{finds_none, no_place, none_at, none_behind, none_found}
+use Rattle.portmap_table.proofs.First.{finds_none, no_place, none_at, none_found}
 use Rattle.portmap_table.proofs.Kept.{had_name}
 use Rattle.portmap_core.specs.Names.{left_by}
+use Rattle.std.proofs.Common.{rules}
 
 room_known : {X : Type 0} (many active retired : Bool) (x y : X) → retired ≡ true → cond (many && not (active || retired)) x y ≡ y
 room_known true true retired x y e = refl
@@ -39,8 +40,7 @@ enters known_max names row inactive = by (position had names.retired) refl
 
     new : (b : Bool) → position had names.retired ≡ None
         → entered (left_by None b names.retired) ≡ enter (cond b (without_oldest names) names)
-    new true e = ap (λ (o : Option ℕ). entered (without_at o (drop 1 names.retired)))
-        (sym (no_place had (drop 1 names.retired) (none_behind had 1 names.retired (none_at had names.retired (ap is_some e)))))
+    new true e = search rules
     new false e = ap (λ (o : Option ℕ). entered (without_at o names.retired)) (sym e)
 
     known : (at : ℕ) → position had names.retired ≡ Some at → (b : Bool) → is_some (find had names.retired) ≡ b → b ≡ true
@@ -53,6 +53,4 @@ enters known_max names row inactive = by (position had names.retired) refl
         ap (λ (o : Option ℕ). entered (without_at o names.retired)) (sym e)
         ∙ ap enter (sym (room_known many (is_active row.reg.name names) _ (without_oldest names) names
         (known at e (is_some (find had names.retired)) refl)))
-    by None e =
-        let unknown = ap is_some (finds_none had names.retired (none_at had names.retired (ap is_some e))) in
-        new many e ∙ ap enter (sym (room_new many (is_active row.reg.name names) _ (without_oldest names) names inactive unknown))
+    by None e = search (rules, finds_none, none_at)

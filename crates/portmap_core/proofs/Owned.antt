@@ -1,7 +1,7 @@
 -- Each step keeps that every active name belongs to exactly one open connection, which holds it.
-use Rattle.std.proofs.Common.{◌≡◌, ◌≢◌, ℕ, ◌+◌, ◌-◌, ◌<◌, ◌≤◌, Bool, true, false, cond, List, [], ◌++◌, length, Option, Some, None, refl}
+use Rattle.std.proofs.Common.{◌≡◌, ◌≢◌, ℕ, ◌+◌, ◌-◌, ◌<◌, ◌≤◌, Bool, true, false, cond, List, [], ◌++◌, Option, Some, None, refl}
 use Rattle.std.proofs.Common.{sym, ap, subst, ◌∙◌, arith, inl, inr}
-use Rattle.std.specs.Prelude.{is_some, not, ◌==◌, ◌||◌, position}
+use Rattle.std.specs.Prelude.{is_some, not, ◌==◌, position}
 use Rattle.std.specs.FinMap as map
 use Rattle.std.specs.Cmp.{nat_cmp_total}
 use Rattle.std.specs.Ordering.{nat_cmp}
@@ -19,7 +19,7 @@ use Rattle.portmap_core.specs.declared.connection.Connection.{Connection}
 use Rattle.portmap_core.specs.declared.connection.Stage.{Stage}
 use Rattle.portmap_core.specs.declared.connection.Stage.TheVariants.{Waiting, Holding, Done}
 use Rattle.portmap_core.specs.Config.{Configuration}
-use Rattle.portmap_core.specs.Connections.{ConnectionMap, at_stage, ended, ended_at}
+use Rattle.portmap_core.specs.Connections.{ConnectionMap, at_stage, ended_at}
 use Rattle.portmap_core.specs.State.{State, empty_state, state_of}
 use Rattle.portmap_core.specs.Serving.{MayTake, Served, ToldAt, closed, if_local, registers, served, stops}
 use Rattle.portmap_core.specs.Entry.{Closed, Connected, Faulted, Late, Piece}
@@ -28,6 +28,7 @@ use Rattle.portmap_core.specs.Owned.{IsStageFor, IsSlotFor, IsOwned}
 use Rattle.portmap_core.specs.Laws.{StepsKeepOwned}
 use Rattle.portmap_core.proofs.Waits.{WaitsAt, said, told_by}
 use Rattle.portmap_core.proofs.Slots.{cut_other, cut_same, ended_open, put_other, put_same}
+use Rattle.std.proofs.Common.{rules}
 
 -- ---- one slot
 
@@ -56,13 +57,11 @@ module _ {names after : rows.Names} {connections : ConnectionMap} {slot : ℕ} (
   -- a connection is written
   slots_with : (connection : Connection) → IsSlotFor (owns_name slot after) (Some connection)
       → AreSlotsFor after (map.insert connections slot connection)
-  slots_with connection here = slots_by (map.insert connections slot connection) (λ q ne. put_other connections slot q connection ne)
-      (rw (put_same connections slot slot connection refl) here)
+  slots_with connection here = search (rules, put_other, put_same, slots_by)
 
   -- a connection goes
   slots_without : owns_name slot after ≡ false → AreSlotsFor after (map.remove connections slot)
-  slots_without here =
-      slots_by (map.remove connections slot) (λ q ne. cut_other connections slot q ne) (rw (cut_same connections slot slot refl) here)
+  slots_without here = search (rules, cut_other, cut_same, slots_by)
 
 -- no name changes
 stays : (names : rows.Names) {connections : ConnectionMap} (slot : ℕ) → AreSlotsFor names connections → Turns names names connections slot
@@ -126,8 +125,7 @@ ended_len connections owner None e = refl
 ended_len connections owner (Some connection) e = len_open connections owner (at_stage connection Done) connection e
 
 waiting_free : (b : Bool) (o : Option Connection) (w : WaitsAt) → o ≡ Some w.connection → IsSlotFor b o → b ≡ false
-waiting_free b o w here h =
-    (subst (λ (x : Stage). IsStageFor b w.connection.local x) w.stage (subst (λ (y : Option Connection). IsSlotFor b y) here h)).0
+waiting_free b o w here h = search rules
 
 -- a connection that waits
 module _ (w : WaitsAt) (owned : IsOwned w.config w.state) where
@@ -154,8 +152,7 @@ module _ (w : WaitsAt) (owned : IsOwned w.config w.state) where
       → IsOwned cfg (settled s slot connection (registers cfg.known_max s.names slot g creation))
   register_owned g creation local inactive fits legal =
       let room = with_room cfg.known_max g.name s.names in
-      let new : IsNew cfg.known_max s.names g creation slot =
-      record { kept = owned.names; inactive = inactive; free = free; range = legal.range } in
+      let new : IsNew cfg.known_max s.names g creation slot = search rules in
       let turns : Turns s.names (registered g creation slot room) s.connections slot = record {
         others = λ q ne. owns_registered_other q g creation slot room ne ∙ owns_in_room cfg.known_max g.name q s.names;
         all = owned.slots;
@@ -177,10 +174,7 @@ module _ (w : WaitsAt) (owned : IsOwned w.config w.state) where
       let open_then = ended_open s.connections owner slot (map.get s.connections owner) connection refl w.is_open in
       record {
         names = kept_names owned owner;
-        few = rw (
-          len_open (ended owner s.connections) slot (at_stage connection Done) open_then.0 open_then.1,
-          ended_len s.connections owner (map.get s.connections owner) refl,
-        ) owned.few;
+        few = search (rules, len_open);
         slots = slots_with (stays (retired_of owner s.names) slot ends) (at_stage connection Done) still;
       }
 
@@ -194,22 +188,16 @@ module _ (w : WaitsAt) (owned : IsOwned w.config w.state) where
 
   local_owned : (P : Type 0) (told : Served) → (connection.local ≡ true → KeepsBy P told)
       → KeepsBy P (if_local connection.local s.names told)
-  local_owned P told f = keeps_by P (not connection.local) (closed s.names) told (λ _ _. closed_owned)
-      (λ near. f (not_false connection.local near))
+  local_owned P told f = search (rules, closed_owned)
 
   served_owned : (request : Request) (creation : ℕ)
       → KeepsBy (MayTake s.names request creation) (served cfg s.names connection.local slot request creation)
   served_owned request.Names creation = λ _. closed_owned
   served_owned (Port name) creation = λ _. closed_owned
   served_owned Dump creation = local_owned _ _ (λ _ _. closed_owned)
-  served_owned Kill creation = local_owned _ _
-      (λ _. keeps_by _ (length s.names.active == 0 || cfg.relaxed) _ _ (λ _ _. stays_owned Done true refl) (λ _ _. closed_owned))
-  served_owned (Stop name) creation = local_owned _ _
-      (λ _. keeps_by _ (not cfg.relaxed) _ _ (λ _ _. closed_owned) (λ _ _. stop_owned (owner_of name s.names)))
-  served_owned (Alive g) creation = local_owned _ _ (λ local.
-      keeps_by _ (is_active g.name s.names) _ _ (λ _ _. closed_owned) (λ inactive.
-      keeps_by _ (is_full_for cfg.known_max g.name s.names) _ _ (λ _ _. closed_owned)
-      (λ room legal. register_owned g creation local inactive room (legal refl))))
+  served_owned Kill creation = search (rules, closed_owned)
+  served_owned (Stop name) creation = search (rules, closed_owned, stop_owned)
+  served_owned (Alive g) creation = search (rules, closed_owned, keeps_by, local_owned, register_owned)
 
   -- ---- what a piece does
 
@@ -225,15 +213,7 @@ by_outcome cfg o p e owned = subst (λ (x : Outcome). IsOwned cfg x.state) (sym 
 module _ {cfg : Configuration} {s : State} (owned : IsOwned cfg s) (slot : ℕ) {connection : Connection}
     (here : map.get s.connections slot ≡ Some connection) where
   abbrev waits : (received : List ℕ) → connection.stage ≡ Waiting received → WaitsAt
-  waits received stage = record {
-    config = cfg;
-    state = s;
-    slot = slot;
-    connection = connection;
-    received = received;
-    is_open = here;
-    stage = stage;
-  }
+  waits received stage = search rules
 
   told_owned : (piece : List ℕ) (stage : Stage) (o : Outcome) → connection.stage ≡ stage → Told cfg s slot connection piece stage o
       → IsOwned cfg o.state
@@ -272,8 +252,7 @@ leave_owned cfg s s' slot owned leaves =
 
 pub steps_keep : StepsKeepOwned
 steps_keep cfg s s' (Connected local slot) owned step = open_owned cfg s s' local slot owned step.moves
-steps_keep cfg s s' (Piece slot piece reply fate) owned step =
-    told_owned owned slot step.moves.is_open piece step.moves.connection.stage (said reply fate s') refl step.moves.told
+steps_keep cfg s s' (Piece slot piece reply fate) owned step = search (rules, told_owned)
 steps_keep cfg s s' (Closed slot) owned step = leave_owned cfg s s' slot owned step.moves
 steps_keep cfg s s' (Faulted slot) owned step = leave_owned cfg s s' slot owned step.moves
 steps_keep cfg s s' (Late slot fate) owned step =

@@ -1,9 +1,8 @@
 -- Names after a run and after a malformed request, and what is seen of a request that was written.
-use Rattle.std.proofs.Common.{◌≡◌, ℕ, ◌+◌, ◌*◌, ◌/◌, ◌%◌, ◌<◌, ◌≤◌, Bool, true, false, List, [], ◌∷◌, ◌++◌, length, take, Option, Some}
-use Rattle.std.proofs.Common.{None, refl, sym, ap, subst, ◌∙◌, arith, inl, inr, length-append, ltb, eqb}
+use Rattle.std.proofs.Common.{◌≡◌, ℕ, ◌+◌, ◌<◌, ◌≤◌, Bool, true, false, List, [], ◌∷◌, ◌++◌, length, Option, Some}
+use Rattle.std.proofs.Common.{None, refl, sym, ap, subst, arith, inl, inr, length-append}
 use Rattle.std.specs.FinMap as map
 use Rattle.std.proofs.Math.Seq.{take-append_seam}
-use Rattle.std.proofs.lemmas.Bool.{le-ltb, ne_eqb}
 use Rattle.portmap_feed.specs.Stream.{Sight, More, Zero, TooLarge, Whole, first_request, sight_behind}
 use Rattle.portmap_wire.specs.Node.{Node, fields, be2}
 use Rattle.portmap_wire.specs.Request.{body_of, IsRequest}
@@ -22,12 +21,12 @@ use Rattle.portmap_core.specs.Config.{Configuration}
 use Rattle.portmap_core.specs.State.{State}
 use Rattle.portmap_core.specs.Serving.{Served, ToldAt}
 use Rattle.portmap_core.specs.Entry.{Entry}
-use Rattle.portmap_core.specs.Step.{Outcome, Step}
+use Rattle.portmap_core.specs.Step.{Step}
 use Rattle.portmap_core.specs.Run.{Run}
 use Rattle.portmap_core.specs.Owned.{IsStageFor, IsSlotFor, IsOwned}
 use Rattle.portmap_core.specs.Laws.{IsBad, WrittenIsWhole, NamesBelong, NamesBelongToConnections, owners, MalformedChangesNoName}
 use Rattle.portmap_core.proofs.Owned.{owned_empty, steps_keep}
-use Rattle.portmap_core.proofs.Waits.{WaitsAt, settles_at}
+use Rattle.std.proofs.Common.{rules}
 
 -- ---- names after a run
 
@@ -58,12 +57,7 @@ local_of b local Done e h = absurd (let other : b ≡ false = h in cc)
 holder : (b : Bool) (o : Option Connection) → b ≡ true → IsSlotFor b o
     → (connection : Connection) × (o ≡ Some connection) × (connection.stage ≡ Holding) × (connection.local ≡ true)
 holder b None e h = absurd (let other : b ≡ false = h in cc)
-holder b (Some connection) e h = (
-  connection,
-  refl,
-  holding b connection.local connection.stage e h,
-  local_of b connection.local connection.stage e h,
-)
+holder b (Some connection) e h = search rules
 
 belongs : (cfg : Configuration) (s : State) → IsOwned cfg s → NamesBelong s
 belongs cfg s owned = record {
@@ -88,20 +82,7 @@ module _ (cfg : Configuration) (names : Names) (local : Bool) (slot : ℕ) where
   bad_names received (Whole body) o bad (inr p) = ap (λ (x : Served). x.names) p.is
 
 pub malformed_keeps : MalformedChangesNoName
-malformed_keeps cfg s s' slot connection received piece reply fate here stage bad says =
-    let waits : WaitsAt = record {
-      config = cfg;
-      state = s;
-      slot = slot;
-      connection = connection;
-      received = received;
-      is_open = here;
-      stage = stage;
-    } in
-    let all : List ℕ = received ++ piece in
-    let settles = settles_at waits says in
-    ap (λ (x : Outcome). x.state.names) settles.outcome
-    ∙ bad_names cfg s.names connection.local slot all (first_request all) settles.served bad settles.told
+malformed_keeps cfg s s' slot connection received piece reply fate here stage bad says = search rules
 
 -- ---- a request that was written
 
@@ -119,20 +100,12 @@ body_len (Stop name) is = (omega arith, omega (arith, is.short))
 -- a body behind its length
 whole_behind : (body more : List ℕ) (n : ℕ) → n ≡ length body → 0 < length body → length body ≤ BODY_MOST
     → sight_behind n (body ++ more) ≡ Whole body
-whole_behind body more n e some small =
-    let t1 : eqb n 0 ≡ false = ne_eqb _ _ (omega arith) in
-    let t2 : ltb BODY_MOST n ≡ false = le-ltb _ _ (omega arith) in
-    let t3 : ltb (length (body ++ more)) n ≡ false = le-ltb _ _ (omega (arith, length-append body more)) in
-    rw (t1, t2, t3) (ap (λ (k : ℕ). Whole (take k (body ++ more))) e ∙ ap Whole (take-append_seam body more))
+whole_behind body more n e some small = search (rules, length-append, take-append_seam)
 
 seen_whole : (body more : List ℕ) → 0 < length body → length body ≤ BODY_MOST
     → first_request (be2 (length body) ++ body ++ more) ≡ Whole body
 unfolding first_request
-seen_whole body more some small =
-    let n : ℕ = length body in
-    whole_behind body more (n / 256 % 256 * 256 + n % 256) (omega arith) some small
+seen_whole body more some small = search (rules, whole_behind)
 
 pub written_whole : WrittenIsWhole
-written_whole request more is =
-    let len = body_len request is in
-    seen_whole (body_of request) more len.0 len.1
+written_whole request more is = search (rules, body_len, seen_whole)

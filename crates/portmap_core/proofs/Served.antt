@@ -14,7 +14,7 @@ use Rattle.portmap_table.specs.Creation.{IsLegalCreation, choice}
 use Rattle.portmap_table.specs.Rows.{Names, is_active, is_full_for, registered, remembered, standing, with_room}
 use Rattle.portmap_table.specs.declared.standing.Standing.{Standing}
 use Rattle.portmap_table.specs.declared.standing.Standing.TheVariants as how
-use Rattle.portmap_core.specs.declared.connection.Stage.TheVariants.{Done, Holding}
+use Rattle.portmap_core.specs.declared.connection.Stage.TheVariants.{Holding}
 use Rattle.portmap_core.specs.declared.event.Fate.TheVariants.{Close, Stay}
 use Rattle.portmap_core.specs.declared.connection.Phase.TheVariants as phase
 use Rattle.portmap_core.specs.declared.serve.Change.TheVariants.{Nothing}
@@ -22,10 +22,10 @@ use Rattle.portmap_core.specs.Config.{Configuration}
 use Rattle.portmap_core.specs.Held.{stage_held}
 use Rattle.portmap_core.specs.Serving.{MayTake, Served, Serves, ServesBody, ToldAt, alive_served, awaits, registers, replied, served}
 use Rattle.portmap_core.specs.Telling.{AnswersAll, IsAllTold, IsChosen, MayChange, MayRegister, Tells, TellsAll, names_after, served_by}
-use Rattle.portmap_core.specs.Telling.{shown_creation, stopped_by}
+use Rattle.portmap_core.specs.Telling.{stopped_by}
 use Rattle.portmap_core.specs.declared.asked.Asked.{Asked}
 use Rattle.portmap_core.specs.declared.serve.Response.{Response}
-use Rattle.portmap_core.proofs.Determined.{shows}
+use Rattle.std.proofs.Common.{rules}
 
 -- ---- a registration, by how its name stands
 
@@ -48,10 +48,7 @@ module _ (cfg : Configuration) (names : Names) (local : Bool) (slot : ℕ) where
   -- it is told so whatever creation it would have
   all_alike : {wanted : Option ℕ} (request : Request) (o : Served) → ((creation : ℕ) → o ≡ served cfg names local slot request creation)
       → (o.stage ≡ Holding → MayTake names request 0) → IsAllTold (Serves cfg names local slot request) wanted o
-  all_alike request o is legal = record {
-    told = record { creation = 0; legal = legal; is = is 0 };
-    only = λ other p e. p.is ∙ sym (is p.creation);
-  }
+  all_alike request o is legal = search rules
 
   -- so is the body that spells it
   all_spelled : {wanted : Option ℕ} {o : Served} (body : List ℕ) (request : Request) → Spells body request
@@ -70,16 +67,7 @@ module _ {E : Type 0} (asked : Asked) where
       → ((slot creation : ℕ) → o ≡ served asked.config asked.table.now.names local slot request creation)
       → MayTake asked.table.now.names request 0
       → IfOk result (λ told. Tells asked told o) → AnswersAll asked result (λ cfg names slot. Serves cfg names local slot request)
-  tells_alike local request o result is legal =
-      let cfg = asked.config in
-      let names = asked.table.now.names in
-      IfOk-weaker result (λ told. Tells asked told o)
-      (λ told. (bytes : List ℕ) → TellsAll (λ slot. Serves cfg names local slot request) asked bytes told) (λ told h bytes. record {
-        all = λ slot. all_alike cfg names local slot request (served_by cfg names slot bytes told)
-            (λ creation. h.is slot bytes ∙ is slot creation) (λ _. legal);
-        may = h.may;
-        chosen = h.chosen;
-      })
+  tells_alike local request o result is legal = search rules
 
   -- where it is local, as one that is
   pub near : (request : Request) (result : Result Response E) → asked.local ≡ true
@@ -120,9 +108,7 @@ no_room {asked} {g} {told} r bytes =
     λ slot creation. second (is_active g.name names) _ _ full.0
     ∙ ap (λ (b : Bool). cond b (replied names (alive_reply g.high 2 0)) (registers cfg.known_max names slot g creation)) full.1 in
     record {
-      all = λ slot. all_alike cfg names true slot (Alive g) (served_by cfg names slot bytes told)
-          (λ creation. said slot ∙ sym (is slot creation))
-          (λ h. let both : Done ≡ Holding = sym (ap (λ (o : Served). o.stage) (said slot)) ∙ h in absurd cc);
+      all = search rules;
       may = subst (MayChange cfg.known_max names) (sym r.change) tt;
       chosen = subst (IsChosen cfg.port asked.table.now asked.wanted told.reply.items) (sym r.change) tt;
     }
@@ -132,16 +118,11 @@ module _ (asked : Asked) (g : Node) {last : Option ℕ}
     (stands : standing asked.config.known_max g.name asked.table.now.names ≡ how.Free last) where
   frees : (is_active g.name asked.table.now.names ≡ false) × (is_full_for asked.config.known_max g.name asked.table.now.names ≡ false)
       × (last ≡ remembered g.name asked.table.now.names)
-  frees = is_free (is_active g.name asked.table.now.names) (is_full_for asked.config.known_max g.name asked.table.now.names)
-      (remembered g.name asked.table.now.names) last stands
+  frees = search rules
 
   pub may_register : (creation : ℕ) → IsLegalCreation g.high last creation
       → MayRegister asked.config.known_max asked.table.now.names g creation
-  may_register creation legal = record {
-    active = frees.0;
-    room = frees.1;
-    legal = subst (λ (o : Option ℕ). IsLegalCreation g.high o creation) frees.2 legal;
-  }
+  may_register creation legal = search rules
 
   pub is_chosen : (counter creation : ℕ) → (asked.wanted ≡ None → creation ≡ choice counter g.high last) → asked.wanted ≡ None
       → creation ≡ choice counter g.high (remembered g.name asked.table.now.names)
@@ -158,21 +139,7 @@ module _ (asked : Asked) (g : Node) {last : Option ℕ}
         names = registered g creation slot (with_room asked.config.known_max g.name asked.table.now.names);
         stopped = None;
       })
-  all_free slot creation reply legal picked said =
-      let cfg = asked.config in
-      let names = asked.table.now.names in
-      let may = may_register creation legal in
-      let to : (c : ℕ) → alive_served cfg names slot g c ≡ registers cfg.known_max names slot g c = λ c.
-      second (is_active g.name names) _ _ may.active ∙ second (is_full_for cfg.known_max g.name names) _ _ may.room in
-      rw said (record {
-        told = record { creation = creation; legal = λ h. may.legal; is = sym (to creation) };
-        only = λ other p e.
-            let told = p.is ∙ to p.creation in
-            let legal : IsLegalCreation g.high (remembered g.name names) p.creation = p.legal (ap (λ (w : Served). w.stage) told) in
-            let shown = sym e ∙ ap (λ (w : Served). shown_creation w.reply) told ∙ shows g.high p.creation legal.range in
-            told ∙ ap (registers cfg.known_max names slot g)
-            (picked p.creation shown (subst (λ (w : Option ℕ). IsLegalCreation g.high w p.creation) (sym frees.2) legal));
-      })
+  all_free slot creation reply legal picked said = search (rules, frees)
 
 -- ---- a body
 
@@ -218,20 +185,10 @@ module _ (cfg : Configuration) (names : Names) (local : Bool) (slot : ℕ) (feed
 
   pub told_all : (o : Served) → first_request feed ≡ first_request all → (first_request all ≡ More → feed ≡ all)
       → ToldAt cfg names local slot feed (first_request feed) o → ToldAt cfg names local slot all (first_request all) o
-  told_all o sight same p =
-      told_kept (first_request all) o same (subst (λ (x : Sight). ToldAt cfg names local slot feed x o) sight p)
+  told_all o sight same p = search rules
 
 module _ (cfg : Configuration) (names : Names) {near local : Bool} (alike : near ≡ local) (slot : ℕ) where
   pub all_kept : {wanted : Option ℕ} {o : Served} (feed all : List ℕ) → feed ≡ kept all
       → IsAllTold (ToldAt cfg names near slot feed (first_request feed)) wanted o
       → IsAllTold (ToldAt cfg names local slot all (first_request all)) wanted o
-  all_kept {wanted} {o} feed all is told =
-      let sight : first_request feed ≡ first_request all = ap first_request is ∙ first_request-kept all in
-      let same = λ (more : first_request all ≡ More). is ∙ kept_more all more in
-      let here = subst (λ (sight : Sight). IsAllTold (ToldAt cfg names local slot feed sight) wanted o) sight
-      (subst (λ (l : Bool). IsAllTold (ToldAt cfg names l slot feed (first_request feed)) wanted o) alike told) in
-      record {
-        told = told_kept cfg names local slot feed all (first_request all) o same here.told;
-        only = λ other p e.
-            here.only other (told_kept cfg names local slot all feed (first_request all) other (λ more. sym (same more)) p) e;
-      }
+  all_kept {wanted} {o} feed all is told = search (rules, first_request-kept, kept_more)

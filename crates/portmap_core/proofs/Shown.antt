@@ -1,5 +1,5 @@
 -- What any host is told of active names, and that other hosts are told nothing else.
-use Rattle.std.proofs.Common.{◌≡◌, ◌⊎◌, ℕ, Bool, true, false, cond, List, [], ◌∷◌, ◌++◌, Option, Some, refl, ap, subst, ◌∙◌}
+use Rattle.std.proofs.Common.{◌≡◌, ◌⊎◌, ℕ, Bool, true, false, cond, List, [], ◌∷◌, ◌++◌, Option, Some, refl, ap, ◌∙◌}
 use Rattle.std.proofs.Common.{append_assoc, inl, inr}
 use Rattle.std.specs.Prelude.{find, option_map, map as list_map}
 use Rattle.std.specs.List.{flat_map}
@@ -16,13 +16,14 @@ use Rattle.portmap_table.specs.Rows.{Names, same_name}
 use Rattle.portmap_table.specs.declared.row.Row.{Row}
 use Rattle.portmap_core.specs.declared.connection.Connection.{Connection}
 use Rattle.portmap_core.specs.declared.connection.Stage.{Stage}
-use Rattle.portmap_core.specs.declared.connection.Stage.TheVariants.{Waiting, Holding, Done}
+use Rattle.portmap_core.specs.declared.connection.Stage.TheVariants.{Waiting}
 use Rattle.portmap_core.specs.Config.{Configuration}
 use Rattle.portmap_core.specs.State.{State}
 use Rattle.portmap_core.specs.Serving.{Served, ServesBody, ToldAt, names_line_of, served}
 use Rattle.portmap_core.specs.Step.{Outcome, Told, outcome_of}
-use Rattle.portmap_core.proofs.Waits.{WaitsAt, said, settles_at, told_here}
+use Rattle.portmap_core.proofs.Waits.{WaitsAt, said, settles_at}
 use Rattle.portmap_core.specs.Laws.{ActiveNamesAreFound, ActiveNamesAreListed, Completes, IsLook, OthersAreToldNothing}
+use Rattle.std.proofs.Common.{rules}
 
 -- ---- what a request is told that is whole
 
@@ -41,18 +42,9 @@ pub completed : {cfg : Configuration} {s s' : State} {slot : ℕ} {connection : 
     (c : Completes cfg s slot connection body reply s') (request : Request) → Spells body request
     → (creation : ℕ) × (said reply c.fate s' ≡ outcome_of s slot connection (served cfg s.names connection.local slot request creation))
 completed {cfg} {s} {s'} {slot} {connection} {body} {reply} c request spells =
-    let waits : WaitsAt = record {
-      config = cfg;
-      state = s;
-      slot = slot;
-      connection = connection;
-      received = c.received;
-      is_open = c.is_open;
-      stage = c.waits;
-    } in
+    let waits : WaitsAt = search rules in
     let settles = settles_at waits c.says in
-    let whole : ServesBody cfg s.names connection.local slot body settles.served = subst
-    (λ (x : Sight). ToldAt cfg s.names connection.local slot (c.received ++ c.piece) x settles.served) c.whole settles.told in
+    let whole : ServesBody cfg s.names connection.local slot body settles.served = search rules in
     let by = spelled cfg s.names connection.local slot body request settles.served spells whole in
     (by.0, settles.outcome ∙ ap (outcome_of s slot connection) by.1)
 
@@ -117,10 +109,7 @@ sight_far : (cfg : Configuration) (names : Names) (slot : ℕ) (received : List 
 sight_far cfg names slot received More o told = inl (ap (λ (x : Served). x.reply) told)
 sight_far cfg names slot received Zero o told = inl (ap (λ (x : Served). x.reply) told)
 sight_far cfg names slot received (TooLarge n) o told = inl (ap (λ (x : Served). x.reply) told)
-sight_far cfg names slot received (Whole body) o (inl p) = elim (request_far cfg names slot p.request p.serves.creation) [
-  | inl silent ↦ inl (ap (λ (x : Served). x.reply) p.serves.is ∙ silent)
-  | inr look ↦ inr (body, p.request, refl, p.spells, look)
-]
+sight_far cfg names slot received (Whole body) o (inl p) = search rules
 sight_far cfg names slot received (Whole body) o (inr p) = inl (ap (λ (x : Served). x.reply) p.is)
 
 -- by the stage of the connection
@@ -131,16 +120,8 @@ IsFar stage piece reply =
 
 module _ (cfg : Configuration) (s : State) (slot : ℕ) (connection : Connection) (piece : List ℕ) where
   told_far : (stage : Stage) (o : Outcome) → connection.local ≡ false → Told cfg s slot connection piece stage o → IsFar stage piece o.reply
-  told_far (Waiting received) o far told =
-      let all : List ℕ = received ++ piece in
-      let there : ToldAt cfg s.names false slot all (first_request all) told.served =
-      subst (λ (b : Bool). ToldAt cfg s.names b slot all (first_request all) told.served) far told.told in
-      elim (sight_far cfg s.names slot all (first_request all) told.served there) [
-        | inl silent ↦ inl (ap (λ (x : Outcome). x.reply) told.outcome ∙ silent)
-        | inr look ↦ inr (received, look.0, look.1, refl, look.2, look.3, look.4)
-      ]
+  told_far (Waiting received) o far told = search rules
   told_far stage o far told = inl (ap (λ (x : Outcome). x.reply) told)
 
 pub others_are_told_nothing : OthersAreToldNothing
-others_are_told_nothing cfg s s' slot connection piece reply fate here far says =
-    told_far cfg s slot connection piece connection.stage (said reply fate s') far (told_here here says)
+others_are_told_nothing cfg s s' slot connection piece reply fate here far says = search rules

@@ -1,18 +1,17 @@
 -- A connection that waits in a slot, and what is said of a piece there.
-use Rattle.std.proofs.Common.{◌≡◌, ℕ, Bool, List, ◌++◌, Some, refl, sym, ap, subst, ◌∙◌, inl, inr}
+use Rattle.std.proofs.Common.{◌≡◌, ℕ, Bool, List, ◌++◌, Some, refl, sym, subst, inl, inr}
 use Rattle.std.specs.FinMap as map
-use Rattle.std.proofs.lemmas.Option.{same_Some}
 use Rattle.portmap_feed.specs.Stream.{Sight, More, Zero, TooLarge, Whole, first_request}
 use Rattle.portmap_wire.specs.declared.request.Request.{Request}
 use Rattle.portmap_table.specs.Rows.{Names}
 use Rattle.portmap_core.specs.declared.event.Fate.{Fate}
 use Rattle.portmap_core.specs.declared.connection.Connection.{Connection}
-use Rattle.portmap_core.specs.declared.connection.Stage.{Stage}
-use Rattle.portmap_core.specs.declared.connection.Stage.TheVariants.{Waiting, Holding, Done}
+use Rattle.portmap_core.specs.declared.connection.Stage.TheVariants.{Waiting, Holding}
 use Rattle.portmap_core.specs.Config.{Configuration}
 use Rattle.portmap_core.specs.State.{State}
 use Rattle.portmap_core.specs.Serving.{MayTake, Served, ToldAt, awaits, closed, served}
-use Rattle.portmap_core.specs.Step.{Expires, Outcome, Says, Settles, Told, late_at, settled}
+use Rattle.portmap_core.specs.Step.{Expires, Outcome, Says, Settles, Told, settled}
+use Rattle.std.proofs.Common.{rules}
 
 abbrev pub said : List ℕ → Fate → State → Outcome
 said reply fate after = record { reply = reply; fate = fate; state = after }
@@ -21,9 +20,7 @@ said reply fate after = record { reply = reply; fate = fate; state = after }
 pub told_here : {cfg : Configuration} {s after : State} {slot : ℕ} {connection : Connection} {piece reply : List ℕ} {fate : Fate}
     → map.get s.connections slot ≡ Some connection → Says cfg s slot piece reply fate after
     → Told cfg s slot connection piece connection.stage (said reply fate after)
-told_here {cfg} {s} {after} {slot} {connection} {piece} {reply} {fate} is_open says =
-    subst (λ (c : Connection). Told cfg s slot c piece c.stage (said reply fate after))
-    (same_Some says.connection connection (sym says.is_open ∙ is_open)) says.told
+told_here {cfg} {s} {after} {slot} {connection} {piece} {reply} {fate} is_open says = search rules
 
 -- a machine in a state, and the connection in a slot, which has sent these bytes
 pub record WaitsAt : Type 0 where
@@ -39,8 +36,7 @@ pub record WaitsAt : Type 0 where
 pub settles_at : (w : WaitsAt) {after : State} {piece reply : List ℕ} {fate : Fate}
     → Says w.config w.state w.slot piece reply fate after
     → Settles w.config w.state w.slot w.connection (w.received ++ piece) (said reply fate after)
-settles_at w {after} {piece} {reply} {fate} says =
-    subst (λ (x : Stage). Told w.config w.state w.slot w.connection piece x (said reply fate after)) w.stage (told_here w.is_open says)
+settles_at w {after} {piece} {reply} {fate} says = search rules
 
 -- what holds of each answer that may be told holds of what is told
 module _ (cfg : Configuration) (names : Names) (local : Bool) (slot : ℕ) (P : Served → Type 0) where
@@ -52,9 +48,7 @@ module _ (cfg : Configuration) (names : Names) (local : Bool) (slot : ℕ) (P : 
   told_by received More o waits refused each told = subst P (sym told) (waits refl)
   told_by received Zero o waits refused each told = subst P (sym told) refused
   told_by received (TooLarge n) o waits refused each told = subst P (sym told) refused
-  told_by received (Whole body) o waits refused each (inl p) =
-      let serves = p.serves in
-      subst P (sym serves.is) (each p.request serves.creation (λ h. serves.legal (ap (λ (x : Served). x.stage) serves.is ∙ h)))
+  told_by received (Whole body) o waits refused each (inl p) = search rules
   told_by received (Whole body) o waits refused each (inr p) = subst P (sym p.is) refused
 
 -- what holds of a state, and where a connection was told something, holds after a piece, and after a time-out
@@ -64,19 +58,8 @@ module _ (P : State → Type 0) where
       → ((connection : Connection) (received : List ℕ) (o : Served)
       → ToldAt cfg s.names connection.local slot received (first_request received) o → P (settled s slot connection o))
       → P after
-  says_leads {cfg} {s} {after} {slot} {piece} {reply} {fate} says same each =
-      by says.connection.stage (said reply fate after) says.told
-    where
-      by : (stage : Stage) (o : Outcome) → Told cfg s slot says.connection piece stage o → P o.state
-      by (Waiting received) o told =
-          subst (λ (x : Outcome). P x.state) (sym told.outcome) (each says.connection (received ++ piece) told.served told.told)
-      by stage o told = subst (λ (x : Outcome). P x.state) (sym told) same
+  says_leads {cfg} {s} {after} {slot} {piece} {reply} {fate} says same each = search rules
 
   pub expires_leads : {s after : State} {slot : ℕ} {fate : Fate} → Expires s slot fate after → P s
       → ((connection : Connection) → P (settled s slot connection (closed s.names))) → P after
-  expires_leads {s} {after} {slot} expires same each =
-      subst (λ (x : Outcome). P x.state) (sym expires.told) (by expires.connection.stage)
-    where
-      by : (stage : Stage) → P (late_at s slot expires.connection stage).state
-      by (Waiting received) = each expires.connection
-      by stage = same
+  expires_leads {s} {after} {slot} expires same each = search rules

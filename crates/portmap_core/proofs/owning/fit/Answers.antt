@@ -1,8 +1,9 @@
-use Rattle.std.proofs.Common.{ap, arith, sym, subst}
+use Rattle.std.proofs.Common.{ap, arith}
 use Rattle.portmap_core.specs.Fitting.{IsHeldFor}
 use Rattle.portmap_core.specs.Held.{HeldValue}
 use Rattle.portmap_core.proofs.Fitting.{each_by, owners_by, together}
 use Rattle.portmap_core.proofs.owning.fit.Goals as goal
+use Rattle.std.proofs.Common.{rules}
 
 pub returns-then-not-branch : goal.returns-then-not-branch
 returns-then-not-branch c = (
@@ -11,9 +12,7 @@ returns-then-not-branch c = (
       let each =
       each_by c.args.table.now.names c.args.connections.now c.held-h-items.result.now c.held-h-items.ensures.entries
       c.held-h-items.ensures.held slots in
-      let here : IsHeldFor c.args.table.now.names c.h-item.result =
-      subst (λ (h : HeldValue). IsHeldFor c.args.table.now.names h) (sym c.h-item.is)
-      (each c.loop-h.h-index c.h-item.result c.loop-h-test.true) in
+      let here : IsHeldFor c.args.table.now.names c.h-item.result = search rules in
       let may = c.in_ok-may_own.ensures.1 (rw (c.holds.ensures, ap (λ (h : HeldValue). h.slot) c.h.view_is) here) in
       cc,
 )

@@ -1,4 +1,4 @@
-use Rattle.std.proofs.Common.{◌≡◌, ◌<◌, ◌++◌, ℕ, Some, None, slice_get, sym, ap, subst, ◌∙◌}
+use Rattle.std.proofs.Common.{◌++◌, Some, sym, ap, ◌∙◌}
 use Rattle.std.specs.Prelude.{map as list_map}
 use Rattle.portmap_wire.specs.Node.{Node}
 use Rattle.portmap_wire.specs.Reply.{be4}
@@ -7,6 +7,7 @@ use Rattle.portmap_table.specs.Rows.{retired_name}
 use Rattle.portmap_core.specs.Serving.{active_line, retired_line}
 use Rattle.portmap_core.proofs.Lines.{not_past, with_line}
 use Rattle.portmap_core.proofs.serve.dump_text.Goals as goal
+use Rattle.std.proofs.Common.{rules}
 
 pub loop-i-preserved : goal.loop-i-preserved
 loop-i-preserved c =
@@ -16,10 +17,7 @@ loop-i-preserved c =
     c.loop-i.reply ++ dump_line (record { name = g.name; port = g.port; slot = Some c.in-Some.row.now.slot })) c.reg.view_is)
 
 pub unreachable-requires-in_default-retired_at : goal.unreachable-requires-in_default-retired_at
-unreachable-requires-in_default-retired_at c =
-    let past : slice_get c.args.table.now.names.retired c.loop-k.k ≡ None = sym c.in_default-retired_at.ensures in
-    not_past c.args.table.now.names.retired c.loop-k.k
-    (subst (λ (n : ℕ). c.loop-k.k < n) c.retired_len-k-end.ensures c.loop-k-test.true) past
+unreachable-requires-in_default-retired_at c = search (rules, not_past)
 
 pub loop-k-preserved : goal.loop-k-preserved
 loop-k-preserved c =

@@ -1,25 +1,17 @@
-use Rattle.std.proofs.Common.{◌≡◌, sym, ap, ◌∙◌}
-use Rattle.portmap_wire.specs.Node.{Node}
+use Rattle.std.proofs.Common.{◌≡◌}
 use Rattle.portmap_table.specs.Creation.{IsLegalCreation}
 use Rattle.portmap_table.specs.Rows.{standing}
 use Rattle.portmap_table.specs.declared.standing.Standing.TheVariants.{Free, NoRoom}
 use Rattle.portmap_core.proofs.Served.{Refuses, all_free, is_chosen, may_register, no_room}
 use Rattle.portmap_core.proofs.asked.Asked.alive.Goals as goal
+use Rattle.std.proofs.Common.{rules}
 
 pub returns-in-NoRoom : goal.returns-in-NoRoom
 returns-in-NoRoom c =
     let asked = c.args.self.now in
-    let stands : standing asked.config.known_max c.args.reg.name asked.table.now.names ≡ NoRoom =
-    ap (λ (g : Node). standing asked.config.known_max g.name asked.table.now.names) (sym c.reg.view_is) ∙ sym c.standing.ensures
-    ∙ c.in-NoRoom.is in
+    let stands : standing asked.config.known_max c.args.reg.name asked.table.now.names ≡ NoRoom = search rules in
     let said = c.replied-in-NoRoom.ensures in
-    let refuses : Refuses asked c.args.reg c.replied-in-NoRoom.result = record {
-      stands = stands;
-      text = said.text ∙ rw (← c.reg.view_is) c.in_ok-write_alive-in-NoRoom.ensures;
-      fate = said.fate;
-      phase = said.phase;
-      change = said.change;
-    } in
+    let refuses : Refuses asked c.args.reg c.replied-in-NoRoom.result = search rules in
     no_room refuses
 
 pub returns : goal.returns
@@ -28,8 +20,7 @@ returns c =
     let made = c.creation_for-creation in
     let names = asked.table.now.names in
     let last = c.in-Free.last in
-    let stands : standing asked.config.known_max c.args.reg.name names ≡ Free last =
-    ap (λ (g : Node). standing asked.config.known_max g.name names) (sym c.reg.view_is) ∙ sym c.standing.ensures ∙ c.in-Free.is in
+    let stands : standing asked.config.known_max c.args.reg.name names ≡ Free last = search rules in
     let legal : IsLegalCreation c.args.reg.high last made.result = rw (← c.reg.view_is) made.ensures.legal in
     λ bytes. record {
       all = λ slot. all_free asked c.args.reg stands slot made.result c.in_ok-write_alive.field-0.items legal

@@ -1,12 +1,10 @@
-use Rattle.std.proofs.Common.{◌≡◌, ℕ, ap, ◌∙◌}
-use Rattle.portmap_core.specs.declared.connection.Connection.{Connection}
-use Rattle.portmap_core.specs.Held.{HeldValue}
+use Rattle.std.proofs.Common.{◌≡◌}
 use Rattle.portmap_core.proofs.HeldLaws.{turned_are}
 use Rattle.portmap_core.proofs.held_slots.Slots.put.Goals as goal
+use Rattle.std.proofs.Common.{rules}
 
 pub invariant_of-self : goal.invariant_of-self
 invariant_of-self c =
     let at = rw c.as_slice.ensures.value at c.in-Ok.ensures in
-    let slot : c.turn.new.self.slot ≡ c.args.slot = ap (λ (p : ℕ × Connection). p.0) c.turn.ensures.entry
-    ∙ ap (λ (h : HeldValue). h.slot) c.index_mut.ensures.value ∙ at.same _ in
+    let slot : c.turn.new.self.slot ≡ c.args.slot = search rules in
     turned_are c.self.inside.held.items c.in-Ok.at c.turn.new.self c.self.invariant (rw slot at) c.turn.ensures.held

@@ -1,4 +1,4 @@
-use Rattle.std.proofs.Common.{◌≡◌, ℕ, List, length, take, ap, sym, ◌∙◌}
+use Rattle.std.proofs.Common.{◌≡◌, ap, sym, ◌∙◌}
 use Rattle.std.specs.FinMap as map
 use Rattle.portmap_core.specs.Connections.{at_stage, stopped_in}
 use Rattle.portmap_core.specs.Held.{stage_held}
@@ -10,6 +10,7 @@ use Rattle.portmap_core.specs.declared.connection.Stage.TheVariants.{Waiting}
 use Rattle.portmap_core.proofs.Steps.{restores, says_done, says_holding, says_next, settles}
 use Rattle.portmap_core.proofs.Waits.{WaitsAt}
 use Rattle.portmap_core.proofs.live.Live.piece.Goals as goal
+use Rattle.std.proofs.Common.{rules}
 
 pub returns-in-Holding-clause-ok : goal.returns-in-Holding-clause-ok
 returns-in-Holding-clause-ok c =
@@ -19,11 +20,7 @@ returns-in-Holding-clause-ok c =
     c.take-local.ensures.done c.put.ensures.open c.silent.ensures.reply c.silent.ensures.fate)
 
 pub returns-in-Done-clause-ok : goal.returns-in-Done-clause-ok
-returns-in-Done-clause-ok c =
-    let i = c.self.inside in
-    rw (← c.self.view_is)
-    (says_done i.config (state_of i.table.names i.connections i.halted) c.args.slot c.take-local.ensures.was c.in-Done.is
-    c.take-local.ensures.done c.silent-in-Done.ensures.reply c.silent-in-Done.ensures.fate)
+returns-in-Done-clause-ok c = search (rules, says_done)
 
 pub returns-in-Ok-clause-ok : goal.returns-in-Ok-clause-ok
 returns-in-Ok-clause-ok c =
@@ -63,8 +60,7 @@ returns-in-Err-clause-err c =
     let kept : Machine = record { config = i.config; state = state_of i.table.names c.take-local.new.self i.halted } in
     let same : c.settle.new.self ≡ kept = c.in-Err.ensures.err in
     let e = c.self-2.view_is ∙ same in
-    let feed : c.cut.new.self ≡ c.in-Waiting.feed = c.cut.ensures
-    ∙ ap (λ (b : List ℕ). take (length b) c.settle.new.feed) c.kept-before.ensures.bytes ∙ c.settle.ensures.front in
+    let feed : c.cut.new.self ≡ c.in-Waiting.feed = search rules in
     let back = restores i.connections c.args.slot c.take-local.ensures.was (Waiting c.cut.new.self) c.take-local.ensures.done
     (λ found here. c.put-in-Err.ensures.open found (ap (λ (m : Machine). map.get m.state.connections c.args.slot) e ∙ here)
     ∙ ap (λ (m : Machine). map.insert m.state.connections c.args.slot (at_stage found (Waiting c.cut.new.self))) e)

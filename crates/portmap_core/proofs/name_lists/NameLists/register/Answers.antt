@@ -1,4 +1,4 @@
-use Rattle.std.proofs.Common.{◌≡◌, ◌∷◌, ◌++◌, ◌+◌, [], false, rules, subst, sym, ap, ◌∙◌}
+use Rattle.std.proofs.Common.{◌≡◌, ◌∷◌, ◌++◌, ◌+◌, [], false, rules, ap, ◌∙◌}
 use Rattle.std.specs.Prelude.{nat_le, position}
 use Rattle.portmap_table.specs.Rows.{Names, is_active, known_len, registered, with_room}
 use Rattle.portmap_table.proofs.Kept.{had_name}
@@ -10,8 +10,7 @@ pub returns-clause-ok : goal.returns-clause-ok
 returns-clause-ok c =
     let names : Names = record { active = c.self.inside.active.items; retired = c.self.inside.retired.items } in
     let row = c.args.row in
-    let inactive : is_active row.reg.name names ≡ false =
-    subst (λ (n : Names). is_active row.reg.name n ≡ false) (sym c.self.view_is) c.requires in
+    let inactive : is_active row.reg.name names ≡ false = search rules in
     let rows : c.push_reserved.new.self.items ≡ names.active ++ row ∷ [] = search rules in
     let many : nat_le c.args.known_max (c.len-2.result + c.len-3.result) ≡ nat_le c.args.known_max (known_len names) =
     ap (nat_le c.args.known_max) (let n : c.len-2.result + c.len-3.result ≡ known_len names = search rules in n) in
