@@ -1,24 +1,21 @@
 -- Where the port mapper ends and what comes of it then, the limits that a run keeps, and a connection that holds its name,
 -- whose time is over.
-use Rattle.std.proofs.Common.{◌≡◌, ℕ, Bool, true, false, List, [], Option, Some, None, refl, sym, ap, ◌∙◌}
+use Rattle.std.proofs.Common.{◌≡◌, ℕ, Bool, true, false, List, [], refl, sym, ap, ◌∙◌}
 use Rattle.std.specs.Prelude.{not, ◌||◌}
 use Rattle.std.proofs.lemmas.Bool.{cond_both}
 use Rattle.std.proofs.lemmas.List.{nil_from_length}
-use Rattle.portmap_feed.specs.Stream.{More, first_request}
-use Rattle.portmap_wire.specs.Node.{Node}
+use Rattle.portmap_feed.specs.Stream.{first_request}
 use Rattle.portmap_wire.specs.declared.request.Request.{Request}
 use Rattle.portmap_wire.specs.declared.request.Request.TheVariants.{Alive, Port, Dump, Kill, Stop}
 use Rattle.portmap_wire.specs.declared.request.Request.TheVariants as request
 use Rattle.portmap_table.specs.Rows.{Names}
-use Rattle.portmap_core.specs.declared.connection.Connection.{Connection}
-use Rattle.portmap_core.specs.declared.connection.Stage.TheVariants.{Waiting}
 use Rattle.portmap_core.specs.Config.{Configuration}
 use Rattle.portmap_core.specs.State.{State, empty_state}
 use Rattle.portmap_core.specs.Entry.{Closed, Connected, Faulted, Late, Piece}
 use Rattle.portmap_core.specs.Serving.{Served, closed, dump_served, if_local, kill_served}
-use Rattle.portmap_core.specs.Serving.{registers, replied, served, stops}
+use Rattle.portmap_core.specs.Serving.{replied, served}
 use Rattle.portmap_core.specs.Step.{halted_by}
-use Rattle.portmap_core.specs.Owned.{IsOwned, IsSlotFor}
+use Rattle.portmap_core.specs.Owned.{IsOwned}
 use Rattle.portmap_core.specs.Laws.{EndsAreFinal, EndsLeaveNoName, HoldersOutlastTheirTime, KeepsLimits, RunsKeepLimits}
 use Rattle.portmap_core.proofs.Owned.{owned_empty}
 use Rattle.portmap_core.proofs.Runs.{run_owned}
@@ -39,14 +36,6 @@ LeavesNone names o = halted_by o.fate false ≡ true → names.active ≡ []
 
 replies : (names : Names) (reply : List ℕ) → LeavesNone names (replied names reply)
 replies names reply ended = absurd cc
-
-registers_on : (known_max : ℕ) (names : Names) (slot : ℕ) (g : Node) (creation : ℕ)
-    → LeavesNone names (registers known_max names slot g creation)
-registers_on known_max names slot g creation ended = absurd cc
-
-stops_on : (names : Names) (owner : Option ℕ) → LeavesNone names (stops names owner)
-stops_on names None ended = absurd cc
-stops_on names (Some owner) ended = absurd cc
 
 -- where it may end although names are active, its checks are relaxed
 none_left : (empty relaxed : Bool) → (empty || relaxed) ≡ true → relaxed ≡ false → empty ≡ true
@@ -84,11 +73,6 @@ ends_leave_no_name cfg s s' (Faulted slot) strict step ended = runs_on s s' step
 ends_leave_no_name cfg s s' (Late slot fate) strict step ended = search rules
 
 -- ---- limits
-
--- one that waits has sent no whole request
-waits_for_more : (b : Bool) (o : Option Connection) (connection : Connection) (received : List ℕ) → o ≡ Some connection
-    → connection.stage ≡ Waiting received → IsSlotFor b o → first_request received ≡ More
-waits_for_more b o connection received e stage h = search rules
 
 keeps_limits : (cfg : Configuration) (s : State) → IsOwned cfg s → KeepsLimits cfg s
 keeps_limits cfg s owned = search rules

@@ -1,22 +1,17 @@
 -- What a machine with one connection says of bytes that came in pieces, it says of them in one piece.
-use Rattle.std.proofs.Common.{◌≡◌, ◌≢◌, ℕ, ◌≤◌, List, [], ◌++◌, Option, Some, None, Bool, true, false, cond, refl, sym, ap, subst, ◌∙◌, inl}
-use Rattle.std.proofs.Common.{inr, arith}
-use Rattle.std.specs.Prelude.{not}
+use Rattle.std.proofs.Common.{◌≡◌, ◌≢◌, ℕ, ◌≤◌, List, [], ◌++◌, Some, None, true, false, refl, sym, ap, ◌∙◌}
+use Rattle.std.proofs.Common.{arith}
 use Rattle.std.specs.Ordering.{nat_cmp}
 use Rattle.std.specs.FinMap as map
-use Rattle.portmap_feed.specs.Stream.{Sight, More, Zero, TooLarge, Whole, first_request}
-use Rattle.portmap_wire.specs.declared.request.Request.{Request}
-use Rattle.portmap_wire.specs.declared.request.Request.TheVariants.{Alive, Port, Names, Dump, Kill, Stop}
-use Rattle.portmap_table.specs.Rows as rows
+use Rattle.portmap_feed.specs.Stream.{More, first_request}
 use Rattle.portmap_core.specs.declared.event.Fate.{Fate}
 use Rattle.portmap_core.specs.declared.connection.Connection.{Connection}
-use Rattle.portmap_core.specs.declared.connection.Stage.{Stage}
 use Rattle.portmap_core.specs.declared.connection.Stage.TheVariants.{Waiting}
 use Rattle.portmap_core.specs.declared.connection.Phase.TheVariants as phase
 use Rattle.portmap_core.specs.Config.{Configuration}
 use Rattle.portmap_core.specs.Connections.{ConnectionMap}
 use Rattle.portmap_core.specs.State.{State, empty_state, phase_at, phase_of_stage, state_of}
-use Rattle.portmap_core.specs.Serving.{Served, ToldAt, awaits, served, stops}
+use Rattle.portmap_core.specs.Serving.{Served}
 use Rattle.portmap_core.specs.Step.{Opens, Outcome, Says, Settles, halted_by, outcome_of, settled}
 use Rattle.portmap_core.specs.Run.{Hears, waiting_state}
 use Rattle.portmap_core.proofs.Slots.{get_inserted, insert_again, stopped_alike}
@@ -33,59 +28,6 @@ alike : (slot : ℕ) (a b : List ℕ) (o : Served)
 alike slot a b o = ap (λ (m : ConnectionMap). let x : Outcome =
     record { reply = o.reply; fate = o.fate; state = state_of o.names m (halted_by o.fate false) } in x)
     (stopped_alike map.empty o.stopped slot (sender a) (sender b) (record { local = true; stage = o.stage }))
-
--- ---- the phase tells whether more is awaited
-
--- a stage at which nothing more is awaited
-abbrev IsSettled : Stage → Type 0
-IsSettled (Waiting received) = ⊥
-IsSettled stage = Unit {0}
-
-either_settled : (t : Bool) (x y : Served) → IsSettled x.stage → IsSettled y.stage → IsSettled (cond t x y).stage
-either_settled true x y p q = p
-either_settled false x y p q = q
-
-stops_settled : (names : rows.Names) (owner : Option ℕ) → IsSettled (stops names owner).stage
-stops_settled names None = tt
-stops_settled names (Some owner) = tt
-
--- more is awaited exactly where the next stage is waiting, with all that was received
-abbrev AwaitsBy : List ℕ → Sight → Stage → Type 0
-AwaitsBy received More stage = stage ≡ Waiting received
-AwaitsBy received Zero stage = IsSettled stage
-AwaitsBy received (TooLarge n) stage = IsSettled stage
-AwaitsBy received (Whole body) stage = IsSettled stage
-
-by_served : (x y : Served) → x ≡ y → IsSettled y.stage → IsSettled x.stage
-by_served x y e h = subst (λ (o : Served). IsSettled o.stage) (sym e) h
-
-module _ (cfg : Configuration) (names : rows.Names) (local : Bool) (slot : ℕ) where
-  served_settled : (request : Request) (creation : ℕ) → IsSettled (served cfg names local slot request creation).stage
-  served_settled Names creation = tt
-  served_settled (Port name) creation = tt
-  served_settled Dump creation = either_settled (not local) _ _ tt tt
-  served_settled Kill creation = search rules
-  served_settled (Stop name) creation = search rules
-  served_settled (Alive g) creation = search rules
-
-  told_awaits : (received : List ℕ) (sight : Sight) (o : Served) → ToldAt cfg names local slot received sight o
-      → AwaitsBy received sight o.stage
-  told_awaits received More o t = ap (λ (x : Served). x.stage) t
-  told_awaits received Zero o t = by_served o _ t tt
-  told_awaits received (TooLarge n) o t = by_served o _ t tt
-  told_awaits received (Whole body) o (inl p) = by_served o _ p.serves.is (served_settled p.request p.serves.creation)
-  told_awaits received (Whole body) o (inr p) = by_served o _ p.is tt
-
-settled_waits_not : (stage : Stage) → IsSettled stage → phase_of_stage stage ≡ phase.Waiting → ⊥
-settled_waits_not (Waiting received) h e = h
-settled_waits_not stage h e = cc
-
-awaits_more : (received : List ℕ) (sight : Sight) (stage : Stage) → AwaitsBy received sight stage → phase_of_stage stage ≡ phase.Waiting
-    → sight ≡ More
-awaits_more received More stage h e = refl
-awaits_more received Zero stage h e = absurd (settled_waits_not stage h e)
-awaits_more received (TooLarge n) stage h e = absurd (settled_waits_not stage h e)
-awaits_more received (Whole body) stage h e = absurd (settled_waits_not stage h e)
 
 -- ---- for callers of the machine
 
@@ -136,10 +78,6 @@ module _ {cfg : Configuration} {s s' : State} {slot : ℕ} {piece reply : List �
   -- the connection stays open
   pub stays_open : phase_at s' slot ≡ None → ⊥
   stays_open none = let both : Some (phase_of_stage settles.served.stage) ≡ None = sym phase_left ∙ none in cc
-
-  -- where all that was read is no whole request
-  awaits_it : first_request (read ++ piece) ≡ More → settles.served ≡ awaits rows.no_names (read ++ piece)
-  awaits_it more = subst (λ (x : Sight). ToldAt cfg rows.no_names true slot (read ++ piece) x settles.served) more settles.told
 
   -- so it is where the connection still waits
   pub says_more : phase_at s' slot ≡ Some phase.Waiting

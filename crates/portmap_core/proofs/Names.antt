@@ -13,11 +13,6 @@ room_known true true retired x y e = refl
 room_known true false retired x y e = ap (λ (b : Bool). cond (not b) x y) e
 room_known false active retired x y e = refl
 
-room_new : {X : Type 0} (many active retired : Bool) (x y : X) → active ≡ false → retired ≡ false
-    → cond (many && not (active || retired)) x y ≡ cond many x y
-room_new true active retired x y e f = (λ i. cond (not (e i || f i)) x y)
-room_new false active retired x y e f = refl
-
 pub enters : (known_max : ℕ) (names : Names) (row : Row) → is_active row.reg.name names ≡ false
     → record {
       active = names.active ++ row ∷ [];

@@ -1,7 +1,7 @@
 -- Each step keeps that every active name belongs to exactly one open connection, which holds it.
 use Rattle.std.proofs.Common.{◌≡◌, ◌≢◌, ℕ, ◌+◌, ◌-◌, ◌<◌, ◌≤◌, Bool, true, false, cond, List, [], ◌++◌, Option, Some, None, refl}
 use Rattle.std.proofs.Common.{sym, ap, subst, ◌∙◌, arith, inl, inr}
-use Rattle.std.specs.Prelude.{is_some, not, ◌==◌, position}
+use Rattle.std.specs.Prelude.{is_some, ◌==◌, position}
 use Rattle.std.specs.FinMap as map
 use Rattle.std.specs.Cmp.{nat_cmp_total}
 use Rattle.std.specs.Ordering.{nat_cmp}
@@ -97,10 +97,6 @@ owned_empty cfg = record {
 }
 
 -- ---- what a request does
-
-not_false : (b : Bool) → not b ≡ false → b ≡ true
-not_false true e = refl
-not_false false e = absurd cc
 
 -- a name's registration ends
 module _ {cfg : Configuration} {s : State} (owned : IsOwned cfg s) (owner : ℕ) where

@@ -1,9 +1,9 @@
 -- Names after a run and after a malformed request, and what is seen of a request that was written.
 use Rattle.std.proofs.Common.{◌≡◌, ℕ, ◌+◌, ◌<◌, ◌≤◌, Bool, true, false, List, [], ◌∷◌, ◌++◌, length, Option, Some}
-use Rattle.std.proofs.Common.{None, refl, sym, ap, subst, arith, inl, inr, length-append}
+use Rattle.std.proofs.Common.{None, refl, sym, subst, arith, length-append}
 use Rattle.std.specs.FinMap as map
 use Rattle.std.proofs.Math.Seq.{take-append_seam}
-use Rattle.portmap_feed.specs.Stream.{Sight, More, Zero, TooLarge, Whole, first_request, sight_behind}
+use Rattle.portmap_feed.specs.Stream.{Whole, first_request, sight_behind}
 use Rattle.portmap_wire.specs.Node.{Node, fields, be2}
 use Rattle.portmap_wire.specs.Request.{body_of, IsRequest}
 use Rattle.portmap_wire.specs.declared.request.TheConstants.{BODY_MOST}
@@ -12,19 +12,18 @@ use Rattle.portmap_wire.specs.declared.request.Request.TheVariants.{Alive, Port,
 use Rattle.portmap_wire.specs.declared.request.Request.TheVariants as request
 use Rattle.std.proofs.lemmas.Map.Keys.{apart_from_distinct}
 use Rattle.std.specs.Prelude.{◌==◌}
-use Rattle.portmap_table.specs.Rows.{Names, owns_name, known_names, same_name}
+use Rattle.portmap_table.specs.Rows.{owns_name, known_names, same_name}
 use Rattle.portmap_table.proofs.Owners.{owner_owns}
 use Rattle.portmap_core.specs.declared.connection.Connection.{Connection}
 use Rattle.portmap_core.specs.declared.connection.Stage.{Stage}
 use Rattle.portmap_core.specs.declared.connection.Stage.TheVariants.{Waiting, Holding, Done}
 use Rattle.portmap_core.specs.Config.{Configuration}
 use Rattle.portmap_core.specs.State.{State}
-use Rattle.portmap_core.specs.Serving.{Served, ToldAt}
 use Rattle.portmap_core.specs.Entry.{Entry}
 use Rattle.portmap_core.specs.Step.{Step}
 use Rattle.portmap_core.specs.Run.{Run}
 use Rattle.portmap_core.specs.Owned.{IsStageFor, IsSlotFor, IsOwned}
-use Rattle.portmap_core.specs.Laws.{IsBad, WrittenIsWhole, NamesBelong, NamesBelongToConnections, owners, MalformedChangesNoName}
+use Rattle.portmap_core.specs.Laws.{WrittenIsWhole, NamesBelong, NamesBelongToConnections, owners, MalformedChangesNoName}
 use Rattle.portmap_core.proofs.Owned.{owned_empty, steps_keep}
 use Rattle.std.proofs.Common.{rules}
 
@@ -49,11 +48,6 @@ holding b local (Waiting received) e h = absurd (let other : b ≡ false = h.0 i
 holding b local Holding e h = refl
 holding b local Done e h = absurd (let other : b ≡ false = h in cc)
 
-local_of : (b local : Bool) (stage : Stage) → b ≡ true → IsStageFor b local stage → local ≡ true
-local_of b local (Waiting received) e h = absurd (let other : b ≡ false = h.0 in cc)
-local_of b local Holding e h = h.1
-local_of b local Done e h = absurd (let other : b ≡ false = h in cc)
-
 holder : (b : Bool) (o : Option Connection) → b ≡ true → IsSlotFor b o
     → (connection : Connection) × (o ≡ Some connection) × (connection.stage ≡ Holding) × (connection.local ≡ true)
 holder b None e h = absurd (let other : b ≡ false = h in cc)
@@ -71,15 +65,6 @@ pub names_belong : NamesBelongToConnections
 names_belong cfg es s is run = belongs cfg s (run_owned cfg es _ s (owned_empty cfg) run)
 
 -- ---- names after a malformed request
-
-module _ (cfg : Configuration) (names : Names) (local : Bool) (slot : ℕ) where
-  bad_names : (received : List ℕ) (sight : Sight) (o : Served) → IsBad sight → ToldAt cfg names local slot received sight o
-      → o.names ≡ names
-  bad_names received More o bad told = absurd bad
-  bad_names received Zero o bad told = ap (λ (x : Served). x.names) told
-  bad_names received (TooLarge n) o bad told = ap (λ (x : Served). x.names) told
-  bad_names received (Whole body) o bad (inl p) = absurd (bad p.request p.spells)
-  bad_names received (Whole body) o bad (inr p) = ap (λ (x : Served). x.names) p.is
 
 pub malformed_keeps : MalformedChangesNoName
 malformed_keeps cfg s s' slot connection received piece reply fate here stage bad says = search rules

@@ -20,8 +20,8 @@ use Rattle.portmap_core.specs.declared.connection.Phase.TheVariants as phase
 use Rattle.portmap_core.specs.declared.serve.Change.TheVariants.{Nothing}
 use Rattle.portmap_core.specs.Config.{Configuration}
 use Rattle.portmap_core.specs.Held.{stage_held}
-use Rattle.portmap_core.specs.Serving.{MayTake, Served, Serves, ServesBody, ToldAt, alive_served, awaits, registers, replied, served}
-use Rattle.portmap_core.specs.Telling.{AnswersAll, IsAllTold, IsChosen, MayChange, MayRegister, Tells, TellsAll, names_after, served_by}
+use Rattle.portmap_core.specs.Serving.{Served, Serves, ServesBody, ToldAt, alive_served, registers, replied}
+use Rattle.portmap_core.specs.Telling.{AnswersAll, IsAllTold, IsChosen, MayChange, MayRegister, TellsAll, names_after, served_by}
 use Rattle.portmap_core.specs.Telling.{stopped_by}
 use Rattle.portmap_core.specs.declared.asked.Asked.{Asked}
 use Rattle.portmap_core.specs.declared.serve.Response.{Response}
@@ -45,11 +45,6 @@ is_free false false last free e = (refl, refl, let same : free ≡ last = cc in 
 -- ---- a request
 
 module _ (cfg : Configuration) (names : Names) (local : Bool) (slot : ℕ) where
-  -- it is told so whatever creation it would have
-  all_alike : {wanted : Option ℕ} (request : Request) (o : Served) → ((creation : ℕ) → o ≡ served cfg names local slot request creation)
-      → (o.stage ≡ Holding → MayTake names request 0) → IsAllTold (Serves cfg names local slot request) wanted o
-  all_alike request o is legal = search rules
-
   -- so is the body that spells it
   all_spelled : {wanted : Option ℕ} {o : Served} (body : List ℕ) (request : Request) → Spells body request
       → IsAllTold (Serves cfg names local slot request) wanted o → IsAllTold (ServesBody cfg names local slot body) wanted o
@@ -63,12 +58,6 @@ module _ (cfg : Configuration) (names : Names) (local : Bool) (slot : ℕ) where
   }
 
 module _ {E : Type 0} (asked : Asked) where
-  pub tells_alike : (local : Bool) (request : Request) (o : Served) (result : Result Response E)
-      → ((slot creation : ℕ) → o ≡ served asked.config asked.table.now.names local slot request creation)
-      → MayTake asked.table.now.names request 0
-      → IfOk result (λ told. Tells asked told o) → AnswersAll asked result (λ cfg names slot. Serves cfg names local slot request)
-  tells_alike local request o result is legal = search rules
-
   -- where it is local, as one that is
   pub near : (request : Request) (result : Result Response E) → asked.local ≡ true
       → AnswersAll asked result (λ cfg names slot. Serves cfg names true slot request)
@@ -176,13 +165,6 @@ tells_whole asked received body (Whole whole) result is =
 
 -- what a feed keeps of it tells as much
 module _ (cfg : Configuration) (names : Names) (local : Bool) (slot : ℕ) (feed all : List ℕ) where
-  told_kept : (sight : Sight) (o : Served) → (sight ≡ More → feed ≡ all) → ToldAt cfg names local slot feed sight o
-      → ToldAt cfg names local slot all sight o
-  told_kept More o same p = p ∙ ap (awaits names) (same refl)
-  told_kept Zero o same p = p
-  told_kept (TooLarge n) o same p = p
-  told_kept (Whole body) o same p = p
-
   pub told_all : (o : Served) → first_request feed ≡ first_request all → (first_request all ≡ More → feed ≡ all)
       → ToldAt cfg names local slot feed (first_request feed) o → ToldAt cfg names local slot all (first_request all) o
   told_all o sight same p = search rules

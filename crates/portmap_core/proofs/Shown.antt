@@ -1,10 +1,9 @@
 -- What any host is told of active names, and that other hosts are told nothing else.
-use Rattle.std.proofs.Common.{◌≡◌, ◌⊎◌, ℕ, Bool, true, false, cond, List, [], ◌∷◌, ◌++◌, Option, Some, refl, ap, ◌∙◌}
+use Rattle.std.proofs.Common.{◌≡◌, ℕ, Bool, true, false, cond, List, [], ◌∷◌, ◌++◌, Option, Some, ap, ◌∙◌}
 use Rattle.std.proofs.Common.{append_assoc, inl, inr}
 use Rattle.std.specs.Prelude.{find, option_map, map as list_map}
 use Rattle.std.specs.List.{flat_map}
 use Rattle.std.proofs.lemmas.Option.{same_Some}
-use Rattle.portmap_feed.specs.Stream.{Sight, More, Zero, TooLarge, Whole, first_request}
 use Rattle.portmap_wire.specs.List.{names_line}
 use Rattle.portmap_wire.specs.Reply.{be4, port2_reply}
 use Rattle.portmap_wire.specs.Request.{Spells}
@@ -15,14 +14,12 @@ use Rattle.portmap_wire.proofs.RequestLaws.{one_request}
 use Rattle.portmap_table.specs.Rows.{Names, same_name}
 use Rattle.portmap_table.specs.declared.row.Row.{Row}
 use Rattle.portmap_core.specs.declared.connection.Connection.{Connection}
-use Rattle.portmap_core.specs.declared.connection.Stage.{Stage}
-use Rattle.portmap_core.specs.declared.connection.Stage.TheVariants.{Waiting}
 use Rattle.portmap_core.specs.Config.{Configuration}
 use Rattle.portmap_core.specs.State.{State}
-use Rattle.portmap_core.specs.Serving.{Served, ServesBody, ToldAt, names_line_of, served}
-use Rattle.portmap_core.specs.Step.{Outcome, Told, outcome_of}
+use Rattle.portmap_core.specs.Serving.{Served, ServesBody, names_line_of, served}
+use Rattle.portmap_core.specs.Step.{Outcome, outcome_of}
 use Rattle.portmap_core.proofs.Waits.{WaitsAt, said, settles_at}
-use Rattle.portmap_core.specs.Laws.{ActiveNamesAreFound, ActiveNamesAreListed, Completes, IsLook, OthersAreToldNothing}
+use Rattle.portmap_core.specs.Laws.{ActiveNamesAreFound, ActiveNamesAreListed, Completes, OthersAreToldNothing}
 use Rattle.std.proofs.Common.{rules}
 
 -- ---- what a request is told that is whole
@@ -90,38 +87,6 @@ active_names_are_listed cfg s s' slot connection body reply name row c spells ac
     (part.0, part.1, (answered c request.Names spells).1 ∙ part.2)
 
 -- ---- other hosts
-
--- by what is seen of the request
-abbrev IsLooking : List ℕ → Sight → Type 0
-IsLooking reply sight = (reply ≡ []) ⊎ ((body : List ℕ) × (request : Request) × (sight ≡ Whole body) × Spells body request × IsLook request)
-
-request_far : (cfg : Configuration) (names : Names) (slot : ℕ) (request : Request) (creation : ℕ)
-    → ((served cfg names false slot request creation).reply ≡ []) ⊎ IsLook request
-request_far cfg names slot (Alive g) creation = inl refl
-request_far cfg names slot (Port name) creation = inr tt
-request_far cfg names slot request.Names creation = inr tt
-request_far cfg names slot Dump creation = inl refl
-request_far cfg names slot Kill creation = inl refl
-request_far cfg names slot (Stop name) creation = inl refl
-
-sight_far : (cfg : Configuration) (names : Names) (slot : ℕ) (received : List ℕ) (sight : Sight) (o : Served)
-    → ToldAt cfg names false slot received sight o → IsLooking o.reply sight
-sight_far cfg names slot received More o told = inl (ap (λ (x : Served). x.reply) told)
-sight_far cfg names slot received Zero o told = inl (ap (λ (x : Served). x.reply) told)
-sight_far cfg names slot received (TooLarge n) o told = inl (ap (λ (x : Served). x.reply) told)
-sight_far cfg names slot received (Whole body) o (inl p) = search rules
-sight_far cfg names slot received (Whole body) o (inr p) = inl (ap (λ (x : Served). x.reply) p.is)
-
--- by the stage of the connection
-abbrev IsFar : Stage → List ℕ → List ℕ → Type 0
-IsFar stage piece reply =
-    (reply ≡ []) ⊎ ((received : List ℕ) × (body : List ℕ) × (request : Request) × (stage ≡ Waiting received)
-    × (first_request (received ++ piece) ≡ Whole body) × Spells body request × IsLook request)
-
-module _ (cfg : Configuration) (s : State) (slot : ℕ) (connection : Connection) (piece : List ℕ) where
-  told_far : (stage : Stage) (o : Outcome) → connection.local ≡ false → Told cfg s slot connection piece stage o → IsFar stage piece o.reply
-  told_far (Waiting received) o far told = search rules
-  told_far stage o far told = inl (ap (λ (x : Outcome). x.reply) told)
 
 pub others_are_told_nothing : OthersAreToldNothing
 others_are_told_nothing cfg s s' slot connection piece reply fate here far says = search rules
