@@ -1,12 +1,10 @@
 -- What is known of a call, by what is known of its parts.
-use Rattle.std.proofs.Common.{◌≡◌, ◌≢◌, ℕ, ◌+◌, true, List, [], length, Option, Ok, Err, refl, sym, ap, subst, arith}
+use Rattle.std.proofs.Common.{◌≡◌, ◌≢◌, ℕ, ◌+◌, true, List, length, Option, Ok, Err, refl, sym, ap, subst, arith}
 use Rattle.std.specs.Prelude.{Result, IsErrAnd, IfErr, MatchResult}
 use Rattle.std.specs.Io.KnownBytes.{Appends, Keeps}
-use Rattle.std.proofs.KnownBytes.{Appends-kept, Consumes-nil, Consumes-kept, Consumes-trans}
+use Rattle.std.proofs.KnownBytes.{Appends-kept}
 use Rattle.std.proofs.lemmas.Bool.{false≢true}
 use Rattle.std.proofs.lemmas.List.{take_all}
-use Rattle.portmap_link.specs.Asking.{IsEnded}
-use Rattle.portmap_link.specs.declared.device.Pull.{Pull}
 use Rattle.portmap_client.specs.Exchange.{Answers, Exchanges, HasRead, StreamView, Writes, WritesAt, WritesFront, is_device_fault}
 use Rattle.portmap_client.specs.Fault.{split, told, told_fault}
 use Rattle.portmap_client.specs.Laters.{laters, Waits, WaitsAt}
@@ -15,7 +13,7 @@ use Rattle.portmap_client.specs.declared.fault.AnswerFault.{AnswerFault}
 use Rattle.portmap_client.specs.declared.fault.ClientFault.{ClientFault}
 use Rattle.portmap_client.specs.declared.fault.GivenUp.{GivenUp}
 use Rattle.portmap_client.specs.declared.fault.GivenUp.TheVariants.{Write, Read, TooManyTurns, NoMemory}
-use Rattle.portmap_client.proofs.Reading.{reads_none}
+use Rattle.std.proofs.Common.{rules}
 
 -- ---- the parts of an exchange
 
@@ -49,10 +47,7 @@ no_write e = cc
 
 keeps_reading : (awaited : Awaited) (a b c : Option (List ℕ)) (read : List ℕ) → Keeps a b → HasRead awaited b c read
     → HasRead awaited a c read
-keeps_reading awaited a b c read keeps has_read = record {
-  reads = Consumes-trans a b c [] read (Consumes-kept a a b [] (Consumes-nil a) keeps) has_read.reads;
-  no_further = has_read.no_further;
-}
+keeps_reading awaited a b c read keeps has_read = search rules
 
 -- the request was not written whole, so nothing was asked for
 pub not_asked : {X : Type 0} (bytes : List ℕ) (awaited : Awaited) (Says : List ℕ → X → Type 0) (old new : StreamView) (f : GivenUp)
@@ -61,23 +56,7 @@ pub not_asked : {X : Type 0} (bytes : List ℕ) (awaited : Awaited) (Says : List
     → (is_device_fault f ≡ true → new.broken ≡ true) → Keeps old.left new.left → new.pulls ≡ old.pulls
     → Exchanges bytes awaited Says old new result
 not_asked bytes awaited Says old new f (Ok x) failed asked waits broken keeps unread = absurd failed
-not_asked bytes awaited Says old new f (Err e) failed asked waits broken keeps unread =
-    let whole : Exchanges bytes awaited Says old new (Err f) = record {
-      asked = asked;
-      unread = λ _. unread;
-      answered = record {
-        read = [];
-        has_read = record {
-          reads = Consumes-kept old.left old.left new.left [] (Consumes-nil old.left) keeps;
-          no_further = (reads_none awaited old.left).no_further;
-        };
-        ended = λ ok. absurd (false≢true ok);
-        says = tt;
-      };
-      waits = waits;
-      broken = broken;
-    } in
-    subst (λ (g : GivenUp). Exchanges bytes awaited Says old new (Err g)) (sym failed) whole
+not_asked bytes awaited Says old new f (Err e) failed asked waits broken keeps unread = search rules
 
 -- the request was written whole, and its answer read so far
 pub heard : {X : Type 0} (bytes : List ℕ) (awaited : Awaited) (Says : List ℕ → X → Type 0) (old mid new : StreamView) (met : ℕ)
@@ -91,12 +70,7 @@ pub heard : {X : Type 0} (bytes : List ℕ) (awaited : Awaited) (Says : List ℕ
 heard bytes awaited Says old mid new met result wrote held reads left pulls answered before waits broken = record {
   asked = writes_all bytes old.held new.held result reads (Appends-kept old.held mid.held new.held bytes wrote held);
   unread = never_write (new.pulls ≡ old.pulls) result reads;
-  answered = record {
-    read = answered.read;
-    has_read = keeps_reading awaited old.left mid.left new.left answered.read left answered.has_read;
-    ended = λ ok short. subst (λ (asked : List Pull). IsEnded new.left asked new.pulls) pulls (answered.ended ok short);
-    says = answered.says;
-  };
+  answered = search rules;
   waits = waits_longer (laters old.pulls old.puts) (laters mid.pulls mid.puts) (laters new.pulls new.puts) met result before waits;
   broken = broken;
 }
@@ -113,41 +87,14 @@ pub gave_up : {X Y : Type 0} {bytes sent : List ℕ} {awaited : Awaited} {SaysX 
     {Says : List ℕ → Result Y AnswerFault → Type 0} {old new : StreamView} {f : GivenUp} (result : Result Y ClientFault)
     → bytes ≡ sent → Exchanges bytes awaited SaysX old new (Err f) → IsErrAnd result (λ e. split e ≡ Err f)
     → Exchanges sent awaited Says old new (told result)
-gave_up {X} {Y} {bytes} {sent} {awaited} {SaysX} {Says} {old} {new} {f} result same exchange failed =
-    let given_up : Exchanges bytes awaited Says old new (Err f) = record {
-      asked = exchange.asked;
-      unread = exchange.unread;
-      answered = record {
-        read = exchange.answered.read;
-        has_read = exchange.answered.has_read;
-        ended = λ ok. absurd (false≢true ok);
-        says = tt;
-      };
-      waits = exchange.waits;
-      broken = exchange.broken;
-    } in
-    subst (λ (bs : List ℕ). Exchanges bs awaited Says old new (told result)) same
-    (subst (Exchanges bytes awaited Says old new) (told_from result (Err f) failed) given_up)
+gave_up {X} {Y} {bytes} {sent} {awaited} {SaysX} {Says} {old} {new} {f} result same exchange failed = search rules
 
 -- its answer says so, or there was no memory to say it
 pub says : {X Y : Type 0} {bytes sent : List ℕ} {awaited : Awaited} {SaysX : List ℕ → X → Type 0} {Says : List ℕ → Y → Type 0}
     {old new : StreamView} {x : X} (y : Result Y GivenUp)
     → bytes ≡ sent → Exchanges bytes awaited SaysX old new (Ok x)
     → ((read : List ℕ) → SaysX read x → MatchResult y (Says read) (λ f. f ≡ NoMemory)) → Exchanges sent awaited Says old new y
-says {X} {Y} {bytes} {sent} {awaited} {SaysX} {Says} {old} {new} {x} (Ok y) same exchange tells =
-    let told : Exchanges bytes awaited Says old new (Ok y) = record {
-      asked = exchange.asked;
-      unread = tt;
-      answered = record {
-        read = exchange.answered.read;
-        has_read = exchange.answered.has_read;
-        ended = λ _. exchange.answered.ended refl;
-        says = tells exchange.answered.read exchange.answered.says;
-      };
-      waits = exchange.waits;
-      broken = tt;
-    } in
-    subst (λ (bs : List ℕ). Exchanges bs awaited Says old new (Ok y)) same told
+says {X} {Y} {bytes} {sent} {awaited} {SaysX} {Says} {old} {new} {x} (Ok y) same exchange tells = search rules
 says {X} {Y} {bytes} {sent} {awaited} {SaysX} {Says} {old} {new} {x} (Err f) same exchange tells =
     let memory : NoMemory ≡ f = sym (tells exchange.answered.read exchange.answered.says) in
     let forgot : Exchanges bytes awaited Says old new (Err NoMemory) = record {
@@ -172,7 +119,6 @@ pub says_fault : {X Y : Type 0} {bytes sent : List ℕ} {awaited : Awaited} {Say
     → bytes ≡ sent → Exchanges bytes awaited SaysX old new (Ok x) → IsErrAnd result (λ e. split e ≡ s)
     → ((read : List ℕ) → SaysX read x → MatchResult s (λ f. Says read (Err f)) (λ f. f ≡ NoMemory))
     → Exchanges sent awaited Says old new (told result)
-says_fault {Says = Says} (Ok f) result same exchange failed tells =
-    subst (Exchanges _ _ Says _ _) (told_from result (Ok f) failed) (says (Ok (Err f)) same exchange tells)
+says_fault {Says = Says} (Ok f) result same exchange failed tells = search rules
 says_fault {Says = Says} (Err f) result same exchange failed tells =
     subst (Exchanges _ _ Says _ _) (told_from result (Err f) failed) (says (Err f) same exchange tells)

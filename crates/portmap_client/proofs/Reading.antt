@@ -10,6 +10,7 @@ use Rattle.portmap_link.specs.declared.device.Pull.{Pull}
 use Rattle.portmap_client.specs.Exchange.{Answers, HasRead, IsUnfinished}
 use Rattle.portmap_client.specs.declared.exchange.Awaited.{Awaited}
 use Rattle.portmap_client.specs.declared.fault.GivenUp.{GivenUp}
+use Rattle.std.proofs.Common.{rules}
 
 -- nothing was read
 pub reads_none : (awaited : Awaited) (a : Option (List ℕ)) → HasRead awaited a a []
@@ -20,8 +21,7 @@ front_unfinished : (awaited : Awaited) (read piece : List ℕ) (most n : ℕ)
     → ((k : ℕ) → k < length read → IsUnfinished awaited (take k read)) → length piece ≤ most
     → ((more : List ℕ) → length more < most → IsUnfinished awaited (read ++ more)) → n < length (read ++ piece)
     → (n < length read) ⊎ (length read ≤ n) → IsUnfinished awaited (take n (read ++ piece))
-front_unfinished awaited read piece most n before small missing within (inl less) =
-    subst (IsUnfinished awaited) (sym (take-append-le n read piece (omega (arith, less)))) (before n less)
+front_unfinished awaited read piece most n before small missing within (inl less) = search (rules, take-append-le)
 front_unfinished awaited read piece most n before small missing within (inr more) =
     let k : ℕ = n - length read in
     let at : length read + k ≡ n = omega (arith, more) in
@@ -52,5 +52,4 @@ reads_front awaited a b c read bytes buffer count most so_far one small same mis
 pub stops : {X : Type 0} (awaited : Awaited) (Says : List ℕ → X → Type 0) (a b : Option (List ℕ)) (asked answered : List Pull)
     (read : List ℕ) (result : Result X GivenUp) → IsErr result → HasRead awaited a b read → Answers awaited Says a b asked answered result
 stops awaited Says a b asked answered read (Ok x) failed has_read = absurd (false≢true failed)
-stops awaited Says a b asked answered read (Err f) failed has_read =
-    record { read = read; has_read = has_read; ended = λ ok. absurd (false≢true ok); says = tt }
+stops awaited Says a b asked answered read (Err f) failed has_read = search rules

@@ -1,17 +1,13 @@
-use Rattle.std.proofs.Common.{◌≡◌, ◌≤◌, List, ◌++◌, length, take, sym, ap, subst, arith}
-use Rattle.std.specs.Prelude.{count_by}
-use Rattle.std.proofs.KnownBytes.{Keeps-trans}
-use Rattle.std.proofs.lemmas.List.{length-take, take-append-le}
-use Rattle.portmap_link.specs.Asking.{IsAskedAgain, is_put_later}
+use Rattle.std.proofs.Common.{◌≡◌, ◌≤◌, ◌++◌, length, take, sym, subst}
+use Rattle.std.proofs.lemmas.List.{take-append-le}
 use Rattle.portmap_link.proofs.Asking.{on_more}
-use Rattle.portmap_link.specs.declared.device.Pull.TheVariants.{Piece}
-use Rattle.portmap_link.specs.declared.device.Put.{Put}
 use Rattle.portmap_client.specs.Exchange.{HasRead, IsRead}
 use Rattle.portmap_client.proofs.Counting.{pulled}
 use Rattle.portmap_client.proofs.Reading.{reads_front, stops}
 use Rattle.portmap_client.proofs.exchange.hear.Given.{Over}
 use Rattle.portmap_client.proofs.exchange.hear.Goals.{In-Piece}
 use Rattle.portmap_client.proofs.exchange.hear.Goals as goal
+use Rattle.std.proofs.Common.{rules}
 
 -- with the piece, none further than the answer was read
 with_piece : (g : Over) (c : In-Piece g)
@@ -19,8 +15,7 @@ with_piece : (g : Over) (c : In-Piece g)
     (c.loop-laters.read.items ++ take c.in-Piece.count c.pull.new.buffer)
 with_piece g c =
     let told = c.in-Piece.ensures.bytes in
-    let small : length c.pull.new.buffer ≤ c.missing.result =
-    omega (arith, c.pull.auto.buffer, length-take c.min-most.result c.loop-laters.buffer, c.min-most.ensures) in
+    let small : length c.pull.new.buffer ≤ c.missing.result = search rules in
     reads_front c.args.awaited (g.S.Device.left c.args.stream.now) (g.S.Device.left c.loop-laters.stream)
     (g.S.Device.left c.pull.new.self) c.loop-laters.read.items c.deref.result.now c.pull.new.buffer c.in-Piece.count c.missing.result
     c.loop-laters.invariant.has_read told.2 small c.deref.ensures.value c.missing.ensures.missing
@@ -37,14 +32,9 @@ loop-laters-preserved-in-Continue-1 g c =
       few = inv.few;
       has_read = subst (HasRead c.args.awaited (g.S.Device.left c.args.stream.now) (g.S.Device.left c.pull.new.self)) (sym same)
           (with_piece g at);
-      on = on_more IsAskedAgain (g.S.Device.pulls c.args.stream.now) (g.S.Device.pulls c.loop-laters.stream)
-          (g.S.Device.pulls c.pull.new.self) (Piece c.in-Piece.count) inv.on noted tt;
-      waited =
-          let pulls = pulled (g.S.Device.pulls c.loop-laters.stream) (g.S.Device.pulls c.pull.new.self) (Piece c.in-Piece.count) noted in
-          let puts = ap (λ (t : List Put). count_by is_put_later t) c.in-Piece.ensures.puts in
-          omega (arith, inv.waited, pulls, puts);
-      held = Keeps-trans (g.S.Device.held c.args.stream.now) (g.S.Device.held c.loop-laters.stream)
-          (g.S.Device.held c.pull.new.self) inv.held c.in-Piece.ensures.held;
+      on = search (rules, on_more);
+      waited = search (rules, pulled);
+      held = search rules;
     }
 
 pub returns-in_err-extend_from_slice-in-Piece-clause-heard : goal.returns-in_err-extend_from_slice-in-Piece-clause-heard
