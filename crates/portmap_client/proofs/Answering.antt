@@ -1,25 +1,19 @@
 -- What a fault of a reply says of an answer.
-use Rattle.std.proofs.Common.{◌≡◌, ℕ, List, Err, refl, sym, ap, ◌∙◌}
+use Rattle.std.proofs.Common.{◌≡◌, ℕ, List, Err}
 use Rattle.std.specs.Prelude.{MatchResult}
 use Rattle.portmap_wire.specs.ReplyReading.{GivesReply, alive_answer, port2_answer}
 use Rattle.portmap_wire.specs.declared.reply_reading.ReplyFault.{ReplyFault}
-use Rattle.portmap_wire.specs.declared.reply_reading.ReplyFault.TheVariants as reply
 use Rattle.portmap_client.specs.Answer.{SaysCreation, SaysFound}
 use Rattle.portmap_client.specs.Fault.{of_reply}
 use Rattle.portmap_client.specs.declared.fault.GivenUp.TheVariants.{NoMemory}
+use Rattle.std.proofs.Common.{rules}
 
 -- of that to a registration
 pub creation_fault : (read bytes : List ℕ) (f : ReplyFault) → bytes ≡ read → Err f ≡ alive_answer bytes
     → MatchResult (of_reply f) (λ a. SaysCreation read (Err a)) (λ g. g ≡ NoMemory)
-creation_fault read bytes reply.Short same fault = ap alive_answer (sym same) ∙ sym fault
-creation_fault read bytes (reply.BadTag tag) same fault = ap alive_answer (sym same) ∙ sym fault
-creation_fault read bytes reply.Strange same fault = ap alive_answer (sym same) ∙ sym fault
-creation_fault read bytes reply.NoMemory same fault = refl
+creation_fault read bytes o same fault = search rules
 
 -- of that to a look-up
 pub found_fault : (read bytes : List ℕ) (f : ReplyFault) → bytes ≡ read → GivesReply (Err f) (port2_answer bytes)
     → MatchResult (of_reply f) (λ a. SaysFound read (Err a)) (λ g. g ≡ NoMemory)
-found_fault read bytes reply.Short same gives = ap port2_answer (sym same) ∙ gives
-found_fault read bytes (reply.BadTag tag) same gives = ap port2_answer (sym same) ∙ gives
-found_fault read bytes reply.Strange same gives = ap port2_answer (sym same) ∙ gives
-found_fault read bytes reply.NoMemory same gives = refl
+found_fault read bytes o same gives = search rules

@@ -1,18 +1,18 @@
 -- What is known of a call, by what is known of its parts.
-use Rattle.std.proofs.Common.{◌≡◌, ◌≢◌, ℕ, ◌+◌, true, List, length, Option, Ok, Err, refl, sym, ap, subst, arith}
+use Rattle.std.proofs.Common.{◌≡◌, ◌≢◌, ℕ, ◌+◌, true, List, length, Option, Ok, Err, sym, subst, arith}
 use Rattle.std.specs.Prelude.{Result, IsErrAnd, IfErr, MatchResult}
 use Rattle.std.specs.Io.KnownBytes.{Appends, Keeps}
 use Rattle.std.proofs.KnownBytes.{Appends-kept}
 use Rattle.std.proofs.lemmas.Bool.{false≢true}
 use Rattle.std.proofs.lemmas.List.{take_all}
-use Rattle.portmap_client.specs.Exchange.{Answers, Exchanges, HasRead, StreamView, Writes, WritesAt, WritesFront, is_device_fault}
+use Rattle.portmap_client.specs.Exchange.{Answers, Exchanges, StreamView, Writes, WritesAt, WritesFront, is_device_fault}
 use Rattle.portmap_client.specs.Fault.{split, told, told_fault}
 use Rattle.portmap_client.specs.Laters.{laters, Waits, WaitsAt}
 use Rattle.portmap_client.specs.declared.exchange.Awaited.{Awaited}
 use Rattle.portmap_client.specs.declared.fault.AnswerFault.{AnswerFault}
 use Rattle.portmap_client.specs.declared.fault.ClientFault.{ClientFault}
 use Rattle.portmap_client.specs.declared.fault.GivenUp.{GivenUp}
-use Rattle.portmap_client.specs.declared.fault.GivenUp.TheVariants.{Write, Read, TooManyTurns, NoMemory}
+use Rattle.portmap_client.specs.declared.fault.GivenUp.TheVariants.{Write, NoMemory}
 use Rattle.std.proofs.Common.{rules}
 
 -- ---- the parts of an exchange
@@ -26,28 +26,18 @@ whole_front bytes old new whole = record {
 -- all was written, by a call that is not given up in writing
 writes_all : {X : Type 0} (bytes : List ℕ) (old new : Option (List ℕ)) (result : Result X GivenUp) → result ≢ Err Write
     → Appends old new bytes → Writes bytes old new result
-writes_all bytes old new (Ok x) reads whole = whole
-writes_all bytes old new (Err Write) reads whole = absurd (reads refl)
-writes_all bytes old new (Err Read) reads whole = whole
-writes_all bytes old new (Err f) reads whole = whole_front bytes old new whole
+writes_all bytes old new o reads whole = search (rules, whole_front)
 
 never_write : {X : Type 0} (P : Type 0) (result : Result X GivenUp) → result ≢ Err Write → IfErr result (λ f. f ≡ Write → P)
-never_write P (Ok x) reads = tt
-never_write P (Err f) reads = λ e. absurd (reads (ap Err e))
+never_write o x reads = search rules
 
 -- Laters that were met before count
 waits_longer : {X : Type 0} (old mid new met : ℕ) (result : Result X GivenUp) → mid ≡ old + met → Waits mid (met + new) result
     → Waits old new result
-waits_longer old mid new met (Ok x) before waits = omega (arith, before, waits)
-waits_longer old mid new met (Err TooManyTurns) before waits = omega (arith, before, waits)
-waits_longer old mid new met (Err f) before waits = omega (arith, before, waits)
+waits_longer old mid new met o before waits = search rules
 
 no_write : NoMemory ≡ Write → ⊥
 no_write e = cc
-
-keeps_reading : (awaited : Awaited) (a b c : Option (List ℕ)) (read : List ℕ) → Keeps a b → HasRead awaited b c read
-    → HasRead awaited a c read
-keeps_reading awaited a b c read keeps has_read = search rules
 
 -- the request was not written whole, so nothing was asked for
 pub not_asked : {X : Type 0} (bytes : List ℕ) (awaited : Awaited) (Says : List ℕ → X → Type 0) (old new : StreamView) (f : GivenUp)
@@ -55,8 +45,7 @@ pub not_asked : {X : Type 0} (bytes : List ℕ) (awaited : Awaited) (Says : List
     → WritesAt bytes old.held new.held f → WaitsAt (laters old.pulls old.puts) (laters new.pulls new.puts) f
     → (is_device_fault f ≡ true → new.broken ≡ true) → Keeps old.left new.left → new.pulls ≡ old.pulls
     → Exchanges bytes awaited Says old new result
-not_asked bytes awaited Says old new f (Ok x) failed asked waits broken keeps unread = absurd failed
-not_asked bytes awaited Says old new f (Err e) failed asked waits broken keeps unread = search rules
+not_asked bytes awaited o old new f x failed asked waits broken keeps unread = search rules
 
 -- the request was written whole, and its answer read so far
 pub heard : {X : Type 0} (bytes : List ℕ) (awaited : Awaited) (Says : List ℕ → X → Type 0) (old mid new : StreamView) (met : ℕ)
@@ -79,8 +68,7 @@ heard bytes awaited Says old mid new met result wrote held reads left pulls answ
 
 told_from : {X : Type 0} (result : Result X ClientFault) (s : Result AnswerFault GivenUp) → IsErrAnd result (λ e. split e ≡ s)
     → told_fault s ≡ told result
-told_from (Ok x) s failed = absurd failed
-told_from (Err e) s failed = sym (ap told_fault failed)
+told_from o s failed = search rules
 
 -- the exchange was given up
 pub gave_up : {X Y : Type 0} {bytes sent : List ℕ} {awaited : Awaited} {SaysX : List ℕ → X → Type 0}

@@ -1,9 +1,9 @@
 -- An answer is read a piece at a time, and no further.
-use Rattle.std.proofs.Common.{◌≡◌, ℕ, ◌+◌, ◌-◌, ◌<◌, ◌≤◌, List, [], ◌++◌, length, take, Option, Ok, Err, sym, subst, arith, inl, inr}
+use Rattle.std.proofs.Common.{◌≡◌, ℕ, ◌+◌, ◌-◌, ◌<◌, ◌≤◌, List, [], ◌++◌, length, take, Option, sym, subst, arith, inl, inr}
 use Rattle.std.specs.Prelude.{◌⊎◌, Result, IsErr}
 use Rattle.std.proofs.Math.Seq.{take-append-add}
 use Rattle.std.proofs.KnownBytes.{Consumes-nil, Consumes-trans}
-use Rattle.std.proofs.lemmas.Bool.{cases_lt, false≢true}
+use Rattle.std.proofs.lemmas.Bool.{cases_lt}
 use Rattle.std.proofs.lemmas.List.{length-append, length-take, take-append-le}
 use Rattle.std.specs.Io.KnownBytes.{Consumes}
 use Rattle.portmap_link.specs.declared.device.Pull.{Pull}
@@ -51,5 +51,4 @@ reads_front awaited a b c read bytes buffer count most so_far one small same mis
 -- a call that is given up says nothing of what was read
 pub stops : {X : Type 0} (awaited : Awaited) (Says : List ℕ → X → Type 0) (a b : Option (List ℕ)) (asked answered : List Pull)
     (read : List ℕ) (result : Result X GivenUp) → IsErr result → HasRead awaited a b read → Answers awaited Says a b asked answered result
-stops awaited Says a b asked answered read (Ok x) failed has_read = absurd (false≢true failed)
-stops awaited Says a b asked answered read (Err f) failed has_read = search rules
+stops awaited o a b asked answered read x failed has_read = search rules

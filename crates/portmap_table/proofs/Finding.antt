@@ -16,13 +16,11 @@ use Rattle.portmap_table.proofs.First.{NonePass}
 use Rattle.std.proofs.Common.{rules}
 
 or_none : {X : Type 0} (o : Option X) → option_or o None ≡ o
-or_none None = refl
-or_none (Some x) = refl
+or_none o = search rules
 
 -- nothing is found where nothing is
 pub is_none : {X : Type 0} (o : Option X) → is_some o ≡ false → o ≡ None
-is_none None e = refl
-is_none (Some x) e = absurd cc
+is_none o e = search rules
 
 -- an element at the end that passes is found, where no other does
 pub find-push : {X : Type 0} (p : X → Bool) (xs : List X) (x : X) → find p xs ≡ None → p x ≡ true → find p (xs ++ x ∷ []) ≡ Some x

@@ -10,7 +10,6 @@ use Rattle.std.proofs.lemmas.Option.{none-some, slice_get-map, slice_get_within}
 use Rattle.indexmap.proofs.SetLemmas.{map-remove}
 use Rattle.portmap_table.specs.declared.row.Row.{Row}
 use Rattle.portmap_table.specs.declared.entries.Kept.{Kept}
-use Rattle.portmap_table.specs.declared.entries.Kept.TheVariants.{Active}
 use Rattle.portmap_table.specs.declared.standing.Standing.{Standing}
 use Rattle.portmap_table.specs.Rows.{Names, RetiredName, active_row, and_retired, is_active, is_known, known_len, old_name, owns_name}
 use Rattle.portmap_table.specs.Rows.{registered, retired_at, retired_last, retired_of, retired_row, same_name, standing, with_room}
@@ -160,10 +159,6 @@ pub stands_once : (name : List ℕ) (entries : List Entry) (found : Option ℕ) 
     → ((q : ℕ) (kept : Kept) → slice_get entries q ≡ Some (name, kept) → found ≡ Some q) → StandsOnce name entries place
 stands_once name entries found place e only q kept there = let both : Some q ≡ Some place = sym (only q kept there) ∙ e in cc
 
-pub stands_nowhere : (name : List ℕ) (entries : List Entry) (found : Option ℕ) → found ≡ None
-    → ((q : ℕ) (kept : Kept) → slice_get entries q ≡ Some (name, kept) → found ≡ Some q) → IsNew name entries
-stands_nowhere name entries found e only q kept there = none-some q (sym e ∙ only q kept there)
-
 -- how it stands
 abbrev how_found : ℕ → ℕ → Option Row → Option RetiredName → Standing
 how_found known_max active row old =
@@ -177,13 +172,7 @@ how_kept (Some old) = how.Free (Some old.creation)
 
 how_retired : (over : Bool) (old : RetiredName)
     → (if over && not (false || true) then how.NoRoom else how.Free (Some old.creation)) ≡ how.Free (Some old.creation)
-how_retired true old = refl
-how_retired false old = refl
-
-how_new : (over : Bool) → (if over && not (false || false) then how.NoRoom else how.Free None)
-    ≡ (if over then how.NoRoom else how.Free None)
-how_new true = refl
-how_new false = refl
+how_retired o old = search rules
 
 module _ {entries : List Entry} {active retired : List ℕ} {owner : ℕ → Option ℕ} (placed : AreInPlace entries active retired owner)
     (name : List ℕ) where
@@ -279,9 +268,6 @@ module _ {entries : List Entry} {active retired : List ℕ} {owner : ℕ → Opt
 
 -- ---- the slots
 
-same_slot : (r row : Row) → Active r ≡ Active row → r.slot ≡ row.slot
-same_slot r row e = let same : r ≡ row = cc in ap (λ (x : Row). x.slot) same
-
 -- an active name comes
 owners_more : {entries new : List Entry} {at : ℕ} {row : Row} {owner owner' : ℕ → Option ℕ} → Puts entries new at (active_entry row)
     → (IsActiveAt entries at → ⊥) → AreOwners entries owner → owner row.slot ≡ None
@@ -374,8 +360,7 @@ module _ {entries : List Entry} {active retired : List ℕ} {owner : ℕ → Opt
 -- ---- a name comes, whole
 
 no_first : (xs : List RetiredName) → remove xs 0 ≡ drop 1 xs
-no_first [] = refl
-no_first (x ∷ xs) = refl
+no_first o = search rules
 
 module _ {entries new : List Entry} {active retired left : List ℕ} {owner : ℕ → Option ℕ} {known_max place : ℕ} {row : Row}
     (placed : AreInPlace entries active retired owner) (settles : TakesPlace known_max row entries new retired left place)

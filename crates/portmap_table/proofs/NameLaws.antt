@@ -1,5 +1,5 @@
 -- What a registration and a retirement do to each name.
-use Rattle.std.proofs.Common.{◌≡◌, ◌<◌, ◌≤◌, ℕ, Bool, true, false, not, List, [], ◌∷◌, ◌++◌, length, map, take, get_or, arith, Option, Some}
+use Rattle.std.proofs.Common.{◌≡◌, ◌<◌, ◌≤◌, ℕ, Bool, false, not, List, [], ◌∷◌, ◌++◌, length, map, take, get_or, arith, Option, Some}
 use Rattle.std.proofs.Common.{None, refl, sym, ap, ◌∙◌, zero, suc, ◌^◌, append_assoc}
 use Rattle.std.specs.Prelude.{◌&&◌, if◌then◌else◌, nat_le, find, position, remove, is_some, slice_get, ◌==◌, option_map, ◌||◌}
 use Rattle.std.specs.List.{AllByRecursion, IsDistinct, position_or_len}
@@ -114,8 +114,7 @@ retired_names_stand_last names slot row e = ap (λ (left : Names). left.retired)
 
 retired_last_stands_last : (names : Names) (at : ℕ) (o : Option Row)
     → take (length names.retired) (retired_last at o names).retired ≡ names.retired
-retired_last_stands_last names at None = take_all (length names.retired) names.retired (omega arith)
-retired_last_stands_last names at (Some row) = take_at names.retired (old_name row ∷ []) (length names.retired) refl
+retired_last_stands_last names at o = search (rules, take_all, take_at)
 
 retired_at_stands_last : (names : Names) (o : Option ℕ) → take (length names.retired) (retired_at o names).retired ≡ names.retired
 retired_at_stands_last names None = take_all (length names.retired) names.retired (omega arith)
@@ -127,8 +126,7 @@ retired_names_stay names slot = retired_at_stands_last names (position (λ (row 
 -- ---- names that are forgotten
 
 active_by : (b : Bool) (names : Names) → (if b then without_oldest names else names).active ≡ names.active
-active_by true names = refl
-active_by false names = refl
+active_by o names = search rules
 
 pub active_names_stay : ActiveNamesStay
 active_names_stay known_max names name = active_by (nat_le known_max (known_len names) && not (is_known name names)) names
@@ -142,9 +140,6 @@ known_names_cost_none known_max names name e = search rules
 few_known : (m n : ℕ) (known : Bool) → n < m → (nat_le m n && not known) ≡ false
 few_known m n known lt = grind (arith, nat_tests)
 
-many_known : (m n : ℕ) (known : Bool) → m ≤ n → known ≡ false → (nat_le m n && not known) ≡ true
-many_known m n known le e = grind (arith, nat_tests)
-
 pub room_costs_none : RoomCostsNone
 room_costs_none known_max names name lt = room_by _ false names (few_known known_max (known_len names) (is_known name names) lt)
 
@@ -154,9 +149,6 @@ oldest_makes_room known_max names name le e = search rules
 pub ruleset forgetting = (active_names_stay, known_names_cost_none, room_costs_none, oldest_makes_room)
 
 -- ---- names that are refused, and names that return
-
-full_active : (m n : ℕ) (known : Bool) → (nat_le m n && not known) ≡ true → m ≤ n
-full_active m n known e = grind (arith, nat_tests)
 
 pub none_is_refused_for_retired_names : NoneIsRefusedForRetiredNames
 none_is_refused_for_retired_names known_max names name k e = search (rules, nil_from_length)

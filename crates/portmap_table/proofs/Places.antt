@@ -133,8 +133,7 @@ stands_as name entries place (Retired port creation) named e = inr (record { nam
 
 pub kept_there : (name : List ℕ) (entries : List Entry) (place : ℕ) → StandsAs name entries place
     → (kept : Kept) × (slice_get entries place ≡ Some (name, kept))
-kept_there name entries place (inl row) = (Active row.0, row.1 ∙ ap (λ (n : List ℕ). Some (n, Active row.0)) row.2)
-kept_there name entries place (inr old) = search rules
+kept_there name entries place o = search rules
 
 -- ---- lists that have each place of a kind once: one is added
 
