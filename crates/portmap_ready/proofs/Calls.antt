@@ -5,7 +5,6 @@ use Rattle.std.specs.Prelude.{drop, option_map, nat_lt, nat_le, slice_get}
 use Rattle.std.specs.FinMap as map
 use Rattle.std.specs.Ordering.{nat_cmp}
 use Rattle.std.specs.Cmp.{nat_cmp_total}
-use Rattle.std.proofs.lemmas.Bool.Decides.{nat_tests}
 use Rattle.std.proofs.lemmas.List.Sums.{count_by-le-length, length-filter, sum_by-set}
 use Rattle.slab.specs.Slab.{Slab, get, slab_len, Updates, with_value}
 use Rattle.slab.proofs.SlabLemmas.{ContainsKey-within, Updates-with_value}
@@ -28,28 +27,23 @@ use Rattle.portmap_ready.proofs.Steps.{get-links_of, links_put, links_cut, links
 use Rattle.std.proofs.Common.{rules}
 
 pub not_key_here : (k : ℕ) (t : Option ℕ) → is_key (not_key k t) k ≡ false
-not_key_here k None = refl
-not_key_here k (Some j) = search rules
+not_key_here k o = search rules
 
 pub not_key_other : (k j : ℕ) (t : Option ℕ) → j ≢ k → is_key (not_key k t) j ≡ is_key t j
-not_key_other k j None d = refl
-not_key_other k j (Some i) d = search rules
+not_key_other k j o d = search rules
 
 key_is : (t : Option ℕ) (k : ℕ) → (is_key t k ≡ true) ↔ (t ≡ Some k)
-key_is None k = (λ e. absurd (cc), λ e. absurd (cc))
-key_is (Some j) k = (λ e. grind (arith, nat_tests, e), λ e. grind (arith, nat_tests, e))
+key_is o k = search rules
 
 less : (b : Bool) (n : ℕ) → cond b (n - 1) n ≡ n - one b
-less true n = refl
-less false n = omega arith
+less o n = search rules
 
 module _ {T : Type 0} where
   slab_len-with_value : (s : Slab (Held T)) (k : ℕ) (h : Held T) → is_some (get s k) ≡ true → slab_len (with_value s k h) ≡ slab_len s
   slab_len-with_value s k h e = search (rules, ContainsKey-within, sum_by-set)
 
   pub some_live : (o : Option (Held T)) → is_live o ≡ true → is_some o ≡ true
-  some_live None e = e
-  some_live (Some h) e = refl
+  some_live o e = search rules
 
   no_link : (o : Option (Held T)) → is_live o ≡ false → link_of o ≡ None
   no_link o e = search rules
@@ -75,8 +69,7 @@ module _ {T : Type 0} where
       }
 
   out_absent : (p : Place) (o : Option (Held T)) → is_out p o ≡ true → (marks_of o).resting ≡ 0
-  out_absent p None e = refl
-  out_absent p (Some h) e = search rules
+  out_absent p o e = search rules
 
   pub out_room : {r : Inside T} (p : Place) (k : ℕ) → IsWhole r → is_out p (get r.held k) ≡ true → times k r.resting.items ≡ 0
   out_room {r} p k i e = ap (λ m. m.resting) (i.marks k) ∙ out_absent p (get r.held k) e
@@ -169,15 +162,11 @@ module _ {T : Type 0} where
 
   was_first : (b : Bool) (o : Option (Held T)) {x y : ℕ} → one b + x ≡ (marks_of o).queue → one (not b) + y ≡ (marks_of o).pending
       → WasFirst o x y
-  was_first true None e f = absurd (omega arith)
-  was_first false None e f = absurd (omega arith)
-  was_first b (Some h) {x} {y} e f = search rules
+  was_first b o e f = search rules
 
   kept-front : (b c : Bool) {s s' : Slab (Held T)} {k : ℕ} {o : Option (Held T)} (xs : List ℕ) → Updates s s' k o → times k xs ≡ 0
       → is_live (get s k) ≡ c → kept is_live s (front b k xs) ≡ front (b && c) k (kept is_live s' xs)
-  kept-front false c xs u e l = sym (kept_absent u is_live xs e)
-  kept-front true true xs u e l = rw (l, kept_absent u is_live xs e) refl
-  kept-front true false xs u e l = rw (l, kept_absent u is_live xs e) refl
+  kept-front o c xs u e l = search (rules, kept_absent)
 
   module _ (b : Bool) {k : ℕ} {old new : Inside T} (i : IsWhole old) (takes : Takes b k old new) where
     abbrev first_held : Option (Held T)
@@ -189,12 +178,10 @@ module _ {T : Type 0} where
         (first_left (not b) k new.pending.items takes.pending ∙ ap (λ m. m.pending) (i.marks k))
 
     told_here : (c : Bool) → is_key (cond c (Some k) None) k ≡ c
-    told_here true = grind (arith, nat_tests)
-    told_here false = refl
+    told_here o = search rules
 
     told_other : (j : ℕ) → j ≢ k → (c : Bool) → is_key (cond c (Some k) None) j ≡ false
-    told_other j d true = grind (arith, nat_tests, d)
-    told_other j d false = refl
+    told_other j d o = search rules
 
     pub take_whole : IsWhole new
     take_whole =
@@ -278,16 +265,14 @@ module _ {T : Type 0} where
     pub same : new ≡ record old { held = new.held; resting = new.resting }
 
   end_mark : (o : Option (Held T)) (x : ℕ) → 1 + x ≡ (marks_of o).resting → (x ≡ 0) × (is_some o ≡ true)
-  end_mark None x e = absurd (omega arith)
-  end_mark (Some h) x e = let most = one_most h.is_listed in (omega arith, refl)
+  end_mark o x e = search rules
 
   -- it is idle, if it rested
   abbrev end_link : Bool → Option (T × Place) → Option (T × Place)
   end_link b l = cond b (option_map (to_place Idle) l) l
 
   end_link_is : (o : Option (Held T)) → option_map wake (link_of o) ≡ end_link (rests o) (link_of o)
-  end_link_is None = refl
-  end_link_is (Some h) = search rules
+  end_link_is o = search rules
 
   module _ {k : ℕ} {old new : Inside T} (i : IsWhole old) (ends : Ends k old new) where
     abbrev rested : Option (Held T)
@@ -358,8 +343,7 @@ module _ {T : Type 0} where
     pub same : new ≡ record old { held = new.held; told = new.told; count = new.count }
 
   some_cleared : (o : Option (Held T)) → is_some (tidied (cleared o)) ≡ true → is_some o ≡ true
-  some_cleared None e = e
-  some_cleared (Some h) e = refl
+  some_cleared o e = search rules
 
   module _ {k : ℕ} {old new : Inside T} (i : IsWhole old) (clears : Clears k old new) where
     pub clear_whole : IsWhole new
@@ -493,8 +477,7 @@ module _ {T : Type 0} where
     pub told : ((marks_of o).told ≡ true) ↔ (option_map (λ link. link.1) (link_of o) ≡ Some Told)
 
   agrees : (o : Option (Held T)) → is_fine o ≡ true → Agrees o
-  agrees None f = record { queue = refl; pending = refl; resting = refl; told = (λ e. absurd (cc), λ e. absurd (cc)) }
-  agrees (Some h) f = search rules
+  agrees o f = search rules
 
   pub whole_ready : {r : Inside T} → IsWhole r → IsReady (seen r)
   whole_ready {r} i =

@@ -18,12 +18,10 @@ use Rattle.portmap_ready.proofs.Times.{times_fit, filter_same, filter-pushed, wi
 use Rattle.std.proofs.Common.{rules}
 
 pub one_most : (b : Bool) → one b ≤ 1
-one_most true = omega arith
-one_most false = omega arith
+one_most o = search rules
 
 one_less : (b : Bool) (a n : ℕ) → a ≡ cond b (n - 1) n → n ≤ a + 1
-one_less true a n e = omega arith
-one_less false a n e = omega arith
+one_less o a n e = search rules
 
 module _ {T : Type 0} where
   pub seen_is : (v w : Links T) → v.links ≡ w.links → v.queue ≡ w.queue → v.pending ≡ w.pending → v.resting ≡ w.resting
@@ -147,8 +145,7 @@ module _ {T : Type 0} where
       once (Some h) = most h
 
       some_at : (o : Option (Held T)) → 0 < mark (marks_of o) → IsSome o
-      some_at None l = absurd (omega arith)
-      some_at (Some h) l = refl
+      some_at o l = search rules
 
   pub queue_room : {r : Inside T} (k : ℕ) → IsWhole r → times k r.queue.items ≡ 0 → k < room r → length r.queue.items < room r
   queue_room k i = room_for (λ r. r.queue.items) (λ m. m.queue) k i (λ j. refl) refl (λ h. one_most _)

@@ -1,9 +1,9 @@
 -- What a change of one says of where it stands: lemmas.
-use Rattle.std.proofs.Common.{◌≡◌, ◌+◌, Bool, true, false, ◌&&◌, ◌||◌, not, Option, Some, None, is_some, refl}
+use Rattle.std.proofs.Common.{◌≡◌, ◌+◌, Bool, true, false, ◌&&◌, ◌||◌, not, Option, Some, None, is_some}
 use Rattle.std.specs.Prelude.{option_map}
 use Rattle.portmap_ready.specs.declared.Held.{Held}
 use Rattle.portmap_ready.specs.declared.Place.{Place}
-use Rattle.portmap_ready.specs.declared.Place.TheVariants.{Idle, Queued, Pending, Resting, Told}
+use Rattle.portmap_ready.specs.declared.Place.TheVariants.{Idle, Told}
 use Rattle.portmap_ready.specs.Links.{is_queued, is_pending, is_resting, is_told}
 use Rattle.portmap_ready.specs.Held.{is_free}
 use Rattle.portmap_ready.specs.Held.{Marks, one, left, woken, is_idle, may_stand, link_of, is_live, rests, marks_of, is_fine, placed}
@@ -16,41 +16,28 @@ pub marks_is : (m n : Marks) → m.queue ≡ n.queue → m.pending ≡ n.pending
 marks_is m n a b c d = λ i. record { queue = a i; pending = b i; resting = c i; told = d i }
 
 fine_placed : (p : Place) (b : Bool) → may_stand p true (b || is_resting p) ≡ true
-fine_placed Resting true = refl
-fine_placed Resting false = refl
-fine_placed p b = refl
+fine_placed p b = search rules
 
 one_listed : (x b : Bool) → one b + one (x && not b) ≡ one (b || x)
-one_listed true true = refl
-one_listed true false = refl
-one_listed false true = refl
-one_listed false false = refl
+one_listed o x = search rules
 
 woken_marks : (p : Place)
     → (is_queued (woken p) ≡ is_queued p) × (is_pending (woken p) ≡ is_pending p) × (is_told (woken p) ≡ is_told p) ×
     (is_resting (woken p) ≡ false)
-woken_marks Resting = (refl, refl, refl, refl)
-woken_marks p = (refl, refl, refl, refl)
+woken_marks p = search rules
 
 woken_fine : (p : Place) (here b : Bool) → may_stand p here b ≡ true → is_idle (woken p) ≡ false → may_stand (woken p) here false ≡ true
-woken_fine Idle here b f e = absurd (cc)
-woken_fine Resting here b f e = absurd (cc)
-woken_fine Told here b f e = f
-woken_fine p here b f e = refl
+woken_fine p here b f e = search rules
 
 left_marks : (p : Place)
     → (is_queued (left p) ≡ is_queued p) × (is_pending (left p) ≡ is_pending p) × (is_told (left p) ≡ false) × (is_resting (left p) ≡ false)
-left_marks Queued = (refl, refl, refl, refl)
-left_marks p = (refl, refl, refl, refl)
+left_marks p = search rules
 
 left_fine : (p : Place) (b : Bool) → is_idle (left p) ≡ false → may_stand (left p) false b ≡ true
-left_fine Queued b e = refl
-left_fine Pending b e = refl
-left_fine p b e = absurd (cc)
+left_fine p b e = search rules
 
 pub some_map : {A B : Type 0} (f : A → B) (o : Option A) → is_some (option_map f o) ≡ is_some o
-some_map f None = refl
-some_map f (Some x) = refl
+some_map f o = search rules
 
 module _ {T : Type 0} where
   abbrev pub held_as : Place → Option T → Bool → Option (Held T)
@@ -58,15 +45,11 @@ module _ {T : Type 0} where
 
   -- to give back what is gone changes nothing that is seen
   tidied-as : {X : Type 0} (f : Option (Held T) → X) → f None ≡ f (held_as Idle None false) → (o : Option (Held T)) → f (tidied o) ≡ f o
-  tidied-as f e None = refl
-  tidied-as f e (Some h) = search rules
+  tidied-as f e o = search rules
 
   fine-tidied : (p : Place) (v : Option T) (b : Bool) → (is_idle p ≡ false → may_stand p (is_some v) b ≡ true)
       → is_fine (tidied (held_as p v b)) ≡ true
-  fine-tidied Idle None false h = refl
-  fine-tidied Idle None true h = refl
-  fine-tidied Idle (Some x) b h = refl
-  fine-tidied p v b h = h refl
+  fine-tidied p v b h = search rules
 
   -- what is held shows where its key stands, its link, and whether that rests
   pub record Shows (o : Option (Held T)) (m : Marks) (l : Option (T × Place)) (b : Bool) : Type 0 where
@@ -92,8 +75,7 @@ module _ {T : Type 0} where
       }) (option_map (to_place p) (link_of o)) (is_resting p)
 
   pub shows-placed : (p : Place) (o : Option (Held T)) → is_live o ≡ true → ShowsPlaced p o
-  shows-placed p None l = absurd (cc)
-  shows-placed p (Some h) l = search rules
+  shows-placed p o l = search rules
 
   abbrev ShowsTaken : Option (Held T) → Type 0
   ShowsTaken o =
@@ -101,22 +83,18 @@ module _ {T : Type 0} where
       (option_map (to_place Told) (link_of o)) false
 
   pub shows-taken : (o : Option (Held T)) → ShowsTaken o
-  shows-taken None = record { marks = refl; link = refl; rests = refl; fine = refl }
-  shows-taken (Some h) = search rules
+  shows-taken o = search rules
 
   pub shows-unlisted : (o : Option (Held T)) → is_fine o ≡ true
       → Shows (tidied (unlisted o)) (record (marks_of o) { resting = 0 }) (option_map wake (link_of o)) false
-  shows-unlisted None f = record { marks = refl; link = refl; rests = refl; fine = refl }
-  shows-unlisted (Some h) f = search rules
+  shows-unlisted o f = search rules
 
   pub shows-cleared : (o : Option (Held T))
       → Shows (tidied (cleared o)) (record (marks_of o) { told = false }) None false
-  shows-cleared None = record { marks = refl; link = refl; rests = refl; fine = refl }
-  shows-cleared (Some h) = search rules
+  shows-cleared o = search rules
 
   -- ---- what a place says of the lists
 
   pub free_marks : (o : Option (Held T)) → is_free (option_map (λ link. link.1) (link_of o)) ≡ true
       → ((marks_of o).queue ≡ 0) × ((marks_of o).pending ≡ 0) × (is_live o ≡ true)
-  free_marks None f = absurd (cc)
-  free_marks (Some h) f = search rules
+  free_marks o f = search rules

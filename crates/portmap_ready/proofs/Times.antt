@@ -16,12 +16,10 @@ pub times-cons : (k x : ℕ) (xs : List ℕ) → times k (x ∷ xs) ≡ one (eqb
 times-cons k x xs = sum_by-cons (λ j. cond (eqb j k) 1 0) x xs
 
 pub times-pushed : (b : Bool) (k : ℕ) (xs : List ℕ) → times k (pushed b k xs) ≡ times k xs + one b
-times-pushed false k xs = omega arith
-times-pushed true k xs = grind (arith, nat_tests, sum_by-append (λ j. cond (eqb j k) 1 0) xs (k ∷ []), times-cons k k [])
+times-pushed o k xs = search (rules, nat_tests)
 
 times-pushed_other : (b : Bool) (j k : ℕ) (xs : List ℕ) → j ≢ k → times j (pushed b k xs) ≡ times j xs
-times-pushed_other false j k xs d = refl
-times-pushed_other true j k xs d = grind (arith, nat_tests, sum_by-append (λ i. cond (eqb i j) 1 0) xs (k ∷ []), times-cons j k [], d)
+times-pushed_other o j k xs d = search (rules, nat_tests)
 
 -- once a key went to the end, it stands there once more, and each other one as often as before
 pub joined : (b : Bool) (k : ℕ) (xs : List ℕ) {ys : List ℕ} → ys ≡ pushed b k xs → times k ys ≡ times k xs + one b
@@ -41,8 +39,7 @@ first_left false k ys e = rw e (omega arith)
 first_left true k ys e = rw e (grind (arith, nat_tests, times-cons k k ys))
 
 pub first_left_other : (b : Bool) (k : ℕ) {xs : List ℕ} (ys : List ℕ) → xs ≡ front b k ys → (j : ℕ) → j ≢ k → times j ys ≡ times j xs
-first_left_other false k ys e j d = rw e refl
-first_left_other true k ys e j d = rw e (grind (arith, nat_tests, times-cons j k ys, d))
+first_left_other o k ys e j d = search rules
 
 pub times-filter : (p : ℕ → Bool) (k : ℕ) (xs : List ℕ) → times k (filter p xs) ≡ cond (p k) (times k xs) 0
 times-filter p k [] = grind arith
@@ -93,16 +90,14 @@ filter_same p q (x ∷ xs) h =
     rw (here, rest)
 
 pub filter-pushed : (p : ℕ → Bool) (b : Bool) (x : ℕ) (xs : List ℕ) → p x ≡ true → filter p (pushed b x xs) ≡ pushed b x (filter p xs)
-filter-pushed p false x xs h = refl
-filter-pushed p true x xs h = filter-append p xs (x ∷ []) ∙ rw h
+filter-pushed p o x xs h = search (rules, filter-append)
 
 -- what is kept without a key, whether the key passes or not
 without-first : (p : ℕ → Bool) (k : ℕ) (xs : List ℕ) → without k (filter p (k ∷ xs)) ≡ without k (filter p xs)
 without-first p k xs = search rules
 
 pub without-pushed : (p : ℕ → Bool) (b : Bool) (k : ℕ) (xs : List ℕ) → without k (filter p (pushed b k xs)) ≡ without k (filter p xs)
-without-pushed p false k xs = refl
-without-pushed p true k xs = search (rules, filter-append)
+without-pushed p o k xs = search (rules, filter-append)
 
 -- tests that agree but at one key keep the same others
 pub without-filter : (p q : ℕ → Bool) (k : ℕ) (xs : List ℕ) → ((j : ℕ) → j ≢ k → q j ≡ p j)

@@ -8,8 +8,7 @@ use Rattle.std.proofs.lemmas.List.Sums.{count_by-le-length, length-filter, sum_b
 use Rattle.portmap_ready.specs.Held.{one}
 use Rattle.portmap_ready.specs.Links.{Links, pushed, times, without}
 use Rattle.portmap_ready.specs.Runs.{AllSpare, Call, Change, ComesInOrder, ComesInTurn, Does, Line, Run, Spares, all_taken, before, change}
-use Rattle.portmap_ready.specs.Runs.{first_taken, keys_of, turn, turns, Queue, Held, Stays, Joins, Takes, Leaves, Insert, Report, Next}
-use Rattle.portmap_ready.specs.Runs.{NextPending, PutBack, Hold, Rest}
+use Rattle.portmap_ready.specs.Runs.{first_taken, keys_of, turn, turns, Stays, Joins, Takes, Leaves}
 use Rattle.portmap_ready.proofs.Times.{times-cons, times-filter}
 use Rattle.std.proofs.Common.{rules}
 use Rattle.std.proofs.lemmas.Grind.{common_steps}
@@ -73,19 +72,7 @@ one_turn k (Leaves j) old new d h s =
 module _ {T : Type 0} where
   becomes : (line : Line) (call : Call T) (old new : Links T) → Does call old new
       → Becomes (change line call) (keys_of line old) (keys_of line new)
-  becomes Queue (Insert j value) old new d = (true, ap (λ r. r.queue) d)
-  becomes Queue (Report j) old new d = search rules
-  becomes Queue (Next told) old new d = (d.0, ap (λ r. r.queue) d.1)
-  becomes Queue (PutBack j) old new d = (true, ap (λ r. r.queue) d)
-  becomes Queue (NextPending told) old new d = ap (λ r. r.queue) d.1
-  becomes Queue (Rest j) old new d = ap (λ r. r.queue) d.moved
-  becomes Queue call old new d = ap (λ r. r.queue) d
-  becomes Held (Report j) old new d = search rules
-  becomes Held (Next told) old new d = ap (λ r. r.pending) d.1
-  becomes Held (NextPending told) old new d = (d.0, ap (λ r. r.pending) d.1)
-  becomes Held (Hold j) old new d = (true, ap (λ r. r.pending) d)
-  becomes Held (Rest j) old new d = ap (λ r. r.pending) d.moved
-  becomes Held call old new d = ap (λ r. r.pending) d
+  becomes o call old new d = search rules
 
   comes : (line : Line) (k : ℕ) (calls : List (Call T)) (old new : Links T) → Run calls old new → 0 < times k (keys_of line old)
       → AllSpare line k calls
