@@ -1,6 +1,6 @@
 -- What was written is read back.
 use Rattle.std.proofs.Common.{◌≡◌, ℕ, suc, ◌+◌, ◌≤◌, Bool, true, false, cond, ltb, eqb, List, [], ◌∷◌, ◌++◌, length, Option, Some, None}
-use Rattle.std.proofs.Common.{Result, Ok, Err, refl, subst}
+use Rattle.std.proofs.Common.{Result, Ok, refl, subst}
 use Rattle.std.specs.Prelude.{IfOk, IfSome}
 use Rattle.std.proofs.lemmas.Bool.{ltb-false, eqb-true}
 use Rattle.portmap_wire.specs.Node.{Node, IsNode, fields}
@@ -14,7 +14,7 @@ use Rattle.portmap_wire.specs.declared.reply_reading.ReplyFault.TheVariants as f
 use Rattle.portmap_wire.specs.ReplyReading.{registered_answer, with_name, port2_result, port2_answer, GivesReply, IsFound}
 use Rattle.portmap_wire.specs.ReplyReading.{LookUpsAreReadBack}
 use Rattle.portmap_wire.proofs.FieldLemmas.{fields_again, fields_take}
-use Rattle.portmap_wire.proofs.RequestLaws.{guard, guard_after, name_again, name_takes}
+use Rattle.portmap_wire.proofs.RequestLaws.{guard_after, name_again, name_takes}
 use Rattle.std.proofs.Common.{rules}
 
 pub look_ups : LookUpsAreReadBack
@@ -24,22 +24,15 @@ look_ups (Some g) more is = search (rules, fields_again, name_again)
 -- ---- what is found is spelled so
 
 coded : (b : Bool) (r : Result (Option Node) ReplyFault) (g : Node) → cond b r (Ok None) ≡ Ok (Some g) → (b ≡ true) × (r ≡ Ok (Some g))
-coded true r g e = (refl, e)
-coded false r g e = absurd cc
-
-same_found : (h g : Node) → ◌≡◌ {A = Result (Option Node) ReplyFault} (Ok (Some h)) (Ok (Some g)) → h ≡ g
-same_found h g e = cc
+coded o r g e = search rules
 
 named_takes : (h g : Node) (read : Result (List ℕ) NameFault) → with_name h read ≡ Ok (Some g)
     → (n : List ℕ) × (read ≡ Ok n) × (ltb BODY_MOST (13 + length h.name + length h.extra) ≡ false) × (h ≡ g)
-named_takes h g (Ok n) e = let a = guard (ltb BODY_MOST (13 + length h.name + length h.extra)) fault.Strange (Ok (Some h)) (Some g) e in
-    (n, refl, a.0, same_found h g a.1)
-named_takes h g (Err f) e = absurd cc
+named_takes h g o e = search rules
 
 registered_takes : (o : Option (Node × List ℕ)) (g : Node) → registered_answer o ≡ Ok (Some g)
     → (f : Node × List ℕ) × (o ≡ Some f) × (with_name f.0 (name_in f.0.name) ≡ Ok (Some g))
-registered_takes None g e = absurd cc
-registered_takes (Some f) g e = (f, refl, e)
+registered_takes o g e = search rules
 
 Behind : List ℕ → Node → Type 0
 Behind rest g = IsNode g × ((more : List ℕ) × (rest ≡ fields g ++ more))
@@ -71,6 +64,4 @@ look_up_takes (tag ∷ code ∷ rest) g fits e =
 
 pub look_up_found : (q : List ℕ) (answer : Result (Option Node) ReplyFault) → IsBytes q → GivesReply answer (port2_answer q)
     → IfOk answer (λ found. IfSome found (λ g. IsFound q g))
-look_up_found q (Ok None) fits h = tt
-look_up_found q (Ok (Some g)) fits h = look_up_takes q g fits h
-look_up_found q (Err f) fits h = tt
+look_up_found q o fits h = search (rules, look_up_takes)

@@ -1,5 +1,5 @@
 -- Fields that are read are those that were written, and what was written is read again.
-use Rattle.std.proofs.Common.{◌≡◌, ℕ, ◌+◌, ◌^◌, ◌<◌, ◌≤◌, Bool, true, false, cond, ltb, List, [], ◌∷◌, ◌++◌, length, get_or, take, drop}
+use Rattle.std.proofs.Common.{◌≡◌, ℕ, ◌+◌, ◌^◌, ◌<◌, ◌≤◌, Bool, false, cond, ltb, List, [], ◌∷◌, ◌++◌, length, get_or, take, drop}
 use Rattle.std.proofs.Common.{Option, Some, None, refl, sym, ap, subst, ◌∙◌, arith, append_assoc}
 use Rattle.std.specs.Int.{w16, from_be_bytes}
 use Rattle.std.proofs.lemmas.Bool.{ltb-false}
@@ -20,8 +20,7 @@ pub record FitsFields (g : Node) : Type 0 where
   pub low : g.low < 2 ^ 16
 
 pub guard_none : {A : Type 0} (b : Bool) (o : Option A) (y : A) → cond b None o ≡ Some y → (b ≡ false) × (o ≡ Some y)
-guard_none true o y e = absurd cc
-guard_none false o y e = (refl, e)
+guard_none o x y e = search rules
 
 pub some_is : {A : Type 0} (x y : A) → Some x ≡ Some y → x ≡ y
 some_is x y e = cc
@@ -42,11 +41,7 @@ pub u16_below : (q : List ℕ) (i : ℕ) → IsBytes q → u16_in q i < 2 ^ 16
 u16_below q i fits = let h : IsBytes (take 2 (drop i q)) = in_part 2 i q fits in omega (arith, h 0, h 1)
 
 pair : (q : List ℕ) → 4 ≤ length q → get_or q 2 0 ∷ get_or q 3 0 ∷ [] ≡ take 2 (drop 2 q)
-pair [] long = absurd (omega arith)
-pair (a ∷ []) long = absurd (omega arith)
-pair (a ∷ b ∷ []) long = absurd (omega arith)
-pair (a ∷ b ∷ c ∷ []) long = absurd (omega arith)
-pair (a ∷ b ∷ c ∷ d ∷ q) long = refl
+pair o long = search rules
 
 regroup : (a b c d e n f x r : List ℕ) → (a ++ b ++ c ++ d ++ e ++ n ++ f ++ x) ++ r
     ≡ a ++ (b ++ (c ++ (d ++ (e ++ (n ++ (f ++ (x ++ r)))))))

@@ -23,30 +23,22 @@ use Rattle.std.proofs.Common.{rules}
 
 -- which way a test went, where one way fails
 pub guard : {A E : Type 0} (b : Bool) (d : E) (r : Result A E) (y : A) → cond b (Err d) r ≡ Ok y → (b ≡ false) × (r ≡ Ok y)
-guard true d r y e = absurd cc
-guard false d r y e = (refl, e)
+guard o d r y e = search rules
 
 pub guard_after : {A E : Type 0} (b : Bool) (d : E) (r : Result A E) (y : A) → cond b r (Err d) ≡ Ok y → (b ≡ true) × (r ≡ Ok y)
-guard_after true d r y e = (refl, e)
-guard_after false d r y e = absurd cc
+guard_after o d r y e = search rules
 
 -- which way a test went
 chosen : {A : Type 0} (b : Bool) (x y z : A) → cond b x y ≡ z → ((b ≡ true) × (x ≡ z)) ⊎ ((b ≡ false) × (y ≡ z))
-chosen true x y z e = inl (refl, e)
-chosen false x y z e = inr (refl, e)
+chosen o x y z e = search rules
 
 -- ---- names
-
-scanned : (bytes n : List ℕ) (o : Option ℕ) → unless_found o bytes ≡ Ok n → (None ≡ o) × (bytes ≡ n)
-scanned bytes n None e = (refl, cc)
-scanned bytes n (Some at) e = absurd cc
 
 pub name_takes : (bytes n : List ℕ) → IsBytes bytes → name_in bytes ≡ Ok n → (bytes ≡ n) × IsName bytes
 name_takes bytes n fits e = search (rules, is_name)
 
 unscanned : (bytes : List ℕ) (o : Option ℕ) → o ≡ position is_control bytes → IsName bytes → unless_found o bytes ≡ Ok bytes
-unscanned bytes None e name = refl
-unscanned bytes (Some at) e name = absurd (no_control bytes at e name)
+unscanned bytes o e name = search (rules, no_control)
 
 pub name_again : (bytes : List ℕ) → IsName bytes → name_in bytes ≡ Ok bytes
 name_again bytes name = search (rules, unscanned)
@@ -58,17 +50,11 @@ IsBytes-rest b bytes h i = h (suc i)
 
 named_takes : (make : List ℕ → Request) (read : Result (List ℕ) NameFault) (r : Request) → named make read ≡ Ok r
     → (n : List ℕ) × (read ≡ Ok n) × (make n ≡ r)
-named_takes make (Ok n) r e = (n, refl, cc)
-named_takes make (Err f) r e = absurd cc
-
-alone_takes : (only r : Request) (rest : List ℕ) → alone only rest ≡ Ok r → (rest ≡ []) × (only ≡ r)
-alone_takes only r [] e = (refl, cc)
-alone_takes only r (b ∷ bs) e = absurd cc
+named_takes make o r e = search rules
 
 with_name_takes : (g : Node) (read : Result (List ℕ) NameFault) (r : Request) → with_name g read ≡ Ok r
     → (n : List ℕ) × (read ≡ Ok n) × (Alive g ≡ r)
-with_name_takes g (Ok n) r e = (n, refl, cc)
-with_name_takes g (Err f) r e = absurd cc
+with_name_takes g o r e = search rules
 
 filled_takes : (o : Option (Node × List ℕ)) (r : Request) → filled o ≡ Ok r
     → (f : Node × List ℕ) × (o ≡ Some f) × (f.1 ≡ []) × (with_name f.0 (name_in f.0.name) ≡ Ok r)
@@ -157,8 +143,7 @@ request_again (Stop n) is = rw (name_again n is) refl
 
 pub found : (body : List ℕ) (answer : Result Request Malformed) → IsBytes body → Gives answer (request_in body)
     → IfOk answer (λ r. Spells body r)
-found body (Ok r) fits h = request_takes body r fits h
-found body (Err e) fits h = tt
+found body o fits h = search (rules, request_takes)
 
 -- a spelled body is read
 spelled_is_read : (body : List ℕ) (r : Request) → Spells body r → request_in body ≡ Ok r
