@@ -1,25 +1,20 @@
 -- Where the port mapper ends and what comes of it then, the limits that a run keeps, and a connection that holds its name,
 -- whose time is over.
-use Rattle.std.proofs.Common.{◌≡◌, ℕ, Bool, true, false, List, [], refl, sym, ap, ◌∙◌}
+use Rattle.std.proofs.Common.{◌≡◌, ℕ, Bool, true, false, List, []}
 use Rattle.std.specs.Prelude.{not, ◌||◌}
 use Rattle.std.proofs.lemmas.Bool.{cond_both}
 use Rattle.std.proofs.lemmas.List.{nil_from_length}
-use Rattle.portmap_feed.specs.Stream.{first_request}
 use Rattle.portmap_wire.specs.declared.request.Request.{Request}
-use Rattle.portmap_wire.specs.declared.request.Request.TheVariants.{Alive, Port, Dump, Kill, Stop}
-use Rattle.portmap_wire.specs.declared.request.Request.TheVariants as request
 use Rattle.portmap_table.specs.Rows.{Names}
 use Rattle.portmap_core.specs.Config.{Configuration}
 use Rattle.portmap_core.specs.State.{State, empty_state}
-use Rattle.portmap_core.specs.Entry.{Closed, Connected, Faulted, Late, Piece}
-use Rattle.portmap_core.specs.Serving.{Served, closed, dump_served, if_local, kill_served}
+use Rattle.portmap_core.specs.Serving.{Served, closed, if_local, kill_served}
 use Rattle.portmap_core.specs.Serving.{replied, served}
 use Rattle.portmap_core.specs.Step.{halted_by}
 use Rattle.portmap_core.specs.Owned.{IsOwned}
 use Rattle.portmap_core.specs.Laws.{EndsAreFinal, EndsLeaveNoName, HoldersOutlastTheirTime, KeepsLimits, RunsKeepLimits}
 use Rattle.portmap_core.proofs.Owned.{owned_empty}
 use Rattle.portmap_core.proofs.Runs.{run_owned}
-use Rattle.portmap_core.proofs.Waits.{says_leads, told_by}
 use Rattle.std.proofs.Common.{rules}
 
 pub ends_are_final : EndsAreFinal
@@ -39,8 +34,7 @@ replies names reply ended = absurd cc
 
 -- where it may end although names are active, its checks are relaxed
 none_left : (empty relaxed : Bool) → (empty || relaxed) ≡ true → relaxed ≡ false → empty ≡ true
-none_left true relaxed may strict = refl
-none_left false relaxed may strict = sym strict ∙ may
+none_left o relaxed may strict = search rules
 
 kills : (cfg : Configuration) (names : Names) → cfg.relaxed ≡ false → LeavesNone names (kill_served cfg names)
 kills cfg names strict = search (rules, nil_from_length)
@@ -50,27 +44,10 @@ if_near local names told h = cond_both (not local) (closed names) told (LeavesNo
 
 module _ (cfg : Configuration) (names : Names) (local : Bool) (slot : ℕ) (strict : cfg.relaxed ≡ false) where
   serves_on : (request : Request) (creation : ℕ) → LeavesNone names (served cfg names local slot request creation)
-  serves_on (Alive g) creation = search rules
-  serves_on (Port name) creation = λ ended. absurd cc
-  serves_on request.Names creation = λ ended. absurd cc
-  serves_on Dump creation = if_near local names (dump_served cfg names) (λ ended. absurd cc)
-  serves_on Kill creation = if_near local names (kill_served cfg names) (kills cfg names strict)
-  serves_on (Stop name) creation = search rules
-
--- it does not end where it ran before and nothing changes that
-runs_on : (s s' : State) → s.halted ≡ false → s'.halted ≡ s.halted → s'.halted ≡ true → s.names.active ≡ []
-runs_on s s' runs same ended = absurd (let both : false ≡ true = sym runs ∙ sym same ∙ ended in cc)
+  serves_on o creation = search (rules, kills)
 
 pub ends_leave_no_name : EndsLeaveNoName
-ends_leave_no_name cfg s s' (Connected local slot) strict step ended = search rules
-ends_leave_no_name cfg s s' (Piece slot piece reply fate) strict step ended =
-    says_leads (λ x. x.halted ≡ true → s.names.active ≡ []) step.moves (runs_on s s step.runs refl) (λ connection received o told ended.
-    told_by cfg s.names connection.local slot (LeavesNone s.names) received (first_request received) o (λ more ended. absurd cc)
-    (replies s.names []) (λ request creation _. serves_on cfg s.names connection.local slot strict request creation) told
-    (ap (λ (b : Bool). halted_by o.fate b) (sym step.runs) ∙ ended)) ended
-ends_leave_no_name cfg s s' (Closed slot) strict step ended = runs_on s s' step.runs (ap (λ (x : State). x.halted) step.moves.after) ended
-ends_leave_no_name cfg s s' (Faulted slot) strict step ended = runs_on s s' step.runs (ap (λ (x : State). x.halted) step.moves.after) ended
-ends_leave_no_name cfg s s' (Late slot fate) strict step ended = search rules
+ends_leave_no_name cfg s s' o strict step ended = search (rules, serves_on)
 
 -- ---- limits
 

@@ -1,5 +1,5 @@
 -- Names and open connections that go together, slot by slot and in lists.
-use Rattle.std.proofs.Common.{◌≡◌, ℕ, Bool, true, false, List, [], ◌∷◌, get_or, Option, Some, None, refl, sym, ap, subst, ◌∙◌, eq-eqb}
+use Rattle.std.proofs.Common.{◌≡◌, ℕ, Bool, true, List, [], ◌∷◌, get_or, Option, Some, refl, sym, ap, subst, ◌∙◌, eq-eqb}
 use Rattle.std.proofs.Common.{eqb-true, inl, inr, IfSome}
 use Rattle.std.specs.Prelude.{All, IsSome}
 use Rattle.std.specs.FinMap as map
@@ -30,13 +30,10 @@ found_has P q (x ∷ held) each = elim (cases_eq q x.slot) [
 
 slot_by : (owns : Bool) (o : Option Connection) → IfSome o (λ connection. IsSlotFor owns (Some connection)) → (owns ≡ true → IsSome o)
     → IsSlotFor owns o
-slot_by owns (Some connection) has some = has
-slot_by true None has some = sym (some refl)
-slot_by false None has some = refl
+slot_by o x has some = search rules
 
 is_open : (owns : Bool) (o : Option Connection) → owns ≡ true → IsSlotFor owns o → IsSome o
-is_open owns None e has = absurd cc
-is_open owns (Some connection) e has = refl
+is_open o x e has = search rules
 
 abbrev AreOpen : ConnectionMap → List Row → Type 0
 AreOpen connections rows = All (λ row. IsSome (map.get connections row.slot)) rows

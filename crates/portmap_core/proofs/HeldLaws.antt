@@ -32,8 +32,7 @@ any_held = record { slot = 0; local = true; phase = Waiting; bytes = [] }
 -- ---- order
 
 pub parts : (a b : Bool) → T (a && b) → T a × T b
-parts true b p = (tt, p)
-parts false b p = absurd p
+parts o b p = search rules
 
 behind : (x : HeldValue) (held : List HeldValue) → SlotsRise (entries_held (x ∷ held)) → SlotsRise (entries_held held)
 behind x held rise = (parts _ _ rise).1
@@ -250,8 +249,7 @@ abbrev told_by : ℕ × Connection → HeldValue
 told_by e = record { slot = e.0; local = e.1.local; phase = phase_of_stage e.1.stage; bytes = bytes_kept e.1.stage }
 
 told_stage : (p : Phase) (a : List ℕ) → IsKeptFor p a → (phase_of_stage (stage_held p a) ≡ p) × (bytes_kept (stage_held p a) ≡ a)
-told_stage Waiting a empty = (refl, refl)
-told_stage p a empty = (refl, sym empty)
+told_stage p a empty = search rules
 
 told_all : (held : List HeldValue) → All IsHeld held → list_map told_by (entries_held held) ≡ held
 told_all [] each = refl

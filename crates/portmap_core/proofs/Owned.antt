@@ -80,8 +80,7 @@ len_fresh connections slot connection e = map.len-insert nat_cmp_total connectio
     ∙ ap (λ (o : Option Connection). cond (is_some o) (map.len connections) (map.len connections + 1)) e
 
 fewer : (b : Bool) (n : ℕ) → cond b (n - 1) n ≤ n
-fewer true n = omega arith
-fewer false n = omega arith
+fewer o n = search rules
 
 pub len_less : (connections : ConnectionMap) (slot : ℕ) → map.len (map.remove connections slot) ≤ map.len connections
 len_less connections slot = rw (map.len-remove nat_cmp_total connections slot)
@@ -117,8 +116,7 @@ module _ {cfg : Configuration} {s : State} (owned : IsOwned cfg s) (owner : ℕ)
 
 pub ended_len : (connections : ConnectionMap) (owner : ℕ) (o : Option Connection) → map.get connections owner ≡ o
     → map.len (ended_at owner o connections) ≡ map.len connections
-ended_len connections owner None e = refl
-ended_len connections owner (Some connection) e = len_open connections owner (at_stage connection Done) connection e
+ended_len connections owner o e = search (rules, len_open)
 
 waiting_free : (b : Bool) (o : Option Connection) (w : WaitsAt) → o ≡ Some w.connection → IsSlotFor b o → b ≡ false
 waiting_free b o w here h = search rules
@@ -179,8 +177,7 @@ module _ (w : WaitsAt) (owned : IsOwned w.config w.state) where
   KeepsBy P o = (o.stage ≡ Holding → P) → IsOwned cfg (settled s slot connection o)
 
   keeps_by : (P : Type 0) (b : Bool) (x y : Served) → (b ≡ true → KeepsBy P x) → (b ≡ false → KeepsBy P y) → KeepsBy P (cond b x y)
-  keeps_by P true x y f g = f refl
-  keeps_by P false x y f g = g refl
+  keeps_by o x y h f g = search rules
 
   local_owned : (P : Type 0) (told : Served) → (connection.local ≡ true → KeepsBy P told)
       → KeepsBy P (if_local connection.local s.names told)

@@ -1,6 +1,6 @@
 -- Names after a run and after a malformed request, and what is seen of a request that was written.
-use Rattle.std.proofs.Common.{◌≡◌, ℕ, ◌+◌, ◌<◌, ◌≤◌, Bool, true, false, List, [], ◌∷◌, ◌++◌, length, Option, Some}
-use Rattle.std.proofs.Common.{None, refl, sym, subst, arith, length-append}
+use Rattle.std.proofs.Common.{◌≡◌, ℕ, ◌+◌, ◌<◌, ◌≤◌, Bool, true, List, [], ◌∷◌, ◌++◌, length, Option, Some}
+use Rattle.std.proofs.Common.{refl, sym, subst, arith, length-append}
 use Rattle.std.specs.FinMap as map
 use Rattle.std.proofs.Math.Seq.{take-append_seam}
 use Rattle.portmap_feed.specs.Stream.{Whole, first_request, sight_behind}
@@ -8,15 +8,13 @@ use Rattle.portmap_wire.specs.Node.{Node, fields, be2}
 use Rattle.portmap_wire.specs.Request.{body_of, IsRequest}
 use Rattle.portmap_wire.specs.declared.request.TheConstants.{BODY_MOST}
 use Rattle.portmap_wire.specs.declared.request.Request.{Request}
-use Rattle.portmap_wire.specs.declared.request.Request.TheVariants.{Alive, Port, Dump, Kill, Stop}
-use Rattle.portmap_wire.specs.declared.request.Request.TheVariants as request
 use Rattle.std.proofs.lemmas.Map.Keys.{apart_from_distinct}
 use Rattle.std.specs.Prelude.{◌==◌}
 use Rattle.portmap_table.specs.Rows.{owns_name, known_names, same_name}
 use Rattle.portmap_table.proofs.Owners.{owner_owns}
 use Rattle.portmap_core.specs.declared.connection.Connection.{Connection}
 use Rattle.portmap_core.specs.declared.connection.Stage.{Stage}
-use Rattle.portmap_core.specs.declared.connection.Stage.TheVariants.{Waiting, Holding, Done}
+use Rattle.portmap_core.specs.declared.connection.Stage.TheVariants.{Holding}
 use Rattle.portmap_core.specs.Config.{Configuration}
 use Rattle.portmap_core.specs.State.{State}
 use Rattle.portmap_core.specs.Entry.{Entry}
@@ -44,14 +42,11 @@ run_owned cfg [] s s' owned run = subst (λ (x : State). IsOwned cfg x) (sym run
 run_owned cfg (e ∷ es) s s' owned run = run_owned cfg es run.0 s' (steps_keep cfg s run.0 e owned run.1) run.2
 
 holding : (b local : Bool) (stage : Stage) → b ≡ true → IsStageFor b local stage → stage ≡ Holding
-holding b local (Waiting received) e h = absurd (let other : b ≡ false = h.0 in cc)
-holding b local Holding e h = refl
-holding b local Done e h = absurd (let other : b ≡ false = h in cc)
+holding b local o e h = search rules
 
 holder : (b : Bool) (o : Option Connection) → b ≡ true → IsSlotFor b o
     → (connection : Connection) × (o ≡ Some connection) × (connection.stage ≡ Holding) × (connection.local ≡ true)
-holder b None e h = absurd (let other : b ≡ false = h in cc)
-holder b (Some connection) e h = search rules
+holder b o e h = search rules
 
 belongs : (cfg : Configuration) (s : State) → IsOwned cfg s → NamesBelong s
 belongs cfg s owned = record {
@@ -75,12 +70,7 @@ length-fields : (g : Node) → length (fields g) ≡ 12 + length g.name + length
 length-fields g = omega (arith, length-append (g.name ++ be2 (length g.extra)) g.extra, length-append g.name (be2 (length g.extra)))
 
 body_len : (r : Request) → IsRequest r → (0 < length (body_of r)) × (length (body_of r) ≤ BODY_MOST)
-body_len (Alive g) is = (omega arith, omega (arith, length-fields g, is.fits))
-body_len (Port name) is = (omega arith, omega (arith, is.short))
-body_len request.Names is = (omega arith, omega arith)
-body_len Dump is = (omega arith, omega arith)
-body_len Kill is = (omega arith, omega arith)
-body_len (Stop name) is = (omega arith, omega (arith, is.short))
+body_len o is = search (rules, length-fields)
 
 -- a body behind its length
 whole_behind : (body more : List ℕ) (n : ℕ) → n ≡ length body → 0 < length body → length body ≤ BODY_MOST

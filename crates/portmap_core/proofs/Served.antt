@@ -1,5 +1,5 @@
 -- What is served, as the code tells it before anything is changed.
-use Rattle.std.proofs.Common.{◌≡◌, ℕ, Bool, true, false, cond, List, Option, Some, None, refl, sym, ap, subst, ◌∙◌, inl, inr, Result}
+use Rattle.std.proofs.Common.{◌≡◌, ℕ, Bool, true, false, cond, List, Option, Some, None, sym, ap, subst, ◌∙◌, inl, inr, Result}
 use Rattle.std.specs.Prelude.{IfOk, if◌then◌else◌}
 use Rattle.std.proofs.lemmas.Result.{IfOk-weaker}
 use Rattle.portmap_feed.specs.Stream.{Sight, More, Zero, TooLarge, Whole, body_in, first_request, kept}
@@ -30,17 +30,14 @@ use Rattle.std.proofs.Common.{rules}
 -- ---- a registration, by how its name stands
 
 second : {X : Type 0} (b : Bool) (x y : X) → b ≡ false → cond b x y ≡ y
-second true x y e = absurd cc
-second false x y e = refl
+second o x y e = search rules
 
 abbrev stands : Bool → Bool → Option ℕ → Standing
 stands taken full last = if taken then how.Active else if full then how.NoRoom else how.Free last
 
 is_free : (taken full : Bool) (last free : Option ℕ) → stands taken full last ≡ how.Free free
     → (taken ≡ false) × (full ≡ false) × (free ≡ last)
-is_free true full last free e = absurd cc
-is_free false true last free e = absurd cc
-is_free false false last free e = (refl, refl, let same : free ≡ last = cc in same)
+is_free o full last free e = search rules
 
 -- ---- a request
 
@@ -67,9 +64,7 @@ module _ {E : Type 0} (asked : Asked) where
 
 -- a registration for which there is no room
 is_full : (taken full : Bool) (last : Option ℕ) → stands taken full last ≡ how.NoRoom → (taken ≡ false) × (full ≡ true)
-is_full true full last e = absurd cc
-is_full false true last e = (refl, refl)
-is_full false false last e = absurd cc
+is_full o full last e = search rules
 
 -- what is told so
 pub record Refuses (asked : Asked) (g : Node) (told : Response) : Type 0 where

@@ -1,5 +1,5 @@
 -- A name that becomes active gets another creation than the one that was remembered for it.
-use Rattle.std.proofs.Common.{◌≡◌, ◌≢◌, ℕ, zero, suc, Bool, List, [], ◌∷◌, Option, Some, None, refl, sym, ap, subst, ◌∙◌, inl}
+use Rattle.std.proofs.Common.{◌≡◌, ◌≢◌, ℕ, zero, suc, Bool, List, [], ◌∷◌, Option, Some, None, sym, ap, subst, ◌∙◌, inl}
 use Rattle.std.proofs.Common.{inr}
 use Rattle.std.specs.Prelude.{find, not, remove, slice_get}
 use Rattle.std.proofs.lemmas.Bool.{cases_Bool, cond_both}
@@ -46,13 +46,11 @@ none_without p (y ∷ ys) (suc at) x e none = (none.0, none_without p ys at x e 
 
 retired_last_none : (name : List ℕ) (names : Names) (at : ℕ) (o : Option Row) → slice_get names.active at ≡ o
     → active_row name names ≡ None → active_row name (retired_last at o names) ≡ None
-retired_last_none name names at None e none = none
-retired_last_none name names at (Some row) e none = search (rules, finds_none, none_found, none_without)
+retired_last_none name names at o e none = search (rules, finds_none, none_found, none_without)
 
 retired_at_none : (name : List ℕ) (names : Names) (o : Option ℕ) → active_row name names ≡ None
     → active_row name (retired_at o names) ≡ None
-retired_at_none name names None none = none
-retired_at_none name names (Some at) none = retired_last_none name names at (slice_get names.active at) refl none
+retired_at_none name names o none = search (rules, retired_last_none)
 
 retires : (names : Names) (slot : ℕ) → TakesNew names (retired_of slot names)
 retires names slot = search (rules, retired_at_none)
@@ -80,8 +78,7 @@ if_near : (P : Type 0) (local : Bool) (names : Names) (told : Served) → TakesB
 if_near P local names told h = cond_both (not local) (closed names) told (TakesBy P names) (λ _ _. stays names) (λ _. h)
 
 stops_new : (P : Type 0) (names : Names) (owner : Option ℕ) → TakesBy P names (stops names owner)
-stops_new P names None = λ _. stays names
-stops_new P names (Some owner) = λ _. retires names owner
+stops_new o names x = search (rules, retires)
 
 module _ (cfg : Configuration) (names : Names) (local : Bool) (slot : ℕ) where
   serves_new : (request : Request) (creation : ℕ)

@@ -1,7 +1,7 @@
 -- A connection that waits in a slot, and what is said of a piece there.
-use Rattle.std.proofs.Common.{◌≡◌, ℕ, Bool, List, ◌++◌, Some, refl, sym, subst, inl, inr}
+use Rattle.std.proofs.Common.{◌≡◌, ℕ, Bool, List, ◌++◌, Some}
 use Rattle.std.specs.FinMap as map
-use Rattle.portmap_feed.specs.Stream.{Sight, More, Zero, TooLarge, Whole, first_request}
+use Rattle.portmap_feed.specs.Stream.{Sight, More}
 use Rattle.portmap_wire.specs.declared.request.Request.{Request}
 use Rattle.portmap_table.specs.Rows.{Names}
 use Rattle.portmap_core.specs.declared.event.Fate.{Fate}
@@ -45,21 +45,10 @@ module _ (cfg : Configuration) (names : Names) (local : Bool) (slot : ℕ) (P : 
       → ((served cfg names local slot request creation).stage ≡ Holding → MayTake names request creation)
       → P (served cfg names local slot request creation))
       → ToldAt cfg names local slot received sight o → P o
-  told_by received More o waits refused each told = subst P (sym told) (waits refl)
-  told_by received Zero o waits refused each told = subst P (sym told) refused
-  told_by received (TooLarge n) o waits refused each told = subst P (sym told) refused
-  told_by received (Whole body) o waits refused each (inl p) = search rules
-  told_by received (Whole body) o waits refused each (inr p) = subst P (sym p.is) refused
+  told_by received o x waits refused each told = search rules
 
 -- what holds of a state, and where a connection was told something, holds after a piece, and after a time-out
 module _ (P : State → Type 0) where
-  pub says_leads : {cfg : Configuration} {s after : State} {slot : ℕ} {piece reply : List ℕ} {fate : Fate}
-      → Says cfg s slot piece reply fate after → P s
-      → ((connection : Connection) (received : List ℕ) (o : Served)
-      → ToldAt cfg s.names connection.local slot received (first_request received) o → P (settled s slot connection o))
-      → P after
-  says_leads {cfg} {s} {after} {slot} {piece} {reply} {fate} says same each = search rules
-
   pub expires_leads : {s after : State} {slot : ℕ} {fate : Fate} → Expires s slot fate after → P s
       → ((connection : Connection) → P (settled s slot connection (closed s.names))) → P after
   expires_leads {s} {after} {slot} expires same each = search rules
