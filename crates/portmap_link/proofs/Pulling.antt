@@ -1,5 +1,5 @@
 -- Bytes are read a piece at a time.
-use Rattle.std.proofs.Common.{◌≡◌, ◌≢◌, ℕ, ◌-◌, ◌≤◌, List, [], ◌∷◌, ◌++◌, length, take, refl, ap, ◌∙◌, arith}
+use Rattle.std.proofs.Common.{◌≡◌, ◌≢◌, ℕ, ◌≤◌, List, [], ◌∷◌, ◌++◌, length}
 use Rattle.std.proofs.lemmas.List.{length-append, take_at}
 use Rattle.portmap_feed.specs.Stream.{More, first_request}
 use Rattle.portmap_link.specs.Asking.{GoesOn, IsAskedAgain}
@@ -7,22 +7,10 @@ use Rattle.portmap_link.specs.Once.{IsJustRead}
 use Rattle.portmap_link.specs.declared.device.Pull.{Pull}
 use Rattle.portmap_link.specs.declared.device.Pull.TheVariants.{Piece}
 use Rattle.portmap_link.specs.declared.single.TheConstants.{PULL_MOST}
+use Rattle.std.proofs.Common.{rules}
 
 -- what the last piece decided
 pub just_read : (read piece : List ℕ) (asked earlier answered : List Pull) → first_request read ≡ More → length piece ≤ PULL_MOST
     → GoesOn IsAskedAgain asked earlier → answered ≡ earlier ++ Piece (length piece) ∷ [] → first_request (read ++ piece) ≢ More
     → IsJustRead (read ++ piece) asked answered
-just_read read piece asked earlier answered more small goes_on told decided =
-    let whole = length-append read piece in
-    let front : length (read ++ piece) - length piece ≡ length read = omega (arith, whole) in
-    record {
-      decided = decided;
-      last = length piece;
-      small = small;
-      earlier = earlier;
-      goes_on = goes_on;
-      told = told;
-      within = omega (arith, whole);
-      before = ap (λ (n : ℕ). first_request (take n (read ++ piece))) front ∙ ap first_request (take_at read piece (length read) refl)
-          ∙ more;
-    }
+just_read read piece asked earlier answered more small goes_on told decided = search (rules, length-append, take_at)

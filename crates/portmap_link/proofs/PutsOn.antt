@@ -1,5 +1,5 @@
 -- Bytes are put under a limit.
-use Rattle.std.proofs.Common.{◌≡◌, ◌≢◌, ℕ, ◌+◌, ◌-◌, ◌<◌, ◌≤◌, ◌↔◌, List, [], ◌∷◌, ◌++◌, length, map, sum, cond, refl, sym, ap, subst, ◌∙◌}
+use Rattle.std.proofs.Common.{◌≡◌, ◌≢◌, ℕ, ◌+◌, ◌-◌, ◌<◌, ◌≤◌, ◌↔◌, List, [], ◌∷◌, ◌++◌, length, map, sum, cond, refl, ap, subst, ◌∙◌}
 use Rattle.std.proofs.Common.{append_assoc, append-nil, arith}
 use Rattle.std.specs.Prelude.{count_by}
 use Rattle.std.specs.List.{AllByRecursion}
@@ -7,13 +7,15 @@ use Rattle.std.proofs.lemmas.List.{length-append}
 use Rattle.std.proofs.lemmas.List.Sums.{sum_by-append, sum_by-cons}
 use Rattle.portmap_link.specs.Asking.{GoesOn, IsPutAgain, is_put_later}
 use Rattle.portmap_link.specs.Flush.{Sends, ending_of}
-use Rattle.portmap_link.specs.Limit.{IsDue, PutsOn, PutsSome, SendsOn, bytes_put, fault_of, left_after, left_in, puts_most}
+use Rattle.portmap_link.specs.Limit.{IsDue, PutsOn, PutsSome, SendsOn, bytes_put, fault_of, left_after, left_in}
 use Rattle.portmap_link.specs.declared.device.Put.{Put}
 use Rattle.portmap_link.specs.declared.device.Put.TheVariants.{Wrote, Later as PutLater, Fault as PutFault}
 use Rattle.portmap_link.specs.declared.outbox.Flush.{Flush}
 use Rattle.portmap_link.specs.declared.outbox.Flush.TheVariants.{Empty, Later, Fault}
 use Rattle.portmap_link.specs.declared.putting.Limit.{Limit}
 use Rattle.portmap_link.specs.declared.putting.Limit.TheVariants.{Puts, Laters}
+use Rattle.std.proofs.Common.{rules}
+use Rattle.std.proofs.lemmas.Grind.{common_steps}
 
 -- ---- one put more
 
@@ -28,10 +30,7 @@ puts_more : (limit : Limit) (size : ℕ) (added : List Put) (left : Limit) (rest
     → IsDue left rest
     → PutsSome rest answer
     → PutsOn limit size (added ++ answer ∷ []) (left_after left answer) (rest - bytes_put answer)
-puts_more limit size [] left rest answer on due some =
-    subst (λ (at : Limit × ℕ). IsDue at.0 at.1 × PutsSome at.1 answer
-    × ((left_after at.0 answer ≡ left_after left answer) × (at.1 - bytes_put answer ≡ rest - bytes_put answer)))
-    (sym (λ i. (on.0 i, on.1 i))) (due, some, (refl, refl))
+puts_more limit size [] left rest answer on due some = search rules
 puts_more limit size (first ∷ added) left rest answer on due some =
     (on.0, on.1, puts_more (left_after limit first) (size - bytes_put first) added left rest answer on.2 due some)
 
@@ -44,23 +43,11 @@ later_first answer answers = sum_by-cons (λ (p : Put). cond (is_put_later p) 1 
 
 -- no put adds to what is left of a limit
 pub left_less : (limit : Limit) (answer : Put) → left_in (left_after limit answer) ≤ left_in limit
-left_less (Puts n) answer = omega arith
-left_less (Laters n) (Wrote m) = omega arith
-left_less (Laters n) PutLater = omega arith
-left_less (Laters n) PutFault = omega arith
+left_less o answer = search rules
 
 -- a Later takes from it
 pub left_for_later : (limit : Limit) → 0 < left_in limit → 1 + left_in (left_after limit PutLater) ≡ left_in limit
-left_for_later (Puts n) some = omega (arith, some)
-left_for_later (Laters n) some = omega (arith, some)
-
--- a put leaves room for one put fewer
-pub most_after : (limit : Limit) (size : ℕ) (answer : Put) → IsDue limit size → PutsSome size answer
-    → 1 + puts_most (left_after limit answer) (size - bytes_put answer) ≤ puts_most limit size
-most_after (Puts n) size answer due some = omega (arith, due.1)
-most_after (Laters n) size (Wrote m) due some = omega (arith, some.0, some.1)
-most_after (Laters n) size PutLater due some = omega (arith, due.1)
-most_after (Laters n) size PutFault due some = absurd some
+left_for_later o some = search rules
 
 -- with a put more
 pub has_put_more : {limit : Limit} {size : ℕ} {old mid new : List Put} {count laters : ℕ} {left : Limit} (count' laters' : ℕ) (answer : Put)
@@ -111,8 +98,7 @@ pub laters_few : (n size : ℕ) (added : List Put) (left : Limit) (rest : ℕ) �
     → 0 < left_in left
 laters_few n size [] left rest some on none = let same = ap left_in on.0 in omega (arith, same, some)
 laters_few n size (Wrote m ∷ added) left rest some on none = laters_few n (size - m) added left rest some on.2 none
-laters_few n size (PutLater ∷ []) left rest some on none =
-    absurd (let all : size ≡ 0 = omega (arith, on.2.1, none) in omega (arith, all, on.0.0))
+laters_few n size (PutLater ∷ []) left rest some on none = search rules
 laters_few n size (PutLater ∷ answer ∷ added) left rest some on none =
     laters_few (n - 1) (size - 0) (answer ∷ added) left rest on.2.0.1 on.2 none
 laters_few n size (PutFault ∷ added) left rest some on none = absurd on.1
@@ -139,15 +125,7 @@ laters_end n size (Wrote m ∷ added) left rest some on none =
       last = ap (λ (t : List Put). Wrote m ∷ t) more.last;
       few = let first = later_first (Wrote m) more.before in omega (arith, first, more.few);
     }
-laters_end n size (PutLater ∷ []) left rest some on none =
-    let same = ap left_in on.2.0 in
-    record {
-      before = [];
-      left = Laters n;
-      puts_on = (refl, omega (arith, on.2.1));
-      last = refl;
-      few = omega (arith, same, none, some);
-    }
+laters_end n size (PutLater ∷ []) left rest some on none = search rules
 laters_end n size (PutLater ∷ answer ∷ added) left rest some on none =
     let more = laters_end (n - 1) (size - 0) (answer ∷ added) left rest on.2.0.1 on.2 none in
     record {
@@ -194,8 +172,7 @@ sends_then {old = old} flush within wrote answers = record {
 -- the Later behind the other puts is the last one
 ends_later : (old new added before : List Put) → new ≡ old ++ added ++ [] → added ≡ before ++ PutLater ∷ []
     → new ≡ old ++ before ++ PutLater ∷ []
-ends_later old new added before answers last =
-    answers ∙ append-nil (old ++ added) ∙ ap (λ (t : List Put). old ++ t) last ∙ sym (append_assoc old before (PutLater ∷ []))
+ends_later old new added before answers last = search (rules, append_assoc)
 
 -- a sending that ends at the first Later
 pub sends_once : {size : ℕ} {old new : List Put} {count laters : ℕ} (flush : Flush) → count ≤ size
@@ -220,9 +197,7 @@ sends_once {size} {old} {count = count} Fault within on =
 -- all was written, or not
 pub sends_whole : {limit : Limit} {size : ℕ} {old new : List Put} {count laters : ℕ} (flush : Flush) → count ≤ size
     → SendsOn limit size old new count laters flush → (flush ≡ Empty) ↔ (count ≡ size)
-sends_whole Empty within on = (λ e. omega (arith, within, on.ends), λ e. refl)
-sends_whole Later within on = (λ e. cc, λ e. absurd (omega (arith, e, on.ends.0)))
-sends_whole Fault within on = (λ e. cc, λ e. absurd (omega (arith, e, on.ends.0)))
+sends_whole o within on = search rules
 
 -- where some was not written, something is left
 pub sends_part : {limit : Limit} {size : ℕ} {old new : List Put} {count laters : ℕ} (flush : Flush) → count ≤ size
@@ -248,24 +223,11 @@ sends_again {limit} {size} {old} {count = count} flush whole on = record {
 
 -- ---- Laters of a sending
 
-no_later : (flush : Flush) → count_by is_put_later (fault_of flush) ≡ 0
-no_later Empty = refl
-no_later Later = refl
-no_later Fault = refl
-
 -- as many were met as are told
 pub sends_laters : {limit : Limit} {size : ℕ} {old new : List Put} {count laters : ℕ} {flush : Flush}
     → SendsOn limit size old new count laters flush
     → count_by is_put_later new ≡ count_by is_put_later old + laters
-sends_laters {old = old} {flush = flush} on =
-    omega (
-      arith,
-      ap (count_by is_put_later) on.answers,
-      both_laters (old ++ on.added) (fault_of flush),
-      both_laters old on.added,
-      no_later flush,
-      on.met,
-    )
+sends_laters {old = old} {flush = flush} on = grind (arith, common_steps)
 
 -- how many they are where so many end a sending
 abbrev pub LatersAt : ℕ → ℕ → Flush → Type 0

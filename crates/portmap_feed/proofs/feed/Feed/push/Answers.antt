@@ -1,8 +1,7 @@
 use Rattle.std.proofs.Common.{◌≡◌, ◌≤◌, List, ℕ, ◌++◌, vec_capacity, ap, sym, ◌∙◌, arith, rules}
 use Rattle.portmap_feed.specs.Seen.{seen_of}
-use Rattle.portmap_feed.specs.declared.feed.Seen.TheVariants as seen
-use Rattle.portmap_feed.specs.Stream.{More, first_request, kept, room}
-use Rattle.portmap_feed.proofs.StreamLaws.{kept-append_kept, kept-kept, first_request-kept, kept_more, more_seen, room-kept}
+use Rattle.portmap_feed.specs.Stream.{first_request, kept, room}
+use Rattle.portmap_feed.proofs.StreamLaws.{kept-append_kept, kept-kept, first_request-kept, kept_more, room-kept}
 use Rattle.portmap_feed.proofs.feed.Feed.push.Goals as goal
 
 -- the bytes that are held after the push
@@ -21,8 +20,7 @@ invariant_of-self-2 c =
 -- the same, from all the bytes received
 held_of_all : (c : goal.After-seen_in) (received : List ℕ) → c.args.self.now ≡ kept received
     → c.extend_from_slice.new.self.items ≡ kept (received ++ c.args.piece.now)
-held_of_all c received was = held_now c ∙ ap (λ (bytes : List ℕ). kept (bytes ++ c.args.piece.now)) was
-    ∙ kept-append_kept received c.args.piece.now
+held_of_all c received was = search (rules, kept-append_kept)
 
 pub returns-clause-seen : goal.returns-clause-seen
 returns-clause-seen c = λ received was. answer_now c ∙ ap (λ (bytes : List ℕ). seen_of (first_request bytes)) (held_of_all c received was)
@@ -35,7 +33,4 @@ pub returns-clause-joined : goal.returns-clause-joined
 returns-clause-joined c = ap first_request (held_now c) ∙ first_request-kept _
 
 pub returns-clause-more : goal.returns-clause-more
-returns-clause-more c = λ is_more.
-    let answered : c.seen_in.result ≡ seen.More = cc in
-    let seen_more : first_request c.extend_from_slice.new.self.items ≡ More = more_seen _ (sym (answer_now c) ∙ answered) in
-    held_now c ∙ kept_more _ (sym (first_request-kept _) ∙ ap first_request (sym (held_now c)) ∙ seen_more)
+returns-clause-more c = search (rules, first_request-kept, kept_more)
