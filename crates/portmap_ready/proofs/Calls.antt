@@ -32,9 +32,6 @@ not_key_here k o = search rules
 pub not_key_other : (k j : ℕ) (t : Option ℕ) → j ≢ k → is_key (not_key k t) j ≡ is_key t j
 not_key_other k j o d = search rules
 
-key_is : (t : Option ℕ) (k : ℕ) → (is_key t k ≡ true) ↔ (t ≡ Some k)
-key_is o k = search rules
-
 less : (b : Bool) (n : ℕ) → cond b (n - 1) n ≡ n - one b
 less o n = search rules
 

@@ -1,12 +1,12 @@
 -- What a change of one says of where it stands: lemmas.
-use Rattle.std.proofs.Common.{◌≡◌, ◌+◌, Bool, true, false, ◌&&◌, ◌||◌, not, Option, Some, None, is_some}
+use Rattle.std.proofs.Common.{◌≡◌, ◌+◌, Bool, true, false, Option, Some, None, is_some}
 use Rattle.std.specs.Prelude.{option_map}
 use Rattle.portmap_ready.specs.declared.Held.{Held}
 use Rattle.portmap_ready.specs.declared.Place.{Place}
-use Rattle.portmap_ready.specs.declared.Place.TheVariants.{Idle, Told}
+use Rattle.portmap_ready.specs.declared.Place.TheVariants.{Told}
 use Rattle.portmap_ready.specs.Links.{is_queued, is_pending, is_resting, is_told}
 use Rattle.portmap_ready.specs.Held.{is_free}
-use Rattle.portmap_ready.specs.Held.{Marks, one, left, woken, is_idle, may_stand, link_of, is_live, rests, marks_of, is_fine, placed}
+use Rattle.portmap_ready.specs.Held.{Marks, one, woken, link_of, is_live, rests, marks_of, is_fine, placed}
 use Rattle.portmap_ready.specs.Held.{is_out, taken, unlisted, cleared, tidied}
 use Rattle.std.proofs.Common.{rules}
 
@@ -15,41 +15,12 @@ use Rattle.std.proofs.Common.{rules}
 pub marks_is : (m n : Marks) → m.queue ≡ n.queue → m.pending ≡ n.pending → m.resting ≡ n.resting → m.told ≡ n.told → m ≡ n
 marks_is m n a b c d = λ i. record { queue = a i; pending = b i; resting = c i; told = d i }
 
-fine_placed : (p : Place) (b : Bool) → may_stand p true (b || is_resting p) ≡ true
-fine_placed p b = search rules
-
-one_listed : (x b : Bool) → one b + one (x && not b) ≡ one (b || x)
-one_listed o x = search rules
-
-woken_marks : (p : Place)
-    → (is_queued (woken p) ≡ is_queued p) × (is_pending (woken p) ≡ is_pending p) × (is_told (woken p) ≡ is_told p) ×
-    (is_resting (woken p) ≡ false)
-woken_marks p = search rules
-
-woken_fine : (p : Place) (here b : Bool) → may_stand p here b ≡ true → is_idle (woken p) ≡ false → may_stand (woken p) here false ≡ true
-woken_fine p here b f e = search rules
-
-left_marks : (p : Place)
-    → (is_queued (left p) ≡ is_queued p) × (is_pending (left p) ≡ is_pending p) × (is_told (left p) ≡ false) × (is_resting (left p) ≡ false)
-left_marks p = search rules
-
-left_fine : (p : Place) (b : Bool) → is_idle (left p) ≡ false → may_stand (left p) false b ≡ true
-left_fine p b e = search rules
-
 pub some_map : {A B : Type 0} (f : A → B) (o : Option A) → is_some (option_map f o) ≡ is_some o
 some_map f o = search rules
 
 module _ {T : Type 0} where
   abbrev pub held_as : Place → Option T → Bool → Option (Held T)
   held_as p v b = Some (record { value = v; place = p; is_listed = b })
-
-  -- to give back what is gone changes nothing that is seen
-  tidied-as : {X : Type 0} (f : Option (Held T) → X) → f None ≡ f (held_as Idle None false) → (o : Option (Held T)) → f (tidied o) ≡ f o
-  tidied-as f e o = search rules
-
-  fine-tidied : (p : Place) (v : Option T) (b : Bool) → (is_idle p ≡ false → may_stand p (is_some v) b ≡ true)
-      → is_fine (tidied (held_as p v b)) ≡ true
-  fine-tidied p v b h = search rules
 
   -- what is held shows where its key stands, its link, and whether that rests
   pub record Shows (o : Option (Held T)) (m : Marks) (l : Option (T × Place)) (b : Bool) : Type 0 where

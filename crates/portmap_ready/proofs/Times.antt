@@ -16,10 +16,10 @@ pub times-cons : (k x : ℕ) (xs : List ℕ) → times k (x ∷ xs) ≡ one (eqb
 times-cons k x xs = sum_by-cons (λ j. cond (eqb j k) 1 0) x xs
 
 pub times-pushed : (b : Bool) (k : ℕ) (xs : List ℕ) → times k (pushed b k xs) ≡ times k xs + one b
-times-pushed o k xs = search (rules, nat_tests)
+times-pushed o k xs = search (rules, sum_by-append)
 
 times-pushed_other : (b : Bool) (j k : ℕ) (xs : List ℕ) → j ≢ k → times j (pushed b k xs) ≡ times j xs
-times-pushed_other o j k xs d = search (rules, nat_tests)
+times-pushed_other o j k xs d = search (rules, sum_by-append)
 
 -- once a key went to the end, it stands there once more, and each other one as often as before
 pub joined : (b : Bool) (k : ℕ) (xs : List ℕ) {ys : List ℕ} → ys ≡ pushed b k xs → times k ys ≡ times k xs + one b

@@ -47,9 +47,6 @@ before-without k j (y ∷ ys) d = elim (cases_eq y j) [
   ]
 ]
 
-still_there : (b : Bool) (k j : ℕ) (xs : List ℕ) → 0 < times k xs → 0 < times k (pushed b j xs)
-still_there b k j xs h = grind (arith, common_steps)
-
 one_turn : (k : ℕ) (change : Change) (old new : List ℕ) → Becomes change old new → 0 < times k old → Spares k change
     → Comes k (turn change) (first_taken change) old new
 one_turn k Stays old new d h s = same_before k old new (rw d h) (ap (before k) d)
