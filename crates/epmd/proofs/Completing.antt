@@ -1,16 +1,11 @@
 -- The command that comes of what words have said, and the ranges of what it holds.
-use Rattle.std.proofs.Common.{ℕ, ◌≤◌, Bool, true, false, cond, List, [], ◌∷◌, Option, Some, None, Result, Ok, Err, refl, sym, ap, subst}
-use Rattle.std.proofs.Common.{◌∙◌, ◌||◌, inl, arith}
-use Rattle.std.specs.Option.{option_or}
-use Rattle.std.specs.Prelude.{option_map, string_bytes, unwrap_or, is_some, IfSome, IfOk}
-use Rattle.epmd.specs.Numbers.{IsWithin}
-use Rattle.epmd.specs.Addresses.{AreListening, anywhere}
-use Rattle.epmd.specs.Words.{Asked, Serve, Item, Port, Addresses, Timeout, Workers, Begins, Spells, last_by, port_of, addresses_of}
-use Rattle.epmd.specs.Words.{timeout_of, workers_of}
-use Rattle.epmd.specs.Meaning.{Holds, Completes, IsPort, IsCommand, SaysCommand}
-use Rattle.epmd.specs.declared.plan.Plan.{Plan}
-use Rattle.epmd.specs.declared.plan.TheConstants.{TIMEOUT, WORKERS}
-use Rattle.epmd.specs.declared.words.Command.{Command}
+use Rattle.std.specs.{Option.option_or, Prelude.{option_map, string_bytes, unwrap_or, is_some, IfSome, IfOk}}
+use Rattle.std.proofs.Common.{ℕ, ◌≤◌, Bool, true, false, cond, List, [], ◌∷◌, Option, Some, None, Result, Ok, Err, refl}
+use Rattle.std.proofs.Common.{sym, ap, subst, ◌∙◌, ◌||◌, inl, arith}
+use Rattle.epmd.specs.{Addresses.{AreListening, anywhere}, Meaning.{Holds, Completes, IsPort, IsCommand, SaysCommand}}
+use Rattle.epmd.specs.{Numbers.IsWithin, Words.{Asked, Serve, Item, Port, Addresses, Timeout, Workers, Begins, Spells}}
+use Rattle.epmd.specs.{Words.{last_by, port_of, addresses_of, timeout_of, workers_of}, declared.plan.Plan.Plan}
+use Rattle.epmd.specs.{declared.plan.TheConstants.{TIMEOUT, WORKERS}, declared.words.Command.Command}
 use Rattle.epmd.specs.declared.words.Env.{Env}
 use Rattle.epmd.proofs.Listening.{are_listening}
 

@@ -1,13 +1,9 @@
 -- What a daemon listens on is everywhere alone, or holds the host itself and nothing twice.
-use Rattle.std.proofs.Common.{◌≡◌, ℕ, Bool, true, false, cond, List, [], ◌∷◌, ◌++◌, refl, sym, ap, subst, ◌∙◌, inl, inr, ◌||◌, ◌<◌, length}
-use Rattle.std.proofs.Common.{arith}
-use Rattle.std.specs.List.{list_any, Contains, IsDistinct}
-use Rattle.std.specs.Str.{bytes_eq}
-use Rattle.std.proofs.lemmas.Cmp.{nat_list_eq_equiv}
-use Rattle.std.proofs.lemmas.List.Elements.{Contains-push}
-use Rattle.std.proofs.lemmas.Map.Keys.{IsDistinct-push}
-use Rattle.std.proofs.lemmas.Map.Views.{Contains-from_any}
-use Rattle.std.proofs.lemmas.Slice.Eq.{bytes_eq-Decides}
+use Rattle.std.specs.{List.{list_any, Contains, IsDistinct}, Str.bytes_eq}
+use Rattle.std.proofs.Common.{◌≡◌, ℕ, Bool, true, false, cond, List, [], ◌∷◌, ◌++◌, refl, sym, ap, subst, ◌∙◌, inl, inr}
+use Rattle.std.proofs.{Common.{◌||◌, ◌<◌, length, arith}, lemmas.Cmp.nat_list_eq_equiv}
+use Rattle.std.proofs.{lemmas.List.Elements.Contains-push, lemmas.Map.Keys.IsDistinct-push}
+use Rattle.std.proofs.{lemmas.Map.Views.Contains-from_any, lemmas.Slice.Eq.bytes_eq-Decides}
 use Rattle.epmd.specs.Addresses.{is_in, with, with_each, loopback, anywhere, ListensOn, AreListening}
 
 turned : (address : List ℕ) (addresses : List (List ℕ)) → list_any (bytes_eq address) addresses ≡ is_in addresses address

@@ -1,9 +1,8 @@
 -- A text that is said in pieces.
-use Rattle.std.proofs.Common.{◌≡◌, ℕ, ◌+◌, ◌<◌, List, [], ◌++◌, length, take, Bool, true, false, Option, Some, None, sym, ap, subst, ◌∙◌}
-use Rattle.std.proofs.Common.{append_assoc, arith}
-use Rattle.std.proofs.Math.Seq.{take-append-add}
-use Rattle.std.proofs.lemmas.List.{append-nil, length-append, take-append-le}
 use Rattle.std.specs.Io.KnownBytes.{Appends}
+use Rattle.std.proofs.Common.{◌≡◌, ℕ, ◌+◌, ◌<◌, List, [], ◌++◌, length, take, Bool, true, false, Option, Some, None}
+use Rattle.std.proofs.{Common.{sym, ap, subst, ◌∙◌, append_assoc, arith}, Math.Seq.take-append-add}
+use Rattle.std.proofs.lemmas.List.{append-nil, length-append, take-append-le}
 use Rattle.epmd.specs.Errors.{IsTaken}
 
 -- ---- bytes that grew

@@ -1,16 +1,12 @@
 -- What words have said so far, one item more at a time.
-use Rattle.std.proofs.Common.{◌≡◌, ℕ, ◌+◌, ◌<◌, ◌≤◌, Bool, true, false, cond, List, [], ◌∷◌, ◌++◌, Option, Some, None, refl, sym, ap, subst}
-use Rattle.std.proofs.Common.{◌∙◌, ◌||◌, append_assoc, arith, length, map, take, drop, get_or, ◌-◌}
-use Rattle.std.specs.Option.{option_or}
-use Rattle.std.specs.Prelude.{option_map, is_some}
-use Rattle.std.specs.List.{list_any}
-use Rattle.std.proofs.lemmas.List.{append-nil, take_all}
-use Rattle.std.proofs.lemmas.List.Folds.{list_any-append}
+use Rattle.std.specs.{List.list_any, Option.option_or, Prelude.{option_map, is_some}}
+use Rattle.std.proofs.Common.{◌≡◌, ℕ, ◌+◌, ◌<◌, ◌≤◌, Bool, true, false, cond, List, [], ◌∷◌, ◌++◌, Option, Some, None}
+use Rattle.std.proofs.Common.{refl, sym, ap, subst, ◌∙◌, ◌||◌, append_assoc, arith, length, map, take, drop, get_or}
+use Rattle.std.proofs.{Common.◌-◌, lemmas.List.{append-nil, take_all}, lemmas.List.Folds.list_any-append}
 use Rattle.std.proofs.lemmas.List.Sums.{sum_by_push}
-use Rattle.epmd.specs.Words.{Asked, asked_in, Item, Act, Begins, Spells, last_by, is_action, action_of, port_of, addresses_of, timeout_of}
-use Rattle.epmd.specs.Words.{workers_of, recording_of, is_relaxed, is_debug}
-use Rattle.epmd.specs.Meaning.{Holds, Adds}
-use Rattle.epmd.specs.declared.plan.Plan.{Plan}
+use Rattle.epmd.specs.{Meaning.{Holds, Adds}, Words.{Asked, asked_in, Item, Act, Begins, Spells, last_by, is_action}}
+use Rattle.epmd.specs.Words.{action_of, port_of, addresses_of, timeout_of, workers_of, recording_of, is_relaxed}
+use Rattle.epmd.specs.{Words.is_debug, declared.plan.Plan.Plan}
 
 -- ---- one item more
 

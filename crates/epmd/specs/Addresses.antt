@@ -1,8 +1,7 @@
 -- The addresses that a daemon listens on, as text: epmd(1), "-address List". What a daemon listens on for a list, and that digits
 -- may lead with zeros: profile.
-use Rattle.std.specs.Prelude.{◌≡◌, ◌<◌, ◌^◌, ℕ, Bool, if◌then◌else◌, List, [], ◌∷◌, ◌++◌, length, ◌⊎◌}
 use Rattle.std.specs.List.{list_any, Contains, IsDistinct}
-use Rattle.std.specs.Str.{bytes_eq}
+use Rattle.std.specs.{Prelude.{◌≡◌, ◌<◌, ◌^◌, ℕ, Bool, if◌then◌else◌, List, [], ◌∷◌, ◌++◌, length, ◌⊎◌}, Str.bytes_eq}
 use Rattle.epmd.specs.Numbers.{WritesNumber}
 
 -- these, at least one, each as it is written, with this byte between them

@@ -1,35 +1,26 @@
 -- What the command does as a client of the port mapper that runs: epmd(1) for `-names`, `-kill` and `-stop` and for what they
 -- print. `-dump`, what is told of answers that are not allowed or strange, and each status: profile.
+use Rattle.std.specs.{Fmt.decimal, List.flat_map}
 use Rattle.std.specs.Prelude.{◌≡◌, ◌≢◌, ℕ, List, [], ◌∷◌, ◌++◌, codes, Bool, Option, Result, Ok, Err, ◌⊎◌}
-use Rattle.std.specs.List.{flat_map}
-use Rattle.std.specs.Fmt.{decimal}
-use Rattle.std.specs.declared.io.ErrorKind.{ErrorKind}
-use Rattle.std.specs.declared.io.ErrorKind.TheVariants.{OutOfMemory}
+use Rattle.std.specs.{declared.alloc.Global.Global, declared.io.ErrorKind.{ErrorKind, TheVariants.OutOfMemory}}
 use Rattle.std.specs.declared.vec.Vec.{Vec}
-use Rattle.std.specs.declared.alloc.Global.{Global}
-use Rattle.portmap_wire.specs.List.{names_line}
-use Rattle.portmap_wire.specs.declared.list.Line.{Line}
+use Rattle.portmap_wire.specs.{List.names_line, declared.list.Line.Line}
 use Rattle.portmap_wire.specs.declared.request.Request.TheVariants as request
-use Rattle.portmap_link.specs.Once.{Telling}
-use Rattle.portmap_link.specs.declared.single.OnceFault.{OnceFault}
-use Rattle.portmap_client.specs.Answer.{SaysNames, SaysDump, SaysKill, SaysStop}
-use Rattle.portmap_client.specs.Exchange.{StreamView, Calls}
-use Rattle.portmap_client.specs.declared.fault.ClientFault.{ClientFault}
-use Rattle.portmap_client.specs.declared.fault.ClientFault.TheVariants as client
-use Rattle.portmap_client.specs.declared.outcome.Kill.{Kill}
-use Rattle.portmap_client.specs.declared.outcome.Kill.TheVariants as kill
+use Rattle.portmap_link.specs.{Once.Telling, declared.single.OnceFault.OnceFault}
+use Rattle.portmap_client.specs.{Answer.{SaysNames, SaysDump, SaysKill, SaysStop}, Exchange.{StreamView, Calls}}
+use Rattle.portmap_client.specs.{declared.fault.ClientFault.ClientFault, declared.outcome.Kill.Kill}
 use Rattle.portmap_client.specs.declared.outcome.Stop.{Stop}
+use Rattle.portmap_client.specs.declared.fault.ClientFault.TheVariants as client
+use Rattle.portmap_client.specs.declared.outcome.Kill.TheVariants as kill
 use Rattle.portmap_client.specs.declared.outcome.Stop.TheVariants as stop
-use Rattle.epmd.specs.Actions.{status_of, EndsWith, failure_of_once}
-use Rattle.epmd.specs.declared.actions.Failure.{Failure}
-use Rattle.epmd.specs.declared.actions.Failure.TheVariants.{Memory, NoConnection, StrangeAnswer, KillRefused, StopRefused}
+use Rattle.epmd.specs.{Actions.{status_of, EndsWith, failure_of_once}, declared.actions.Failure.Failure}
+use Rattle.epmd.specs.declared.actions.Failure.TheVariants.{KillRefused, Memory, NoConnection, StopRefused}
+use Rattle.epmd.specs.declared.actions.Failure.TheVariants.{StrangeAnswer}
+use Rattle.epmd.specs.{declared.commands.Answer.Answer, declared.commands.Page.Page, declared.words.Action.Action}
+use Rattle.epmd.specs.declared.words.Action.TheVariants.{Audit, Check, Dump, Kill as AskKill, Local, Names, Once, Play}
+use Rattle.epmd.specs.declared.words.Action.TheVariants.{Serve, Stop as AskStop}
 use Rattle.epmd.specs.declared.actions.TheConstants as the
-use Rattle.epmd.specs.declared.commands.Answer.{Answer}
 use Rattle.epmd.specs.declared.commands.Answer.TheVariants as answer
-use Rattle.epmd.specs.declared.commands.Page.{Page}
-use Rattle.epmd.specs.declared.words.Action.{Action}
-use Rattle.epmd.specs.declared.words.Action.TheVariants.{Serve, Names, Kill as AskKill, Stop as AskStop, Dump, Once, Check, Play, Local}
-use Rattle.epmd.specs.declared.words.Action.TheVariants.{Audit}
 
 -- ---- what is asked
 

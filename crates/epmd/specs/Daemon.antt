@@ -1,20 +1,16 @@
 -- What the daemon of a command is set to, and how its end is told. Profile.
-use Rattle.std.specs.Prelude.{◌≡◌, ℕ, ◌+◌, ◌==◌, List, [], ◌∷◌, ◌++◌, codes, slice_get, slice_index, if◌then◌else◌, ◌%◌, ◌/◌, ◌^◌, Bool}
-use Rattle.std.specs.Prelude.{true, false, string_bytes, Option, Some, None, option_map, Result, Ok, Err}
-use Rattle.std.specs.Duration.{as_nanos}
-use Rattle.std.specs.Fmt.{decimal}
-use Rattle.std.specs.List.{concat}
+use Rattle.std.specs.{Duration.as_nanos, Fmt.decimal, List.concat, Prelude.{◌≡◌, ℕ, ◌+◌, ◌==◌, List, [], ◌∷◌, ◌++◌}}
+use Rattle.std.specs.Prelude.{codes, slice_get, slice_index, if◌then◌else◌, ◌%◌, ◌/◌, ◌^◌, Bool, true, false}
+use Rattle.std.specs.Prelude.{string_bytes, Option, Some, None, option_map, Result, Ok, Err}
 use Rattle.std.specs.declared.time.Duration.{Duration}
-use Rattle.portmap_daemon.specs.declared.daemon.RunEnd.{RunEnd}
-use Rattle.portmap_daemon.specs.declared.daemon.RunFault.{RunFault}
-use Rattle.portmap_daemon.specs.declared.daemon.RunFault.TheVariants.{Listen, ListenBeside, Poll, NoMemory}
-use Rattle.portmap_daemon.specs.declared.daemon.Settings.{Settings}
 use Rattle.portmap_core.specs.Config.{Configuration}
-use Rattle.epmd.specs.Actions.{line_of}
-use Rattle.epmd.specs.declared.actions.Failure.TheVariants.{Polling, Memory}
+use Rattle.portmap_daemon.specs.declared.daemon.RunEnd.{RunEnd}
+use Rattle.portmap_daemon.specs.declared.daemon.RunFault.{RunFault, TheVariants.{Listen, ListenBeside, NoMemory, Poll}}
+use Rattle.portmap_daemon.specs.declared.daemon.Settings.{Settings}
+use Rattle.epmd.specs.{Actions.line_of, declared.actions.Failure.TheVariants.{Polling, Memory}}
+use Rattle.epmd.specs.declared.words.Command.{Command}
 use Rattle.epmd.specs.declared.actions.TheConstants as actions
 use Rattle.epmd.specs.declared.daemon.TheConstants as the
-use Rattle.epmd.specs.declared.words.Command.{Command}
 
 -- where creations start: at the seconds since 1970, as far as 32 bits hold them
 abbrev pub first_by : Option Duration → ℕ

@@ -1,6 +1,6 @@
 -- What is said on standard error. Profile.
-use Rattle.std.specs.Prelude.{◌≡◌, ℕ, ◌<◌, ◌≤◌, List, length, take, Bool, true, false, Option, ◌⊎◌}
 use Rattle.std.specs.Io.KnownBytes.{Appends}
+use Rattle.std.specs.Prelude.{◌≡◌, ℕ, ◌<◌, ◌≤◌, List, length, take, Bool, true, false, Option, ◌⊎◌}
 use Rattle.portmap_link.specs.Adapters.{writing_inner, writing_puts, writing_broken}
 use Rattle.portmap_link.specs.declared.adapters.writer.Writing.{Writing}
 use Rattle.epmd.specs.declared.errors.TheConstants.{PUTS_MOST}

@@ -1,23 +1,16 @@
 -- The command that items and the environment make. Profile; epmd(1) has the environment's variables.
-use Rattle.std.specs.Option.{option_or}
-use Rattle.std.specs.Prelude.{◌≡◌, ℕ, ◌+◌, Bool, true, ◌<◌, ◌≤◌, List, [], ◌∷◌, ◌++◌, if◌then◌else◌, ◌||◌, string_bytes, Option, Some, None}
-use Rattle.std.specs.Prelude.{option_map, is_some, count_by, unwrap_or}
-use Rattle.std.specs.Fmt.{decimal}
-use Rattle.std.specs.List.{list_any}
-use Rattle.std.specs.declared.io.ErrorKind.{ErrorKind}
-use Rattle.std.specs.declared.io.ErrorKind.TheVariants.{OutOfMemory}
-use Rattle.epmd.specs.Numbers.{IsWithin, WritesWithin}
-use Rattle.epmd.specs.Addresses.{anywhere, AreListening}
-use Rattle.epmd.specs.Words.{Serve, Item, asked_in, action_of, port_of, addresses_of, timeout_of, workers_of, recording_of, is_relaxed}
-use Rattle.epmd.specs.Words.{is_debug, is_action, last_by, Spells}
+use Rattle.std.specs.{Fmt.decimal, List.list_any, Option.option_or, Prelude.{◌≡◌, ℕ, ◌+◌, Bool, true, ◌<◌, ◌≤◌, List}}
+use Rattle.std.specs.Prelude.{[], ◌∷◌, ◌++◌, if◌then◌else◌, ◌||◌, string_bytes, Option, Some, None, option_map, is_some}
+use Rattle.std.specs.{Prelude.{count_by, unwrap_or}, declared.io.ErrorKind.{ErrorKind, TheVariants.OutOfMemory}}
+use Rattle.epmd.specs.{Addresses.{anywhere, AreListening}, Numbers.{IsWithin, WritesWithin}, Words.{Serve, Item}}
+use Rattle.epmd.specs.Words.{asked_in, action_of, port_of, addresses_of, timeout_of, workers_of, recording_of}
+use Rattle.epmd.specs.{Words.{is_relaxed, is_debug, is_action, last_by, Spells}, declared.plan.Plan.Plan}
+use Rattle.epmd.specs.{declared.plan.TheConstants.{TIMEOUT, WORKERS}, declared.words.Command.Command}
+use Rattle.epmd.specs.{declared.words.Env.Env, declared.words.WordFault.WordFault}
+use Rattle.epmd.specs.declared.words.WordFault.TheVariants.{BadEnvPort, BadValue, MissingValue, NoMemory, TwoCommands}
+use Rattle.epmd.specs.declared.words.WordFault.TheVariants.{Unknown}
 use Rattle.epmd.specs.declared.actions.TheConstants as actions
 use Rattle.epmd.specs.declared.words.TheConstants as words
-use Rattle.epmd.specs.declared.words.WordFault.{WordFault}
-use Rattle.epmd.specs.declared.words.WordFault.TheVariants.{Unknown, MissingValue, BadValue, TwoCommands, BadEnvPort, NoMemory}
-use Rattle.epmd.specs.declared.words.Command.{Command}
-use Rattle.epmd.specs.declared.words.Env.{Env}
-use Rattle.epmd.specs.declared.plan.Plan.{Plan}
-use Rattle.epmd.specs.declared.plan.TheConstants.{TIMEOUT, WORKERS}
 
 -- ---- what words have said so far
 

@@ -1,6 +1,5 @@
 -- Numbers as decimal digits. Profile.
-use Rattle.std.specs.Prelude.{◌≡◌, ℕ, ◌<◌, ◌≤◌, List, length}
-use Rattle.std.specs.Str.Parse.{AllDigits, digits_value}
+use Rattle.std.specs.{Prelude.{◌≡◌, ℕ, ◌<◌, ◌≤◌, List, length}, Str.Parse.{AllDigits, digits_value}}
 
 -- digits, at least one and at most so many; zeros may lead
 pub record WritesNumber (most : ℕ) (digits : List ℕ) (number : ℕ) : Type 0 where

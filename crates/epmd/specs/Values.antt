@@ -1,7 +1,8 @@
 -- The words that a value follows.
 use Rattle.std.specs.Prelude.{ℕ, List, Bool, true, false, codes}
 use Rattle.epmd.specs.declared.items.Valued.{Valued}
-use Rattle.epmd.specs.declared.items.Valued.TheVariants.{Port, Address, Timeout, Workers, Record, Stop, Check, Play, Local, Audit}
+use Rattle.epmd.specs.declared.items.Valued.TheVariants.{Address, Audit, Check, Local, Play, Port, Record, Stop}
+use Rattle.epmd.specs.declared.items.Valued.TheVariants.{Timeout, Workers}
 
 abbrev pub name_of : Valued → List ℕ
 name_of Port = codes "-port"

@@ -2,11 +2,9 @@
 use Rattle.std.specs.Option.{option_or}
 use Rattle.std.specs.Prelude.{◌≡◌, ℕ, List, [], ◌∷◌, Bool, true, false, codes, string_bytes, Option, Some, None, ◌⊎◌}
 use Rattle.portmap_wire.specs.Name.{IsName}
-use Rattle.epmd.specs.Numbers.{WritesWithin}
-use Rattle.epmd.specs.Addresses.{ListensOn}
+use Rattle.epmd.specs.{Addresses.ListensOn, Numbers.WritesWithin, declared.items.Word.Word}
 use Rattle.epmd.specs.declared.words.Action.{Action}
 use Rattle.epmd.specs.declared.words.Action.TheVariants as action
-use Rattle.epmd.specs.declared.items.Word.{Word}
 use Rattle.epmd.specs.declared.items.Word.TheVariants as word
 
 -- ---- what words say

@@ -1,19 +1,12 @@
 -- What is known of a call, by what is known of its parts.
-use Rattle.std.proofs.Common.{◌≡◌, ◌≢◌, ℕ, ◌+◌, true, List, length, Option, Ok, Err, sym, subst, arith}
-use Rattle.std.specs.Prelude.{Result, IsErrAnd, IfErr, MatchResult}
-use Rattle.std.specs.Io.KnownBytes.{Appends, Keeps}
-use Rattle.std.proofs.KnownBytes.{Appends-kept}
-use Rattle.std.proofs.lemmas.Bool.{false≢true}
-use Rattle.std.proofs.lemmas.List.{take_all}
-use Rattle.portmap_client.specs.Exchange.{Answers, Exchanges, StreamView, Writes, WritesAt, WritesFront, is_device_fault}
-use Rattle.portmap_client.specs.Fault.{split, told, told_fault}
-use Rattle.portmap_client.specs.Laters.{laters, Waits, WaitsAt}
-use Rattle.portmap_client.specs.declared.exchange.Awaited.{Awaited}
-use Rattle.portmap_client.specs.declared.fault.AnswerFault.{AnswerFault}
-use Rattle.portmap_client.specs.declared.fault.ClientFault.{ClientFault}
-use Rattle.portmap_client.specs.declared.fault.GivenUp.{GivenUp}
-use Rattle.portmap_client.specs.declared.fault.GivenUp.TheVariants.{Write, NoMemory}
-use Rattle.std.proofs.Common.{rules}
+use Rattle.std.specs.{Io.KnownBytes.{Appends, Keeps}, Prelude.{Result, IsErrAnd, IfErr, MatchResult}}
+use Rattle.std.proofs.Common.{◌≡◌, ◌≢◌, ℕ, ◌+◌, true, List, length, Option, Ok, Err, sym, subst, arith, rules}
+use Rattle.std.proofs.{KnownBytes.Appends-kept, lemmas.Bool.false≢true, lemmas.List.take_all}
+use Rattle.portmap_client.specs.Exchange.{Answers, Exchanges, StreamView, Writes, WritesAt, WritesFront}
+use Rattle.portmap_client.specs.{Exchange.is_device_fault, Fault.{split, told, told_fault}}
+use Rattle.portmap_client.specs.{Laters.{laters, Waits, WaitsAt}, declared.exchange.Awaited.Awaited}
+use Rattle.portmap_client.specs.{declared.fault.AnswerFault.AnswerFault, declared.fault.ClientFault.ClientFault}
+use Rattle.portmap_client.specs.declared.fault.GivenUp.{GivenUp, TheVariants.{NoMemory, Write}}
 
 -- ---- the parts of an exchange
 

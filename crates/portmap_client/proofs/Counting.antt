@@ -1,9 +1,7 @@
 -- How many Laters were met.
-use Rattle.std.proofs.Common.{◌≡◌, ◌+◌, List, [], ◌∷◌, ◌++◌, ap, ◌∙◌, cond}
 use Rattle.std.specs.Prelude.{count_by}
-use Rattle.std.proofs.lemmas.List.Sums.{sum_by-append}
-use Rattle.portmap_link.specs.declared.device.Pull.{Pull}
-use Rattle.portmap_link.specs.Asking.{is_pull_later}
+use Rattle.std.proofs.{Common.{◌≡◌, ◌+◌, List, [], ◌∷◌, ◌++◌, ap, ◌∙◌, cond}, lemmas.List.Sums.sum_by-append}
+use Rattle.portmap_link.specs.{Asking.is_pull_later, declared.device.Pull.Pull}
 
 -- a pull more
 pub pulled : (old new : List Pull) (pull : Pull) → new ≡ old ++ pull ∷ []

@@ -1,16 +1,11 @@
 -- An answer is read a piece at a time, and no further.
-use Rattle.std.proofs.Common.{◌≡◌, ℕ, ◌+◌, ◌-◌, ◌<◌, ◌≤◌, List, [], ◌++◌, length, take, Option, sym, subst, arith, inl, inr}
-use Rattle.std.specs.Prelude.{◌⊎◌, Result, IsErr}
-use Rattle.std.proofs.Math.Seq.{take-append-add}
-use Rattle.std.proofs.KnownBytes.{Consumes-nil, Consumes-trans}
-use Rattle.std.proofs.lemmas.Bool.{cases_lt}
-use Rattle.std.proofs.lemmas.List.{length-append, length-take, take-append-le}
-use Rattle.std.specs.Io.KnownBytes.{Consumes}
+use Rattle.std.specs.{Io.KnownBytes.Consumes, Prelude.{◌⊎◌, Result, IsErr}}
+use Rattle.std.proofs.Common.{◌≡◌, ℕ, ◌+◌, ◌-◌, ◌<◌, ◌≤◌, List, [], ◌++◌, length, take, Option, sym, subst, arith, inl}
+use Rattle.std.proofs.{Common.{inr, rules}, KnownBytes.{Consumes-nil, Consumes-trans}, Math.Seq.take-append-add}
+use Rattle.std.proofs.{lemmas.Bool.cases_lt, lemmas.List.{length-append, length-take, take-append-le}}
 use Rattle.portmap_link.specs.declared.device.Pull.{Pull}
-use Rattle.portmap_client.specs.Exchange.{Answers, HasRead, IsUnfinished}
-use Rattle.portmap_client.specs.declared.exchange.Awaited.{Awaited}
+use Rattle.portmap_client.specs.{Exchange.{Answers, HasRead, IsUnfinished}, declared.exchange.Awaited.Awaited}
 use Rattle.portmap_client.specs.declared.fault.GivenUp.{GivenUp}
-use Rattle.std.proofs.Common.{rules}
 
 -- nothing was read
 pub reads_none : (awaited : Awaited) (a : Option (List ℕ)) → HasRead awaited a a []

@@ -1,23 +1,17 @@
 -- What a client's call makes of the bytes that it read: ERTS User's Guide, EPMD Protocol, the replies.
-use Rattle.std.specs.Prelude.{◌≡◌, ◌==◌, ℕ, ◌<◌, ◌≤◌, nat_lt, if◌then◌else◌, List, ◌++◌, length, codes, Option, Result, Ok, Err}
-use Rattle.std.specs.Cmp.Lexicographic.{pointwise}
+use Rattle.std.specs.{Cmp.Lexicographic.pointwise, Prelude.{◌≡◌, ◌==◌, ℕ, ◌<◌, ◌≤◌, nat_lt, if◌then◌else◌, List, ◌++◌}}
+use Rattle.std.specs.{Prelude.{length, codes, Option, Result, Ok, Err}, declared.alloc.Global.Global}
 use Rattle.std.specs.declared.vec.Vec.{Vec}
-use Rattle.std.specs.declared.alloc.Global.{Global}
-use Rattle.portmap_wire.specs.ReplyReading.{alive_answer, port2_answer}
-use Rattle.portmap_wire.specs.ListReading.{Lists, StrangeAt}
-use Rattle.portmap_wire.specs.Node.{Node}
-use Rattle.portmap_wire.specs.Reply.{be4}
+use Rattle.portmap_wire.specs.{ListReading.{Lists, StrangeAt}, Node.Node, Reply.be4}
+use Rattle.portmap_wire.specs.{ReplyReading.{alive_answer, port2_answer}, declared.list.Line.Line}
 use Rattle.portmap_wire.specs.declared.reply_reading.AliveReply.TheVariants.{Given, Refused}
 use Rattle.portmap_wire.specs.declared.reply_reading.ReplyFault.{ReplyFault}
 use Rattle.portmap_wire.specs.declared.reply_reading.ReplyFault.TheVariants as reply
-use Rattle.portmap_wire.specs.declared.list.Line.{Line}
-use Rattle.portmap_client.specs.Exchange.{IsRead}
-use Rattle.portmap_client.specs.declared.exchange.TheConstants.{LIST_MOST}
-use Rattle.portmap_client.specs.declared.outcome.Kill.{Kill}
-use Rattle.portmap_client.specs.declared.outcome.Kill.TheVariants.{Killed, NotAllowed}
-use Rattle.portmap_client.specs.declared.outcome.Stop.{Stop}
-use Rattle.portmap_client.specs.declared.outcome.Stop.TheVariants.{Stopped, NoExist, NotAllowed as StopNotAllowed}
+use Rattle.portmap_client.specs.{Exchange.IsRead, declared.exchange.TheConstants.LIST_MOST}
 use Rattle.portmap_client.specs.declared.fault.AnswerFault.{AnswerFault}
+use Rattle.portmap_client.specs.declared.outcome.Kill.{Kill, TheVariants.{Killed, NotAllowed}}
+use Rattle.portmap_client.specs.declared.outcome.Stop.{Stop}
+use Rattle.portmap_client.specs.declared.outcome.Stop.TheVariants.{NoExist, NotAllowed as StopNotAllowed, Stopped}
 use Rattle.portmap_client.specs.declared.fault.AnswerFault.TheVariants as fault
 
 -- ---- registrations and look-ups

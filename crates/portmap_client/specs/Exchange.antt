@@ -1,26 +1,17 @@
 -- A client's call: one request out, and what is read of its answer. ERTS User's Guide, EPMD Protocol, the requests and their
 -- replies; that no byte behind an answer is read, and when a call is given up: profile.
-use Rattle.std.specs.Prelude.{◌≡◌, ℕ, ◌<◌, ◌≤◌, Bool, true, false, List, length, take, codes, Option, Result, Ok, Err, IsOk, IfOk, IfErr}
+use Rattle.std.specs.{Io.KnownBytes.{Appends, Consumes}, Prelude.{◌≡◌, ℕ, ◌<◌, ◌≤◌, Bool, true, false, List, length}}
+use Rattle.std.specs.{Prelude.{take, codes, Option, Result, Ok, Err, IsOk, IfOk, IfErr}, declared.alloc.Global.Global}
 use Rattle.std.specs.declared.vec.Vec.{Vec}
-use Rattle.std.specs.declared.alloc.Global.{Global}
-use Rattle.std.specs.Io.KnownBytes.{Appends, Consumes}
-use Rattle.portmap_link.specs.Asking.{IsEnded}
-use Rattle.portmap_link.specs.declared.device.Pull.{Pull}
-use Rattle.portmap_link.specs.declared.device.Put.{Put}
-use Rattle.portmap_wire.specs.ReplyReading.{alive_answer, port2_answer}
-use Rattle.portmap_wire.specs.Request.{sent}
+use Rattle.portmap_wire.specs.{ReplyReading.{alive_answer, port2_answer}, Request.sent}
+use Rattle.portmap_wire.specs.declared.request.Request.{Request, TheVariants.{Alive, Dump, Kill, Names, Port, Stop}}
 use Rattle.portmap_wire.specs.declared.reply_reading.ReplyFault.TheVariants as reply
-use Rattle.portmap_wire.specs.declared.request.Request.{Request}
-use Rattle.portmap_wire.specs.declared.request.Request.TheVariants.{Alive, Port, Names, Dump, Kill, Stop}
-use Rattle.portmap_client.specs.Fault.{told}
-use Rattle.portmap_client.specs.Laters.{laters, Waits}
-use Rattle.portmap_client.specs.declared.exchange.Awaited.{Awaited}
-use Rattle.portmap_client.specs.declared.exchange.Awaited.TheVariants as awaited
-use Rattle.portmap_client.specs.declared.exchange.TheConstants.{LIST_MOST}
-use Rattle.portmap_client.specs.declared.fault.AnswerFault.{AnswerFault}
+use Rattle.portmap_link.specs.{Asking.IsEnded, declared.device.Pull.Pull, declared.device.Put.Put}
+use Rattle.portmap_client.specs.{Fault.told, Laters.{laters, Waits}, declared.exchange.Awaited.Awaited}
+use Rattle.portmap_client.specs.{declared.exchange.TheConstants.LIST_MOST, declared.fault.AnswerFault.AnswerFault}
 use Rattle.portmap_client.specs.declared.fault.ClientFault.{ClientFault}
-use Rattle.portmap_client.specs.declared.fault.GivenUp.{GivenUp}
-use Rattle.portmap_client.specs.declared.fault.GivenUp.TheVariants.{Write, Read}
+use Rattle.portmap_client.specs.declared.fault.GivenUp.{GivenUp, TheVariants.{Read, Write}}
+use Rattle.portmap_client.specs.declared.exchange.Awaited.TheVariants as awaited
 
 -- ---- the stream
 

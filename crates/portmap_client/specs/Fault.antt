@@ -1,15 +1,12 @@
 -- A call's faults are of two kinds: the call was given up, or the answer's bytes tell the fault.
 use Rattle.std.specs.Prelude.{Result, Ok, Err}
-use Rattle.portmap_wire.specs.declared.reply_reading.ReplyFault.{ReplyFault}
+use Rattle.portmap_wire.specs.{declared.list_reading.ListFault.ListFault, declared.reply_reading.ReplyFault.ReplyFault}
 use Rattle.portmap_wire.specs.declared.reply_reading.ReplyFault.TheVariants as reply
-use Rattle.portmap_wire.specs.declared.list_reading.ListFault.{ListFault}
 use Rattle.portmap_wire.specs.declared.list_reading.ListFault.TheVariants as list
-use Rattle.portmap_client.specs.declared.fault.AnswerFault.{AnswerFault}
+use Rattle.portmap_client.specs.{declared.fault.AnswerFault.AnswerFault, declared.fault.ClientFault.ClientFault}
+use Rattle.portmap_client.specs.declared.fault.GivenUp.{GivenUp, TheVariants.{NoMemory, Read, TooManyTurns, Write}}
 use Rattle.portmap_client.specs.declared.fault.AnswerFault.TheVariants as answer
-use Rattle.portmap_client.specs.declared.fault.ClientFault.{ClientFault}
 use Rattle.portmap_client.specs.declared.fault.ClientFault.TheVariants as fault
-use Rattle.portmap_client.specs.declared.fault.GivenUp.{GivenUp}
-use Rattle.portmap_client.specs.declared.fault.GivenUp.TheVariants.{Write, Read, TooManyTurns, NoMemory}
 
 -- what the answer's bytes tell, or why the call was given up
 abbrev pub split : ClientFault → Result AnswerFault GivenUp

@@ -1,11 +1,8 @@
 -- How often a device asked to be called again.
 use Rattle.std.specs.Prelude.{◌≡◌, ℕ, ◌+◌, ◌<◌, List, count_by, Result, Ok, Err}
-use Rattle.portmap_link.specs.Asking.{is_pull_later, is_put_later}
-use Rattle.portmap_link.specs.declared.device.Pull.{Pull}
-use Rattle.portmap_link.specs.declared.device.Put.{Put}
+use Rattle.portmap_link.specs.{Asking.{is_pull_later, is_put_later}, declared.device.Pull.Pull, declared.device.Put.Put}
 use Rattle.portmap_client.specs.declared.exchange.TheConstants.{LATERS_MOST}
-use Rattle.portmap_client.specs.declared.fault.GivenUp.{GivenUp}
-use Rattle.portmap_client.specs.declared.fault.GivenUp.TheVariants.{TooManyTurns}
+use Rattle.portmap_client.specs.declared.fault.GivenUp.{GivenUp, TheVariants.TooManyTurns}
 
 -- how many of these answers were Later
 abbrev pub laters : List Pull → List Put → ℕ

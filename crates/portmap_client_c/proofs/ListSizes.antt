@@ -1,9 +1,6 @@
 -- How long a list of names is.
-use Rattle.std.proofs.Common.{◌≡◌, ℕ, ◌≤◌, List, [], ◌∷◌, length, ap, arith}
-use Rattle.std.proofs.lemmas.List.{length-append}
-use Rattle.portmap_wire.specs.Reply.{be4}
-use Rattle.portmap_wire.specs.ListReading.{Lists, ListsTo}
-use Rattle.portmap_wire.specs.declared.list.Line.{Line}
+use Rattle.std.proofs.{Common.{◌≡◌, ℕ, ◌≤◌, List, [], ◌∷◌, length, ap, arith}, lemmas.List.length-append}
+use Rattle.portmap_wire.specs.{ListReading.{Lists, ListsTo}, Reply.be4, declared.list.Line.Line}
 
 -- there are no more lines than bytes
 lines_are_fewer : (text : List ℕ) (lines : List Line) (rest : List ℕ) → ListsTo text lines rest → length lines ≤ length text

@@ -1,19 +1,15 @@
 -- A line of a list, and where the next one begins.
-use Rattle.std.proofs.Common.{◌≡◌, ℕ, suc, ◌+◌, ◌-◌, ◌<◌, ◌≤◌, List, [], ◌∷◌, ◌++◌, length, take, drop, None, Some, refl, sym, ap, subst}
-use Rattle.std.proofs.Common.{◌∙◌, arith, append_assoc}
 use Rattle.std.specs.Prelude.{codes, position, slice_index_or}
-use Rattle.std.proofs.Math.Seq.{take-append-add}
+use Rattle.std.proofs.Common.{◌≡◌, ℕ, suc, ◌+◌, ◌-◌, ◌<◌, ◌≤◌, List, [], ◌∷◌, ◌++◌, length, take, drop, None, Some}
+use Rattle.std.proofs.{Common.{refl, sym, ap, subst, ◌∙◌, arith, append_assoc}, Math.Seq.take-append-add}
 use Rattle.std.proofs.lemmas.List.{length-append, length-take, take-append-drop, drop-take, drop-drop}
-use Rattle.portmap_wire.specs.ListReading.{HasNoNewline, HasNoReading, IsCut, IsList, IsListFault, IsStrange, Lists, ListsTo, ReadsLine}
-use Rattle.portmap_wire.specs.ListReading.{is_newline}
-use Rattle.portmap_wire.specs.declared.list.Line.{Line}
+use Rattle.portmap_wire.specs.ListReading.{HasNoNewline, HasNoReading, IsCut, IsList, IsListFault, IsStrange, Lists}
+use Rattle.portmap_wire.specs.{ListReading.{ListsTo, ReadsLine, is_newline}, declared.list.Line.Line}
 use Rattle.portmap_wire.specs.declared.list_reading.ListFault.{ListFault}
-use Rattle.portmap_wire.specs.declared.list_reading.ListFault.TheVariants as fault
 use Rattle.portmap_wire.proofs.LineLemmas.{cut_at, not_cut, lists_once, strange_cut, strange_uncut}
-use Rattle.portmap_client_c.specs.Answers.{text_in}
-use Rattle.portmap_client_c.specs.Lists.{IsLineFault, IsNextLine, IsOneLine, IsReadingFault}
-use Rattle.portmap_client_c.specs.Status.{line_status}
-use Rattle.portmap_client_c.specs.declared.node.EpmdText.{EpmdText}
+use Rattle.portmap_wire.specs.declared.list_reading.ListFault.TheVariants as fault
+use Rattle.portmap_client_c.specs.{Answers.text_in, Lists.{IsLineFault, IsNextLine, IsOneLine, IsReadingFault}}
+use Rattle.portmap_client_c.specs.{Status.line_status, declared.node.EpmdText.EpmdText}
 use Rattle.portmap_client_c.specs.declared.status.TheConstants.{EPMD_STRANGE_LINE, EPMD_NO_MEMORY}
 use Rattle.portmap_client_c.proofs.Places.{lies_at}
 

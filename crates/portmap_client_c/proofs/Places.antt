@@ -1,14 +1,10 @@
 -- Where the texts of an answer lie.
-use Rattle.std.proofs.Common.{◌≡◌, ℕ, ◌+◌, ◌≤◌, List, ◌∷◌, [], ◌++◌, length, take, drop, sym, ap, ◌∙◌, arith, append_assoc}
-use Rattle.std.proofs.Math.Seq.{take-append_seam, drop-append_seam}
+use Rattle.std.proofs.Common.{◌≡◌, ℕ, ◌+◌, ◌≤◌, List, ◌∷◌, [], ◌++◌, length, take, drop, sym, ap, ◌∙◌, arith}
+use Rattle.std.proofs.{Common.append_assoc, Math.Seq.{take-append_seam, drop-append_seam}}
 use Rattle.std.proofs.lemmas.List.{length-append, drop-append-le}
-use Rattle.portmap_wire.specs.Node.{Node, be2}
-use Rattle.portmap_wire.specs.ReplyReading.{IsFound}
-use Rattle.portmap_wire.specs.declared.reply_writing.TheConstants.{PORT2_RESP}
-use Rattle.portmap_client_c.specs.Answers.{IsFoundIn, PlacesIn, text_in}
-use Rattle.portmap_client_c.specs.Writing.{node_of}
-use Rattle.portmap_client_c.specs.declared.node.EpmdFound.{EpmdFound}
-use Rattle.portmap_client_c.specs.declared.node.EpmdText.{EpmdText}
+use Rattle.portmap_wire.specs.{Node.{Node, be2}, ReplyReading.IsFound, declared.reply_writing.TheConstants.PORT2_RESP}
+use Rattle.portmap_client_c.specs.{Answers.{IsFoundIn, PlacesIn, text_in}, Writing.node_of}
+use Rattle.portmap_client_c.specs.{declared.node.EpmdFound.EpmdFound, declared.node.EpmdText.EpmdText}
 
 -- a text between what stands in front of it and what behind it
 pub lies : (head text tail : List ℕ) → take (length text) (drop (length head) (head ++ text ++ tail)) ≡ text

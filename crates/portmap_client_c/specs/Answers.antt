@@ -1,14 +1,9 @@
 -- What is told of answers.
 use Rattle.std.specs.Prelude.{◌≡◌, ℕ, ◌+◌, ◌≤◌, ℤ, List, length, take, drop, Option, Some, None, Result, Ok, Err}
-use Rattle.portmap_wire.specs.Node.{Node}
-use Rattle.portmap_wire.specs.declared.reply_reading.AliveReply.{AliveReply}
-use Rattle.portmap_wire.specs.declared.reply_reading.AliveReply.TheVariants.{Given, Refused}
+use Rattle.portmap_wire.specs.{Node.Node, declared.reply_reading.AliveReply.{AliveReply, TheVariants.{Given, Refused}}}
 use Rattle.portmap_wire.specs.declared.reply_reading.ReplyFault.{ReplyFault}
-use Rattle.portmap_client_c.specs.Status.{reply_status}
-use Rattle.portmap_client_c.specs.Writing.{node_of}
-use Rattle.portmap_client_c.specs.declared.node.EpmdAlive.{EpmdAlive}
-use Rattle.portmap_client_c.specs.declared.node.EpmdFound.{EpmdFound}
-use Rattle.portmap_client_c.specs.declared.node.EpmdText.{EpmdText}
+use Rattle.portmap_client_c.specs.{Status.reply_status, Writing.node_of, declared.node.EpmdAlive.EpmdAlive}
+use Rattle.portmap_client_c.specs.{declared.node.EpmdFound.EpmdFound, declared.node.EpmdText.EpmdText}
 use Rattle.portmap_client_c.specs.declared.status.TheConstants.{EPMD_OK, EPMD_REFUSED, EPMD_NOT_REGISTERED}
 
 -- what was said to a registration

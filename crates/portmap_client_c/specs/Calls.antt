@@ -1,27 +1,19 @@
 -- Calls over a connected socket, which tells no bytes: what each promises over any stream, at one that tells none.
 use Rattle.std.specs.Prelude.{◌≡◌, ◌≢◌, ℕ, ℤ, ◌+◌, false, List, [], ◌++◌, Option, Some, None, Result, Ok, Err}
-use Rattle.std.specs.declared.vec.Vec.{Vec}
-use Rattle.std.specs.declared.alloc.Global.{Global}
-use Rattle.portmap_wire.specs.Node.{Node}
-use Rattle.portmap_wire.specs.Reply.{be4}
-use Rattle.portmap_wire.specs.declared.list.Line.{Line}
+use Rattle.std.specs.{declared.alloc.Global.Global, declared.vec.Vec.Vec}
+use Rattle.portmap_wire.specs.{Node.Node, Reply.be4, declared.list.Line.Line}
 use Rattle.portmap_wire.specs.declared.request.Request.TheVariants.{Alive, Port, Names, Dump}
 use Rattle.portmap_wire.specs.declared.request.Request.TheVariants as request
 use Rattle.portmap_client.specs.Answer.{SaysCreation, SaysDump, SaysFound, SaysKill, SaysNames, SaysStop}
-use Rattle.portmap_client.specs.Exchange.{Calls, StreamView}
-use Rattle.portmap_client.specs.declared.fault.ClientFault.{ClientFault}
+use Rattle.portmap_client.specs.{Exchange.{Calls, StreamView}, declared.fault.ClientFault.ClientFault}
+use Rattle.portmap_client.specs.{declared.outcome.Kill.Kill, declared.outcome.Stop.Stop}
 use Rattle.portmap_client.specs.declared.fault.ClientFault.TheVariants as client
-use Rattle.portmap_client.specs.declared.outcome.Kill.{Kill}
 use Rattle.portmap_client.specs.declared.outcome.Kill.TheVariants as kill
-use Rattle.portmap_client.specs.declared.outcome.Stop.{Stop}
 use Rattle.portmap_client.specs.declared.outcome.Stop.TheVariants as stop
-use Rattle.portmap_client_c.specs.Answers.{PlacesIn}
-use Rattle.portmap_client_c.specs.Status.{client_status}
-use Rattle.portmap_client_c.specs.Writing.{Puts, PutsList}
-use Rattle.portmap_client_c.specs.declared.node.EpmdAlive.{EpmdAlive}
-use Rattle.portmap_client_c.specs.declared.node.EpmdFound.{EpmdFound}
-use Rattle.portmap_client_c.specs.declared.status.TheConstants.{EPMD_OK, EPMD_NOT_REGISTERED, EPMD_NO_EXIST, EPMD_NOT_ALLOWED}
-use Rattle.portmap_client_c.specs.declared.status.TheConstants.{EPMD_NO_MEMORY}
+use Rattle.portmap_client_c.specs.{Answers.PlacesIn, Status.client_status, Writing.{Puts, PutsList}}
+use Rattle.portmap_client_c.specs.{declared.node.EpmdAlive.EpmdAlive, declared.node.EpmdFound.EpmdFound}
+use Rattle.portmap_client_c.specs.declared.status.TheConstants.{EPMD_OK, EPMD_NOT_REGISTERED, EPMD_NO_EXIST}
+use Rattle.portmap_client_c.specs.declared.status.TheConstants.{EPMD_NOT_ALLOWED, EPMD_NO_MEMORY}
 
 -- the calls, by what they leave of a stream and what they answer
 abbrev pub Registers : Node → StreamView → StreamView → Result ℕ ClientFault → Type 0

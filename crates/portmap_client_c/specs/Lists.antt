@@ -1,11 +1,9 @@
 -- The lines of a list, one after another.
 use Rattle.std.specs.Prelude.{◌≡◌, ◌≢◌, ℕ, ◌+◌, ◌≤◌, ℤ, List, [], ◌∷◌, ◌++◌, length, drop}
-use Rattle.portmap_wire.specs.ListReading.{HasNoNewline, HasNoReading, IsStrange, ReadsLine}
-use Rattle.portmap_wire.specs.declared.list.Line.{Line}
+use Rattle.portmap_wire.specs.{ListReading.{HasNoNewline, HasNoReading, IsStrange, ReadsLine}, declared.list.Line.Line}
 use Rattle.portmap_wire.specs.declared.list_reading.ListFault.{ListFault}
 use Rattle.portmap_wire.specs.declared.list_reading.ListFault.TheVariants as fault
-use Rattle.portmap_client_c.specs.Answers.{text_in}
-use Rattle.portmap_client_c.specs.declared.node.EpmdLine.{EpmdLine}
+use Rattle.portmap_client_c.specs.{Answers.text_in, declared.node.EpmdLine.EpmdLine}
 use Rattle.portmap_client_c.specs.declared.status.TheConstants.{EPMD_STRANGE_LINE, EPMD_NO_MEMORY}
 
 -- the line in these bytes

@@ -1,17 +1,17 @@
 -- Which number tells which fault.
 use Rattle.std.specs.Prelude.{ℤ}
-use Rattle.portmap_wire.specs.declared.name.NameFault.{NameFault}
-use Rattle.portmap_wire.specs.declared.name.NameFault.TheVariants as name
+use Rattle.portmap_wire.specs.{declared.list_reading.ListFault.ListFault, declared.name.NameFault.NameFault}
 use Rattle.portmap_wire.specs.declared.reply_reading.ReplyFault.{ReplyFault}
+use Rattle.portmap_wire.specs.declared.name.NameFault.TheVariants as name
 use Rattle.portmap_wire.specs.declared.reply_reading.ReplyFault.TheVariants as reply
-use Rattle.portmap_wire.specs.declared.list_reading.ListFault.{ListFault}
 use Rattle.portmap_wire.specs.declared.list_reading.ListFault.TheVariants as list
 use Rattle.portmap_client.specs.declared.fault.ClientFault.{ClientFault}
 use Rattle.portmap_client.specs.declared.fault.ClientFault.TheVariants as client
-use Rattle.portmap_client_c.specs.declared.status.TheConstants.{EPMD_REFUSED, EPMD_WRITE, EPMD_READ, EPMD_TOO_MANY_TURNS, EPMD_TOO_LONG}
-use Rattle.portmap_client_c.specs.declared.status.TheConstants.{EPMD_NAME_EMPTY, EPMD_NAME_TOO_LONG, EPMD_NAME_BAD_BYTE, EPMD_SHORT}
-use Rattle.portmap_client_c.specs.declared.status.TheConstants.{EPMD_BAD_TAG}
-use Rattle.portmap_client_c.specs.declared.status.TheConstants.{EPMD_STRANGE, EPMD_STRANGE_LINE, EPMD_NO_MEMORY}
+use Rattle.portmap_client_c.specs.declared.status.TheConstants.{EPMD_REFUSED, EPMD_WRITE, EPMD_READ}
+use Rattle.portmap_client_c.specs.declared.status.TheConstants.{EPMD_TOO_MANY_TURNS, EPMD_TOO_LONG, EPMD_NAME_EMPTY}
+use Rattle.portmap_client_c.specs.declared.status.TheConstants.{EPMD_NAME_TOO_LONG, EPMD_NAME_BAD_BYTE, EPMD_SHORT}
+use Rattle.portmap_client_c.specs.declared.status.TheConstants.{EPMD_BAD_TAG, EPMD_STRANGE, EPMD_STRANGE_LINE}
+use Rattle.portmap_client_c.specs.declared.status.TheConstants.{EPMD_NO_MEMORY}
 
 abbrev pub name_status : NameFault → ℤ
 name_status name.Empty = EPMD_NAME_EMPTY

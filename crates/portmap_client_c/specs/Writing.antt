@@ -1,20 +1,14 @@
 -- Requests in the caller's buffer.
 use Rattle.std.specs.Prelude.{◌≡◌, ◌≢◌, ◌↔◌, ℕ, ◌+◌, ◌<◌, ◌≤◌, ℤ, nat_lt, if◌then◌else◌, List, ◌++◌, length, drop}
 use Rattle.std.specs.Prelude.{Result, Ok, Err, IsOk, IfOk}
-use Rattle.portmap_wire.specs.List.{names_reply}
-use Rattle.portmap_wire.specs.Node.{Node}
-use Rattle.portmap_wire.specs.Request.{sent}
-use Rattle.portmap_wire.specs.RequestReading.{name_in}
-use Rattle.portmap_wire.specs.declared.list.Line.{Line}
-use Rattle.portmap_wire.specs.declared.name.NameFault.{NameFault}
+use Rattle.portmap_wire.specs.{List.names_reply, Node.Node, Request.sent, RequestReading.name_in}
+use Rattle.portmap_wire.specs.{declared.list.Line.Line, declared.name.NameFault.NameFault}
+use Rattle.portmap_wire.specs.declared.request.Request.{Request, TheVariants.Alive}
 use Rattle.portmap_wire.specs.declared.request.TheConstants.{BODY_MOST}
-use Rattle.portmap_wire.specs.declared.request.Request.{Request}
-use Rattle.portmap_wire.specs.declared.request.Request.TheVariants.{Alive}
-use Rattle.portmap_client_c.specs.Status.{name_status}
-use Rattle.portmap_client_c.specs.declared.node.EpmdNode.{EpmdNode}
-use Rattle.portmap_client_c.specs.declared.status.TheConstants.{EPMD_OK, EPMD_EXTRA_TOO_LONG, EPMD_BUFFER_TOO_SMALL, EPMD_NO_MEMORY}
-use Rattle.portmap_client_c.specs.declared.writing.Unmade.{Unmade}
-use Rattle.portmap_client_c.specs.declared.writing.Unmade.TheVariants.{Refused, NoMemory}
+use Rattle.portmap_client_c.specs.{Status.name_status, declared.node.EpmdNode.EpmdNode}
+use Rattle.portmap_client_c.specs.declared.status.TheConstants.{EPMD_OK, EPMD_EXTRA_TOO_LONG, EPMD_BUFFER_TOO_SMALL}
+use Rattle.portmap_client_c.specs.declared.status.TheConstants.{EPMD_NO_MEMORY}
+use Rattle.portmap_client_c.specs.declared.writing.Unmade.{Unmade, TheVariants.{NoMemory, Refused}}
 
 -- ---- which request is asked for
 

@@ -1,21 +1,15 @@
 -- Where the port mapper ends and what comes of it then, the limits that a run keeps, and a connection that holds its name,
 -- whose time is over.
-use Rattle.std.proofs.Common.{◌≡◌, ℕ, Bool, true, false, List, []}
 use Rattle.std.specs.Prelude.{not, ◌||◌}
-use Rattle.std.proofs.lemmas.Bool.{cond_both}
+use Rattle.std.proofs.{Common.{◌≡◌, ℕ, Bool, true, false, List, [], rules}, lemmas.Bool.cond_both}
 use Rattle.std.proofs.lemmas.List.{nil_from_length}
 use Rattle.portmap_wire.specs.declared.request.Request.{Request}
 use Rattle.portmap_table.specs.Rows.{Names}
 use Rattle.portmap_core.specs.Config.{Configuration}
-use Rattle.portmap_core.specs.State.{State, empty_state}
-use Rattle.portmap_core.specs.Serving.{Served, closed, if_local, kill_served}
-use Rattle.portmap_core.specs.Serving.{replied, served}
-use Rattle.portmap_core.specs.Step.{halted_by}
-use Rattle.portmap_core.specs.Owned.{IsOwned}
 use Rattle.portmap_core.specs.Laws.{EndsAreFinal, EndsLeaveNoName, HoldersOutlastTheirTime, KeepsLimits, RunsKeepLimits}
-use Rattle.portmap_core.proofs.Owned.{owned_empty}
-use Rattle.portmap_core.proofs.Runs.{run_owned}
-use Rattle.std.proofs.Common.{rules}
+use Rattle.portmap_core.specs.{Owned.IsOwned, Serving.{Served, closed, if_local, kill_served, replied, served}}
+use Rattle.portmap_core.specs.{State.{State, empty_state}, Step.halted_by}
+use Rattle.portmap_core.proofs.{Owned.owned_empty, Runs.run_owned}
 
 pub ends_are_final : EndsAreFinal
 ends_are_final cfg s s' e h step = search rules

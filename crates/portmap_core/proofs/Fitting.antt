@@ -1,23 +1,15 @@
 -- Names and open connections that go together, slot by slot and in lists.
-use Rattle.std.proofs.Common.{◌≡◌, ℕ, Bool, true, List, [], ◌∷◌, get_or, Option, Some, refl, sym, ap, subst, ◌∙◌, eq-eqb}
-use Rattle.std.proofs.Common.{eqb-true, inl, inr, IfSome}
-use Rattle.std.specs.Prelude.{All, IsSome}
+use Rattle.std.specs.{Ordering.nat_cmp, Prelude.{All, IsSome}}
+use Rattle.std.proofs.Common.{◌≡◌, ℕ, Bool, true, List, [], ◌∷◌, get_or, Option, Some, refl, sym, ap, subst, ◌∙◌}
+use Rattle.std.proofs.{Common.{eq-eqb, eqb-true, inl, inr, IfSome, rules}, lemmas.Bool.cases_eq}
+use Rattle.std.proofs.{lemmas.List.Elements.{All-head, All-tail}, lemmas.List.Folds.{Any-from_list_any, list_any_at}}
 use Rattle.std.specs.FinMap as map
-use Rattle.std.specs.Ordering.{nat_cmp}
-use Rattle.std.proofs.lemmas.Bool.{cases_eq}
-use Rattle.std.proofs.lemmas.List.Elements.{All-head, All-tail}
-use Rattle.std.proofs.lemmas.List.Folds.{Any-from_list_any, list_any_at}
-use Rattle.portmap_table.specs.declared.row.Row.{Row}
-use Rattle.portmap_table.specs.Rows.{Names, owns_name}
+use Rattle.portmap_table.specs.{Rows.{Names, owns_name}, declared.row.Row.Row}
 use Rattle.portmap_table.proofs.Owners.{has_slot, owns}
+use Rattle.portmap_core.specs.{Connections.ConnectionMap, Fitting.IsHeldFor}
+use Rattle.portmap_core.specs.{Held.{AreHeld, HeldValue, connection_held, entries_held}, Owned.IsSlotFor}
 use Rattle.portmap_core.specs.declared.connection.Connection.{Connection}
-use Rattle.portmap_core.specs.Connections.{ConnectionMap}
-use Rattle.portmap_core.specs.Fitting.{IsHeldFor}
-use Rattle.portmap_core.specs.Held.{AreHeld, HeldValue, connection_held, entries_held}
-use Rattle.portmap_core.specs.Owned.{IsSlotFor}
-use Rattle.portmap_core.proofs.HeldLaws.{found}
-use Rattle.portmap_core.proofs.Slots.{other_key}
-use Rattle.std.proofs.Common.{rules}
+use Rattle.portmap_core.proofs.{HeldLaws.found, Slots.other_key}
 
 -- what holds of each holds of the one that is found at a slot
 found_has : (P : ℕ → Connection → Type 0) (q : ℕ) (held : List HeldValue) → All (λ h. P h.slot (connection_held h)) held

@@ -1,22 +1,16 @@
 -- What a machine with one connection says of bytes that came in pieces, it says of them in one piece.
-use Rattle.std.proofs.Common.{◌≡◌, ◌≢◌, ℕ, ◌≤◌, List, [], ◌++◌, Some, None, true, false, refl, sym, ap, ◌∙◌}
-use Rattle.std.proofs.Common.{arith}
 use Rattle.std.specs.Ordering.{nat_cmp}
+use Rattle.std.proofs.Common.{◌≡◌, ◌≢◌, ℕ, ◌≤◌, List, [], ◌++◌, Some, None, true, false, refl, sym, ap, ◌∙◌, arith}
+use Rattle.std.proofs.Common.{rules}
 use Rattle.std.specs.FinMap as map
 use Rattle.portmap_feed.specs.Stream.{More, first_request}
-use Rattle.portmap_core.specs.declared.event.Fate.{Fate}
-use Rattle.portmap_core.specs.declared.connection.Connection.{Connection}
-use Rattle.portmap_core.specs.declared.connection.Stage.TheVariants.{Waiting}
-use Rattle.portmap_core.specs.declared.connection.Phase.TheVariants as phase
-use Rattle.portmap_core.specs.Config.{Configuration}
-use Rattle.portmap_core.specs.Connections.{ConnectionMap}
-use Rattle.portmap_core.specs.State.{State, empty_state, phase_at, phase_of_stage, state_of}
-use Rattle.portmap_core.specs.Serving.{Served}
+use Rattle.portmap_core.specs.{Config.Configuration, Connections.ConnectionMap, Run.{Hears, waiting_state}}
+use Rattle.portmap_core.specs.{Serving.Served, State.{State, empty_state, phase_at, phase_of_stage, state_of}}
 use Rattle.portmap_core.specs.Step.{Opens, Outcome, Says, Settles, halted_by, outcome_of, settled}
-use Rattle.portmap_core.specs.Run.{Hears, waiting_state}
-use Rattle.portmap_core.proofs.Slots.{get_inserted, insert_again, stopped_alike}
-use Rattle.portmap_core.proofs.Waits.{said}
-use Rattle.std.proofs.Common.{rules}
+use Rattle.portmap_core.specs.{declared.connection.Connection.Connection, declared.connection.Stage.TheVariants.Waiting}
+use Rattle.portmap_core.specs.declared.event.Fate.{Fate}
+use Rattle.portmap_core.proofs.{Slots.{get_inserted, insert_again, stopped_alike}, Waits.said}
+use Rattle.portmap_core.specs.declared.connection.Phase.TheVariants as phase
 
 -- the connection that has sent these bytes
 abbrev sender : List ℕ → Connection

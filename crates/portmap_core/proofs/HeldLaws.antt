@@ -1,30 +1,23 @@
 -- Open connections by rising slot, as a finite map.
-use Rattle.std.proofs.Common.{◌≡◌, ◌≢◌, ℕ, suc, zero, ◌+◌, ◌<◌, ◌≤◌, Bool, true, false, List, [], ◌∷◌, ◌++◌, length, get_or, set, take}
-use Rattle.std.proofs.Common.{drop, Some, None, Result, Ok, Err, refl, sym, ap, subst, ◌∙◌, arith}
-use Rattle.std.specs.Prelude.{is_some, All, T, ◌&&◌, not, insert, map as list_map, remove, MatchResult}
+use Rattle.std.specs.{Cmp.{nat_cmp_is, nat_cmp_total}, FinMap.nat_cmp-IsAntisymmetric}
+use Rattle.std.specs.FinMap.Entries.{below_all, find-where_key, is_sorted-put, is_sorted-where_key, where_key}
 use Rattle.std.specs.List.{AllAdjacentBelow, HoldsAt}
 use Rattle.std.specs.List.Sorted.{IsBinarySearchResult, IsPartitionPoint, IsSearchInRange}
 use Rattle.std.specs.Ordering.{nat_cmp, eq_by_cmp, is_lt}
+use Rattle.std.specs.Prelude.{is_some, All, T, ◌&&◌, not, insert, map as list_map, remove, MatchResult}
 use Rattle.std.specs.declared.cmp.Ordering.TheVariants.{Less}
-use Rattle.std.specs.FinMap as tree
-use Rattle.std.specs.FinMap.{nat_cmp-IsAntisymmetric}
-use Rattle.std.specs.FinMap.Entries.{below_all, find-where_key, is_sorted-put, is_sorted-where_key, where_key}
-use Rattle.std.specs.Cmp.{nat_cmp_is, nat_cmp_total}
-use Rattle.std.proofs.lemmas.Bool.Decides.{nat_tests}
-use Rattle.std.proofs.lemmas.Cmp.{ranked}
+use Rattle.std.proofs.Common.{◌≡◌, ◌≢◌, ℕ, suc, zero, ◌+◌, ◌<◌, ◌≤◌, Bool, true, false, List, [], ◌∷◌, ◌++◌, length}
+use Rattle.std.proofs.Common.{get_or, set, take, drop, Some, None, Result, Ok, Err, refl, sym, ap, subst, ◌∙◌, arith}
+use Rattle.std.proofs.{Common.rules, lemmas.Bool.Decides.nat_tests, lemmas.Cmp.ranked}
 use Rattle.std.proofs.lemmas.List.{append-nil, get_or_default, length-map}
 use Rattle.std.proofs.lemmas.List.Elements.{All-append, All-cons, All-drop, All-head, All-set, All-tail, All-take}
-use Rattle.portmap_core.specs.declared.connection.Connection.{Connection}
-use Rattle.portmap_core.specs.declared.connection.Phase.{Phase}
-use Rattle.portmap_core.specs.declared.connection.Phase.TheVariants.{Waiting}
-use Rattle.portmap_core.specs.declared.connection.Stage.{Stage}
-use Rattle.portmap_core.specs.declared.connection.Stage.TheVariants as stage
-use Rattle.portmap_core.specs.Connections.{ConnectionMap, SlotsRise}
-use Rattle.portmap_core.specs.Held.{AreHeld, HeldValue, IsAt, IsGapFor, IsHeld, IsKeptFor, connection_held, connections_held, entries_held}
-use Rattle.portmap_core.specs.Held.{entry_held, stage_held}
-use Rattle.portmap_core.specs.State.{phase_of_stage}
+use Rattle.std.specs.FinMap as tree
+use Rattle.portmap_core.specs.{Connections.{ConnectionMap, SlotsRise}, Held.{AreHeld, HeldValue, IsAt, IsGapFor}}
+use Rattle.portmap_core.specs.Held.{IsHeld, IsKeptFor, connection_held, connections_held, entries_held, entry_held}
+use Rattle.portmap_core.specs.{Held.stage_held, State.phase_of_stage, declared.connection.Connection.Connection}
+use Rattle.portmap_core.specs.{declared.connection.Phase.{Phase, TheVariants.Waiting}, declared.connection.Stage.Stage}
 use Rattle.portmap_core.proofs.Slots.{none_open, same}
-use Rattle.std.proofs.Common.{rules}
+use Rattle.portmap_core.specs.declared.connection.Stage.TheVariants as stage
 
 abbrev pub any_held : HeldValue
 any_held = record { slot = 0; local = true; phase = Waiting; bytes = [] }

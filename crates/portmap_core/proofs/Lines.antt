@@ -1,12 +1,9 @@
 -- The lines of a list so far, with one more.
-use Rattle.std.proofs.Common.{◌≡◌, ℕ, ◌+◌, ◌<◌, List, [], ◌++◌, length, map, get_or, take, Some, None, refl, append_assoc}
-use Rattle.std.specs.Prelude.{slice_get}
-use Rattle.std.specs.List.{flat_map}
-use Rattle.std.proofs.lemmas.Grind.{flat_map-append}
-use Rattle.std.proofs.lemmas.List.{append-nil, map_more}
+use Rattle.std.specs.{List.flat_map, Prelude.slice_get}
+use Rattle.std.proofs.Common.{◌≡◌, ℕ, ◌+◌, ◌<◌, List, [], ◌++◌, length, map, get_or, take, Some, None, refl}
+use Rattle.std.proofs.{Common.{append_assoc, rules}, lemmas.Grind.flat_map-append, lemmas.List.{append-nil, map_more}}
 use Rattle.std.proofs.lemmas.List.Concat.{flat_map-cons}
 use Rattle.std.proofs.lemmas.Option.{slice_get_cases, slice_get_within, get_or_from_slice_get}
-use Rattle.std.proofs.Common.{rules}
 
 module _ {X L : Type 0} (line : L → List ℕ) (f : X → L) (xs : List X) (i : ℕ) (x : X) (here : slice_get xs i ≡ Some x) where
   one_more : flat_map line (map f (take (i + 1) xs)) ≡ flat_map line (map f (take i xs)) ++ line (f x)

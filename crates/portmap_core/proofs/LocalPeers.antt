@@ -1,19 +1,13 @@
 -- Which result a local peer's registration is refused with, and where its KILL ends the port mapper.
-use Rattle.std.proofs.Common.{◌≡◌, ℕ, Bool, true, List, refl, sym, ap, ◌∙◌}
 use Rattle.std.specs.Prelude.{codes, is_some, length, ◌==◌, ◌||◌}
-use Rattle.std.proofs.lemmas.Bool.{le-leb, ne_eqb, or_parts}
-use Rattle.std.proofs.lemmas.List.{nil_from_length}
+use Rattle.std.proofs.Common.{◌≡◌, ℕ, Bool, true, List, refl, sym, ap, ◌∙◌, rules}
+use Rattle.std.proofs.{lemmas.Bool.{le-leb, ne_eqb, or_parts}, lemmas.List.nil_from_length}
 use Rattle.portmap_wire.specs.declared.request.Request.{Request}
 use Rattle.portmap_table.specs.Rows.{is_active, retired_row}
-use Rattle.portmap_core.specs.declared.event.Fate.{Fate}
-use Rattle.portmap_core.specs.Config.{Configuration}
-use Rattle.portmap_core.specs.State.{State}
-use Rattle.portmap_core.specs.Serving.{Served, halts, replied, served}
-use Rattle.portmap_core.specs.Step.{Outcome, outcome_of}
-use Rattle.portmap_core.specs.Laws.{ActiveNamesAreTaken, IsRefused, IsTold, KillsAreRefused, KillsEnd, NewNamesWantRoom, refusal}
-use Rattle.portmap_core.proofs.Shown.{completed}
-use Rattle.portmap_core.proofs.Waits.{said}
-use Rattle.std.proofs.Common.{rules}
+use Rattle.portmap_core.specs.{Config.Configuration, Laws.{ActiveNamesAreTaken, IsRefused, IsTold, KillsAreRefused}}
+use Rattle.portmap_core.specs.{Laws.{KillsEnd, NewNamesWantRoom, refusal}, Serving.{Served, halts, replied, served}}
+use Rattle.portmap_core.specs.{State.State, Step.{Outcome, outcome_of}, declared.event.Fate.Fate}
+use Rattle.portmap_core.proofs.{Shown.completed, Waits.said}
 
 -- what comes of a request that is told one thing whatever creation it would have
 concluded : {cfg : Configuration} {s s' : State} {request : Request} {reply : List ℕ} {fate : Fate} (t : IsTold cfg s request reply fate s')

@@ -1,34 +1,27 @@
 -- Each step keeps that every active name belongs to exactly one open connection, which holds it.
-use Rattle.std.proofs.Common.{◌≡◌, ◌≢◌, ℕ, ◌+◌, ◌-◌, ◌<◌, ◌≤◌, Bool, true, false, cond, List, [], ◌++◌, Option, Some, None, refl}
-use Rattle.std.proofs.Common.{sym, ap, subst, ◌∙◌, arith, inl, inr}
-use Rattle.std.specs.Prelude.{is_some, ◌==◌, position}
+use Rattle.std.specs.{Cmp.nat_cmp_total, Ordering.nat_cmp, Prelude.{is_some, ◌==◌, position}}
+use Rattle.std.proofs.Common.{◌≡◌, ◌≢◌, ℕ, ◌+◌, ◌-◌, ◌<◌, ◌≤◌, Bool, true, false, cond, List, [], ◌++◌, Option, Some}
+use Rattle.std.proofs.{Common.{None, refl, sym, ap, subst, ◌∙◌, arith, inl, inr, rules}, lemmas.Bool.cases_eq}
 use Rattle.std.specs.FinMap as map
-use Rattle.std.specs.Cmp.{nat_cmp_total}
-use Rattle.std.specs.Ordering.{nat_cmp}
-use Rattle.std.proofs.lemmas.Bool.{cases_eq}
-use Rattle.portmap_feed.specs.Stream.{first_request}
 use Rattle.portmap_wire.specs.Node.{Node}
-use Rattle.portmap_wire.specs.declared.request.Request.{Request}
-use Rattle.portmap_wire.specs.declared.request.Request.TheVariants.{Alive, Port, Dump, Kill, Stop}
+use Rattle.portmap_wire.specs.declared.request.Request.{Request, TheVariants.{Alive, Dump, Kill, Port, Stop}}
 use Rattle.portmap_wire.specs.declared.request.Request.TheVariants as request
-use Rattle.portmap_table.specs.Rows.{AreKept, owns_name, is_active, is_full_for, owner_of, registered, retired_of, with_room}
+use Rattle.portmap_feed.specs.Stream.{first_request}
+use Rattle.portmap_table.specs.Rows.{AreKept, owns_name, is_active, is_full_for, owner_of, registered, retired_of}
+use Rattle.portmap_table.specs.Rows.{with_room}
+use Rattle.portmap_table.proofs.{Kept.{IsNew, kept_empty, kept_enters, kept_retired}, Owners.owns_in_room}
+use Rattle.portmap_table.proofs.Owners.{owns_registered, owns_registered_other, owns_retired, owns_retired_other}
 use Rattle.portmap_table.specs.Rows as rows
-use Rattle.portmap_table.proofs.Kept.{IsNew, kept_empty, kept_enters, kept_retired}
-use Rattle.portmap_table.proofs.Owners.{owns_in_room, owns_registered, owns_registered_other, owns_retired, owns_retired_other}
-use Rattle.portmap_core.specs.declared.connection.Connection.{Connection}
-use Rattle.portmap_core.specs.declared.connection.Stage.{Stage}
-use Rattle.portmap_core.specs.declared.connection.Stage.TheVariants.{Waiting, Holding, Done}
-use Rattle.portmap_core.specs.Config.{Configuration}
-use Rattle.portmap_core.specs.Connections.{ConnectionMap, at_stage, ended_at}
-use Rattle.portmap_core.specs.State.{State, empty_state, state_of}
-use Rattle.portmap_core.specs.Serving.{MayTake, Served, ToldAt, closed, if_local, registers, served, stops}
-use Rattle.portmap_core.specs.Entry.{Closed, Connected, Faulted, Late, Piece}
-use Rattle.portmap_core.specs.Step.{Leaves, Opens, Outcome, Told, late_at, settled}
+use Rattle.portmap_core.specs.{Config.Configuration, Connections.{ConnectionMap, at_stage, ended_at}}
+use Rattle.portmap_core.specs.{Entry.{Closed, Connected, Faulted, Late, Piece}, Laws.StepsKeepOwned}
 use Rattle.portmap_core.specs.Owned.{IsStageFor, IsSlotFor, IsOwned}
-use Rattle.portmap_core.specs.Laws.{StepsKeepOwned}
-use Rattle.portmap_core.proofs.Waits.{WaitsAt, said, told_by}
+use Rattle.portmap_core.specs.Serving.{MayTake, Served, ToldAt, closed, if_local, registers, served, stops}
+use Rattle.portmap_core.specs.State.{State, empty_state, state_of}
+use Rattle.portmap_core.specs.Step.{Leaves, Opens, Outcome, Told, late_at, settled}
+use Rattle.portmap_core.specs.declared.connection.Connection.{Connection}
+use Rattle.portmap_core.specs.declared.connection.Stage.{Stage, TheVariants.{Done, Holding, Waiting}}
 use Rattle.portmap_core.proofs.Slots.{cut_other, cut_same, ended_open, put_other, put_same}
-use Rattle.std.proofs.Common.{rules}
+use Rattle.portmap_core.proofs.Waits.{WaitsAt, said, told_by}
 
 -- ---- one slot
 

@@ -1,29 +1,20 @@
 -- Names after a run and after a malformed request, and what is seen of a request that was written.
-use Rattle.std.proofs.Common.{◌≡◌, ℕ, ◌+◌, ◌<◌, ◌≤◌, Bool, true, List, [], ◌∷◌, ◌++◌, length, Option, Some}
-use Rattle.std.proofs.Common.{refl, sym, subst, arith, length-append}
-use Rattle.std.specs.FinMap as map
-use Rattle.std.proofs.Math.Seq.{take-append_seam}
-use Rattle.portmap_feed.specs.Stream.{Whole, first_request, sight_behind}
-use Rattle.portmap_wire.specs.Node.{Node, fields, be2}
-use Rattle.portmap_wire.specs.Request.{body_of, IsRequest}
-use Rattle.portmap_wire.specs.declared.request.TheConstants.{BODY_MOST}
-use Rattle.portmap_wire.specs.declared.request.Request.{Request}
-use Rattle.std.proofs.lemmas.Map.Keys.{apart_from_distinct}
 use Rattle.std.specs.Prelude.{◌==◌}
+use Rattle.std.proofs.Common.{◌≡◌, ℕ, ◌+◌, ◌<◌, ◌≤◌, Bool, true, List, [], ◌∷◌, ◌++◌, length, Option, Some, refl, sym}
+use Rattle.std.proofs.{Common.{subst, arith, length-append, rules}, Math.Seq.take-append_seam}
+use Rattle.std.proofs.lemmas.Map.Keys.{apart_from_distinct}
+use Rattle.std.specs.FinMap as map
+use Rattle.portmap_wire.specs.{Node.{Node, fields, be2}, Request.{body_of, IsRequest}, declared.request.Request.Request}
+use Rattle.portmap_wire.specs.declared.request.TheConstants.{BODY_MOST}
+use Rattle.portmap_feed.specs.Stream.{Whole, first_request, sight_behind}
 use Rattle.portmap_table.specs.Rows.{owns_name, known_names, same_name}
 use Rattle.portmap_table.proofs.Owners.{owner_owns}
+use Rattle.portmap_core.specs.{Config.Configuration, Entry.Entry, Laws.{WrittenIsWhole, NamesBelong}}
+use Rattle.portmap_core.specs.Laws.{NamesBelongToConnections, owners, MalformedChangesNoName}
+use Rattle.portmap_core.specs.{Owned.{IsStageFor, IsSlotFor, IsOwned}, Run.Run, State.State, Step.Step}
 use Rattle.portmap_core.specs.declared.connection.Connection.{Connection}
-use Rattle.portmap_core.specs.declared.connection.Stage.{Stage}
-use Rattle.portmap_core.specs.declared.connection.Stage.TheVariants.{Holding}
-use Rattle.portmap_core.specs.Config.{Configuration}
-use Rattle.portmap_core.specs.State.{State}
-use Rattle.portmap_core.specs.Entry.{Entry}
-use Rattle.portmap_core.specs.Step.{Step}
-use Rattle.portmap_core.specs.Run.{Run}
-use Rattle.portmap_core.specs.Owned.{IsStageFor, IsSlotFor, IsOwned}
-use Rattle.portmap_core.specs.Laws.{WrittenIsWhole, NamesBelong, NamesBelongToConnections, owners, MalformedChangesNoName}
+use Rattle.portmap_core.specs.declared.connection.Stage.{Stage, TheVariants.Holding}
 use Rattle.portmap_core.proofs.Owned.{owned_empty, steps_keep}
-use Rattle.std.proofs.Common.{rules}
 
 -- ---- names after a run
 

@@ -1,31 +1,24 @@
 -- What is served, as the code tells it before anything is changed.
-use Rattle.std.proofs.Common.{◌≡◌, ℕ, Bool, true, false, cond, List, Option, Some, None, sym, ap, subst, ◌∙◌, inl, inr, Result}
 use Rattle.std.specs.Prelude.{IfOk, if◌then◌else◌}
-use Rattle.std.proofs.lemmas.Result.{IfOk-weaker}
+use Rattle.std.proofs.Common.{◌≡◌, ℕ, Bool, true, false, cond, List, Option, Some, None, sym, ap, subst, ◌∙◌, inl, inr}
+use Rattle.std.proofs.{Common.{Result, rules}, lemmas.Result.IfOk-weaker}
+use Rattle.portmap_wire.specs.{Node.Node, Reply.alive_reply, Request.Spells}
+use Rattle.portmap_wire.specs.declared.request.Request.{Request, TheVariants.Alive}
+use Rattle.portmap_wire.proofs.RequestLaws.{one_request}
 use Rattle.portmap_feed.specs.Stream.{Sight, More, Zero, TooLarge, Whole, body_in, first_request, kept}
 use Rattle.portmap_feed.proofs.StreamLaws.{first_request-kept, kept_more}
-use Rattle.portmap_wire.specs.Node.{Node}
-use Rattle.portmap_wire.specs.Reply.{alive_reply}
-use Rattle.portmap_wire.specs.Request.{Spells}
-use Rattle.portmap_wire.proofs.RequestLaws.{one_request}
-use Rattle.portmap_wire.specs.declared.request.Request.{Request}
-use Rattle.portmap_wire.specs.declared.request.Request.TheVariants.{Alive}
 use Rattle.portmap_table.specs.Creation.{IsLegalCreation, choice}
 use Rattle.portmap_table.specs.Rows.{Names, is_active, is_full_for, registered, remembered, standing, with_room}
 use Rattle.portmap_table.specs.declared.standing.Standing.{Standing}
 use Rattle.portmap_table.specs.declared.standing.Standing.TheVariants as how
-use Rattle.portmap_core.specs.declared.connection.Stage.TheVariants.{Holding}
-use Rattle.portmap_core.specs.declared.event.Fate.TheVariants.{Close, Stay}
-use Rattle.portmap_core.specs.declared.connection.Phase.TheVariants as phase
-use Rattle.portmap_core.specs.declared.serve.Change.TheVariants.{Nothing}
-use Rattle.portmap_core.specs.Config.{Configuration}
-use Rattle.portmap_core.specs.Held.{stage_held}
+use Rattle.portmap_core.specs.{Config.Configuration, Held.stage_held}
 use Rattle.portmap_core.specs.Serving.{Served, Serves, ServesBody, ToldAt, alive_served, registers, replied}
-use Rattle.portmap_core.specs.Telling.{AnswersAll, IsAllTold, IsChosen, MayChange, MayRegister, TellsAll, names_after, served_by}
-use Rattle.portmap_core.specs.Telling.{stopped_by}
-use Rattle.portmap_core.specs.declared.asked.Asked.{Asked}
+use Rattle.portmap_core.specs.Telling.{AnswersAll, IsAllTold, IsChosen, MayChange, MayRegister, TellsAll, names_after}
+use Rattle.portmap_core.specs.{Telling.{served_by, stopped_by}, declared.asked.Asked.Asked}
+use Rattle.portmap_core.specs.declared.connection.Stage.TheVariants.{Holding}
+use Rattle.portmap_core.specs.{declared.event.Fate.TheVariants.{Close, Stay}, declared.serve.Change.TheVariants.Nothing}
 use Rattle.portmap_core.specs.declared.serve.Response.{Response}
-use Rattle.std.proofs.Common.{rules}
+use Rattle.portmap_core.specs.declared.connection.Phase.TheVariants as phase
 
 -- ---- a registration, by how its name stands
 

@@ -1,26 +1,17 @@
 -- What any host is told of active names, and that other hosts are told nothing else.
-use Rattle.std.proofs.Common.{◌≡◌, ℕ, Bool, true, false, cond, List, [], ◌∷◌, ◌++◌, Option, Some, ap, ◌∙◌}
-use Rattle.std.proofs.Common.{append_assoc, inl, inr}
-use Rattle.std.specs.Prelude.{find, option_map, map as list_map}
-use Rattle.std.specs.List.{flat_map}
-use Rattle.std.proofs.lemmas.Option.{same_Some}
-use Rattle.portmap_wire.specs.List.{names_line}
-use Rattle.portmap_wire.specs.Reply.{be4, port2_reply}
-use Rattle.portmap_wire.specs.Request.{Spells}
-use Rattle.portmap_wire.specs.declared.request.Request.{Request}
-use Rattle.portmap_wire.specs.declared.request.Request.TheVariants.{Alive, Port, Dump, Kill, Stop}
-use Rattle.portmap_wire.specs.declared.request.Request.TheVariants as request
+use Rattle.std.specs.{List.flat_map, Prelude.{find, option_map, map as list_map}}
+use Rattle.std.proofs.Common.{◌≡◌, ℕ, Bool, true, false, cond, List, [], ◌∷◌, ◌++◌, Option, Some, ap, ◌∙◌, append_assoc}
+use Rattle.std.proofs.{Common.{inl, inr, rules}, lemmas.Option.same_Some}
+use Rattle.portmap_wire.specs.{List.names_line, Reply.{be4, port2_reply}, Request.Spells}
+use Rattle.portmap_wire.specs.declared.request.Request.{Request, TheVariants.{Alive, Dump, Kill, Port, Stop}}
 use Rattle.portmap_wire.proofs.RequestLaws.{one_request}
-use Rattle.portmap_table.specs.Rows.{Names, same_name}
-use Rattle.portmap_table.specs.declared.row.Row.{Row}
-use Rattle.portmap_core.specs.declared.connection.Connection.{Connection}
+use Rattle.portmap_wire.specs.declared.request.Request.TheVariants as request
+use Rattle.portmap_table.specs.{Rows.{Names, same_name}, declared.row.Row.Row}
 use Rattle.portmap_core.specs.Config.{Configuration}
-use Rattle.portmap_core.specs.State.{State}
-use Rattle.portmap_core.specs.Serving.{Served, ServesBody, names_line_of, served}
-use Rattle.portmap_core.specs.Step.{Outcome, outcome_of}
-use Rattle.portmap_core.proofs.Waits.{WaitsAt, said, settles_at}
 use Rattle.portmap_core.specs.Laws.{ActiveNamesAreFound, ActiveNamesAreListed, Completes, OthersAreToldNothing}
-use Rattle.std.proofs.Common.{rules}
+use Rattle.portmap_core.specs.{Serving.{Served, ServesBody, names_line_of, served}, State.State}
+use Rattle.portmap_core.specs.{Step.{Outcome, outcome_of}, declared.connection.Connection.Connection}
+use Rattle.portmap_core.proofs.Waits.{WaitsAt, said, settles_at}
 
 -- ---- what a request is told that is whole
 

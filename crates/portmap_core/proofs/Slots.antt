@@ -1,18 +1,14 @@
 -- Slots as a finite map.
-use Rattle.std.proofs.Common.{◌≡◌, ◌≢◌, ℕ, suc, zero, ◌+◌, ◌<◌, cond, true, false, List, [], ◌∷◌, length, get_or, Option, Some, None, refl}
-use Rattle.std.proofs.Common.{sym, ap, ◌∙◌, arith}
-use Rattle.std.specs.Prelude.{count_by, is_some, option_map}
-use Rattle.std.specs.Ordering.{nat_cmp, eq_by_cmp, is_eq}
+use Rattle.std.specs.{Cmp.{nat_cmp_is, nat_cmp_total}, FinMap.nat_cmp-IsAntisymmetric}
+use Rattle.std.specs.{Ordering.{nat_cmp, eq_by_cmp, is_eq}, Prelude.{count_by, is_some, option_map}}
 use Rattle.std.specs.declared.cmp.Ordering.TheVariants.{Equal}
+use Rattle.std.proofs.Common.{◌≡◌, ◌≢◌, ℕ, suc, zero, ◌+◌, ◌<◌, cond, true, false, List, [], ◌∷◌, length, get_or}
+use Rattle.std.proofs.{Common.{Option, Some, None, refl, sym, ap, ◌∙◌, arith}, lemmas.Bool.Decides.nat_tests}
 use Rattle.std.specs.FinMap as map
-use Rattle.std.specs.FinMap.{nat_cmp-IsAntisymmetric}
-use Rattle.std.specs.Cmp.{nat_cmp_is, nat_cmp_total}
-use Rattle.std.proofs.lemmas.Bool.Decides.{nat_tests}
 use Rattle.slab.specs.Slab.{ContainsKey, Slab, Updates, entries_from, with_value}
 use Rattle.slab.proofs.SlabLemmas.{Updates-with_value, length-entries_from}
-use Rattle.portmap_core.specs.declared.connection.Connection.{Connection}
-use Rattle.portmap_core.specs.declared.connection.Stage.TheVariants.{Done}
 use Rattle.portmap_core.specs.Connections.{ConnectionMap, at_stage, connections_of, ended_at, stopped_in}
+use Rattle.portmap_core.specs.{declared.connection.Connection.Connection, declared.connection.Stage.TheVariants.Done}
 
 pub same_key : (q : ℕ) → eq_by_cmp nat_cmp q q ≡ true
 same_key q = ap is_eq (sym (nat_cmp_is q q Equal refl))

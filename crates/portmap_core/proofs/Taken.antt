@@ -1,28 +1,18 @@
 -- A name that becomes active gets another creation than the one that was remembered for it.
-use Rattle.std.proofs.Common.{◌≡◌, ◌≢◌, ℕ, zero, suc, Bool, List, [], ◌∷◌, Option, Some, None, sym, ap, subst, ◌∙◌, inl}
-use Rattle.std.proofs.Common.{inr}
 use Rattle.std.specs.Prelude.{find, not, remove, slice_get}
-use Rattle.std.proofs.lemmas.Bool.{cases_Bool, cond_both}
+use Rattle.std.proofs.Common.{◌≡◌, ◌≢◌, ℕ, zero, suc, Bool, List, [], ◌∷◌, Option, Some, None, sym, ap, subst, ◌∙◌, inl}
+use Rattle.std.proofs.{Common.{inr, rules}, lemmas.Bool.{cases_Bool, cond_both}}
 use Rattle.portmap_wire.specs.Node.{Node}
-use Rattle.portmap_wire.specs.declared.request.Request.{Request}
-use Rattle.portmap_wire.specs.declared.request.Request.TheVariants.{Alive, Port, Dump, Kill, Stop}
+use Rattle.portmap_wire.specs.declared.request.Request.{Request, TheVariants.{Alive, Dump, Kill, Port, Stop}}
 use Rattle.portmap_wire.specs.declared.request.Request.TheVariants as request
-use Rattle.portmap_table.specs.Creation.{IsLegalCreation}
-use Rattle.portmap_table.specs.Rows.{Names, active_row, registered, remembered, retired_at, retired_last}
-use Rattle.portmap_table.specs.Rows.{retired_of, same_name, with_room}
-use Rattle.portmap_table.specs.declared.row.Row.{Row}
-use Rattle.portmap_table.proofs.Finding.{find-push, find-push_other}
-use Rattle.portmap_table.proofs.First.{NonePass, finds_none, none_found}
+use Rattle.portmap_table.specs.{Creation.IsLegalCreation, Rows.{Names, active_row, registered, remembered, retired_at}}
+use Rattle.portmap_table.specs.{Rows.{retired_last, retired_of, same_name, with_room}, declared.row.Row.Row}
+use Rattle.portmap_table.proofs.{Finding.{find-push, find-push_other}, First.{NonePass, finds_none, none_found}}
 use Rattle.portmap_table.proofs.Kept.{has_name}
-use Rattle.portmap_core.specs.declared.connection.Stage.TheVariants.{Holding}
-use Rattle.portmap_core.specs.Config.{Configuration}
-use Rattle.portmap_core.specs.State.{State}
-use Rattle.portmap_core.specs.Entry.{Closed, Connected, Entry, Faulted, Late, Piece}
-use Rattle.portmap_core.specs.Serving.{MayTake, Served, closed, dump_served, if_local}
-use Rattle.portmap_core.specs.Serving.{served, stops}
-use Rattle.portmap_core.specs.Step.{Step}
+use Rattle.portmap_core.specs.{Config.Configuration, Entry.{Closed, Connected, Entry, Faulted, Late, Piece}}
 use Rattle.portmap_core.specs.Laws.{TakenCreationsAreNew}
-use Rattle.std.proofs.Common.{rules}
+use Rattle.portmap_core.specs.{Serving.{MayTake, Served, closed, dump_served, if_local, served, stops}, State.State}
+use Rattle.portmap_core.specs.{Step.Step, declared.connection.Stage.TheVariants.Holding}
 
 -- each name that becomes active between the two has another creation than was remembered for it
 abbrev TakesNew : Names → Names → Type 0

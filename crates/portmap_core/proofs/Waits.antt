@@ -1,17 +1,13 @@
 -- A connection that waits in a slot, and what is said of a piece there.
-use Rattle.std.proofs.Common.{◌≡◌, ℕ, Bool, List, ◌++◌, Some}
+use Rattle.std.proofs.Common.{◌≡◌, ℕ, Bool, List, ◌++◌, Some, rules}
 use Rattle.std.specs.FinMap as map
-use Rattle.portmap_feed.specs.Stream.{Sight, More}
 use Rattle.portmap_wire.specs.declared.request.Request.{Request}
+use Rattle.portmap_feed.specs.Stream.{Sight, More}
 use Rattle.portmap_table.specs.Rows.{Names}
-use Rattle.portmap_core.specs.declared.event.Fate.{Fate}
+use Rattle.portmap_core.specs.{Config.Configuration, Serving.{MayTake, Served, ToldAt, awaits, closed, served}}
+use Rattle.portmap_core.specs.{State.State, Step.{Expires, Outcome, Says, Settles, Told, settled}}
 use Rattle.portmap_core.specs.declared.connection.Connection.{Connection}
-use Rattle.portmap_core.specs.declared.connection.Stage.TheVariants.{Waiting, Holding}
-use Rattle.portmap_core.specs.Config.{Configuration}
-use Rattle.portmap_core.specs.State.{State}
-use Rattle.portmap_core.specs.Serving.{MayTake, Served, ToldAt, awaits, closed, served}
-use Rattle.portmap_core.specs.Step.{Expires, Outcome, Says, Settles, Told, settled}
-use Rattle.std.proofs.Common.{rules}
+use Rattle.portmap_core.specs.{declared.connection.Stage.TheVariants.{Waiting, Holding}, declared.event.Fate.Fate}
 
 abbrev pub said : List ℕ → Fate → State → Outcome
 said reply fate after = record { reply = reply; fate = fate; state = after }

@@ -1,8 +1,9 @@
 -- What a port mapper is set to: its port and whether its checks are relaxed (epmd(1)), and its limits (profile).
 use Rattle.std.specs.Prelude.{ℕ, ◌<◌, ◌≤◌, ◌^◌, Bool, Result, Ok, Err, nat_lt, ◌==◌, if◌then◌else◌}
 use Rattle.portmap_core.specs.declared.config.ConfigFault.{ConfigFault}
+use Rattle.portmap_core.specs.declared.config.ConfigFault.TheVariants.{TooManyConnections, TooManyNames}
+use Rattle.portmap_core.specs.declared.config.ConfigFault.TheVariants.{ZeroConnections, ZeroNames}
 use Rattle.portmap_core.specs.declared.config.TheConstants.{LIMIT_MOST}
-use Rattle.portmap_core.specs.declared.config.ConfigFault.TheVariants.{ZeroConnections, TooManyConnections, ZeroNames, TooManyNames}
 
 pub record Configuration : Type 0 where
   pub port : ℕ

@@ -1,12 +1,9 @@
 -- The open connections, as a finite map from their slots.
-use Rattle.std.specs.Prelude.{◌≡◌, ℕ, List, Option, Some, None, T}
-use Rattle.std.specs.Ordering.{nat_cmp}
+use Rattle.std.specs.{FinMap.Entries.is_sorted, Ordering.nat_cmp, Prelude.{◌≡◌, ℕ, List, Option, Some, None, T}}
 use Rattle.std.specs.FinMap as map
-use Rattle.std.specs.FinMap.Entries.{is_sorted}
 use Rattle.slab.specs.Slab.{entries_from}
 use Rattle.portmap_core.specs.declared.connection.Connection.{Connection}
-use Rattle.portmap_core.specs.declared.connection.Stage.{Stage}
-use Rattle.portmap_core.specs.declared.connection.Stage.TheVariants.{Holding, Done}
+use Rattle.portmap_core.specs.declared.connection.Stage.{Stage, TheVariants.{Done, Holding}}
 
 abbrev pub ConnectionMap : Type 0
 ConnectionMap = map.FinMap nat_cmp Connection

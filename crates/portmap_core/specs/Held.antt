@@ -1,14 +1,11 @@
 -- The open connections of a plain state, as a list by rising slot.
+use Rattle.std.specs.{List.HoldsAt, List.Sorted.IsPartitionPoint}
 use Rattle.std.specs.Prelude.{◌≡◌, ℕ, ◌<◌, ◌≤◌, Bool, List, [], All, IsSome, None, length, map as list_map}
-use Rattle.std.specs.List.{HoldsAt}
-use Rattle.std.specs.List.Sorted.{IsPartitionPoint}
 use Rattle.std.specs.FinMap as map
-use Rattle.portmap_core.specs.declared.connection.Connection.{Connection}
+use Rattle.portmap_core.specs.{Connections.{ConnectionMap, SlotsRise}, declared.connection.Connection.Connection}
+use Rattle.portmap_core.specs.declared.connection.Phase.{Phase, TheVariants.{Done, Holding, Waiting}}
 use Rattle.portmap_core.specs.declared.connection.Stage.{Stage}
 use Rattle.portmap_core.specs.declared.connection.Stage.TheVariants as stage
-use Rattle.portmap_core.specs.declared.connection.Phase.{Phase}
-use Rattle.portmap_core.specs.declared.connection.Phase.TheVariants.{Waiting, Holding, Done}
-use Rattle.portmap_core.specs.Connections.{ConnectionMap, SlotsRise}
 
 -- an open connection with its slot
 pub record HeldValue : Type 0 where

@@ -1,27 +1,19 @@
 -- Laws of the machine, each proved on a public function.
-use Rattle.std.specs.Prelude.{◌≡◌, ◌≢◌, ℕ, ◌<◌, ◌≤◌, ◌==◌, true, false, List, [], ◌∷◌, ◌++◌, length, map as list_map, slice_index_or}
-use Rattle.std.specs.Prelude.{◌⊎◌, Some, None, codes, nat_lt, if◌then◌else◌}
+use Rattle.std.specs.Prelude.{◌≡◌, ◌≢◌, ℕ, ◌<◌, ◌≤◌, ◌==◌, true, false, List, [], ◌∷◌, ◌++◌, length, map as list_map}
+use Rattle.std.specs.Prelude.{slice_index_or, ◌⊎◌, Some, None, codes, nat_lt, if◌then◌else◌}
 use Rattle.std.specs.FinMap as map
-use Rattle.portmap_feed.specs.Stream.{Sight, More, Zero, TooLarge, Whole, first_request}
-use Rattle.portmap_wire.specs.List.{names_line}
-use Rattle.portmap_wire.specs.Node.{Node}
-use Rattle.portmap_wire.specs.Reply.{port2_reply}
+use Rattle.portmap_wire.specs.{List.names_line, Node.Node, Reply.port2_reply}
 use Rattle.portmap_wire.specs.Request.{body_of, sent, IsRequest, IsMalformed, Spells}
 use Rattle.portmap_wire.specs.declared.request.Request.{Request}
 use Rattle.portmap_wire.specs.declared.request.Request.TheVariants as request
+use Rattle.portmap_feed.specs.Stream.{Sight, More, Zero, TooLarge, Whole, first_request}
 use Rattle.portmap_table.specs.Rows.{Names, active_row, is_known, known_len, known_names, remembered, same_name}
 use Rattle.portmap_table.specs.declared.row.Row.{Row}
-use Rattle.portmap_core.specs.declared.event.Fate.{Fate}
-use Rattle.portmap_core.specs.declared.event.Fate.TheVariants.{Stay, Close, Halt}
+use Rattle.portmap_core.specs.{Config.{Configuration, IsConfiguration}, Entry.{Entry, Late}, Owned.IsOwned, Run.Run}
+use Rattle.portmap_core.specs.{Serving.names_line_of, State.{State, empty_state}, Step.{Step, Says}}
 use Rattle.portmap_core.specs.declared.connection.Connection.{Connection}
 use Rattle.portmap_core.specs.declared.connection.Stage.TheVariants.{Waiting, Holding}
-use Rattle.portmap_core.specs.Config.{Configuration, IsConfiguration}
-use Rattle.portmap_core.specs.State.{State, empty_state}
-use Rattle.portmap_core.specs.Entry.{Entry, Late}
-use Rattle.portmap_core.specs.Serving.{names_line_of}
-use Rattle.portmap_core.specs.Step.{Step, Says}
-use Rattle.portmap_core.specs.Run.{Run}
-use Rattle.portmap_core.specs.Owned.{IsOwned}
+use Rattle.portmap_core.specs.declared.event.Fate.{Fate, TheVariants.{Close, Halt, Stay}}
 
 -- the first request of what was written, whatever follows it, is the request written
 abbrev pub WrittenIsWhole : Type 0

@@ -1,8 +1,7 @@
 -- Whether a peer is on this host: epmd(1), which serves registrations to local nodes alone; how it is told: profile.
-use Rattle.std.specs.Prelude.{ℕ, Bool, List, [], ◌∷◌, ◌==◌, ◌||◌, take, drop, if◌then◌else◌}
 use Rattle.std.specs.Cmp.Lexicographic.{pointwise}
-use Rattle.portmap_core.specs.declared.locality.Ip.{Ip}
-use Rattle.portmap_core.specs.declared.locality.Ip.TheVariants.{V4, V6}
+use Rattle.std.specs.Prelude.{ℕ, Bool, List, [], ◌∷◌, ◌==◌, ◌||◌, take, drop, if◌then◌else◌}
+use Rattle.portmap_core.specs.declared.locality.Ip.{Ip, TheVariants.{V4, V6}}
 
 -- the first twelve bytes of `::ffff:a.b.c.d`, an IPv4 address among IPv6 ones
 abbrev pub mapped_front : List ℕ

@@ -3,11 +3,8 @@ use Rattle.std.specs.Prelude.{◌≡◌, ℕ, ◌≤◌, Bool, true, false, Opti
 use Rattle.std.specs.FinMap as map
 use Rattle.portmap_feed.specs.Stream.{More, first_request}
 use Rattle.portmap_table.specs.Rows.{AreKept, owns_name}
-use Rattle.portmap_core.specs.declared.connection.Connection.{Connection}
-use Rattle.portmap_core.specs.declared.connection.Stage.{Stage}
-use Rattle.portmap_core.specs.declared.connection.Stage.TheVariants.{Waiting, Holding, Done}
-use Rattle.portmap_core.specs.Config.{Configuration}
-use Rattle.portmap_core.specs.State.{State}
+use Rattle.portmap_core.specs.{Config.Configuration, State.State, declared.connection.Connection.Connection}
+use Rattle.portmap_core.specs.declared.connection.Stage.{Stage, TheVariants.{Done, Holding, Waiting}}
 
 -- by whether the slot owns an active name: exactly those that hold do, they are local, and one that waits has not sent a
 -- whole request

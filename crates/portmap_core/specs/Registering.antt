@@ -1,9 +1,7 @@
 -- What a piece asks to register, told from its bytes alone: ERTS User's Guide, EPMD Protocol, ALIVE2_REQ.
 use Rattle.std.specs.Prelude.{◌≡◌, ℕ, List}
+use Rattle.portmap_wire.specs.{Node.Node, Request.Spells, declared.request.Request.TheVariants.Alive}
 use Rattle.portmap_feed.specs.Stream.{Whole, first_request}
-use Rattle.portmap_wire.specs.Node.{Node}
-use Rattle.portmap_wire.specs.Request.{Spells}
-use Rattle.portmap_wire.specs.declared.request.Request.TheVariants.{Alive}
 
 -- the first request in these bytes is whole, and asks to register this name
 pub record Registers (bytes name : List ℕ) : Type 0 where

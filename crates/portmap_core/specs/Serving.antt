@@ -2,25 +2,17 @@
 -- connection that asks, and on nothing else. ERTS User's Guide, EPMD Protocol, for the requests and their replies; epmd(1)
 -- for what other hosts may ask and for relaxed checks. A close in answer to a malformed request, and silence towards other
 -- hosts: profile. The cases stand in the order of the table of docs/PROTOCOL.md.
-use Rattle.std.specs.Prelude.{◌≡◌, ℕ, Bool, not, ◌||◌, List, [], ◌++◌, map as list_map, length, ◌==◌, Option, Some, None, option_map, codes}
-use Rattle.std.specs.Prelude.{◌⊎◌, if◌then◌else◌}
+use Rattle.std.specs.Prelude.{◌≡◌, ℕ, Bool, not, ◌||◌, List, [], ◌++◌, map as list_map, length, ◌==◌, Option, Some}
+use Rattle.std.specs.Prelude.{None, option_map, codes, ◌⊎◌, if◌then◌else◌}
+use Rattle.portmap_wire.specs.{List.{names_reply, dump_reply}, Node.Node, Reply.{alive_reply, port2_reply}}
+use Rattle.portmap_wire.specs.{Request.{Spells, IsMalformed}, declared.list.DumpLine.DumpLine, declared.list.Line.Line}
+use Rattle.portmap_wire.specs.declared.request.Request.{Request, TheVariants.{Alive, Dump, Kill, Names, Port, Stop}}
 use Rattle.portmap_feed.specs.Stream.{Sight, More, Zero, TooLarge, Whole}
-use Rattle.portmap_wire.specs.Node.{Node}
-use Rattle.portmap_wire.specs.Request.{Spells, IsMalformed}
-use Rattle.portmap_wire.specs.Reply.{alive_reply, port2_reply}
-use Rattle.portmap_wire.specs.List.{names_reply, dump_reply}
-use Rattle.portmap_wire.specs.declared.list.Line.{Line}
-use Rattle.portmap_wire.specs.declared.list.DumpLine.{DumpLine}
-use Rattle.portmap_wire.specs.declared.request.Request.{Request}
-use Rattle.portmap_wire.specs.declared.request.Request.TheVariants.{Alive, Port, Names, Dump, Kill, Stop}
-use Rattle.portmap_table.specs.Creation.{IsLegalCreation}
+use Rattle.portmap_table.specs.{Creation.IsLegalCreation, declared.row.Row.Row}
 use Rattle.portmap_table.specs.Rows as rows
-use Rattle.portmap_table.specs.declared.row.Row.{Row}
-use Rattle.portmap_core.specs.declared.event.Fate.{Fate}
-use Rattle.portmap_core.specs.declared.event.Fate.TheVariants.{Stay, Close, Halt}
-use Rattle.portmap_core.specs.declared.connection.Stage.{Stage}
-use Rattle.portmap_core.specs.declared.connection.Stage.TheVariants.{Waiting, Holding, Done}
 use Rattle.portmap_core.specs.Config.{Configuration}
+use Rattle.portmap_core.specs.declared.connection.Stage.{Stage, TheVariants.{Done, Holding, Waiting}}
+use Rattle.portmap_core.specs.declared.event.Fate.{Fate, TheVariants.{Close, Halt, Stay}}
 
 -- the reply, what becomes of the connection, its next stage, the names after it, and the slot of another connection whose
 -- name was stopped

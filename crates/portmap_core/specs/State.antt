@@ -1,16 +1,13 @@
 -- The state of the port mapper's machine.
-use Rattle.std.specs.Prelude.{ℕ, Bool, false, List, Option, Some, None, refl}
 use Rattle.std.specs.Coded.{Coded, code_by, coded×, coded_list, coded_ℕ, coded_bool}
+use Rattle.std.specs.Prelude.{ℕ, Bool, false, List, Option, Some, None, refl}
 use Rattle.std.specs.FinMap as map
-use Rattle.portmap_table.specs.Rows.{Names, RetiredName, no_names}
-use Rattle.portmap_table.specs.declared.row.Row.{Row}
-use Rattle.portmap_core.specs.declared.connection.Connection.{Connection}
+use Rattle.portmap_table.specs.{Rows.{Names, RetiredName, no_names}, declared.row.Row.Row}
+use Rattle.portmap_core.specs.{Config.Configuration, Connections.ConnectionMap}
+use Rattle.portmap_core.specs.{declared.connection.Connection.Connection, declared.connection.Phase.Phase}
 use Rattle.portmap_core.specs.declared.connection.Stage.{Stage}
 use Rattle.portmap_core.specs.declared.connection.Stage.TheVariants as stage
-use Rattle.portmap_core.specs.declared.connection.Phase.{Phase}
 use Rattle.portmap_core.specs.declared.connection.Phase.TheVariants as phase
-use Rattle.portmap_core.specs.Config.{Configuration}
-use Rattle.portmap_core.specs.Connections.{ConnectionMap}
 
 -- the active and the retired names, the open connections by slot, and whether the port mapper has ended
 pub record State : Type 0 where

@@ -1,25 +1,16 @@
 -- What is told of a request before anything is changed, and the change that goes with it.
 use Rattle.std.specs.Prelude.{◌≡◌, ℕ, Bool, false, List, Option, Some, None, Result, Ok, Err, IfOk}
-use Rattle.portmap_wire.specs.Node.{Node}
-use Rattle.portmap_wire.specs.declared.reply_reading.AliveReply.{AliveReply}
-use Rattle.portmap_wire.specs.declared.reply_reading.AliveReply.TheVariants as reply
+use Rattle.portmap_wire.specs.{Node.Node, ReplyReading.alive_answer, declared.reply_reading.AliveReply.AliveReply}
 use Rattle.portmap_wire.specs.declared.reply_reading.ReplyFault.{ReplyFault}
-use Rattle.portmap_wire.specs.ReplyReading.{alive_answer}
-use Rattle.portmap_table.specs.Creation.{IsLegalCreation, choice}
-use Rattle.portmap_table.specs.Rows as rows
-use Rattle.portmap_table.specs.Table.{TableState}
-use Rattle.portmap_core.specs.declared.asked.Asked.{Asked}
-use Rattle.portmap_core.specs.declared.serve.Change.{Change}
-use Rattle.portmap_core.specs.declared.serve.Change.TheVariants.{Nothing, Listed, Register, Retire}
-use Rattle.portmap_core.specs.declared.serve.Response.{Response}
-use Rattle.portmap_core.specs.declared.live.Said.{Said}
-use Rattle.portmap_core.specs.declared.connection.Phase.{Phase}
-use Rattle.portmap_core.specs.Config.{Configuration}
-use Rattle.portmap_core.specs.Held.{stage_held}
+use Rattle.portmap_wire.specs.declared.reply_reading.AliveReply.TheVariants as reply
 use Rattle.portmap_feed.specs.Stream.{first_request}
-use Rattle.portmap_core.specs.Connections.{stopped_in}
-use Rattle.portmap_core.specs.State.{Machine}
-use Rattle.portmap_core.specs.Serving.{Served, ToldAt, list_of}
+use Rattle.portmap_table.specs.{Creation.{IsLegalCreation, choice}, Table.TableState}
+use Rattle.portmap_table.specs.Rows as rows
+use Rattle.portmap_core.specs.{Config.Configuration, Connections.stopped_in, Held.stage_held}
+use Rattle.portmap_core.specs.{Serving.{Served, ToldAt, list_of}, State.Machine, declared.asked.Asked.Asked}
+use Rattle.portmap_core.specs.{declared.connection.Phase.Phase, declared.live.Said.Said}
+use Rattle.portmap_core.specs.declared.serve.Change.{Change, TheVariants.{Listed, Nothing, Register, Retire}}
+use Rattle.portmap_core.specs.declared.serve.Response.{Response}
 
 -- ---- what is changed
 

@@ -1,9 +1,8 @@
 -- How a daemon fails: profile.
 use Rattle.std.specs.Prelude.{ℕ, ◌<◌}
-use Rattle.portmap_daemon.specs.declared.daemon.RunFault.{RunFault}
-use Rattle.portmap_daemon.specs.declared.daemon.RunFault.TheVariants.{Listen, ListenBeside, Poll, NoMemory}
 use Rattle.portmap_worker.specs.declared.ending.Failure.{Failure}
 use Rattle.portmap_worker.specs.declared.ending.Failure.TheVariants as failure
+use Rattle.portmap_daemon.specs.declared.daemon.RunFault.{RunFault, TheVariants.{Listen, ListenBeside, NoMemory, Poll}}
 
 -- where an address can't be listened on, it is one of so many
 abbrev pub IsOfAddresses : ℕ → RunFault → Type 0

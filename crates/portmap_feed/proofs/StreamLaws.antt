@@ -1,11 +1,9 @@
 -- What is seen of a stream, and what is kept of it, depend on the joined bytes alone.
 use Rattle.std.proofs.Common.{◌≡◌, ◌≢◌, ℕ, suc, zero, ◌+◌, ◌-◌, ◌*◌, ◌≤◌, ltb, min, List, [], ◌∷◌, ◌++◌, length, take}
-use Rattle.std.proofs.Common.{refl, sym, ap, ◌∙◌, arith}
-use Rattle.std.proofs.Math.Seq.{take-append-add}
+use Rattle.std.proofs.{Common.{refl, sym, ap, ◌∙◌, arith, rules}, Math.Seq.take-append-add}
 use Rattle.std.proofs.lemmas.List.{append-nil, length-take, take_all, take-take, take_min}
 use Rattle.portmap_wire.specs.declared.request.TheConstants.{BODY_MOST}
 use Rattle.portmap_feed.specs.Stream.{More, sight_behind, first_request, awaited, room, kept}
-use Rattle.std.proofs.Common.{rules}
 
 -- ---- the room that is taken
 

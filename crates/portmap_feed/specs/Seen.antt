@@ -1,7 +1,6 @@
 -- What a push answers.
-use Rattle.portmap_feed.specs.Stream.{Sight, More, Zero, TooLarge, Whole}
+use Rattle.portmap_feed.specs.{Stream.{Sight, More, Zero, TooLarge, Whole}, declared.feed.Seen.Seen}
 use Rattle.portmap_feed.specs.declared.feed.LengthFault.TheVariants as faults
-use Rattle.portmap_feed.specs.declared.feed.Seen.{Seen}
 use Rattle.portmap_feed.specs.declared.feed.Seen.TheVariants as seen
 
 -- the answer to what is seen

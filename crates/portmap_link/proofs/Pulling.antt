@@ -1,13 +1,9 @@
 -- Bytes are read a piece at a time.
-use Rattle.std.proofs.Common.{◌≡◌, ◌≢◌, ℕ, ◌≤◌, List, [], ◌∷◌, ◌++◌, length}
+use Rattle.std.proofs.Common.{◌≡◌, ◌≢◌, ℕ, ◌≤◌, List, [], ◌∷◌, ◌++◌, length, rules}
 use Rattle.std.proofs.lemmas.List.{length-append, take_at}
 use Rattle.portmap_feed.specs.Stream.{More, first_request}
-use Rattle.portmap_link.specs.Asking.{GoesOn, IsAskedAgain}
-use Rattle.portmap_link.specs.Once.{IsJustRead}
-use Rattle.portmap_link.specs.declared.device.Pull.{Pull}
-use Rattle.portmap_link.specs.declared.device.Pull.TheVariants.{Piece}
-use Rattle.portmap_link.specs.declared.single.TheConstants.{PULL_MOST}
-use Rattle.std.proofs.Common.{rules}
+use Rattle.portmap_link.specs.{Asking.{GoesOn, IsAskedAgain}, Once.IsJustRead}
+use Rattle.portmap_link.specs.{declared.device.Pull.{Pull, TheVariants.Piece}, declared.single.TheConstants.PULL_MOST}
 
 -- what the last piece decided
 pub just_read : (read piece : List ℕ) (asked earlier answered : List Pull) → first_request read ≡ More → length piece ≤ PULL_MOST

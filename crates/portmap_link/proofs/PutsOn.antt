@@ -1,21 +1,13 @@
 -- Bytes are put under a limit.
-use Rattle.std.proofs.Common.{◌≡◌, ◌≢◌, ℕ, ◌+◌, ◌-◌, ◌<◌, ◌≤◌, ◌↔◌, List, [], ◌∷◌, ◌++◌, length, map, sum, cond, refl, ap, subst, ◌∙◌}
-use Rattle.std.proofs.Common.{append_assoc, append-nil, arith}
-use Rattle.std.specs.Prelude.{count_by}
-use Rattle.std.specs.List.{AllByRecursion}
-use Rattle.std.proofs.lemmas.List.{length-append}
-use Rattle.std.proofs.lemmas.List.Sums.{sum_by-append, sum_by-cons}
-use Rattle.portmap_link.specs.Asking.{GoesOn, IsPutAgain, is_put_later}
-use Rattle.portmap_link.specs.Flush.{Sends, ending_of}
+use Rattle.std.specs.{List.AllByRecursion, Prelude.count_by}
+use Rattle.std.proofs.Common.{◌≡◌, ◌≢◌, ℕ, ◌+◌, ◌-◌, ◌<◌, ◌≤◌, ◌↔◌, List, [], ◌∷◌, ◌++◌, length, map, sum, cond, refl}
+use Rattle.std.proofs.{Common.{ap, subst, ◌∙◌, append_assoc, append-nil, arith, rules}, lemmas.Grind.common_steps}
+use Rattle.std.proofs.{lemmas.List.length-append, lemmas.List.Sums.{sum_by-append, sum_by-cons}}
+use Rattle.portmap_link.specs.{Asking.{GoesOn, IsPutAgain, is_put_later}, Flush.{Sends, ending_of}}
 use Rattle.portmap_link.specs.Limit.{IsDue, PutsOn, PutsSome, SendsOn, bytes_put, fault_of, left_after, left_in}
-use Rattle.portmap_link.specs.declared.device.Put.{Put}
-use Rattle.portmap_link.specs.declared.device.Put.TheVariants.{Wrote, Later as PutLater, Fault as PutFault}
-use Rattle.portmap_link.specs.declared.outbox.Flush.{Flush}
-use Rattle.portmap_link.specs.declared.outbox.Flush.TheVariants.{Empty, Later, Fault}
-use Rattle.portmap_link.specs.declared.putting.Limit.{Limit}
-use Rattle.portmap_link.specs.declared.putting.Limit.TheVariants.{Puts, Laters}
-use Rattle.std.proofs.Common.{rules}
-use Rattle.std.proofs.lemmas.Grind.{common_steps}
+use Rattle.portmap_link.specs.declared.device.Put.{Put, TheVariants.{Fault as PutFault, Later as PutLater, Wrote}}
+use Rattle.portmap_link.specs.declared.outbox.Flush.{Flush, TheVariants.{Empty, Fault, Later}}
+use Rattle.portmap_link.specs.declared.putting.Limit.{Limit, TheVariants.{Laters, Puts}}
 
 -- ---- one put more
 

@@ -1,12 +1,10 @@
 -- A request was heard, and its reply was written in part.
-use Rattle.std.proofs.Common.{◌≡◌, ℕ, ◌<◌, List, length, take, Err, inl, refl}
 use Rattle.std.specs.Io.KnownBytes.{Appends}
-use Rattle.portmap_core.specs.Config.{Configuration}
-use Rattle.portmap_core.specs.declared.event.Fate.{Fate}
+use Rattle.std.proofs.Common.{◌≡◌, ℕ, ◌<◌, List, length, take, Err, inl, refl}
+use Rattle.portmap_core.specs.{Config.Configuration, declared.event.Fate.Fate}
+use Rattle.portmap_link.specs.{Asking.{Devices, GoesOn, IsPutAgain}, Once.{IsHeard, RepliesInPart, Telling, Did}}
 use Rattle.portmap_link.specs.declared.single.OnceFault.{OnceFault}
-use Rattle.portmap_link.specs.declared.single.OnceFault.TheVariants.{ReadFault, NoMemory, WriteFault, TooManyTurns}
-use Rattle.portmap_link.specs.Asking.{Devices, GoesOn, IsPutAgain}
-use Rattle.portmap_link.specs.Once.{IsHeard, RepliesInPart, Telling, Did}
+use Rattle.portmap_link.specs.declared.single.OnceFault.TheVariants.{NoMemory, ReadFault, TooManyTurns, WriteFault}
 
 in_part : (cfg : Configuration) (old new : Devices) (reply : List ℕ) (fate : Fate) (sent : ℕ)
     → IsHeard cfg old.left new.left old.pulls new.pulls reply fate → sent < length reply → Appends old.held new.held (take sent reply)

@@ -1,10 +1,7 @@
 -- Bytes are sent a part at a time.
-use Rattle.std.proofs.Common.{◌≡◌, ℕ, ◌+◌, ◌-◌, ◌≤◌, ◌↔◌, List, [], length, take, drop, Option}
-use Rattle.std.proofs.Common.{sym, ap, ◌∙◌, append_assoc, arith}
-use Rattle.std.proofs.Math.Seq.{take-add}
-use Rattle.std.proofs.lemmas.List.{drop_all, length-drop}
 use Rattle.std.specs.Io.KnownBytes.{Appends}
-use Rattle.std.proofs.Common.{rules}
+use Rattle.std.proofs.Common.{◌≡◌, ℕ, ◌+◌, ◌-◌, ◌≤◌, ◌↔◌, List, [], length, take, drop, Option, sym, ap, ◌∙◌}
+use Rattle.std.proofs.{Common.{append_assoc, arith, rules}, Math.Seq.take-add, lemmas.List.{drop_all, length-drop}}
 
 -- bytes that grew by the first n, and then by the next m
 pub appends_more : (a b c : Option (List ℕ)) (n m : ℕ) (xs : List ℕ) → Appends a b (take n xs) → Appends b c (take m (drop n xs))

@@ -1,17 +1,11 @@
 -- Devices over the readers and writers of the standard library.
-use Rattle.std.specs.Prelude.{ℕ, Bool, true, false, ◌==◌, if◌then◌else◌, Result, Ok, Err, List, Option}
 use Rattle.std.specs.IoError.{error_kind}
-use Rattle.std.specs.declared.io.Error.{Error}
-use Rattle.std.specs.declared.io.ErrorKind.{ErrorKind}
-use Rattle.std.specs.declared.io.ErrorKind.TheVariants.{Interrupted, WouldBlock}
-use Rattle.portmap_link.specs.Asking.{Devices}
-use Rattle.portmap_link.specs.declared.adapters.stream.Both.{Both}
-use Rattle.portmap_link.specs.declared.adapters.reader.Reading.{Reading}
-use Rattle.portmap_link.specs.declared.adapters.writer.Writing.{Writing}
-use Rattle.portmap_link.specs.declared.device.Pull.{Pull}
-use Rattle.portmap_link.specs.declared.device.Pull.TheVariants.{Piece, End, Later, Fault}
-use Rattle.portmap_link.specs.declared.device.Put.{Put}
-use Rattle.portmap_link.specs.declared.device.Put.TheVariants.{Wrote, Later as PutLater, Fault as PutFault}
+use Rattle.std.specs.Prelude.{ℕ, Bool, true, false, ◌==◌, if◌then◌else◌, Result, Ok, Err, List, Option}
+use Rattle.std.specs.{declared.io.Error.Error, declared.io.ErrorKind.{ErrorKind, TheVariants.{Interrupted, WouldBlock}}}
+use Rattle.portmap_link.specs.{Asking.Devices, declared.adapters.reader.Reading.Reading}
+use Rattle.portmap_link.specs.{declared.adapters.stream.Both.Both, declared.adapters.writer.Writing.Writing}
+use Rattle.portmap_link.specs.declared.device.Pull.{Pull, TheVariants.{End, Fault, Later, Piece}}
+use Rattle.portmap_link.specs.declared.device.Put.{Put, TheVariants.{Fault as PutFault, Later as PutLater, Wrote}}
 
 -- whether an error of this kind says only that the call is to be made again
 abbrev pub is_passing : ErrorKind → Bool

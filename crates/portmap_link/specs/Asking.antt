@@ -1,11 +1,9 @@
 -- Whether a device is asked again, and how often.
+use Rattle.std.specs.{Io.KnownBytes.{Keeps, IsAtEnd}, List.AllByRecursion}
 use Rattle.std.specs.Prelude.{◌≡◌, ℕ, ◌+◌, ◌≤◌, Bool, true, false, List, [], ◌∷◌, ◌++◌, length, Option}
-use Rattle.std.specs.List.{AllByRecursion}
-use Rattle.std.specs.Io.KnownBytes.{Keeps, IsAtEnd}
 use Rattle.portmap_link.specs.declared.device.Pull.{Pull}
-use Rattle.portmap_link.specs.declared.device.Pull.TheVariants.{Piece, End, Later as PullLater, Fault as PullFault}
-use Rattle.portmap_link.specs.declared.device.Put.{Put}
-use Rattle.portmap_link.specs.declared.device.Put.TheVariants.{Wrote, Later as PutLater, Fault as PutFault}
+use Rattle.portmap_link.specs.declared.device.Pull.TheVariants.{End, Fault as PullFault, Later as PullLater, Piece}
+use Rattle.portmap_link.specs.declared.device.Put.{Put, TheVariants.{Fault as PutFault, Later as PutLater, Wrote}}
 
 -- after this answer the input is asked again
 abbrev pub IsAskedAgain : Pull → Type 0

@@ -1,10 +1,8 @@
 -- What a call does to a device.
-use Rattle.std.specs.Prelude.{ℕ, ◌<◌, ◌≤◌, List, length, take, Option, Bool, true, false}
 use Rattle.std.specs.Io.KnownBytes.{Keeps, Consumes, Appends, IsAtEnd}
-use Rattle.portmap_link.specs.declared.device.Pull.{Pull}
-use Rattle.portmap_link.specs.declared.device.Pull.TheVariants.{Piece, End, Later, Fault}
-use Rattle.portmap_link.specs.declared.device.Put.{Put}
-use Rattle.portmap_link.specs.declared.device.Put.TheVariants.{Wrote, Later as PutLater, Fault as PutFault}
+use Rattle.std.specs.Prelude.{ℕ, ◌<◌, ◌≤◌, List, length, take, Option, Bool, true, false}
+use Rattle.portmap_link.specs.declared.device.Pull.{Pull, TheVariants.{End, Fault, Later, Piece}}
+use Rattle.portmap_link.specs.declared.device.Put.{Put, TheVariants.{Fault as PutFault, Later as PutLater, Wrote}}
 
 -- a pull with this answer did so to the bytes that are left to read, where the call left `buffer`
 abbrev pub PullConsumes : Option (List ℕ) → Option (List ℕ) → Pull → List ℕ → Type 0

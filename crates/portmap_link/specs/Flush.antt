@@ -1,10 +1,7 @@
 -- How bytes are sent.
-use Rattle.std.specs.Prelude.{◌≡◌, ℕ, List, [], ◌∷◌, ◌++◌, map, sum, Bool, true, false, Option}
-use Rattle.std.specs.Io.KnownBytes.{Appends}
-use Rattle.portmap_link.specs.declared.device.Put.{Put}
-use Rattle.portmap_link.specs.declared.device.Put.TheVariants.{Wrote, Later as PutLater, Fault as PutFault}
-use Rattle.portmap_link.specs.declared.outbox.Flush.{Flush}
-use Rattle.portmap_link.specs.declared.outbox.Flush.TheVariants.{Empty, Later, Fault}
+use Rattle.std.specs.{Io.KnownBytes.Appends, Prelude.{◌≡◌, ℕ, List, [], ◌∷◌, ◌++◌, map, sum, Bool, true, false, Option}}
+use Rattle.portmap_link.specs.declared.device.Put.{Put, TheVariants.{Fault as PutFault, Later as PutLater, Wrote}}
+use Rattle.portmap_link.specs.declared.outbox.Flush.{Flush, TheVariants.{Empty, Fault, Later}}
 
 -- the answer that ended a flush: none where all was written
 abbrev pub ending_of : Flush → List Put

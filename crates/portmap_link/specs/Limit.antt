@@ -1,12 +1,9 @@
 -- How bytes are put until all of them are taken, or for so long.
 use Rattle.std.specs.Prelude.{◌≡◌, ℕ, ◌+◌, ◌-◌, ◌<◌, ◌≤◌, List, [], ◌∷◌, ◌++◌, count_by}
 use Rattle.portmap_link.specs.Asking.{is_put_later}
-use Rattle.portmap_link.specs.declared.device.Put.{Put}
-use Rattle.portmap_link.specs.declared.device.Put.TheVariants.{Wrote, Later as PutLater, Fault as PutFault}
-use Rattle.portmap_link.specs.declared.outbox.Flush.{Flush}
-use Rattle.portmap_link.specs.declared.outbox.Flush.TheVariants.{Empty, Later, Fault}
-use Rattle.portmap_link.specs.declared.putting.Limit.{Limit}
-use Rattle.portmap_link.specs.declared.putting.Limit.TheVariants.{Puts, Laters}
+use Rattle.portmap_link.specs.declared.device.Put.{Put, TheVariants.{Fault as PutFault, Later as PutLater, Wrote}}
+use Rattle.portmap_link.specs.declared.outbox.Flush.{Flush, TheVariants.{Empty, Fault, Later}}
+use Rattle.portmap_link.specs.declared.putting.Limit.{Limit, TheVariants.{Laters, Puts}}
 
 -- how many more puts, or Laters, reach a limit
 abbrev pub left_in : Limit → ℕ

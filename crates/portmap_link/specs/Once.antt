@@ -1,20 +1,14 @@
 -- What `once` does with its devices.
-use Rattle.std.specs.Prelude.{◌≡◌, ◌≢◌, ℕ, ◌-◌, ◌<◌, ◌≤◌, List, [], ◌∷◌, ◌++◌, length, take, Option, Some, None, Result, Ok, Err, ◌⊎◌}
+use Rattle.std.specs.{Io.KnownBytes.{Appends, Consumes}, Prelude.{◌≡◌, ◌≢◌, ℕ, ◌-◌, ◌<◌, ◌≤◌, List, [], ◌∷◌, ◌++◌}}
+use Rattle.std.specs.{Prelude.{length, take, Option, Some, None, Result, Ok, Err, ◌⊎◌}, declared.alloc.Global.Global}
 use Rattle.std.specs.declared.vec.Vec.{Vec}
-use Rattle.std.specs.declared.alloc.Global.{Global}
-use Rattle.std.specs.Io.KnownBytes.{Appends, Consumes}
 use Rattle.portmap_feed.specs.Stream.{More, first_request}
-use Rattle.portmap_core.specs.Config.{Configuration}
-use Rattle.portmap_core.specs.Run.{Hears, waiting_state}
-use Rattle.portmap_core.specs.State.{State}
-use Rattle.portmap_core.specs.declared.event.Fate.{Fate}
-use Rattle.portmap_core.specs.declared.event.Fate.TheVariants.{Close}
+use Rattle.portmap_core.specs.{Config.Configuration, Run.{Hears, waiting_state}, State.State}
+use Rattle.portmap_core.specs.declared.event.Fate.{Fate, TheVariants.Close}
 use Rattle.portmap_link.specs.Asking.{Devices, WritesNothing, GoesOn, IsAskedAgain, IsPutAgain, IsEnded}
-use Rattle.portmap_link.specs.declared.device.Pull.{Pull}
-use Rattle.portmap_link.specs.declared.device.Pull.TheVariants.{Piece}
-use Rattle.portmap_link.specs.declared.single.Heard.{Heard}
+use Rattle.portmap_link.specs.{declared.device.Pull.{Pull, TheVariants.Piece}, declared.single.Heard.Heard}
 use Rattle.portmap_link.specs.declared.single.OnceFault.{OnceFault}
-use Rattle.portmap_link.specs.declared.single.OnceFault.TheVariants.{ReadFault, NoMemory, WriteFault, TooManyTurns}
+use Rattle.portmap_link.specs.declared.single.OnceFault.TheVariants.{NoMemory, ReadFault, TooManyTurns, WriteFault}
 use Rattle.portmap_link.specs.declared.single.TheConstants.{PULL_MOST}
 
 -- these bytes were read, and the last pull alone decided: without it the request was not whole. It gave a piece, and after

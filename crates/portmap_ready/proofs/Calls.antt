@@ -1,30 +1,24 @@
 -- What each call does to what is held, and to what callers see: lemmas.
-use Rattle.std.proofs.Common.{◌≡◌, ◌≢◌, ◌↔◌, ℕ, ◌+◌, ◌-◌, ◌<◌, ◌≤◌, Bool, true, false, ◌&&◌, not, cond, List, [], ◌∷◌, ◌++◌}
-use Rattle.std.proofs.Common.{length, Option, Some, None, is_some, IsSome, refl, sym, ap, subst, ◌∙◌, arith}
-use Rattle.std.specs.Prelude.{drop, option_map, nat_lt, nat_le, slice_get}
+use Rattle.std.specs.{Cmp.nat_cmp_total, Ordering.nat_cmp, Prelude.{drop, option_map, nat_lt, nat_le, slice_get}}
+use Rattle.std.proofs.Common.{◌≡◌, ◌≢◌, ◌↔◌, ℕ, ◌+◌, ◌-◌, ◌<◌, ◌≤◌, Bool, true, false, ◌&&◌, not, cond, List, [], ◌∷◌}
+use Rattle.std.proofs.Common.{◌++◌, length, Option, Some, None, is_some, IsSome, refl, sym, ap, subst, ◌∙◌, arith}
+use Rattle.std.proofs.{Common.rules, lemmas.List.Sums.{count_by-le-length, length-filter, sum_by-set}}
 use Rattle.std.specs.FinMap as map
-use Rattle.std.specs.Ordering.{nat_cmp}
-use Rattle.std.specs.Cmp.{nat_cmp_total}
-use Rattle.std.proofs.lemmas.List.Sums.{count_by-le-length, length-filter, sum_by-set}
 use Rattle.slab.specs.Slab.{Slab, get, slab_len, Updates, with_value}
 use Rattle.slab.proofs.SlabLemmas.{ContainsKey-within, Updates-with_value}
-use Rattle.portmap_ready.specs.declared.Held.{Held}
-use Rattle.portmap_ready.specs.declared.Place.{Place}
-use Rattle.portmap_ready.specs.declared.Place.TheVariants.{Idle, Queued, Resting, Told}
-use Rattle.portmap_ready.specs.declared.Ready.TheInside.{Inside}
-use Rattle.portmap_ready.specs.Links.{Links, IsButForRoom, IsReady, at_place, first_at, inserted, is_queued, is_pending, is_resting}
-use Rattle.portmap_ready.specs.Links.{is_told, link_at, moved, not_key, one_at, place_at, pushed, put_at, removed, rest_ended, taken_next}
+use Rattle.portmap_ready.specs.Held.{Moves, is_free, one, link_of, is_live, rests, marks_of, may_stand, is_fine, placed}
+use Rattle.portmap_ready.specs.{Held.{is_out, taken, unlisted, cleared, tidied}, Links.{Links, IsButForRoom, IsReady}}
+use Rattle.portmap_ready.specs.Links.{at_place, first_at, inserted, is_queued, is_pending, is_resting, is_told, link_at}
+use Rattle.portmap_ready.specs.Links.{moved, not_key, one_at, place_at, pushed, put_at, removed, rest_ended, taken_next}
 use Rattle.portmap_ready.specs.Links.{times, told_next, without, write_at, written}
-use Rattle.portmap_ready.specs.Held.{Moves, is_free}
-use Rattle.portmap_ready.specs.Held.{one, link_of, is_live, rests, marks_of, may_stand, is_fine, placed, is_out, taken, unlisted}
-use Rattle.portmap_ready.specs.Held.{cleared, tidied}
 use Rattle.portmap_ready.specs.Whole.{IsWhole, links_of, kept, room, has_room, seen, marks, is_key}
+use Rattle.portmap_ready.specs.{declared.Held.Held, declared.Place.{Place, TheVariants.{Idle, Queued, Resting, Told}}}
+use Rattle.portmap_ready.specs.declared.Ready.TheInside.{Inside}
+use Rattle.portmap_ready.proofs.Steps.{one_most, IsStep, whole_step, seen_is, kept_same, kept_absent, kept_pushed}
+use Rattle.portmap_ready.proofs.Steps.{kept_others, kept_out, get-links_of, links_put, links_cut, links_same, links_to}
+use Rattle.portmap_ready.proofs.{Steps.{counted_to, len_most}, Tables.{marks_is, held_as, some_map, to_place, wake}}
+use Rattle.portmap_ready.proofs.Tables.{shows-placed, shows-taken, shows-unlisted, shows-cleared, free_marks}
 use Rattle.portmap_ready.proofs.Times.{first_left, first_left_other, front, joined, joined_other, times-filter}
-use Rattle.portmap_ready.proofs.Tables.{marks_is, held_as, some_map, to_place, wake, shows-placed, shows-taken, shows-unlisted}
-use Rattle.portmap_ready.proofs.Tables.{shows-cleared, free_marks}
-use Rattle.portmap_ready.proofs.Steps.{one_most, IsStep, whole_step, seen_is, kept_same, kept_absent, kept_pushed, kept_others, kept_out}
-use Rattle.portmap_ready.proofs.Steps.{get-links_of, links_put, links_cut, links_same, links_to, counted_to, len_most}
-use Rattle.std.proofs.Common.{rules}
 
 pub not_key_here : (k : ℕ) (t : Option ℕ) → is_key (not_key k t) k ≡ false
 not_key_here k o = search rules

@@ -1,21 +1,17 @@
 -- What is held changes under one key: lemmas.
-use Rattle.std.proofs.Common.{◌≡◌, ◌≢◌, ℕ, suc, zero, ◌+◌, ◌-◌, ◌<◌, ◌≤◌, Bool, true, false, cond, List, [], ◌∷◌, length, get_or, Option}
-use Rattle.std.proofs.Common.{Some, None, is_some, IsSome, refl, sym, ap, ◌∙◌, arith}
+use Rattle.std.specs.{Cmp.nat_cmp_total, FinMap.nat_cmp-IsAntisymmetric, Ordering.nat_cmp}
 use Rattle.std.specs.Prelude.{map as list_map, option_map}
-use Rattle.std.specs.Ordering.{nat_cmp}
-use Rattle.std.specs.FinMap as map
-use Rattle.std.specs.FinMap.{nat_cmp-IsAntisymmetric}
-use Rattle.std.specs.Cmp.{nat_cmp_total}
+use Rattle.std.proofs.Common.{◌≡◌, ◌≢◌, ℕ, suc, zero, ◌+◌, ◌-◌, ◌<◌, ◌≤◌, Bool, true, false, cond, List, [], ◌∷◌}
+use Rattle.std.proofs.Common.{length, get_or, Option, Some, None, is_some, IsSome, refl, sym, ap, ◌∙◌, arith, rules}
 use Rattle.std.proofs.lemmas.Bool.Decides.{nat_tests}
+use Rattle.std.specs.FinMap as map
 use Rattle.slab.specs.Slab.{Slab, get, Updates, entries_from}
-use Rattle.portmap_ready.specs.declared.Held.{Held}
-use Rattle.portmap_ready.specs.declared.Place.{Place}
-use Rattle.portmap_ready.specs.declared.Ready.TheInside.{Inside}
-use Rattle.portmap_ready.specs.Links.{Links, at_place, put_at, pushed, times, without}
 use Rattle.portmap_ready.specs.Held.{Marks, one, link_of, marks_of, is_fine}
-use Rattle.portmap_ready.specs.Whole.{IsWhole, links_of, kept, room, marks}
-use Rattle.portmap_ready.proofs.Times.{times_fit, filter_same, filter-pushed, without-filter, without-pushed, without_absent}
-use Rattle.std.proofs.Common.{rules}
+use Rattle.portmap_ready.specs.Links.{Links, at_place, put_at, pushed, times, without}
+use Rattle.portmap_ready.specs.{Whole.{IsWhole, links_of, kept, room, marks}, declared.Held.Held, declared.Place.Place}
+use Rattle.portmap_ready.specs.declared.Ready.TheInside.{Inside}
+use Rattle.portmap_ready.proofs.Times.{times_fit, filter_same, filter-pushed, without-filter, without-pushed}
+use Rattle.portmap_ready.proofs.Times.{without_absent}
 
 pub one_most : (b : Bool) → one b ≤ 1
 one_most o = search rules

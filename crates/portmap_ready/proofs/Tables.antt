@@ -1,14 +1,10 @@
 -- What a change of one says of where it stands: lemmas.
-use Rattle.std.proofs.Common.{◌≡◌, ◌+◌, Bool, true, false, Option, Some, None, is_some}
 use Rattle.std.specs.Prelude.{option_map}
-use Rattle.portmap_ready.specs.declared.Held.{Held}
-use Rattle.portmap_ready.specs.declared.Place.{Place}
-use Rattle.portmap_ready.specs.declared.Place.TheVariants.{Told}
-use Rattle.portmap_ready.specs.Links.{is_queued, is_pending, is_resting, is_told}
-use Rattle.portmap_ready.specs.Held.{is_free}
-use Rattle.portmap_ready.specs.Held.{Marks, one, woken, link_of, is_live, rests, marks_of, is_fine, placed}
+use Rattle.std.proofs.Common.{◌≡◌, ◌+◌, Bool, true, false, Option, Some, None, is_some, rules}
+use Rattle.portmap_ready.specs.Held.{is_free, Marks, one, woken, link_of, is_live, rests, marks_of, is_fine, placed}
 use Rattle.portmap_ready.specs.Held.{is_out, taken, unlisted, cleared, tidied}
-use Rattle.std.proofs.Common.{rules}
+use Rattle.portmap_ready.specs.{Links.{is_queued, is_pending, is_resting, is_told}, declared.Held.Held}
+use Rattle.portmap_ready.specs.declared.Place.{Place, TheVariants.Told}
 
 -- ---- places
 

@@ -1,17 +1,13 @@
 -- A key that waits in a list comes in its turn: lemmas.
-use Rattle.std.proofs.Common.{◌≡◌, ◌≢◌, ℕ, ◌+◌, ◌<◌, ◌≤◌, Bool, true, false, not, cond, eqb, List, [], ◌∷◌, length}
-use Rattle.std.proofs.Common.{refl, ap, ◌∙◌, inl, inr, arith}
 use Rattle.std.specs.Prelude.{slice_get, drop}
-use Rattle.std.proofs.lemmas.Bool.{cases_eq}
-use Rattle.std.proofs.lemmas.Bool.Decides.{nat_tests}
+use Rattle.std.proofs.Common.{◌≡◌, ◌≢◌, ℕ, ◌+◌, ◌<◌, ◌≤◌, Bool, true, false, not, cond, eqb, List, [], ◌∷◌, length}
+use Rattle.std.proofs.{Common.{refl, ap, ◌∙◌, inl, inr, arith, rules}, lemmas.Bool.cases_eq}
+use Rattle.std.proofs.{lemmas.Bool.Decides.nat_tests, lemmas.Grind.common_steps}
 use Rattle.std.proofs.lemmas.List.Sums.{count_by-le-length, length-filter, sum_by-append}
-use Rattle.portmap_ready.specs.Held.{one}
-use Rattle.portmap_ready.specs.Links.{Links, pushed, times, without}
-use Rattle.portmap_ready.specs.Runs.{AllSpare, Call, Change, ComesInOrder, ComesInTurn, Does, Line, Run, Spares, all_taken, before, change}
+use Rattle.portmap_ready.specs.{Held.one, Links.{Links, pushed, times, without}, Runs.{AllSpare, Call, Change}}
+use Rattle.portmap_ready.specs.Runs.{ComesInOrder, ComesInTurn, Does, Line, Run, Spares, all_taken, before, change}
 use Rattle.portmap_ready.specs.Runs.{first_taken, keys_of, turn, turns, Stays, Joins, Takes, Leaves}
 use Rattle.portmap_ready.proofs.Times.{times-cons, times-filter}
-use Rattle.std.proofs.Common.{rules}
-use Rattle.std.proofs.lemmas.Grind.{common_steps}
 
 -- what a change does to a list
 abbrev pub Becomes : Change → List ℕ → List ℕ → Type 0

@@ -1,9 +1,9 @@
 -- What is held under a key: no public clause cites this module.
-use Rattle.std.specs.Prelude.{◌≡◌, ℕ, Bool, true, false, ◌&&◌, ◌||◌, not, cond, Option, Some, None, is_some, option_map, if◌then◌else◌}
-use Rattle.portmap_ready.specs.declared.Place.{Place}
-use Rattle.portmap_ready.specs.declared.Place.TheVariants.{Idle, Queued, Pending, Resting, Told}
-use Rattle.portmap_ready.specs.declared.Held.{Held}
+use Rattle.std.specs.Prelude.{◌≡◌, ℕ, Bool, true, false, ◌&&◌, ◌||◌, not, cond, Option, Some, None, is_some, option_map}
+use Rattle.std.specs.Prelude.{if◌then◌else◌}
 use Rattle.portmap_ready.specs.Links.{Links, Rests, is_queued, is_pending, is_resting, is_told, moved}
+use Rattle.portmap_ready.specs.declared.Held.{Held}
+use Rattle.portmap_ready.specs.declared.Place.{Place, TheVariants.{Idle, Pending, Queued, Resting, Told}}
 
 abbrev pub one : Bool → ℕ
 one b = cond b 1 0

@@ -1,10 +1,7 @@
 -- What the links are, once a link is no longer lent.
-use Rattle.std.specs.Prelude.{ℕ, Option, Some}
-use Rattle.std.specs.Borrow.{Lends, LendsIf, Fml, RattleType, MutBor}
+use Rattle.std.specs.{Borrow.{Lends, LendsIf, Fml, RattleType, MutBor}, Prelude.{ℕ, Option, Some}}
+use Rattle.portmap_ready.specs.{Links.{Links, written}, contracts.Held.the_row as held_row, contracts.Ready.the_row}
 use Rattle.portmap_ready.specs.declared.Held.{Held}
-use Rattle.portmap_ready.specs.Links.{Links, written}
-use Rattle.portmap_ready.specs.contracts.Held.{the_row as held_row}
-use Rattle.portmap_ready.specs.contracts.Ready.{the_row}
 
 module _ (T : RattleType) where
   abbrev pub with_item : Held T.Denot → T.Denot → Held T.Denot

@@ -1,11 +1,9 @@
 -- Where each link stands, and what each call changes: profile.
-use Rattle.std.specs.Prelude.{◌≡◌, ◌↔◌, ℕ, Bool, true, false, not, cond, ◌==◌, List, [], ◌∷◌, ◌++◌, filter, count_by, drop, slice_get}
-use Rattle.std.specs.Prelude.{Option, Some, None, option_map, refl}
-use Rattle.std.specs.Ordering.{nat_cmp}
+use Rattle.std.specs.{Coded.{Coded, code_by, coded×, coded_list, coded_ℕ, coded_option, coded_bool}, Ordering.nat_cmp}
+use Rattle.std.specs.Prelude.{◌≡◌, ◌↔◌, ℕ, Bool, true, false, not, cond, ◌==◌, List, [], ◌∷◌, ◌++◌, filter, count_by}
+use Rattle.std.specs.Prelude.{drop, slice_get, Option, Some, None, option_map, refl}
 use Rattle.std.specs.FinMap as map
-use Rattle.std.specs.Coded.{Coded, code_by, coded×, coded_list, coded_ℕ, coded_option, coded_bool}
-use Rattle.portmap_ready.specs.declared.Place.{Place}
-use Rattle.portmap_ready.specs.declared.Place.TheVariants.{Idle, Queued, Pending, Resting, Told}
+use Rattle.portmap_ready.specs.declared.Place.{Place, TheVariants.{Idle, Pending, Queued, Resting, Told}}
 
 -- the links by key, each with the place where it stands; the keys of those of which there is something to tell, of those that are
 -- pending, and of those that rest, each list in its order; the key of the one that was told last; and whether the next insert wants

@@ -1,7 +1,9 @@
 -- Calls in a row, and what comes of those that wait in a list: profile.
-use Rattle.std.specs.Prelude.{◌≡◌, ◌≢◌, ℕ, ◌+◌, ◌<◌, ◌≤◌, cond, ◌==◌, List, [], ◌∷◌, ◌++◌, length, slice_get, Option, Some, option_to_list}
+use Rattle.std.specs.Prelude.{◌≡◌, ◌≢◌, ℕ, ◌+◌, ◌<◌, ◌≤◌, cond, ◌==◌, List, [], ◌∷◌, ◌++◌, length, slice_get, Option}
+use Rattle.std.specs.Prelude.{Some, option_to_list}
 use Rattle.portmap_ready.specs.declared.Place.TheVariants.{Idle, Queued, Pending}
-use Rattle.portmap_ready.specs.Links.{Links, IsButForRoom, Rests, inserted, moved, removed, reported, rest_ended, taken_next, times}
+use Rattle.portmap_ready.specs.Links.{Links, IsButForRoom, Rests, inserted, moved, removed, reported, rest_ended}
+use Rattle.portmap_ready.specs.Links.{taken_next, times}
 use Rattle.portmap_ready.specs.Links.{told_next, written}
 
 -- a call, with what comes of it

@@ -1,15 +1,10 @@
 -- What the fields hold, and what callers see of it: no public clause cites this module.
-use Rattle.std.specs.Prelude.{◌≡◌, ℕ, ◌<◌, Bool, true, false, ◌&&◌, ◌==◌, nat_lt, nat_le, min, List, filter, map as list_map, Option, Some}
-use Rattle.std.specs.Prelude.{None, IsSome}
-use Rattle.std.specs.Ordering.{nat_cmp}
+use Rattle.std.specs.{Ordering.nat_cmp, Prelude.{◌≡◌, ℕ, ◌<◌, Bool, true, false, ◌&&◌, ◌==◌, nat_lt, nat_le, min, List}}
+use Rattle.std.specs.{Prelude.{filter, map as list_map, Option, Some, None, IsSome}, VecDeque.deque_capacity}
 use Rattle.std.specs.FinMap as map
-use Rattle.std.specs.VecDeque.{deque_capacity}
 use Rattle.slab.specs.Slab.{Slab, get, slab_len, entries_from}
-use Rattle.portmap_ready.specs.declared.Place.{Place}
-use Rattle.portmap_ready.specs.declared.Held.{Held}
-use Rattle.portmap_ready.specs.declared.Ready.TheInside.{Inside}
-use Rattle.portmap_ready.specs.Links.{Links, times}
-use Rattle.portmap_ready.specs.Held.{Marks, link_of, is_live, rests, marks_of, is_fine}
+use Rattle.portmap_ready.specs.{Held.{Marks, link_of, is_live, rests, marks_of, is_fine}, Links.{Links, times}}
+use Rattle.portmap_ready.specs.{declared.Held.Held, declared.Place.Place, declared.Ready.TheInside.Inside}
 
 abbrev pub is_key : Option ℕ → ℕ → Bool
 is_key None k = false

@@ -1,19 +1,15 @@
 -- What a search finds in a list to which an element is added, or from which one is removed.
-use Rattle.std.proofs.Common.{◌≡◌, ℕ, suc, zero, Bool, true, false, cond, List, [], ◌∷◌, ◌++◌, ◌+◌, length, map, take, Option, Some, None}
-use Rattle.std.proofs.Common.{refl, ap, ◌∙◌, ◌<◌, get_or, append_assoc, add-one}
-use Rattle.std.specs.Prelude.{find, position, remove, is_some, slice_get}
-use Rattle.std.specs.List.{AllByRecursion, position_or_len, IsDistinct}
-use Rattle.std.specs.Option.{option_or}
-use Rattle.std.specs.Cmp.{IsEquivalence}
-use Rattle.std.proofs.lemmas.List.Folds.{find_at, find-append}
-use Rattle.std.proofs.lemmas.Option.{get_or_from_slice_get, slice_get_within}
-use Rattle.std.proofs.Math.Seq.{take-suc}
-use Rattle.std.specs.List.Sorted.{IsPermutation}
+use Rattle.std.specs.{Cmp.IsEquivalence, List.{AllByRecursion, position_or_len, IsDistinct}, List.Sorted.IsPermutation}
+use Rattle.std.specs.{Option.option_or, Prelude.{find, position, remove, is_some, slice_get}}
+use Rattle.std.proofs.Common.{◌≡◌, ℕ, suc, zero, Bool, true, false, cond, List, [], ◌∷◌, ◌++◌, ◌+◌, length, map, take}
+use Rattle.std.proofs.Common.{Option, Some, None, refl, ap, ◌∙◌, ◌<◌, get_or, append_assoc, add-one, rules}
+use Rattle.std.proofs.{Math.Seq.take-suc, lemmas.List.Folds.{find_at, find-append}}
 use Rattle.std.proofs.lemmas.List.Sorted.{IsPermutation-refl, IsPermutation-sym, IsPermutation-trans, IsPermutation-map}
-use Rattle.std.proofs.lemmas.List.Sorted.{IsPermutation-middle, IsPermutation-remove, IsPermutation-pop_more, IsPermutation-append_comm}
+use Rattle.std.proofs.lemmas.List.Sorted.{IsPermutation-middle, IsPermutation-remove, IsPermutation-pop_more}
+use Rattle.std.proofs.lemmas.List.Sorted.{IsPermutation-append_comm}
 use Rattle.std.proofs.lemmas.Map.Keys.{IsDistinct-IsPermutation, IsDistinct-tail}
+use Rattle.std.proofs.lemmas.Option.{get_or_from_slice_get, slice_get_within}
 use Rattle.portmap_table.proofs.First.{NonePass}
-use Rattle.std.proofs.Common.{rules}
 
 or_none : {X : Type 0} (o : Option X) → option_or o None ≡ o
 or_none o = search rules

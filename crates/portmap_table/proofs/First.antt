@@ -1,9 +1,7 @@
 -- The first element that passes a test, in a list and in its parts.
-use Rattle.std.proofs.Common.{◌≡◌, ℕ, zero, suc, ◌+◌, ◌<◌, Bool, true, false, not, cond, List, [], ◌∷◌, length, drop, ◌⊎◌, Some, None}
-use Rattle.std.proofs.Common.{refl, sym, ap, ◌∙◌, arith, inl, inr}
-use Rattle.std.specs.Prelude.{find, is_some, position, slice_get}
-use Rattle.std.specs.List.{AllByRecursion, list_any, position_or_len}
-use Rattle.std.proofs.Common.{rules}
+use Rattle.std.specs.{List.{AllByRecursion, list_any, position_or_len}, Prelude.{find, is_some, position, slice_get}}
+use Rattle.std.proofs.Common.{◌≡◌, ℕ, zero, suc, ◌+◌, ◌<◌, Bool, true, false, not, cond, List, [], ◌∷◌, length, drop}
+use Rattle.std.proofs.Common.{◌⊎◌, Some, None, refl, sym, ap, ◌∙◌, arith, inl, inr, rules}
 
 module _ {X : Type 0} (p : X → Bool) where
   -- none passes

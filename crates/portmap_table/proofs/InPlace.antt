@@ -1,31 +1,25 @@
 -- Names at places: what is found by name and by slot, and what a registration and a retirement leave.
-use Rattle.std.proofs.Common.{◌≡◌, ◌≢◌, ℕ, Bool, true, false, not, List, [], ◌∷◌, ◌++◌, length, map, Option, Some, None, refl, sym, ap}
-use Rattle.std.proofs.Common.{◌∙◌, subst, arith, inl, inr, true≢false}
-use Rattle.std.specs.Prelude.{◌&&◌, ◌||◌, if◌then◌else◌, nat_le, drop, find, position, remove, slice_get, is_some, option_map}
-use Rattle.std.proofs.lemmas.Bool.{cases_eq, eq-eqb, false_from_ne_true, or_parts}
-use Rattle.std.proofs.lemmas.Cmp.{nat_list_eq_equiv}
-use Rattle.std.proofs.lemmas.List.{length-append, length-map, map-append}
-use Rattle.std.proofs.lemmas.List.Edits.{length-remove}
+use Rattle.std.specs.Prelude.{◌&&◌, ◌||◌, if◌then◌else◌, nat_le, drop, find, position, remove, slice_get, is_some}
+use Rattle.std.specs.Prelude.{option_map}
+use Rattle.std.proofs.Common.{◌≡◌, ◌≢◌, ℕ, Bool, true, false, not, List, [], ◌∷◌, ◌++◌, length, map, Option, Some, None}
+use Rattle.std.proofs.Common.{refl, sym, ap, ◌∙◌, subst, arith, inl, inr, true≢false, rules}
+use Rattle.std.proofs.{lemmas.Bool.{cases_eq, eq-eqb, false_from_ne_true, or_parts}, lemmas.Cmp.nat_list_eq_equiv}
+use Rattle.std.proofs.{lemmas.List.{length-append, length-map, map-append}, lemmas.List.Edits.length-remove}
 use Rattle.std.proofs.lemmas.Option.{none-some, slice_get-map, slice_get_within}
 use Rattle.indexmap.proofs.SetLemmas.{map-remove}
-use Rattle.portmap_table.specs.declared.row.Row.{Row}
-use Rattle.portmap_table.specs.declared.entries.Kept.{Kept}
-use Rattle.portmap_table.specs.declared.standing.Standing.{Standing}
-use Rattle.portmap_table.specs.Rows.{Names, RetiredName, active_row, and_retired, is_active, is_known, known_len, old_name, owns_name}
-use Rattle.portmap_table.specs.Rows.{registered, retired_at, retired_last, retired_of, retired_row, same_name, standing, with_room}
-use Rattle.portmap_table.specs.Rows.{without_at}
-use Rattle.portmap_table.specs.Places.{AreInPlace, AreNamed, AreOwners, Entry, HasEach, IsActiveAt, IsNew, IsRetiredAt, Puts, TakesPlace}
-use Rattle.portmap_table.specs.Places.{StandsAs, StandsOnce, active_entry, active_in, names_at, old_at, old_in, retired_entry, retired_in}
-use Rattle.portmap_table.specs.Places.{row_at, row_in}
-use Rattle.portmap_table.proofs.First.{IsFirst, NonePass, finds_none, first_found, first_place, no_place, none_behind, none_found}
-use Rattle.portmap_table.proofs.First.{none_read}
-use Rattle.portmap_table.proofs.Kept.{had_name}
+use Rattle.portmap_table.specs.Places.{AreInPlace, AreNamed, AreOwners, Entry, HasEach, IsActiveAt, IsNew, IsRetiredAt}
+use Rattle.portmap_table.specs.Places.{Puts, TakesPlace, StandsAs, StandsOnce, active_entry, active_in, names_at}
+use Rattle.portmap_table.specs.{Places.{old_at, old_in, retired_entry, retired_in, row_at, row_in}, Rows.Names}
+use Rattle.portmap_table.specs.Rows.{RetiredName, active_row, and_retired, is_active, is_known, known_len, old_name}
+use Rattle.portmap_table.specs.Rows.{owns_name, registered, retired_at, retired_last, retired_of, retired_row}
+use Rattle.portmap_table.specs.{Rows.{same_name, standing, with_room, without_at}, declared.entries.Kept.Kept}
+use Rattle.portmap_table.specs.{declared.row.Row.Row, declared.standing.Standing.Standing}
+use Rattle.portmap_table.proofs.First.{IsFirst, NonePass, finds_none, first_found, first_place, no_place, none_behind}
+use Rattle.portmap_table.proofs.{First.{none_found, none_read}, Kept.had_name}
 use Rattle.portmap_table.proofs.NameLaws.{active_names_stay, known_names_cost_none, oldest_makes_room, room_costs_none}
-use Rattle.portmap_table.proofs.Owners.{has_slot}
-use Rattle.portmap_table.proofs.Places.{each_pushed, each_removed, each_same, is_first_place, left_others, map_read, none_pass}
-use Rattle.portmap_table.proofs.Places.{puts_last, stands_as}
+use Rattle.portmap_table.proofs.{Owners.has_slot, Places.{each_pushed, each_removed, each_same, is_first_place}}
+use Rattle.portmap_table.proofs.Places.{left_others, map_read, none_pass, puts_last, stands_as}
 use Rattle.portmap_table.specs.declared.standing.Standing.TheVariants as how
-use Rattle.std.proofs.Common.{rules}
 
 -- ---- what stands at a place: an active name or a retired one
 

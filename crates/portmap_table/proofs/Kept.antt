@@ -1,28 +1,21 @@
 -- What always holds of a table's names holds after a registration and after a retirement.
-use Rattle.std.proofs.Common.{◌≡◌, ℕ, ◌<◌, ◌≤◌, ◌^◌, Bool, true, false, not, List, [], ◌∷◌, ◌++◌, length, map, get_or, Option, Some}
-use Rattle.std.proofs.Common.{None, refl, sym, ap, suc, arith}
-use Rattle.std.specs.Prelude.{drop, position, remove, is_some, slice_get, nat_le, All, MatchBool, ◌==◌, ◌&&◌, ◌||◌, if◌then◌else◌}
-use Rattle.std.specs.List.{IsDistinct}
-use Rattle.std.specs.Cmp.Lexicographic.{same_text}
+use Rattle.std.specs.{Cmp.Lexicographic.same_text, List.IsDistinct, Prelude.{drop, position, remove, is_some}}
+use Rattle.std.specs.Prelude.{slice_get, nat_le, All, MatchBool, ◌==◌, ◌&&◌, ◌||◌, if◌then◌else◌}
+use Rattle.std.proofs.Common.{◌≡◌, ℕ, ◌<◌, ◌≤◌, ◌^◌, Bool, true, false, not, List, [], ◌∷◌, ◌++◌, length, map, get_or}
+use Rattle.std.proofs.{Common.{Option, Some, None, refl, sym, ap, suc, arith, rules}, lemmas.Bool.Decides.nat_tests}
 use Rattle.std.proofs.lemmas.Cmp.{nat_eq_equiv, nat_list_eq_equiv}
-use Rattle.std.proofs.lemmas.Bool.Decides.{nat_tests}
 use Rattle.std.proofs.lemmas.List.{map-append, append-nil, length-append, length-drop, get_or_default}
-use Rattle.std.proofs.lemmas.List.Edits.{length-remove}
-use Rattle.std.proofs.lemmas.List.Elements.{All-push, All-append, All-take, All-drop}
-use Rattle.std.proofs.lemmas.List.Quantifiers.{position-Some}
-use Rattle.std.proofs.lemmas.List.Sorted.{IsPermutation-middle}
+use Rattle.std.proofs.{lemmas.List.Edits.length-remove, lemmas.List.Elements.{All-push, All-append, All-take, All-drop}}
+use Rattle.std.proofs.{lemmas.List.Quantifiers.position-Some, lemmas.List.Sorted.IsPermutation-middle}
 use Rattle.std.proofs.lemmas.Option.{slice_get_within, get_or_from_slice_get}
-use Rattle.portmap_wire.specs.Node.{Node}
-use Rattle.portmap_wire.specs.Reply.{is_short}
-use Rattle.portmap_table.specs.declared.creation.TheConstants.{SHORT_MOST, COUNTER_LEAST}
+use Rattle.portmap_wire.specs.{Node.Node, Reply.is_short}
+use Rattle.portmap_table.specs.{Creation.IsCreationFor, Rows.{name_of, slot_of, is_full_for, is_known, RetiredName}}
+use Rattle.portmap_table.specs.Rows.{Names, AreKept, same_name, is_active, known_len, owns_name, retired_row}
+use Rattle.portmap_table.specs.Rows.{without_at, without_oldest, with_room, registered, old_name, retired_last}
+use Rattle.portmap_table.specs.{Rows.retired_at, declared.creation.TheConstants.{SHORT_MOST, COUNTER_LEAST}}
 use Rattle.portmap_table.specs.declared.row.Row.{Row}
-use Rattle.portmap_table.specs.Creation.{IsCreationFor}
-use Rattle.portmap_table.specs.Rows.{name_of, slot_of, is_full_for, is_known, RetiredName, Names, AreKept, same_name, is_active, known_len}
-use Rattle.portmap_table.specs.Rows.{owns_name, retired_row, without_at, without_oldest, with_room, registered, old_name}
-use Rattle.portmap_table.specs.Rows.{retired_last, retired_at}
-use Rattle.portmap_table.proofs.First.{NonePass, none_at, none_found, finds_none}
-use Rattle.portmap_table.proofs.Finding.{key_is_new, distinct_with, distinct_forward, distinct_back, distinct_without, keys_moved}
-use Rattle.std.proofs.Common.{rules}
+use Rattle.portmap_table.proofs.Finding.{key_is_new, distinct_with, distinct_forward, distinct_back, distinct_without}
+use Rattle.portmap_table.proofs.{Finding.keys_moved, First.{NonePass, none_at, none_found, finds_none}}
 
 -- ---- short names for what is scanned
 

@@ -1,34 +1,28 @@
 -- What a registration and a retirement do to each name.
-use Rattle.std.proofs.Common.{◌≡◌, ◌<◌, ◌≤◌, ℕ, Bool, false, not, List, [], ◌∷◌, ◌++◌, length, map, take, get_or, arith, Option, Some}
-use Rattle.std.proofs.Common.{None, refl, sym, ap, ◌∙◌, zero, suc, ◌^◌, append_assoc}
-use Rattle.std.specs.Prelude.{◌&&◌, if◌then◌else◌, nat_le, find, position, remove, is_some, slice_get, ◌==◌, option_map, ◌||◌}
-use Rattle.std.specs.List.{AllByRecursion, IsDistinct, position_or_len}
-use Rattle.std.specs.List.Sorted.{IsPermutation}
-use Rattle.std.specs.Cmp.Lexicographic.{same_text}
-use Rattle.std.proofs.lemmas.Bool.Decides.{nat_tests}
+use Rattle.std.specs.{Cmp.IsEquivalence, Cmp.Lexicographic.same_text}
+use Rattle.std.specs.{List.{AllByRecursion, IsDistinct, position_or_len}, List.Sorted.IsPermutation, Prelude.◌&&◌}
+use Rattle.std.specs.Prelude.{if◌then◌else◌, nat_le, find, position, remove, is_some, slice_get, ◌==◌, option_map, ◌||◌}
+use Rattle.std.proofs.Common.{◌≡◌, ◌<◌, ◌≤◌, ℕ, Bool, false, not, List, [], ◌∷◌, ◌++◌, length, map, take, get_or, arith}
+use Rattle.std.proofs.Common.{Option, Some, None, refl, sym, ap, ◌∙◌, zero, suc, ◌^◌, append_assoc, rules}
+use Rattle.std.proofs.{lemmas.Bool.or_parts, lemmas.Bool.Decides.nat_tests}
 use Rattle.std.proofs.lemmas.Cmp.{nat_list_eq_equiv, nat_eq_equiv}
 use Rattle.std.proofs.lemmas.List.{take_all, take_at, nil_from_length, map-append, append-nil, length-append}
-use Rattle.std.proofs.lemmas.List.Quantifiers.{position-Some}
+use Rattle.std.proofs.{lemmas.List.Elements.All-push, lemmas.List.Quantifiers.position-Some}
 use Rattle.std.proofs.lemmas.List.Sorted.{IsPermutation-append_left}
 use Rattle.std.proofs.lemmas.Map.Keys.{IsDistinct-IsPermutation, IsDistinct-head}
 use Rattle.std.proofs.lemmas.Option.{slice_get_within, slice_get-get_or, get_or_from_slice_get}
+use Rattle.portmap_table.specs.Laws.{row_of, ActiveNamesStay, KnownNamesCostNone, LastCreationsAreRemembered}
+use Rattle.portmap_table.specs.Laws.{NoneIsRefusedForRetiredNames, OldestMakesRoom, RegisteredNamesAreActive}
+use Rattle.portmap_table.specs.Laws.{NamesOutliveConnections, OthersStayAtRegistration, OthersStayAtRetirement}
+use Rattle.portmap_table.specs.{Laws.{RetiredNamesStandLast, RetiredNamesStay, RoomCostsNone}, Rows.known_names}
+use Rattle.portmap_table.specs.Rows.{name_of, RetiredName, Names, same_name, is_active, active_row, retired_row}
+use Rattle.portmap_table.specs.Rows.{without_at, old_name, retired_of, retired_at, retired_last, is_known, known_len}
+use Rattle.portmap_table.specs.Rows.{without_oldest, AreKept, and_retired, owns_name, registered, slot_of, with_room}
 use Rattle.portmap_table.specs.declared.row.Row.{Row}
-use Rattle.portmap_table.specs.Rows.{known_names, name_of, RetiredName, Names, same_name, is_active, active_row, retired_row, without_at}
-use Rattle.portmap_table.specs.Rows.{old_name, retired_of, retired_at, retired_last, is_known, known_len, without_oldest, AreKept}
-use Rattle.portmap_table.specs.Rows.{and_retired, owns_name, registered, slot_of, with_room}
-use Rattle.portmap_table.specs.Laws.{row_of, ActiveNamesStay, KnownNamesCostNone, LastCreationsAreRemembered, NoneIsRefusedForRetiredNames}
-use Rattle.portmap_table.specs.Laws.{OldestMakesRoom, RegisteredNamesAreActive, NamesOutliveConnections}
-use Rattle.portmap_table.specs.Laws.{OthersStayAtRegistration, OthersStayAtRetirement, RetiredNamesStandLast}
-use Rattle.portmap_table.specs.Laws.{RetiredNamesStay, RoomCostsNone}
-use Rattle.portmap_table.proofs.Finding.{keys_moved, is_none, find-push, find-push_other, find-remove, keys_pass_not, parts, position-find}
-use Rattle.portmap_table.proofs.Finding.{both_parts, distinct_with, key_is_new}
-use Rattle.portmap_table.proofs.Kept.{has_name, had_name, old_name_of}
-use Rattle.std.specs.Cmp.{IsEquivalence}
-use Rattle.std.proofs.lemmas.List.Elements.{All-push}
-use Rattle.portmap_table.proofs.First.{finds_none, no_place, none_found}
+use Rattle.portmap_table.proofs.Finding.{keys_moved, is_none, find-push, find-push_other, find-remove, keys_pass_not}
+use Rattle.portmap_table.proofs.Finding.{parts, position-find, both_parts, distinct_with, key_is_new}
+use Rattle.portmap_table.proofs.{First.{finds_none, no_place, none_found}, Kept.{has_name, had_name, old_name_of}}
 use Rattle.portmap_table.proofs.Owners.{has_slot}
-use Rattle.std.proofs.lemmas.Bool.{or_parts}
-use Rattle.std.proofs.Common.{rules}
 
 pub registered_names_are_active : RegisteredNamesAreActive
 registered_names_are_active names reg creation slot inactive =

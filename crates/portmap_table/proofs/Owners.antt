@@ -1,23 +1,17 @@
 -- Which slots own a name after a registration and after a retirement.
-use Rattle.std.proofs.Common.{◌≡◌, ◌≢◌, ℕ, ◌<◌, Bool, true, false, not, List, ◌∷◌, length, map, get_or, Option}
-use Rattle.std.proofs.Common.{Some, None, refl, sym, ap, ◌∙◌}
-use Rattle.std.specs.Prelude.{position, remove, is_some, slice_get, nat_le, ◌==◌, ◌&&◌, ◌||◌, if◌then◌else◌}
 use Rattle.std.specs.List.{IsDistinct, list_any, position_or_len}
-use Rattle.std.proofs.lemmas.Bool.{eq-eqb, ne_eqb}
-use Rattle.std.proofs.lemmas.Cmp.{nat_eq_equiv}
-use Rattle.std.proofs.lemmas.List.Folds.{find_at, list_any-append, list_any_at}
-use Rattle.std.proofs.lemmas.List.Quantifiers.{position-Some}
+use Rattle.std.specs.Prelude.{position, remove, is_some, slice_get, nat_le, ◌==◌, ◌&&◌, ◌||◌, if◌then◌else◌}
+use Rattle.std.proofs.Common.{◌≡◌, ◌≢◌, ℕ, ◌<◌, Bool, true, false, not, List, ◌∷◌, length, map, get_or, Option, Some}
+use Rattle.std.proofs.{Common.{None, refl, sym, ap, ◌∙◌, rules}, lemmas.Bool.{eq-eqb, ne_eqb}, lemmas.Cmp.nat_eq_equiv}
+use Rattle.std.proofs.{lemmas.List.Folds.{find_at, list_any-append, list_any_at}, lemmas.List.Quantifiers.position-Some}
 use Rattle.std.proofs.lemmas.List.Sorted.{IsPermutation-remove, list_any-IsPermutation}
 use Rattle.std.proofs.lemmas.Map.Keys.{IsDistinct-IsPermutation, IsDistinct-head}
 use Rattle.std.proofs.lemmas.Option.{none-some, slice_get-get_or, slice_get_within, get_or_from_slice_get}
 use Rattle.portmap_wire.specs.Node.{Node}
-use Rattle.portmap_table.specs.declared.row.Row.{Row}
-use Rattle.portmap_table.specs.Rows.{Names, active_row, is_known, known_len, owns_name, registered, retired_last, retired_at, retired_of}
-use Rattle.portmap_table.specs.Rows.{same_name, slot_of, with_room, without_oldest}
-use Rattle.portmap_table.specs.Places.{no_row}
-use Rattle.portmap_table.proofs.First.{any_none, any_place}
-use Rattle.portmap_table.proofs.Finding.{keys_moved, keys_pass_not}
-use Rattle.std.proofs.Common.{rules}
+use Rattle.portmap_table.specs.{Places.no_row, Rows.{Names, active_row, is_known, known_len, owns_name, registered}}
+use Rattle.portmap_table.specs.Rows.{retired_last, retired_at, retired_of, same_name, slot_of, with_room}
+use Rattle.portmap_table.specs.{Rows.without_oldest, declared.row.Row.Row}
+use Rattle.portmap_table.proofs.{Finding.{keys_moved, keys_pass_not}, First.{any_none, any_place}}
 
 abbrev pub has_slot : ℕ → Row → Bool
 has_slot slot row = row.slot == slot

@@ -1,25 +1,17 @@
 -- Entries at places: what is read there after one is written, added, or takes the place of another.
-use Rattle.std.proofs.Common.{◌≡◌, ◌≢◌, ℕ, zero, suc, ◌<◌, Bool, true, false, List, [], ◌∷◌, ◌++◌, length, map, get_or, Option}
-use Rattle.std.proofs.Common.{Some, None, refl, sym, ap, ◌∙◌, subst, arith, inl, inr, ◌⊎◌}
+use Rattle.std.specs.{List.IsDistinct, Map.lookup}
 use Rattle.std.specs.Prelude.{is_some, option_map, position, slice_get, slice_set, swap_remove, remove}
-use Rattle.std.specs.List.{IsDistinct}
-use Rattle.std.proofs.lemmas.Bool.{cases_eq}
-use Rattle.std.proofs.lemmas.Cmp.{nat_list_eq_equiv}
-use Rattle.std.proofs.lemmas.List.{get_or-map, length-append, length-map, length-set, get_or-set_same, set-append_left, take_at}
-use Rattle.std.proofs.Math.Seq.{get_or-append_seam}
-use Rattle.std.proofs.lemmas.List.Quantifiers.{position-Some}
+use Rattle.std.proofs.Common.{◌≡◌, ◌≢◌, ℕ, zero, suc, ◌<◌, Bool, true, false, List, [], ◌∷◌, ◌++◌, length, map, get_or}
+use Rattle.std.proofs.Common.{Option, Some, None, refl, sym, ap, ◌∙◌, subst, arith, inl, inr, ◌⊎◌, rules}
+use Rattle.std.proofs.{Math.Seq.get_or-append_seam, lemmas.Bool.cases_eq, lemmas.Cmp.nat_list_eq_equiv}
+use Rattle.std.proofs.lemmas.List.{get_or-map, length-append, length-map, length-set, get_or-set_same, set-append_left}
+use Rattle.std.proofs.{lemmas.List.take_at, lemmas.List.Quantifiers.position-Some}
 use Rattle.std.proofs.lemmas.Option.{slice_get-get_or, slice_get-map, slice_get_within}
-use Rattle.std.specs.Map.{lookup}
 use Rattle.indexmap.specs.IndexMap.{set_value_at}
-use Rattle.indexmap.proofs.MapLemmas.{index-first, some_index}
-use Rattle.indexmap.proofs.RemoveLemmas.{own_first}
-use Rattle.portmap_table.specs.declared.entries.Kept.{Kept}
-use Rattle.portmap_table.specs.declared.entries.Kept.TheVariants.{Active, Retired}
-use Rattle.portmap_table.specs.Rows.{same_name}
-use Rattle.portmap_table.specs.Places.{AreNamed, Entry, IsNamed, IsNew, Puts, StandsAs, HasEach}
-use Rattle.portmap_table.proofs.Finding.{is_none}
-use Rattle.portmap_table.proofs.First.{IsFirst, NonePass}
-use Rattle.std.proofs.Common.{rules}
+use Rattle.indexmap.proofs.{MapLemmas.{index-first, some_index}, RemoveLemmas.own_first}
+use Rattle.portmap_table.specs.{Places.{AreNamed, Entry, IsNamed, IsNew, Puts, StandsAs, HasEach}, Rows.same_name}
+use Rattle.portmap_table.specs.declared.entries.Kept.{Kept, TheVariants.{Active, Retired}}
+use Rattle.portmap_table.proofs.{Finding.is_none, First.{IsFirst, NonePass}}
 
 -- ---- elements at places
 

@@ -1,5 +1,6 @@
 -- Creations. That a node gets one is the ERTS User's Guide's (ALIVE2_X_RESP, ALIVE2_RESP); which one is of this profile.
-use Rattle.std.specs.Prelude.{◌≢◌, ℕ, ◌+◌, ◌-◌, ◌%◌, ◌<◌, ◌≤◌, ◌^◌, ◌==◌, ◌&&◌, nat_le, Option, Some, None, MatchBool, if◌then◌else◌}
+use Rattle.std.specs.Prelude.{◌≢◌, ℕ, ◌+◌, ◌-◌, ◌%◌, ◌<◌, ◌≤◌, ◌^◌, ◌==◌, ◌&&◌, nat_le, Option, Some, None, MatchBool}
+use Rattle.std.specs.Prelude.{if◌then◌else◌}
 use Rattle.portmap_wire.specs.Reply.{is_short}
 use Rattle.portmap_table.specs.declared.creation.TheConstants.{SHORT_MOST, COUNTER_LEAST}
 

@@ -1,10 +1,10 @@
 -- What a registration and a retirement do to each name.
-use Rattle.std.specs.Prelude.{◌≡◌, ◌<◌, ◌≤◌, ℕ, true, false, List, [], ◌∷◌, ◌++◌, length, drop, take, Option, Some, find, ◌==◌}
-use Rattle.portmap_table.specs.Creation.{IsLegalCreation}
+use Rattle.std.specs.Prelude.{◌≡◌, ◌<◌, ◌≤◌, ℕ, true, false, List, [], ◌∷◌, ◌++◌, length, drop, take, Option, Some}
+use Rattle.std.specs.Prelude.{find, ◌==◌}
 use Rattle.portmap_wire.specs.Node.{Node}
-use Rattle.portmap_table.specs.declared.row.Row.{Row}
-use Rattle.portmap_table.specs.Rows.{Names, AreKept, same_name, is_active, active_row, retired_row, is_full_for, is_known, known_len}
-use Rattle.portmap_table.specs.Rows.{registered, remembered, retired_of, old_name, with_room}
+use Rattle.portmap_table.specs.{Creation.IsLegalCreation, Rows.{Names, AreKept, same_name, is_active, active_row}}
+use Rattle.portmap_table.specs.Rows.{retired_row, is_full_for, is_known, known_len, registered, remembered, retired_of}
+use Rattle.portmap_table.specs.{Rows.{old_name, with_room}, declared.row.Row.Row}
 
 -- the row that a slot owns
 abbrev pub row_of : ℕ → Names → Option Row

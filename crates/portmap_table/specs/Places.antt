@@ -1,9 +1,8 @@
 -- Where known names stand: each at a place of its own, for as long as it is known. Two lists of places hold their orders.
-use Rattle.std.specs.Prelude.{◌≡◌, ◌≢◌, ◌⊎◌, ℕ, ◌+◌, ◌<◌, ◌≤◌, List, [], map, length, remove, Option, Some, None, slice_get, unwrap_or}
+use Rattle.std.specs.Prelude.{◌≡◌, ◌≢◌, ◌⊎◌, ℕ, ◌+◌, ◌<◌, ◌≤◌, List, [], map, length, remove, Option, Some, None}
+use Rattle.std.specs.Prelude.{slice_get, unwrap_or}
+use Rattle.portmap_table.specs.{Rows.{Names, RetiredName}, declared.entries.Kept.{Kept, TheVariants.{Active, Retired}}}
 use Rattle.portmap_table.specs.declared.row.Row.{Row}
-use Rattle.portmap_table.specs.declared.entries.Kept.{Kept}
-use Rattle.portmap_table.specs.declared.entries.Kept.TheVariants.{Active, Retired}
-use Rattle.portmap_table.specs.Rows.{Names, RetiredName}
 
 -- a name with what is kept of it
 abbrev pub Entry : Type 0

@@ -1,16 +1,12 @@
 -- The names that a port mapper knows: the active ones, each with its registration, and the retired ones. ERTS User's
 -- Guide, EPMD Protocol: a registration lasts as long as its connection. What is remembered of old names: profile.
-use Rattle.std.specs.Prelude.{ℕ, ◌+◌, ◌≤◌, ◌<◌, ◌^◌, Bool, not, nat_le, ◌&&◌, ◌||◌, List, [], ◌∷◌, ◌++◌, length, map, drop, remove}
-use Rattle.std.specs.Prelude.{position, find, Option, Some, None, is_some, option_map, slice_get, ◌==◌, All, if◌then◌else◌}
-use Rattle.std.specs.List.{IsDistinct}
-use Rattle.std.specs.Cmp.Lexicographic.{pointwise}
+use Rattle.std.specs.{Cmp.Lexicographic.pointwise, List.IsDistinct, Prelude.{ℕ, ◌+◌, ◌≤◌, ◌<◌, ◌^◌, Bool, not, nat_le}}
+use Rattle.std.specs.Prelude.{◌&&◌, ◌||◌, List, [], ◌∷◌, ◌++◌, length, map, drop, remove, position, find, Option, Some}
+use Rattle.std.specs.Prelude.{None, is_some, option_map, slice_get, ◌==◌, All, if◌then◌else◌}
 use Rattle.portmap_wire.specs.Node.{Node}
-use Rattle.portmap_table.specs.declared.row.Row.{Row}
-use Rattle.portmap_table.specs.declared.row.Old.{Old}
-use Rattle.portmap_table.specs.declared.row.Retired.{Retired}
-use Rattle.portmap_table.specs.declared.standing.Standing.{Standing}
+use Rattle.portmap_table.specs.{Creation.IsCreationFor, declared.row.Old.Old, declared.row.Retired.Retired}
+use Rattle.portmap_table.specs.{declared.row.Row.Row, declared.standing.Standing.Standing}
 use Rattle.portmap_table.specs.declared.standing.Standing.TheVariants as how
-use Rattle.portmap_table.specs.Creation.{IsCreationFor}
 
 -- an old name, the port that it had, and its last creation
 abbrev pub RetiredName : Type 0

@@ -1,10 +1,9 @@
 -- A table of names with its limit and the counter from which wide creations are taken.
 use Rattle.std.specs.Prelude.{◌≡◌, ℕ, List, Result, Ok, Err, max, if◌then◌else◌}
 use Rattle.portmap_wire.specs.Node.{Node}
-use Rattle.portmap_table.specs.declared.creation.TheConstants.{COUNTER_LEAST}
 use Rattle.portmap_table.specs.Creation.{choice, counter_after}
 use Rattle.portmap_table.specs.Rows.{Names, no_names, is_active, is_full_for, remembered, registered, with_room}
-use Rattle.portmap_table.specs.declared.table.RegFault.{RegFault}
+use Rattle.portmap_table.specs.{declared.creation.TheConstants.COUNTER_LEAST, declared.table.RegFault.RegFault}
 use Rattle.portmap_table.specs.declared.table.RegFault.TheVariants as fault
 
 pub record TableState : Type 0 where

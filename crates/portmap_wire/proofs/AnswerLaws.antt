@@ -1,21 +1,15 @@
 -- What was written is read back.
-use Rattle.std.proofs.Common.{◌≡◌, ℕ, suc, ◌+◌, ◌≤◌, Bool, true, false, cond, ltb, eqb, List, [], ◌∷◌, ◌++◌, length, Option, Some, None}
-use Rattle.std.proofs.Common.{Result, Ok, refl, subst}
 use Rattle.std.specs.Prelude.{IfOk, IfSome}
-use Rattle.std.proofs.lemmas.Bool.{ltb-false, eqb-true}
-use Rattle.portmap_wire.specs.Node.{Node, IsNode, fields}
-use Rattle.portmap_wire.specs.RequestReading.{name_in, fields_in}
-use Rattle.portmap_wire.specs.declared.name.NameFault.{NameFault}
-use Rattle.portmap_wire.specs.declared.request.TheConstants.{BODY_MOST}
-use Rattle.portmap_wire.specs.declared.reply_writing.TheConstants.{PORT2_RESP}
+use Rattle.std.proofs.Common.{◌≡◌, ℕ, suc, ◌+◌, ◌≤◌, Bool, true, false, cond, ltb, eqb, List, [], ◌∷◌, ◌++◌, length}
+use Rattle.std.proofs.{Common.{Option, Some, None, Result, Ok, refl, subst, rules}, lemmas.Bool.{ltb-false, eqb-true}}
+use Rattle.portmap_wire.specs.{Node.{Node, IsNode, fields}, ReplyReading.{registered_answer, with_name, port2_result}}
+use Rattle.portmap_wire.specs.ReplyReading.{port2_answer, GivesReply, IsFound, LookUpsAreReadBack}
+use Rattle.portmap_wire.specs.{RequestReading.{name_in, fields_in}, declared.name.NameFault.NameFault}
 use Rattle.portmap_wire.specs.declared.reply_reading.ReplyFault.{ReplyFault}
-use Rattle.portmap_wire.proofs.NameLemmas.{IsBytes}
-use Rattle.portmap_wire.specs.declared.reply_reading.ReplyFault.TheVariants as fault
-use Rattle.portmap_wire.specs.ReplyReading.{registered_answer, with_name, port2_result, port2_answer, GivesReply, IsFound}
-use Rattle.portmap_wire.specs.ReplyReading.{LookUpsAreReadBack}
-use Rattle.portmap_wire.proofs.FieldLemmas.{fields_again, fields_take}
+use Rattle.portmap_wire.specs.{declared.reply_writing.TheConstants.PORT2_RESP, declared.request.TheConstants.BODY_MOST}
+use Rattle.portmap_wire.proofs.{FieldLemmas.{fields_again, fields_take}, NameLemmas.IsBytes}
 use Rattle.portmap_wire.proofs.RequestLaws.{guard_after, name_again, name_takes}
-use Rattle.std.proofs.Common.{rules}
+use Rattle.portmap_wire.specs.declared.reply_reading.ReplyFault.TheVariants as fault
 
 pub look_ups : LookUpsAreReadBack
 look_ups None more h = refl

@@ -1,28 +1,19 @@
 -- Lines, each ended by byte 10, are told in one way.
-use Rattle.std.proofs.Common.{◌≡◌, ◌≢◌, ℕ, suc, ◌<◌, ◌^◌, List, [], ◌∷◌, ◌++◌, length, get_or, take, drop, Some, None}
-use Rattle.std.proofs.Common.{refl, sym, ap, subst, ◌∙◌, arith, append_assoc, add-one}
-use Rattle.std.specs.Prelude.{All, codes, position}
-use Rattle.std.specs.List.{flat_map, position_or_len}
-use Rattle.std.specs.Fmt.{decimal}
+use Rattle.std.specs.{Fmt.decimal, List.{flat_map, position_or_len}, Prelude.{All, codes, position}}
 use Rattle.std.specs.Str.Parse.{AllDigits}
+use Rattle.std.proofs.Common.{◌≡◌, ◌≢◌, ℕ, suc, ◌<◌, ◌^◌, List, [], ◌∷◌, ◌++◌, length, get_or, take, drop, Some, None}
+use Rattle.std.proofs.{Common.{refl, sym, ap, subst, ◌∙◌, arith, append_assoc, add-one, rules}, Math.Seq.split_at}
 use Rattle.std.proofs.lemmas.Bool.{eqb-false}
-use Rattle.std.proofs.lemmas.List.{append-nil, length-append, drop-drop, get_or-take}
-use Rattle.std.proofs.lemmas.List.Elements.{All-from_get_or}
-use Rattle.std.proofs.lemmas.List.Sums.{fails_before_first, passes_at_first}
-use Rattle.std.proofs.Math.Seq.{split_at}
-use Rattle.std.proofs.lemmas.Str.Parse.{numerals_by_value, tells_digits, digit_from_value}
 use Rattle.std.proofs.lemmas.Fmt.{decimal_nonempty, length-decimal-le, digits_decimal, digits_value-decimal}
-use Rattle.portmap_wire.specs.Name.{IsName}
-use Rattle.portmap_wire.specs.Reply.{be4}
-use Rattle.portmap_wire.specs.List.{names_line, names_reply}
-use Rattle.portmap_wire.specs.declared.list.Line.{Line}
-use Rattle.portmap_wire.specs.declared.list_reading.ListFault.{ListFault}
+use Rattle.std.proofs.lemmas.List.{append-nil, length-append, drop-drop, get_or-take}
+use Rattle.std.proofs.{lemmas.List.Elements.All-from_get_or, lemmas.List.Sums.{fails_before_first, passes_at_first}}
+use Rattle.std.proofs.lemmas.Str.Parse.{numerals_by_value, tells_digits, digit_from_value}
+use Rattle.portmap_wire.specs.{List.{names_line, names_reply}, ListReading.{WritesPort, ReadsLine, HasNoReading}}
+use Rattle.portmap_wire.specs.ListReading.{is_newline, HasNoNewline, IsCut, ListsTo, IsStrange, Lists, IsListFault}
+use Rattle.portmap_wire.specs.{ListReading.{IsLine, IsReadBack, NamesAreReadBack}, Name.IsName, Reply.be4}
+use Rattle.portmap_wire.specs.{declared.list.Line.Line, declared.list_reading.ListFault.ListFault}
+use Rattle.portmap_wire.proofs.{ListingLemmas.one_reading, NameLemmas.each_fails}
 use Rattle.portmap_wire.specs.declared.list_reading.ListFault.TheVariants as fault
-use Rattle.portmap_wire.specs.ListReading.{WritesPort, ReadsLine, HasNoReading, is_newline, HasNoNewline, IsCut, ListsTo, IsStrange, Lists}
-use Rattle.portmap_wire.specs.ListReading.{IsListFault, IsLine, IsReadBack, NamesAreReadBack}
-use Rattle.portmap_wire.proofs.NameLemmas.{each_fails}
-use Rattle.portmap_wire.proofs.ListingLemmas.{one_reading}
-use Rattle.std.proofs.Common.{rules}
 
 -- ---- a line has no byte 10
 

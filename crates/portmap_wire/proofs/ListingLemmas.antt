@@ -1,22 +1,15 @@
 -- The digits at the end of a line tell where its port begins, and so a line has one reading.
-use Rattle.std.proofs.Common.{◌≡◌, ℕ, ◌+◌, ◌-◌, ◌*◌, ◌<◌, ◌≤◌, Bool, true, false, List, ◌++◌, length, get_or, take, drop, refl, sym, ap}
-use Rattle.std.proofs.Common.{subst, ◌∙◌, arith, Ok, Err, inl, inr}
-use Rattle.std.specs.Prelude.{codes, ◌≢◌, MatchBool}
-use Rattle.std.specs.Int.{IsInRange}
-use Rattle.std.specs.Str.Parse.{AllDigits, digits_value}
-use Rattle.std.proofs.lemmas.Bool.{cases_lt}
-use Rattle.std.proofs.lemmas.List.{take_at, drop_at, take-append-drop, length-append, get_or-drop, length-drop, get_or_append_left}
-use Rattle.std.proofs.lemmas.List.{get_or-append_right, get_or-append-add, append_cancel_left, append_cancel_right}
-use Rattle.std.proofs.lemmas.Str.Parse.{numerals_by_value, tells_by_index, digit_at}
-use Rattle.std.proofs.lemmas.Str.{digit_value_digit}
-use Rattle.std.proofs.lemmas.Int.Digits.{digits_value_more}
-use Rattle.portmap_wire.specs.Name.{IsName}
-use Rattle.portmap_wire.specs.RequestReading.{GivesName}
-use Rattle.portmap_wire.specs.declared.name.NameFault.{NameFault}
+use Rattle.std.specs.{Int.IsInRange, Prelude.{codes, ◌≢◌, MatchBool}, Str.Parse.{AllDigits, digits_value}}
+use Rattle.std.proofs.Common.{◌≡◌, ℕ, ◌+◌, ◌-◌, ◌*◌, ◌<◌, ◌≤◌, Bool, true, false, List, ◌++◌, length, get_or, take}
+use Rattle.std.proofs.{Common.{drop, refl, sym, ap, subst, ◌∙◌, arith, Ok, Err, inl, inr, rules}, lemmas.Bool.cases_lt}
+use Rattle.std.proofs.{lemmas.Int.Digits.digits_value_more, lemmas.List.{take_at, drop_at, take-append-drop}}
+use Rattle.std.proofs.lemmas.List.{length-append, get_or-drop, length-drop, get_or_append_left, get_or-append_right}
+use Rattle.std.proofs.lemmas.List.{get_or-append-add, append_cancel_left, append_cancel_right}
+use Rattle.std.proofs.{lemmas.Str.digit_value_digit, lemmas.Str.Parse.{numerals_by_value, tells_by_index, digit_at}}
+use Rattle.portmap_wire.specs.ListReading.{WritesPort, HasShape, ReadsLine, HasNoReading, EndsInDigits}
+use Rattle.portmap_wire.specs.{ListReading.LinesHaveOneReading, Name.IsName, RequestReading.GivesName}
+use Rattle.portmap_wire.specs.{declared.list.Line.Line, declared.name.NameFault.NameFault}
 use Rattle.portmap_wire.specs.declared.name.NameFault.TheVariants as name_fault
-use Rattle.portmap_wire.specs.declared.list.Line.{Line}
-use Rattle.portmap_wire.specs.ListReading.{WritesPort, HasShape, ReadsLine, HasNoReading, EndsInDigits, LinesHaveOneReading}
-use Rattle.std.proofs.Common.{rules}
 
 -- ---- digits
 

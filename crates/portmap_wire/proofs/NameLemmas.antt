@@ -1,13 +1,9 @@
 -- A scan for control characters finds none exactly at a name.
-use Rattle.std.proofs.Common.{◌≡◌, ℕ, ◌<◌, ◌≤◌, Bool, true, false, List, length, get_or, Some, None, sym, arith}
 use Rattle.std.specs.Prelude.{position}
-use Rattle.std.proofs.lemmas.Bool.Decides.{nat_tests}
-use Rattle.std.proofs.lemmas.List.Sums.{fails_before_first}
-use Rattle.std.proofs.lemmas.List.Quantifiers.{position-Some}
-use Rattle.std.proofs.lemmas.List.Elements.{All-from_get_or}
-use Rattle.portmap_wire.specs.declared.name.TheConstants.{NAME_MOST}
-use Rattle.portmap_wire.specs.Name.{is_control, IsNameByte, IsName}
-use Rattle.std.proofs.Common.{rules}
+use Rattle.std.proofs.Common.{◌≡◌, ℕ, ◌<◌, ◌≤◌, Bool, true, false, List, length, get_or, Some, None, sym, arith, rules}
+use Rattle.std.proofs.{lemmas.Bool.Decides.nat_tests, lemmas.List.Elements.All-from_get_or}
+use Rattle.std.proofs.{lemmas.List.Quantifiers.position-Some, lemmas.List.Sums.fails_before_first}
+use Rattle.portmap_wire.specs.{Name.{is_control, IsNameByte, IsName}, declared.name.TheConstants.NAME_MOST}
 
 -- each element is in a byte's range
 abbrev pub IsBytes : List ℕ → Type 0

@@ -1,25 +1,20 @@
 -- The two laws: what is read is spelled so, and what is spelled so is read.
-use Rattle.std.proofs.Common.{◌≡◌, ◌⊎◌, ℕ, suc, ◌+◌, ◌≤◌, Bool, true, false, cond, ltb, eqb, List, [], ◌∷◌, ◌++◌, length, Option, Some}
-use Rattle.std.proofs.Common.{None, Result, Ok, Err, refl, sym, ap, subst, ◌∙◌, arith, inl, inr}
 use Rattle.std.specs.Prelude.{IfOk, IfErr, ◌≢◌, position}
-use Rattle.std.proofs.lemmas.Bool.{ltb-false, le-ltb, eqb-true}
+use Rattle.std.proofs.Common.{◌≡◌, ◌⊎◌, ℕ, suc, ◌+◌, ◌≤◌, Bool, true, false, cond, ltb, eqb, List, [], ◌∷◌, ◌++◌}
+use Rattle.std.proofs.Common.{length, Option, Some, None, Result, Ok, Err, refl, sym, ap, subst, ◌∙◌, arith, inl, inr}
+use Rattle.std.proofs.{Common.rules, lemmas.Bool.{ltb-false, le-ltb, eqb-true}, lemmas.Grind.common_steps}
 use Rattle.std.proofs.lemmas.List.{append-nil, length-append}
-use Rattle.portmap_wire.specs.Name.{is_control, IsName}
-use Rattle.portmap_wire.specs.Node.{Node, IsNode, fields, be2}
-use Rattle.portmap_wire.specs.declared.name.NameFault.{NameFault}
-use Rattle.portmap_wire.specs.declared.request.TheConstants.{BODY_MOST, ALIVE2_REQ, PORT_PLEASE2_REQ, NAMES_REQ, DUMP_REQ, KILL_REQ}
-use Rattle.portmap_wire.specs.declared.request.TheConstants.{STOP_REQ}
-use Rattle.portmap_wire.specs.declared.request.Malformed.{Malformed}
-use Rattle.portmap_wire.specs.declared.request.Malformed.TheVariants as malformed
-use Rattle.portmap_wire.specs.declared.request.Request.{Request}
-use Rattle.portmap_wire.specs.declared.request.Request.TheVariants.{Alive, Port, Names, Dump, Kill, Stop}
-use Rattle.portmap_wire.specs.RequestReading.{unless_found, name_in, fields_in, named, alone, with_name, filled, alive_in, by_tag}
-use Rattle.portmap_wire.specs.RequestReading.{request_in, Gives}
+use Rattle.portmap_wire.specs.{Name.{is_control, IsName}, Node.{Node, IsNode, fields, be2}}
 use Rattle.portmap_wire.specs.Request.{body_of, IsRequest, Spells, IsMalformed, SpellsOneRequest}
-use Rattle.portmap_wire.proofs.NameLemmas.{IsBytes, is_name, no_control}
+use Rattle.portmap_wire.specs.RequestReading.{unless_found, name_in, fields_in, named, alone, with_name, filled}
+use Rattle.portmap_wire.specs.{RequestReading.{alive_in, by_tag, request_in, Gives}, declared.name.NameFault.NameFault}
+use Rattle.portmap_wire.specs.declared.request.Malformed.{Malformed}
+use Rattle.portmap_wire.specs.declared.request.Request.{Request, TheVariants.{Alive, Dump, Kill, Names, Port, Stop}}
+use Rattle.portmap_wire.specs.declared.request.TheConstants.{BODY_MOST, ALIVE2_REQ, PORT_PLEASE2_REQ, NAMES_REQ}
+use Rattle.portmap_wire.specs.declared.request.TheConstants.{DUMP_REQ, KILL_REQ, STOP_REQ}
 use Rattle.portmap_wire.proofs.FieldLemmas.{FitsFields, fields_take, fields_again}
-use Rattle.std.proofs.lemmas.Grind.{common_steps}
-use Rattle.std.proofs.Common.{rules}
+use Rattle.portmap_wire.proofs.NameLemmas.{IsBytes, is_name, no_control}
+use Rattle.portmap_wire.specs.declared.request.Malformed.TheVariants as malformed
 
 -- which way a test went, where one way fails
 pub guard : {A E : Type 0} (b : Bool) (d : E) (r : Result A E) (y : A) → cond b (Err d) r ≡ Ok y → (b ≡ false) × (r ≡ Ok y)

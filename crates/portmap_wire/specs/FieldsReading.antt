@@ -1,7 +1,6 @@
 -- Fields where they lie, as a registration and what follows it.
 use Rattle.std.specs.Prelude.{List, ℕ}
-use Rattle.portmap_wire.specs.Node.{Node}
-use Rattle.portmap_wire.specs.declared.fields_reading.Fields.{Fields}
+use Rattle.portmap_wire.specs.{Node.Node, declared.fields_reading.Fields.Fields}
 
 abbrev pub in_place : Fields → Node × List ℕ
 in_place f = (

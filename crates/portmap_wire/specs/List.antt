@@ -1,11 +1,7 @@
 -- The two lists of names as text: ERTS User's Guide, EPMD Protocol, "Get All Registered Names from EPMD" and "Dump All
 -- Data from EPMD"; the text of the second one's lines is of this profile.
-use Rattle.std.specs.Prelude.{ℕ, List, [], ◌∷◌, ◌++◌, Option, Some, None, codes}
-use Rattle.std.specs.List.{flat_map}
-use Rattle.std.specs.Fmt.{decimal}
-use Rattle.portmap_wire.specs.Reply.{be4}
-use Rattle.portmap_wire.specs.declared.list.Line.{Line}
-use Rattle.portmap_wire.specs.declared.list.DumpLine.{DumpLine}
+use Rattle.std.specs.{Fmt.decimal, List.flat_map, Prelude.{ℕ, List, [], ◌∷◌, ◌++◌, Option, Some, None, codes}}
+use Rattle.portmap_wire.specs.{Reply.be4, declared.list.DumpLine.DumpLine, declared.list.Line.Line}
 
 abbrev pub names_line : Line → List ℕ
 names_line line = codes "name " ++ line.name ++ codes " at port " ++ decimal line.port ++ 10 ∷ []

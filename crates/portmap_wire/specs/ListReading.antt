@@ -1,11 +1,8 @@
 -- What a client makes of the answer to NAMES_REQ: ERTS User's Guide, EPMD Protocol, "Get All Registered Names from
 -- EPMD". That a line is ended by byte 10, that zeros may lead in a port, and that a name may hold ` at port `: profile.
-use Rattle.std.specs.Prelude.{◌≡◌, ◌≢◌, ℕ, ◌+◌, ◌<◌, ◌≤◌, ◌^◌, Bool, ◌==◌, List, [], ◌∷◌, ◌++◌, length, All, codes, slice_index}
-use Rattle.std.specs.Str.Parse.{AllDigits, digits_value}
-use Rattle.portmap_wire.specs.Name.{IsName}
-use Rattle.portmap_wire.specs.Reply.{be4}
-use Rattle.portmap_wire.specs.List.{names_reply}
-use Rattle.portmap_wire.specs.declared.list.Line.{Line}
+use Rattle.std.specs.Prelude.{◌≡◌, ◌≢◌, ℕ, ◌+◌, ◌<◌, ◌≤◌, ◌^◌, Bool, ◌==◌, List, [], ◌∷◌, ◌++◌, length, All, codes}
+use Rattle.std.specs.{Prelude.slice_index, Str.Parse.{AllDigits, digits_value}}
+use Rattle.portmap_wire.specs.{List.names_reply, Name.IsName, Reply.be4, declared.list.Line.Line}
 use Rattle.portmap_wire.specs.declared.list_reading.ListFault.{ListFault}
 use Rattle.portmap_wire.specs.declared.list_reading.ListFault.TheVariants as fault
 

@@ -1,10 +1,7 @@
 -- A node, by what it registers, and how its fields are spelled: ERTS User's Guide, EPMD Protocol, "Register a Node in EPMD".
+use Rattle.std.specs.{Cmp.Lexicographic.pointwise, Int.{w16, to_be_bytes}, Ordering.{on, eq_of_both}}
 use Rattle.std.specs.Prelude.{ℕ, ◌+◌, ◌<◌, ◌≤◌, ◌^◌, List, [], ◌∷◌, ◌++◌, length, Bool, nat_eq}
-use Rattle.std.specs.Cmp.Lexicographic.{pointwise}
-use Rattle.std.specs.Ordering.{on, eq_of_both}
-use Rattle.std.specs.Int.{w16, to_be_bytes}
-use Rattle.portmap_wire.specs.Name.{IsName}
-use Rattle.portmap_wire.specs.declared.request.TheConstants.{BODY_MOST}
+use Rattle.portmap_wire.specs.{Name.IsName, declared.request.TheConstants.BODY_MOST}
 
 -- a node: PortNo, NodeType, Protocol, HighestVersion, LowestVersion, NodeName and Extra, in the order of the guide
 pub record Node : Type 0 where

@@ -1,6 +1,6 @@
 -- The replies as bytes: ERTS User's Guide, EPMD Protocol.
-use Rattle.std.specs.Prelude.{ℕ, Bool, List, [], ◌∷◌, Option, Some, None, nat_lt, if◌then◌else◌}
 use Rattle.std.specs.Int.{w32, to_be_bytes}
+use Rattle.std.specs.Prelude.{ℕ, Bool, List, [], ◌∷◌, Option, Some, None, nat_lt, if◌then◌else◌}
 use Rattle.portmap_wire.specs.Node.{Node, fields, be2}
 use Rattle.portmap_wire.specs.declared.reply_writing.TheConstants.{ALIVE2_X_RESP, ALIVE2_RESP, PORT2_RESP, WIDE_VERSION}
 

@@ -1,18 +1,14 @@
 -- What a client makes of the bytes that it got: ERTS User's Guide, EPMD Protocol, the replies; that bytes behind an
 -- answer are not looked at, and either tag of ALIVE2 is taken: profile.
-use Rattle.std.specs.Prelude.{◌≡◌, ℕ, ◌+◌, ◌<◌, ◌^◌, List, [], ◌∷◌, ◌++◌, length, take, Option, Some, None, Result, Ok, Err, IfSome, nat_lt}
-use Rattle.std.specs.Prelude.{◌==◌, if◌then◌else◌}
-use Rattle.std.specs.Int.{w16, w32, from_be_bytes}
-use Rattle.portmap_wire.specs.Node.{Node, IsNode}
-use Rattle.portmap_wire.specs.RequestReading.{name_in, fields_in}
-use Rattle.portmap_wire.specs.Reply.{alive_reply, port2_reply}
-use Rattle.portmap_wire.specs.declared.name.NameFault.{NameFault}
-use Rattle.portmap_wire.specs.declared.name.NameFault.TheVariants as name_fault
-use Rattle.portmap_wire.specs.declared.request.TheConstants.{BODY_MOST}
-use Rattle.portmap_wire.specs.declared.reply_writing.TheConstants.{ALIVE2_X_RESP, ALIVE2_RESP, PORT2_RESP, WIDE_VERSION}
-use Rattle.portmap_wire.specs.declared.reply_reading.AliveReply.{AliveReply}
-use Rattle.portmap_wire.specs.declared.reply_reading.AliveReply.TheVariants.{Given, Refused}
+use Rattle.std.specs.{Int.{w16, w32, from_be_bytes}, Prelude.{◌≡◌, ℕ, ◌+◌, ◌<◌, ◌^◌, List, [], ◌∷◌, ◌++◌, length, take}}
+use Rattle.std.specs.Prelude.{Option, Some, None, Result, Ok, Err, IfSome, nat_lt, ◌==◌, if◌then◌else◌}
+use Rattle.portmap_wire.specs.{Node.{Node, IsNode}, Reply.{alive_reply, port2_reply}}
+use Rattle.portmap_wire.specs.{RequestReading.{name_in, fields_in}, declared.name.NameFault.NameFault}
+use Rattle.portmap_wire.specs.declared.reply_reading.AliveReply.{AliveReply, TheVariants.{Given, Refused}}
 use Rattle.portmap_wire.specs.declared.reply_reading.ReplyFault.{ReplyFault}
+use Rattle.portmap_wire.specs.declared.reply_writing.TheConstants.{ALIVE2_X_RESP, ALIVE2_RESP, PORT2_RESP, WIDE_VERSION}
+use Rattle.portmap_wire.specs.declared.request.TheConstants.{BODY_MOST}
+use Rattle.portmap_wire.specs.declared.name.NameFault.TheVariants as name_fault
 use Rattle.portmap_wire.specs.declared.reply_reading.ReplyFault.TheVariants as fault
 
 -- ---- the answer to ALIVE2_REQ

@@ -1,10 +1,9 @@
 -- How each request is spelled: ERTS User's Guide, EPMD Protocol. What spells no request is malformed.
 use Rattle.std.specs.Prelude.{◌≡◌, List, ℕ, [], ◌∷◌, ◌++◌, length}
-use Rattle.portmap_wire.specs.Name.{IsName}
-use Rattle.portmap_wire.specs.Node.{IsNode, fields, be2}
-use Rattle.portmap_wire.specs.declared.request.TheConstants.{ALIVE2_REQ, PORT_PLEASE2_REQ, NAMES_REQ, DUMP_REQ, KILL_REQ, STOP_REQ}
-use Rattle.portmap_wire.specs.declared.request.Request.{Request}
-use Rattle.portmap_wire.specs.declared.request.Request.TheVariants.{Alive, Port, Names, Dump, Kill, Stop}
+use Rattle.portmap_wire.specs.{Name.IsName, Node.{IsNode, fields, be2}}
+use Rattle.portmap_wire.specs.declared.request.Request.{Request, TheVariants.{Alive, Dump, Kill, Names, Port, Stop}}
+use Rattle.portmap_wire.specs.declared.request.TheConstants.{ALIVE2_REQ, PORT_PLEASE2_REQ, NAMES_REQ, DUMP_REQ}
+use Rattle.portmap_wire.specs.declared.request.TheConstants.{KILL_REQ, STOP_REQ}
 
 -- the first byte says which request it is; what follows it
 abbrev pub body_of : Request → List ℕ

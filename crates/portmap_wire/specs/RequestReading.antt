@@ -1,19 +1,14 @@
 -- Reading by places, from left to right, with the first fault that is met. What is read so is what is spelled: a law
 -- of `read_request`.
-use Rattle.std.specs.Prelude.{◌≡◌, ℕ, ◌+◌, List, [], ◌∷◌, length, take, drop, slice_index, Option, Some, None, Result, Ok, Err, nat_lt}
-use Rattle.std.specs.Prelude.{◌==◌, position, if◌then◌else◌}
-use Rattle.std.specs.Int.{w16, from_be_bytes}
-use Rattle.portmap_wire.specs.Name.{is_control}
-use Rattle.portmap_wire.specs.Node.{Node}
-use Rattle.portmap_wire.specs.declared.name.TheConstants.{NAME_MOST}
-use Rattle.portmap_wire.specs.declared.name.NameFault.{NameFault}
+use Rattle.std.specs.{Int.{w16, from_be_bytes}, Prelude.{◌≡◌, ℕ, ◌+◌, List, [], ◌∷◌, length, take, drop, slice_index}}
+use Rattle.std.specs.Prelude.{Option, Some, None, Result, Ok, Err, nat_lt, ◌==◌, position, if◌then◌else◌}
+use Rattle.portmap_wire.specs.{Name.is_control, Node.Node, declared.name.NameFault.NameFault}
+use Rattle.portmap_wire.specs.{declared.name.TheConstants.NAME_MOST, declared.request.Malformed.Malformed}
+use Rattle.portmap_wire.specs.declared.request.Request.{Request, TheVariants.{Alive, Dump, Kill, Names, Port, Stop}}
+use Rattle.portmap_wire.specs.declared.request.TheConstants.{BODY_MOST, ALIVE2_REQ, PORT_PLEASE2_REQ, NAMES_REQ}
+use Rattle.portmap_wire.specs.declared.request.TheConstants.{DUMP_REQ, KILL_REQ, STOP_REQ}
 use Rattle.portmap_wire.specs.declared.name.NameFault.TheVariants as name_fault
-use Rattle.portmap_wire.specs.declared.request.TheConstants.{BODY_MOST, ALIVE2_REQ, PORT_PLEASE2_REQ, NAMES_REQ, DUMP_REQ, KILL_REQ}
-use Rattle.portmap_wire.specs.declared.request.TheConstants.{STOP_REQ}
-use Rattle.portmap_wire.specs.declared.request.Malformed.{Malformed}
 use Rattle.portmap_wire.specs.declared.request.Malformed.TheVariants as malformed
-use Rattle.portmap_wire.specs.declared.request.Request.{Request}
-use Rattle.portmap_wire.specs.declared.request.Request.TheVariants.{Alive, Port, Names, Dump, Kill, Stop}
 
 -- ---- names
 

@@ -1,20 +1,15 @@
 -- A piece is read between two writings.
-use Rattle.std.proofs.Common.{◌≡◌, ◌≤◌, ℕ, List, [], ◌∷◌, ◌++◌, length, take, map, Option, Some, None, sym, ap, ◌∙◌, append_assoc, inl, inr}
-use Rattle.std.proofs.Common.{arith}
-use Rattle.std.proofs.lemmas.List.{length-take}
-use Rattle.std.proofs.KnownBytes.{Appends-trans, Appends-kept}
 use Rattle.std.specs.Io.KnownBytes.{Keeps, Consumes}
+use Rattle.std.proofs.Common.{◌≡◌, ◌≤◌, ℕ, List, [], ◌∷◌, ◌++◌, length, take, map, Option, Some, None, sym, ap, ◌∙◌}
+use Rattle.std.proofs.{Common.{append_assoc, inl, inr, arith}, KnownBytes.{Appends-trans, Appends-kept}}
+use Rattle.std.proofs.lemmas.List.{length-take}
 use Rattle.portmap_core.specs.declared.event.Answer.{Answer}
-use Rattle.portmap_link.specs.Asking.{Devices}
-use Rattle.portmap_link.specs.Flush.{Moves, LastPut, Sends, ending_of}
-use Rattle.portmap_link.specs.declared.device.Put.{Put}
-use Rattle.portmap_link.specs.declared.device.Put.TheVariants.{Wrote}
+use Rattle.portmap_link.specs.{Asking.Devices, Flush.{Moves, LastPut, Sends, ending_of}}
+use Rattle.portmap_link.specs.{declared.device.Put.{Put, TheVariants.Wrote}, declared.outbox.Flush.Flush}
 use Rattle.portmap_link.specs.declared.device.Put.TheVariants as put
 use Rattle.portmap_link.specs.declared.device.Pull.TheVariants as pull
-use Rattle.portmap_link.specs.declared.outbox.Flush.{Flush}
 use Rattle.portmap_link.specs.declared.outbox.Flush.TheVariants as flush
-use Rattle.portmap_worker.specs.Carrying.{IsRead, WritingEnds, FollowsAnswer}
-use Rattle.portmap_worker.specs.declared.carrier.Next.{Next}
+use Rattle.portmap_worker.specs.{Carrying.{IsRead, WritingEnds, FollowsAnswer}, declared.carrier.Next.Next}
 use Rattle.portmap_worker.specs.declared.limits.TheConstants.{PULL_BYTES_MOST}
 
 -- bytes are read between two calls that read none

@@ -1,25 +1,18 @@
 -- What a worker does with a connection that it holds: profile.
-use Rattle.std.specs.Prelude.{◌≡◌, ◌≢◌, ℕ, ◌≤◌, List, [], ◌∷◌, ◌++◌, length, Bool, true, false, Ok, Err, ◌⊎◌}
 use Rattle.std.specs.Io.KnownBytes.{Consumes}
-use Rattle.portmap_core.specs.declared.event.Answer.{Answer}
+use Rattle.std.specs.Prelude.{◌≡◌, ◌≢◌, ℕ, ◌≤◌, List, [], ◌∷◌, ◌++◌, length, Bool, true, false, Ok, Err, ◌⊎◌}
+use Rattle.portmap_core.specs.{declared.event.Answer.Answer, declared.event.Fate.Fate}
 use Rattle.portmap_core.specs.declared.event.Answer.TheVariants as answer
 use Rattle.portmap_core.specs.declared.event.Event.TheVariants as event
-use Rattle.portmap_core.specs.declared.event.Fate.{Fate}
 use Rattle.portmap_core.specs.declared.event.Fate.TheVariants as fate
 use Rattle.portmap_core.specs.declared.event.Refusal.TheVariants as refusal
-use Rattle.portmap_book.specs.declared.book.ActFault.{ActFault}
-use Rattle.portmap_book.specs.declared.book.ActFault.TheVariants.{Worn, Refused}
-use Rattle.portmap_book.specs.Seat.{SeatView, Counts}
-use Rattle.portmap_link.specs.Asking.{Devices}
-use Rattle.portmap_link.specs.Flush.{LastPut}
-use Rattle.portmap_link.specs.declared.device.Pull.{Pull}
-use Rattle.portmap_link.specs.declared.device.Pull.TheVariants as pull
-use Rattle.portmap_link.specs.declared.device.Put.{Put}
-use Rattle.portmap_link.specs.declared.device.Put.TheVariants as put
+use Rattle.portmap_book.specs.{Seat.{SeatView, Counts}, declared.book.ActFault.{ActFault, TheVariants.{Refused, Worn}}}
+use Rattle.portmap_link.specs.{Asking.Devices, Flush.LastPut, declared.device.Pull.Pull, declared.device.Put.Put}
 use Rattle.portmap_link.specs.declared.outbox.Flush.{Flush}
+use Rattle.portmap_link.specs.declared.device.Pull.TheVariants as pull
+use Rattle.portmap_link.specs.declared.device.Put.TheVariants as put
 use Rattle.portmap_link.specs.declared.outbox.Flush.TheVariants as flush
-use Rattle.portmap_worker.specs.declared.carrier.Next.{Next}
-use Rattle.portmap_worker.specs.declared.carrier.Next.TheVariants.{Keep, Close, Halt, Fault, NoMemory}
+use Rattle.portmap_worker.specs.declared.carrier.Next.{Next, TheVariants.{Close, Fault, Halt, Keep, NoMemory}}
 use Rattle.portmap_worker.specs.declared.limits.TheConstants.{PULL_BYTES_MOST}
 
 -- ---- one pull

@@ -1,16 +1,12 @@
 -- What a worker's source knows of a connection: profile.
-use Rattle.std.specs.Prelude.{ℕ, ◌-◌, ◌≤◌, Bool, true, false, not, ◌||◌, Option, Some, None, Result, Ok, Err, ◌≡◌}
 use Rattle.std.specs.IoError.{error_kind}
+use Rattle.std.specs.Prelude.{ℕ, ◌-◌, ◌≤◌, Bool, true, false, not, ◌||◌, Option, Some, None, Result, Ok, Err, ◌≡◌}
 use Rattle.std.specs.declared.io.Error.{Error}
 use Rattle.std.specs.declared.io.ErrorKind.TheVariants as kind
-use Rattle.portmap_worker.specs.declared.link.Progress.{Progress}
-use Rattle.portmap_worker.specs.declared.link.Progress.TheVariants.{Asked, Answered, Left}
-use Rattle.portmap_worker.specs.declared.readiness.Reading.{Reading}
-use Rattle.portmap_worker.specs.declared.readiness.Reading.TheVariants.{Open, Dry}
-use Rattle.portmap_worker.specs.declared.source.Turn.{Turn}
-use Rattle.portmap_worker.specs.declared.source.Turn.TheVariants.{Fresh, Ready, Late, Idle, Stop}
-use Rattle.portmap_worker.specs.declared.readiness.Writing.{Writing}
-use Rattle.portmap_worker.specs.declared.readiness.Writing.TheVariants.{Free, CutShort, Waits}
+use Rattle.portmap_worker.specs.declared.link.Progress.{Progress, TheVariants.{Answered, Asked, Left}}
+use Rattle.portmap_worker.specs.declared.readiness.Reading.{Reading, TheVariants.{Dry, Open}}
+use Rattle.portmap_worker.specs.declared.readiness.Writing.{Writing, TheVariants.{CutShort, Free, Waits}}
+use Rattle.portmap_worker.specs.declared.source.Turn.{Turn, TheVariants.{Fresh, Idle, Late, Ready, Stop}}
 use Rattle.portmap_worker.specs.declared.system.Interest.{Interest}
 use Rattle.portmap_worker.specs.declared.system.Interest.TheVariants as interest
 

@@ -1,11 +1,9 @@
 -- Connections that come, and a listening socket at which none could be taken.
-use Rattle.std.specs.Prelude.{◌≡◌, Bool}
-use Rattle.std.specs.declared.io.ErrorKind.{ErrorKind}
+use Rattle.std.specs.{Prelude.{◌≡◌, Bool}, declared.io.ErrorKind.ErrorKind}
 use Rattle.std.specs.declared.io.ErrorKind.TheVariants as kind
 use Rattle.portmap_worker.specs.declared.listener.AcceptError.{AcceptError}
-use Rattle.portmap_worker.specs.declared.listener.AcceptError.TheVariants.{Aborted, WouldBlock, Exhausted}
-use Rattle.portmap_worker.specs.declared.source.Turn.{Turn}
-use Rattle.portmap_worker.specs.declared.source.Turn.TheVariants.{Fresh, Ready, Late, Idle, Stop}
+use Rattle.portmap_worker.specs.declared.listener.AcceptError.TheVariants.{Aborted, Exhausted, WouldBlock}
+use Rattle.portmap_worker.specs.declared.source.Turn.{Turn, TheVariants.{Fresh, Idle, Late, Ready, Stop}}
 
 -- a connection has come, from this host or from another one
 abbrev pub IsFreshFrom : Bool → Turn → Type 0

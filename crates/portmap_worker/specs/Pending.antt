@@ -1,8 +1,7 @@
 -- Registrations that wait for their names: profile. Times are in milliseconds.
 use Rattle.std.specs.Prelude.{◌≡◌, ℕ, ◌+◌, ◌-◌, ◌<◌, ◌≤◌, ◌^◌, ◌⊎◌, min, Option, Some, None}
 use Rattle.portmap_worker.specs.declared.limits.TheConstants.{EPOCH_ROUNDS_MOST, EPOCH_TIMEOUT_MS, NAME_TIMEOUT_MS}
-use Rattle.portmap_worker.specs.declared.pending.Waiting.{Waiting}
-use Rattle.portmap_worker.specs.declared.pending.Waiting.TheVariants.{Come, Asked, Name, Epoch}
+use Rattle.portmap_worker.specs.declared.pending.Waiting.{Waiting, TheVariants.{Asked, Come, Epoch, Name}}
 
 -- the earlier of two times, of which one is perhaps not set
 abbrev pub earliest : Option ℕ → ℕ → ℕ

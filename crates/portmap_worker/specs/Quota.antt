@@ -1,7 +1,6 @@
 -- Places for connections, and which connection is given up for another one: profile.
 use Rattle.std.specs.Prelude.{◌≡◌, ℕ, ◌+◌, ◌-◌, ◌/◌, ◌<◌, ◌⊎◌, min, Bool, true, false}
-use Rattle.portmap_worker.specs.declared.limits.TheConstants.{KEPT_SHARE}
-use Rattle.portmap_worker.specs.declared.quota.Candidate.{Candidate}
+use Rattle.portmap_worker.specs.{declared.limits.TheConstants.KEPT_SHARE, declared.quota.Candidate.Candidate}
 
 -- how many of all places remote peers may have together while local ones have so many: all others but the kept ones, or but a half
 -- if that is less

@@ -1,9 +1,8 @@
 -- Registrations that are refused since their names are in use, and what is told of that: profile.
-use Rattle.std.specs.Prelude.{ℕ, ◌≡◌, ◌⊎◌, ◌==◌, List, [], ◌++◌, codes, Option, Some, None, if◌then◌else◌}
 use Rattle.std.specs.Fmt.{decimal}
+use Rattle.std.specs.Prelude.{ℕ, ◌≡◌, ◌⊎◌, ◌==◌, List, [], ◌++◌, codes, Option, Some, None, if◌then◌else◌}
+use Rattle.portmap_wire.specs.{Reply.alive_reply, declared.reply_writing.TheConstants.WIDE_VERSION}
 use Rattle.portmap_core.specs.Entry.{Entry, Connected, Piece, Closed, Faulted, Late}
-use Rattle.portmap_wire.specs.Reply.{alive_reply}
-use Rattle.portmap_wire.specs.declared.reply_writing.TheConstants.{WIDE_VERSION}
 
 -- result 1, as a short answer or a wide one
 abbrev pub TellsInUse : List ℕ → Type 0

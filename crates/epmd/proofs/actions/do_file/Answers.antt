@@ -1,8 +1,6 @@
 use Rattle.std.proofs.Common.{◌≡◌}
-use Rattle.portmap_link.specs.Adapters.{streams, writing_broken}
-use Rattle.portmap_link.specs.Asking.{Devices}
-use Rattle.epmd.specs.Actions.{Fails, Refuses, tells}
-use Rattle.epmd.specs.declared.actions.TheConstants.{FILE_TURNS}
+use Rattle.portmap_link.specs.{Adapters.{streams, writing_broken}, Asking.Devices}
+use Rattle.epmd.specs.{Actions.{Fails, Refuses, tells}, declared.actions.TheConstants.FILE_TURNS}
 use Rattle.epmd.proofs.Findings.{finds, shown, to_show}
 use Rattle.epmd.proofs.actions.do_file.Goals as goal
 

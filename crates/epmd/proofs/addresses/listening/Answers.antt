@@ -1,5 +1,4 @@
-use Rattle.std.proofs.Common.{◌<◌, [], length, arith}
-use Rattle.std.proofs.lemmas.List.{take_more}
+use Rattle.std.proofs.{Common.{◌<◌, [], length, arith}, lemmas.List.take_more}
 use Rattle.epmd.proofs.Lists.{with_each_more}
 use Rattle.epmd.proofs.addresses.listening.Goals as goal
 

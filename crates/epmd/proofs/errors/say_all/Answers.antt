@@ -1,6 +1,6 @@
+use Rattle.std.specs.List.{flat_map}
 use Rattle.std.proofs.Common.{◌≡◌, ℕ, ◌≤◌, ◌+◌, ◌++◌, List, [], length, drop, slice_index_or, Bor, arith, ap}
 use Rattle.std.proofs.lemmas.List.{at_drop_more, at_drop_all}
-use Rattle.std.specs.List.{flat_map}
 use Rattle.portmap_link.specs.Adapters.{writing_inner}
 use Rattle.epmd.proofs.Pieces.{left_at_first, left_more, left_for_good, none_left}
 use Rattle.epmd.proofs.errors.say_all.Goals as goal

@@ -1,5 +1,5 @@
-use Rattle.std.proofs.Common.{drop}
 use Rattle.std.specs.List.{flat_map}
+use Rattle.std.proofs.Common.{drop}
 use Rattle.portmap_link.specs.Adapters.{writing_inner}
 use Rattle.epmd.proofs.Pieces.{IsLeft}
 use Rattle.epmd.proofs.errors.say_all.Given as goal

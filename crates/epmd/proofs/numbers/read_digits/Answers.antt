@@ -1,8 +1,7 @@
-use Rattle.std.proofs.Common.{arith}
-use Rattle.std.proofs.lemmas.Str.Parse.{digit_at}
-use Rattle.epmd.proofs.Digits.{next_digit}
+use Rattle.std.proofs.{Common.arith, lemmas.Str.Parse.digit_at}
+use Rattle.epmd.proofs.{Digits.next_digit, numbers.read_digits.Goals.then-digit-lt48-via-then-digit-lt48}
+use Rattle.epmd.proofs.numbers.read_digits.Goals.{then-digit-lt48-via-else-digit-lt48+then-digit-gt57}
 use Rattle.epmd.proofs.numbers.read_digits.Goals as goal
-use Rattle.epmd.proofs.numbers.read_digits.Goals.{then-digit-lt48-via-then-digit-lt48, then-digit-lt48-via-else-digit-lt48+then-digit-gt57}
 
 pub returns-then-digit-lt48-clause-none : goal.returns-then-digit-lt48-clause-none
 returns-then-digit-lt48-clause-none c = λ _ number writes.

@@ -1,6 +1,6 @@
+use Rattle.std.specs.Prelude.{string_bytes}
 use Rattle.std.proofs.Common.{◌≡◌, ◌≤◌, length, List, ℕ, map, subst, arith, true, sym, ◌∙◌, ◌-◌, drop}
 use Rattle.std.proofs.lemmas.List.{length-take, length-drop}
-use Rattle.std.specs.Prelude.{string_bytes}
 use Rattle.epmd.specs.Words.{Begins, item_in, is_action}
 use Rattle.epmd.proofs.Sayings.{says_all, says_more, in_front}
 use Rattle.epmd.proofs.words.read_all.Goals as goal

@@ -1,5 +1,5 @@
-use Rattle.std.proofs.Common.{length, map}
 use Rattle.std.specs.Prelude.{string_bytes, ◌≤◌}
+use Rattle.std.proofs.Common.{length, map}
 use Rattle.epmd.proofs.Sayings.{Says}
 use Rattle.epmd.proofs.words.read_all.Given as goal
 

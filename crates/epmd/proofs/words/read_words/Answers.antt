@@ -1,8 +1,6 @@
-use Rattle.std.proofs.Common.{length, map}
 use Rattle.std.specs.Prelude.{string_bytes}
-use Rattle.epmd.specs.Numbers.{IsWithin}
-use Rattle.epmd.specs.Addresses.{AreListening}
-use Rattle.epmd.specs.Meaning.{Completes, SaysCommand}
+use Rattle.std.proofs.Common.{length, map}
+use Rattle.epmd.specs.{Addresses.AreListening, Meaning.{Completes, SaysCommand}, Numbers.IsWithin}
 use Rattle.epmd.specs.declared.words.Command.{Command}
 use Rattle.epmd.proofs.Completing.{says, if_ok, says_port, says_timeout, says_workers, says_addresses}
 use Rattle.epmd.proofs.words.read_words.Goals as goal

@@ -1,7 +1,6 @@
-use Rattle.std.proofs.Common.{◌≡◌, sym, ap, ◌∙◌, arith}
 use Rattle.std.specs.Prelude.{count_by}
-use Rattle.portmap_link.specs.Asking.{is_pull_later}
-use Rattle.portmap_link.specs.declared.outbox.Flush.TheVariants.{Empty, Later, Fault}
+use Rattle.std.proofs.Common.{◌≡◌, sym, ap, ◌∙◌, arith}
+use Rattle.portmap_link.specs.{Asking.is_pull_later, declared.outbox.Flush.TheVariants.{Empty, Later, Fault}}
 use Rattle.portmap_link.proofs.PutsOn.{sends_laters, sends_laters_at, sends_part}
 use Rattle.portmap_client.proofs.exchange.ask.Goals as goal
 

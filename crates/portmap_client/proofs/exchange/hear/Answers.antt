@@ -1,13 +1,9 @@
-use Rattle.std.proofs.Common.{◌≡◌, ◌≤◌, ◌++◌, length, take, sym, subst}
-use Rattle.std.proofs.lemmas.List.{take-append-le}
+use Rattle.std.proofs.{Common.{◌≡◌, ◌≤◌, ◌++◌, length, take, sym, subst, rules}, lemmas.List.take-append-le}
 use Rattle.portmap_link.proofs.Asking.{on_more}
 use Rattle.portmap_client.specs.Exchange.{HasRead, IsRead}
-use Rattle.portmap_client.proofs.Counting.{pulled}
-use Rattle.portmap_client.proofs.Reading.{reads_front, stops}
-use Rattle.portmap_client.proofs.exchange.hear.Given.{Over}
+use Rattle.portmap_client.proofs.{Counting.pulled, Reading.{reads_front, stops}, exchange.hear.Given.Over}
 use Rattle.portmap_client.proofs.exchange.hear.Goals.{In-Piece}
 use Rattle.portmap_client.proofs.exchange.hear.Goals as goal
-use Rattle.std.proofs.Common.{rules}
 
 -- with the piece, none further than the answer was read
 with_piece : (g : Over) (c : In-Piece g)

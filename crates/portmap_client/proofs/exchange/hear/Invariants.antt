@@ -1,8 +1,7 @@
-use Rattle.std.proofs.Common.{◌-◌, ◌≡◌, ◌+◌, ◌≤◌, length}
 use Rattle.std.specs.Io.KnownBytes.{Keeps}
+use Rattle.std.proofs.Common.{◌-◌, ◌≡◌, ◌+◌, ◌≤◌, length}
 use Rattle.portmap_link.specs.Asking.{GoesOn, IsAskedAgain}
-use Rattle.portmap_client.specs.Exchange.{HasRead}
-use Rattle.portmap_client.specs.Laters.{laters}
+use Rattle.portmap_client.specs.{Exchange.HasRead, Laters.laters}
 use Rattle.portmap_client.specs.declared.exchange.TheConstants.{LATERS_MOST, LIST_MOST}
 use Rattle.portmap_client.proofs.exchange.hear.Given as goal
 

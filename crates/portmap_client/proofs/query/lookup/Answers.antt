@@ -1,7 +1,6 @@
 use Rattle.std.proofs.Common.{◌∙◌}
 use Rattle.portmap_client.specs.Fault.{of_reply}
-use Rattle.portmap_client.proofs.Answering.{found_fault}
-use Rattle.portmap_client.proofs.Calling.{says_fault}
+use Rattle.portmap_client.proofs.{Answering.found_fault, Calling.says_fault}
 use Rattle.portmap_client.proofs.query.lookup.Goals as goal
 
 pub returns-in_err-read_port2 : goal.returns-in_err-read_port2

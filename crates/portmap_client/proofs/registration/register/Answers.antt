@@ -1,9 +1,7 @@
 use Rattle.std.proofs.Common.{Ok, Err, ap, sym, ◌∙◌}
 use Rattle.portmap_wire.specs.ReplyReading.{alive_answer}
-use Rattle.portmap_client.specs.Fault.{of_reply}
-use Rattle.portmap_client.specs.declared.fault.AnswerFault.TheVariants.{Refused}
-use Rattle.portmap_client.proofs.Answering.{creation_fault}
-use Rattle.portmap_client.proofs.Calling.{gave_up, says, says_fault}
+use Rattle.portmap_client.specs.{Fault.of_reply, declared.fault.AnswerFault.TheVariants.Refused}
+use Rattle.portmap_client.proofs.{Answering.creation_fault, Calling.{gave_up, says, says_fault}}
 use Rattle.portmap_client.proofs.registration.register.Goals as goal
 
 pub returns-in_err-answer : goal.returns-in_err-answer

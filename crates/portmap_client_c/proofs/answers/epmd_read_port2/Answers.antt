@@ -1,9 +1,7 @@
-use Rattle.std.proofs.Common.{Option, refl, sym, subst}
 use Rattle.std.specs.Prelude.{Result}
-use Rattle.portmap_wire.specs.Node.{Node}
-use Rattle.portmap_wire.specs.declared.reply_reading.ReplyFault.{ReplyFault}
-use Rattle.portmap_client_c.specs.Answers.{TellsFound}
-use Rattle.portmap_client_c.specs.declared.status.TheConstants.{EPMD_OK}
+use Rattle.std.proofs.Common.{Option, refl, sym, subst}
+use Rattle.portmap_wire.specs.{Node.Node, declared.reply_reading.ReplyFault.ReplyFault}
+use Rattle.portmap_client_c.specs.{Answers.TellsFound, declared.status.TheConstants.EPMD_OK}
 use Rattle.portmap_client_c.proofs.Places.{found_in}
 use Rattle.portmap_client_c.proofs.answers.epmd_read_port2.Goals as goal
 

@@ -1,5 +1,4 @@
-use Rattle.std.proofs.Common.{drop, take, arith}
-use Rattle.std.proofs.lemmas.List.{length-drop}
+use Rattle.std.proofs.{Common.{drop, take, arith}, lemmas.List.length-drop}
 use Rattle.portmap_client_c.proofs.NextLine.{cut, line_fault, next_line, uncut_fault, window}
 use Rattle.portmap_client_c.proofs.lists.line_at.Goals as goal
 

@@ -1,5 +1,5 @@
-use Rattle.std.proofs.Common.{◌↔◌, ◌+◌, ltb, ltb-true, ltb-false, sym, rules, arith, IsTrue}
 use Rattle.std.specs.Prelude.{All}
+use Rattle.std.proofs.Common.{◌↔◌, ◌+◌, ltb, ltb-true, ltb-false, sym, rules, arith, IsTrue}
 use Rattle.std.proofs.lemmas.List.Sorted.{answers_always}
 use Rattle.portmap_core.specs.Held.{AreHeld, IsHeld}
 use Rattle.portmap_core.proofs.HeldLaws.{any_held, rise_by, rising}

@@ -1,5 +1,4 @@
-use Rattle.std.proofs.Common.{rules}
-use Rattle.std.proofs.lemmas.List.Sorted.{answers_always}
+use Rattle.std.proofs.{Common.rules, lemmas.List.Sorted.answers_always}
 use Rattle.portmap_core.proofs.HeldLaws.{searched}
 use Rattle.portmap_core.proofs.held_slots.place.Goals as goal
 

@@ -1,9 +1,7 @@
-use Rattle.std.proofs.Common.{ap, arith}
-use Rattle.portmap_core.specs.Fitting.{IsHeldFor}
-use Rattle.portmap_core.specs.Held.{HeldValue}
+use Rattle.std.proofs.Common.{ap, arith, rules}
+use Rattle.portmap_core.specs.{Fitting.IsHeldFor, Held.HeldValue}
 use Rattle.portmap_core.proofs.Fitting.{each_by, owners_by, together}
 use Rattle.portmap_core.proofs.owning.fit.Goals as goal
-use Rattle.std.proofs.Common.{rules}
 
 pub returns-then-not-branch : goal.returns-then-not-branch
 returns-then-not-branch c = (

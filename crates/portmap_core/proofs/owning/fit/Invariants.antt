@@ -1,6 +1,5 @@
 use Rattle.std.proofs.Common.{ℕ, ◌<◌, get_or}
-use Rattle.portmap_core.specs.Fitting.{IsHeldFor}
-use Rattle.portmap_core.specs.Held.{HeldValue}
+use Rattle.portmap_core.specs.{Fitting.IsHeldFor, Held.HeldValue}
 use Rattle.portmap_core.proofs.owning.fit.Given as goal
 
 abbrev pub invariant-loop-h : goal.invariant-loop-h

@@ -1,5 +1,5 @@
-use Rattle.std.proofs.Common.{ℕ, ◌<◌, get_or}
 use Rattle.std.specs.Prelude.{IsSome}
+use Rattle.std.proofs.Common.{ℕ, ◌<◌, get_or}
 use Rattle.std.specs.FinMap as map
 use Rattle.portmap_table.specs.declared.row.Row.{Row}
 use Rattle.portmap_core.proofs.owning.owners_are_open.Given as goal

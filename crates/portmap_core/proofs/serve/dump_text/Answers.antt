@@ -1,13 +1,10 @@
-use Rattle.std.proofs.Common.{◌++◌, Some, sym, ap, ◌∙◌}
 use Rattle.std.specs.Prelude.{map as list_map}
-use Rattle.portmap_wire.specs.Node.{Node}
-use Rattle.portmap_wire.specs.Reply.{be4}
-use Rattle.portmap_wire.specs.List.{dump_line, dump_reply}
+use Rattle.std.proofs.Common.{◌++◌, Some, sym, ap, ◌∙◌, rules}
+use Rattle.portmap_wire.specs.{List.{dump_line, dump_reply}, Node.Node, Reply.be4}
 use Rattle.portmap_table.specs.Rows.{retired_name}
 use Rattle.portmap_core.specs.Serving.{active_line, retired_line}
 use Rattle.portmap_core.proofs.Lines.{not_past, with_line}
 use Rattle.portmap_core.proofs.serve.dump_text.Goals as goal
-use Rattle.std.proofs.Common.{rules}
 
 pub loop-i-preserved : goal.loop-i-preserved
 loop-i-preserved c =

@@ -1,6 +1,5 @@
+use Rattle.std.specs.{List.flat_map, Prelude.map as list_map}
 use Rattle.std.proofs.Common.{◌≡◌, ◌++◌, take}
-use Rattle.std.specs.Prelude.{map as list_map}
-use Rattle.std.specs.List.{flat_map}
 use Rattle.portmap_wire.specs.List.{dump_line, dump_reply}
 use Rattle.portmap_core.specs.Serving.{active_line, retired_line}
 use Rattle.portmap_core.proofs.serve.dump_text.Given as goal

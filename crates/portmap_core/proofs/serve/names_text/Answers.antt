@@ -1,7 +1,5 @@
 use Rattle.std.proofs.Common.{◌++◌, sym, ap, ◌∙◌}
-use Rattle.portmap_wire.specs.Node.{Node}
-use Rattle.portmap_wire.specs.Reply.{be4}
-use Rattle.portmap_wire.specs.List.{names_line}
+use Rattle.portmap_wire.specs.{List.names_line, Node.Node, Reply.be4}
 use Rattle.portmap_core.specs.Serving.{names_line_of}
 use Rattle.portmap_core.proofs.Lines.{with_line}
 use Rattle.portmap_core.proofs.serve.names_text.Goals as goal

@@ -1,5 +1,5 @@
-use Rattle.std.proofs.Common.{◌≡◌, take}
 use Rattle.std.specs.Prelude.{map as list_map}
+use Rattle.std.proofs.Common.{◌≡◌, take}
 use Rattle.portmap_wire.specs.List.{names_reply}
 use Rattle.portmap_core.specs.Serving.{names_line_of}
 use Rattle.portmap_core.proofs.serve.names_text.Given as goal

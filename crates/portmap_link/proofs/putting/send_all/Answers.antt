@@ -1,9 +1,6 @@
-use Rattle.std.proofs.Common.{◌<◌, ◌≤◌, ◌-◌, length, ap, ◌∙◌, arith, rules}
-use Rattle.std.proofs.lemmas.List.{length-drop, length_push}
-use Rattle.portmap_link.specs.Limit.{left_in}
-use Rattle.portmap_link.specs.declared.device.Put.TheVariants.{Wrote}
-use Rattle.portmap_link.proofs.PutsOn.{has_put_more, left_less, left_for_later}
-use Rattle.portmap_link.proofs.Sending.{appends_more}
+use Rattle.std.proofs.{Common.{◌<◌, ◌≤◌, ◌-◌, length, ap, ◌∙◌, arith, rules}, lemmas.List.{length-drop, length_push}}
+use Rattle.portmap_link.specs.{Limit.left_in, declared.device.Put.TheVariants.Wrote}
+use Rattle.portmap_link.proofs.{PutsOn.{has_put_more, left_less, left_for_later}, Sending.appends_more}
 use Rattle.portmap_link.proofs.putting.send_all.Goals as goal
 
 pub loop-count-preserved-in-Wrote : goal.loop-count-preserved-in-Wrote

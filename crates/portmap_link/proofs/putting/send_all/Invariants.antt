@@ -1,5 +1,5 @@
-use Rattle.std.proofs.Common.{length, ◌-◌, ◌≡◌, ◌+◌, ◌≤◌, take}
 use Rattle.std.specs.Io.KnownBytes.{Keeps, Appends}
+use Rattle.std.proofs.Common.{length, ◌-◌, ◌≡◌, ◌+◌, ◌≤◌, take}
 use Rattle.portmap_link.specs.Limit.{left_in, puts_most}
 use Rattle.portmap_link.proofs.PutsOn.{HasPut}
 use Rattle.portmap_link.proofs.putting.send_all.Given as goal

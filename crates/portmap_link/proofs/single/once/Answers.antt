@@ -1,8 +1,6 @@
-use Rattle.std.proofs.Common.{ℕ, List, Option, Vec, Global, Err, ap, subst}
-use Rattle.std.proofs.lemmas.Result.{err_from_is_err_and}
+use Rattle.std.proofs.{Common.{ℕ, List, Option, Vec, Global, Err, ap, subst}, lemmas.Result.err_from_is_err_and}
 use Rattle.portmap_core.specs.declared.event.Fate.{Fate}
-use Rattle.portmap_link.specs.Asking.{Devices, devices}
-use Rattle.portmap_link.specs.Once.{HearsReply, Telling}
+use Rattle.portmap_link.specs.{Asking.{Devices, devices}, Once.{HearsReply, Telling}}
 use Rattle.portmap_link.proofs.Replying.{did_part}
 use Rattle.portmap_link.proofs.single.once.Goals as goal
 

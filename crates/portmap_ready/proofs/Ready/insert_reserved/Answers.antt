@@ -1,6 +1,5 @@
 use Rattle.std.proofs.Common.{rules, ap, arith, ◌+◌}
-use Rattle.portmap_ready.proofs.Calls.{insert_whole, insert_seen, room_enough, vacant_marks}
-use Rattle.portmap_ready.proofs.Steps.{queue_room}
+use Rattle.portmap_ready.proofs.{Calls.{insert_whole, insert_seen, room_enough, vacant_marks}, Steps.queue_room}
 use Rattle.portmap_ready.proofs.Ready.insert_reserved.Goals as goal
 
 pub push_back_reserved-requires : goal.push_back_reserved-requires

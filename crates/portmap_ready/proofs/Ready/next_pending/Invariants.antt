@@ -1,6 +1,5 @@
 use Rattle.std.proofs.Common.{length}
-use Rattle.portmap_ready.specs.Links.{IsButForRoom}
-use Rattle.portmap_ready.specs.Whole.{IsWhole, seen}
+use Rattle.portmap_ready.specs.{Links.IsButForRoom, Whole.{IsWhole, seen}}
 use Rattle.portmap_ready.proofs.Ready.next_pending.Given as goal
 
 abbrev pub invariant-loop-key : goal.invariant-loop-key

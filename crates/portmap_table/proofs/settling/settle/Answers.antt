@@ -1,10 +1,8 @@
-use Rattle.std.proofs.Common.{ℕ, List, [], ◌∷◌, length, ap, sym, subst, arith}
-use Rattle.std.proofs.lemmas.List.{length-append}
+use Rattle.std.proofs.{Common.{ℕ, List, [], ◌∷◌, length, ap, sym, subst, arith, rules}, lemmas.List.length-append}
 use Rattle.std.proofs.lemmas.Option.{slice_get-get_or, slice_get_within}
 use Rattle.portmap_table.specs.Places.{Entry, Puts, active_entry}
 use Rattle.portmap_table.proofs.Places.{puts_last}
 use Rattle.portmap_table.proofs.settling.settle.Goals as goal
-use Rattle.std.proofs.Common.{rules}
 
 pub replace-requires-clause-place : goal.replace-requires-clause-place
 replace-requires-clause-place c = search (rules, slice_get-get_or, slice_get_within)

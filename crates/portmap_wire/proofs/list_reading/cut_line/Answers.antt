@@ -1,7 +1,6 @@
+use Rattle.std.proofs.{Common.arith, lemmas.Grind.common_steps}
 use Rattle.portmap_wire.proofs.LineLemmas.{cut_at, not_cut}
 use Rattle.portmap_wire.proofs.list_reading.cut_line.Goals as goal
-use Rattle.std.proofs.lemmas.Grind.{common_steps}
-use Rattle.std.proofs.Common.{arith}
 
 pub returns-in-Some-clause-found : goal.returns-in-Some-clause-found
 returns-in-Some-clause-found c = grind (arith, common_steps, cut_at)

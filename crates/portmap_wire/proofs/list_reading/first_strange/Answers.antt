@@ -1,5 +1,4 @@
-use Rattle.std.proofs.Common.{[], ◌∷◌, ◌++◌, length, ap, arith, rules}
-use Rattle.std.proofs.lemmas.List.{length-append, length_push}
+use Rattle.std.proofs.{Common.{[], ◌∷◌, ◌++◌, length, ap, arith, rules}, lemmas.List.{length-append, length_push}}
 use Rattle.portmap_wire.proofs.LineLemmas.{strange_uncut, strange_cut, one_more}
 use Rattle.portmap_wire.proofs.list_reading.first_strange.Goals as goal
 

@@ -1,6 +1,5 @@
 use Rattle.std.proofs.Common.{◌≡◌, ◌+◌, ◌≤◌, List, length}
-use Rattle.portmap_wire.specs.declared.list.Line.{Line}
-use Rattle.portmap_wire.specs.ListReading.{ListsTo}
+use Rattle.portmap_wire.specs.{ListReading.ListsTo, declared.list.Line.Line}
 use Rattle.portmap_wire.proofs.list_reading.first_strange.Given as goal
 
 -- so many lines were met, and no more than there are bytes

@@ -1,7 +1,6 @@
-use Rattle.std.proofs.Common.{refl}
+use Rattle.std.proofs.Common.{refl, rules}
 use Rattle.portmap_wire.proofs.ListingLemmas.{named_line}
 use Rattle.portmap_wire.proofs.list_reading.is_line.Goals as goal
-use Rattle.std.proofs.Common.{rules}
 
 pub returns-in-Some : goal.returns-in-Some
 returns-in-Some c = search (rules, named_line)

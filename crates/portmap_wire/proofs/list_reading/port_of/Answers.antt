@@ -1,7 +1,6 @@
-use Rattle.std.proofs.Common.{arith}
+use Rattle.std.proofs.Common.{arith, rules}
 use Rattle.portmap_wire.proofs.ListingLemmas.{next_digit}
 use Rattle.portmap_wire.proofs.list_reading.port_of.Goals as goal
-use Rattle.std.proofs.Common.{rules}
 
 pub overflow_mul-value : goal.overflow_mul-value
 overflow_mul-value c = let n = next_digit c.args.digits.now c.loop-digit.digit-index c.requires (omega arith) (omega arith) in

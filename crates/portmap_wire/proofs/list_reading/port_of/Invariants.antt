@@ -1,5 +1,5 @@
-use Rattle.std.proofs.Common.{◌≡◌, take}
 use Rattle.std.specs.Str.Parse.{digits_value}
+use Rattle.std.proofs.Common.{◌≡◌, take}
 use Rattle.portmap_wire.proofs.list_reading.port_of.Given as goal
 
 abbrev pub invariant-loop-digit : goal.invariant-loop-digit

@@ -1,7 +1,5 @@
-use Rattle.std.proofs.Common.{refl}
-use Rattle.std.specs.Prelude.{codes, None, Some}
-use Rattle.std.specs.Cmp.{unsigned_Decides}
-use Rattle.std.proofs.lemmas.Slice.Eq.{strip_suffix_is, strip_prefix_is}
+use Rattle.std.specs.{Cmp.unsigned_Decides, Prelude.{codes, None, Some}}
+use Rattle.std.proofs.{Common.refl, lemmas.Slice.Eq.{strip_suffix_is, strip_prefix_is}}
 use Rattle.portmap_wire.proofs.ListingLemmas.{digits_behind, no_suffix, no_prefix, no_port, has_shape}
 use Rattle.portmap_wire.proofs.list_reading.split_line.Goals as goal
 

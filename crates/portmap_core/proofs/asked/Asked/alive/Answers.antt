@@ -1,10 +1,8 @@
-use Rattle.std.proofs.Common.{◌≡◌}
-use Rattle.portmap_table.specs.Creation.{IsLegalCreation}
-use Rattle.portmap_table.specs.Rows.{standing}
+use Rattle.std.proofs.Common.{◌≡◌, rules}
+use Rattle.portmap_table.specs.{Creation.IsLegalCreation, Rows.standing}
 use Rattle.portmap_table.specs.declared.standing.Standing.TheVariants.{Free, NoRoom}
 use Rattle.portmap_core.proofs.Served.{Refuses, all_free, is_chosen, may_register, no_room}
 use Rattle.portmap_core.proofs.asked.Asked.alive.Goals as goal
-use Rattle.std.proofs.Common.{rules}
 
 pub returns-in-NoRoom : goal.returns-in-NoRoom
 returns-in-NoRoom c =

@@ -1,5 +1,5 @@
-use Rattle.std.proofs.Common.{◌≡◌, ◌++◌}
 use Rattle.std.specs.Prelude.{All}
+use Rattle.std.proofs.Common.{◌≡◌, ◌++◌}
 use Rattle.std.specs.FinMap as tree
 use Rattle.portmap_core.specs.Held.{IsHeld, entries_held}
 use Rattle.portmap_core.proofs.held_slots.Slots.copy_of.Given as goal

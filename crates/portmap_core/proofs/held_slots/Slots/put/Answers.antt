@@ -1,7 +1,6 @@
-use Rattle.std.proofs.Common.{◌≡◌}
+use Rattle.std.proofs.Common.{◌≡◌, rules}
 use Rattle.portmap_core.proofs.HeldLaws.{turned_are}
 use Rattle.portmap_core.proofs.held_slots.Slots.put.Goals as goal
-use Rattle.std.proofs.Common.{rules}
 
 pub invariant_of-self : goal.invariant_of-self
 invariant_of-self c =

@@ -1,16 +1,10 @@
-use Rattle.std.proofs.Common.{◌≡◌, ap, sym, ◌∙◌}
+use Rattle.std.proofs.Common.{◌≡◌, ap, sym, ◌∙◌, rules}
 use Rattle.std.specs.FinMap as map
-use Rattle.portmap_core.specs.Connections.{at_stage, stopped_in}
-use Rattle.portmap_core.specs.Held.{stage_held}
-use Rattle.portmap_core.specs.Serving.{Served}
-use Rattle.portmap_core.specs.State.{Machine, state_of}
-use Rattle.portmap_core.specs.Step.{halted_by}
-use Rattle.portmap_core.specs.declared.connection.Stage.{Stage}
-use Rattle.portmap_core.specs.declared.connection.Stage.TheVariants.{Waiting}
-use Rattle.portmap_core.proofs.Steps.{restores, says_done, says_holding, says_next, settles}
-use Rattle.portmap_core.proofs.Waits.{WaitsAt}
+use Rattle.portmap_core.specs.{Connections.{at_stage, stopped_in}, Held.stage_held, Serving.Served}
+use Rattle.portmap_core.specs.{State.{Machine, state_of}, Step.halted_by}
+use Rattle.portmap_core.specs.declared.connection.Stage.{Stage, TheVariants.Waiting}
+use Rattle.portmap_core.proofs.{Steps.{restores, says_done, says_holding, says_next, settles}, Waits.WaitsAt}
 use Rattle.portmap_core.proofs.live.Live.piece.Goals as goal
-use Rattle.std.proofs.Common.{rules}
 
 pub returns-in-Holding-clause-ok : goal.returns-in-Holding-clause-ok
 returns-in-Holding-clause-ok c =

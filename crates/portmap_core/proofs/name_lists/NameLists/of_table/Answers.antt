@@ -1,8 +1,7 @@
-use Rattle.std.proofs.Common.{arith}
+use Rattle.std.proofs.Common.{arith, rules}
 use Rattle.portmap_table.proofs.Finding.{take_read}
 use Rattle.portmap_core.proofs.Lines.{not_past}
 use Rattle.portmap_core.proofs.name_lists.NameLists.of_table.Goals as goal
-use Rattle.std.proofs.Common.{rules}
 
 pub loop-i-preserved : goal.loop-i-preserved
 loop-i-preserved c = grind (arith, take_read)

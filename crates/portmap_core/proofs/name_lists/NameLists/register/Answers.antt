@@ -1,5 +1,5 @@
-use Rattle.std.proofs.Common.{◌≡◌, ◌∷◌, ◌++◌, ◌+◌, [], false, rules, ap, ◌∙◌}
 use Rattle.std.specs.Prelude.{nat_le, position}
+use Rattle.std.proofs.Common.{◌≡◌, ◌∷◌, ◌++◌, ◌+◌, [], false, rules, ap, ◌∙◌}
 use Rattle.portmap_table.specs.Rows.{Names, is_active, known_len, registered, with_room}
 use Rattle.portmap_table.proofs.Kept.{had_name}
 use Rattle.portmap_core.specs.Names.{left_by}

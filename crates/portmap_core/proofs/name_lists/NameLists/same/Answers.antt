@@ -1,7 +1,6 @@
-use Rattle.std.proofs.lemmas.Slice.Eq.{slice_eq-Decides}
+use Rattle.std.proofs.{Common.rules, lemmas.Slice.Eq.slice_eq-Decides}
 use Rattle.portmap_table.proofs.Comparing.{rows_decide}
 use Rattle.portmap_core.proofs.name_lists.NameLists.same.Goals as goal
-use Rattle.std.proofs.Common.{rules}
 
 pub returns-then-eq : goal.returns-then-eq
 returns-then-eq c = search (rules, rows_decide, slice_eq-Decides)

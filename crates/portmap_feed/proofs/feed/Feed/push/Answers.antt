@@ -1,6 +1,5 @@
 use Rattle.std.proofs.Common.{◌≡◌, ◌≤◌, List, ℕ, ◌++◌, vec_capacity, ap, sym, ◌∙◌, arith, rules}
-use Rattle.portmap_feed.specs.Seen.{seen_of}
-use Rattle.portmap_feed.specs.Stream.{first_request, kept, room}
+use Rattle.portmap_feed.specs.{Seen.seen_of, Stream.{first_request, kept, room}}
 use Rattle.portmap_feed.proofs.StreamLaws.{kept-append_kept, kept-kept, first_request-kept, kept_more, room-kept}
 use Rattle.portmap_feed.proofs.feed.Feed.push.Goals as goal
 

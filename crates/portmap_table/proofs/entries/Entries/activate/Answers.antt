@@ -1,8 +1,6 @@
 use Rattle.std.proofs.Common.{List, length, slice_get, ap, refl, subst, ◌∙◌}
-use Rattle.indexmap.specs.IndexMap.{set_value_at}
-use Rattle.indexmap.specs.Layout.{length-set_value_at}
-use Rattle.portmap_table.specs.declared.entries.Kept.TheVariants.{Active}
-use Rattle.portmap_table.specs.Places.{Entry, Puts, active_entry}
+use Rattle.indexmap.specs.{IndexMap.set_value_at, Layout.length-set_value_at}
+use Rattle.portmap_table.specs.{Places.{Entry, Puts, active_entry}, declared.entries.Kept.TheVariants.Active}
 use Rattle.portmap_table.proofs.Places.{kept_there, named_after, puts_written}
 use Rattle.portmap_table.proofs.entries.Entries.activate.Goals as goal
 

@@ -1,9 +1,8 @@
-use Rattle.std.proofs.Common.{◌≡◌, List, [], ◌∷◌, ◌++◌, length, sym, ap, subst, ◌∙◌}
+use Rattle.std.proofs.Common.{◌≡◌, List, [], ◌∷◌, ◌++◌, length, sym, ap, subst, ◌∙◌, rules}
 use Rattle.indexmap.proofs.CallerLemmas.{insert_entry-new}
 use Rattle.portmap_table.specs.Places.{AreNamed, Entry}
 use Rattle.portmap_table.proofs.Places.{new_found, named_after, puts_last}
 use Rattle.portmap_table.proofs.entries.Entries.insert.Goals as goal
-use Rattle.std.proofs.Common.{rules}
 
 abbrev entry : (c : goal.Joined-insert-2) → Entry
 entry c = (c.args.name, c.args.kept)

@@ -1,10 +1,8 @@
-use Rattle.std.proofs.Common.{◌≡◌, ℕ, List, map, Option, Some, None, IfSome, ap, ◌∙◌}
 use Rattle.std.specs.Prelude.{position}
-use Rattle.portmap_table.specs.Places.{Entry, StandsAs}
-use Rattle.portmap_table.specs.Rows.{same_name}
+use Rattle.std.proofs.Common.{◌≡◌, ℕ, List, map, Option, Some, None, IfSome, ap, ◌∙◌, rules}
+use Rattle.portmap_table.specs.{Places.{Entry, StandsAs}, Rows.same_name}
 use Rattle.portmap_table.proofs.Places.{key_of, place_read, read_place, stands_as}
 use Rattle.portmap_table.proofs.entries.Entries.place.Goals as goal
-use Rattle.std.proofs.Common.{rules}
 
 where_is : (c : goal.After-get_index_of) → c.get_index_of.result ≡ position (same_name c.args.name.now) (map key_of c.args.self.now)
 where_is c = c.get_index_of.ensures.index

@@ -1,7 +1,6 @@
-use Rattle.std.proofs.Common.{◌≡◌, List, [], ◌∷◌, ◌++◌, Option, Some, None, IfSome, slice_get, sym, ap, refl, subst, ◌∙◌, arith}
 use Rattle.std.specs.Prelude.{swap_remove}
-use Rattle.std.proofs.lemmas.List.{length-append}
-use Rattle.std.proofs.lemmas.Option.{none-some, slice_get-get_or}
+use Rattle.std.proofs.Common.{◌≡◌, List, [], ◌∷◌, ◌++◌, Option, Some, None, IfSome, slice_get, sym, ap, refl, subst}
+use Rattle.std.proofs.{Common.{◌∙◌, arith}, lemmas.List.length-append, lemmas.Option.{none-some, slice_get-get_or}}
 use Rattle.portmap_table.specs.Places.{AreNamed, Entry, Puts, active_entry}
 use Rattle.portmap_table.proofs.Places.{named_after, named_before, puts_swapped}
 use Rattle.portmap_table.proofs.entries.Entries.replace.Goals as goal

@@ -1,13 +1,9 @@
-use Rattle.std.proofs.Common.{◌≡◌, List, Some, length, slice_get, ap, ◌∙◌}
-use Rattle.indexmap.specs.IndexMap.{set_value_at}
-use Rattle.indexmap.specs.Layout.{length-set_value_at}
-use Rattle.portmap_table.specs.declared.entries.Kept.{Kept}
-use Rattle.portmap_table.specs.declared.entries.Kept.TheVariants.{Active, Retired}
-use Rattle.portmap_table.specs.declared.row.Row.{Row}
+use Rattle.std.proofs.Common.{◌≡◌, List, Some, length, slice_get, ap, ◌∙◌, rules}
+use Rattle.indexmap.specs.{IndexMap.set_value_at, Layout.length-set_value_at}
 use Rattle.portmap_table.specs.Places.{Entry, Puts, active_entry}
+use Rattle.portmap_table.specs.{declared.entries.Kept.{Kept, TheVariants.{Active, Retired}}, declared.row.Row.Row}
 use Rattle.portmap_table.proofs.Places.{named_after, puts_written, read_kept}
 use Rattle.portmap_table.proofs.entries.Entries.retire.Goals as goal
-use Rattle.std.proofs.Common.{rules}
 
 abbrev retired : (c : goal.Joined-index_mut) → Kept
 retired c = Retired c.row.inside.0.0.port c.row.inside.0.1.0

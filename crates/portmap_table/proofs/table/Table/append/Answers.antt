@@ -1,14 +1,10 @@
-use Rattle.std.proofs.Common.{◌≡◌, [], ◌∷◌, ◌++◌, ap, ◌∙◌, arith}
 use Rattle.std.specs.Prelude.{nat_eq}
+use Rattle.std.proofs.{Common.{◌≡◌, [], ◌∷◌, ◌++◌, ap, ◌∙◌, arith, rules}, lemmas.Grind.common_steps}
 use Rattle.indexmap.specs.IndexMap.{get}
-use Rattle.portmap_table.specs.Places.{AreInPlace, names_at}
-use Rattle.portmap_table.specs.Rows.{AreKept, Names, and_retired}
+use Rattle.portmap_table.specs.{Places.{AreInPlace, names_at}, Rows.{AreKept, Names, and_retired}}
 use Rattle.portmap_table.specs.Table.{TableState, with_names}
-use Rattle.portmap_table.proofs.InPlace.{appended_names, appended_places, unknown_there}
-use Rattle.portmap_table.proofs.NameLaws.{kept_appended}
+use Rattle.portmap_table.proofs.{InPlace.{appended_names, appended_places, unknown_there}, NameLaws.kept_appended}
 use Rattle.portmap_table.proofs.table.Table.append.Goals as goal
-use Rattle.std.proofs.Common.{rules}
-use Rattle.std.proofs.lemmas.Grind.{common_steps}
 
 pub append-requires : goal.append-requires
 append-requires c = search (rules, unknown_there)

@@ -1,14 +1,12 @@
-use Rattle.std.proofs.Common.{◌≡◌, ◌≢◌, ℕ, List, [], ◌∷◌, ◌++◌, false, ap, sym, ◌∙◌, arith}
 use Rattle.std.specs.Prelude.{nat_eq}
+use Rattle.std.proofs.Common.{◌≡◌, ◌≢◌, ℕ, List, [], ◌∷◌, ◌++◌, false, ap, sym, ◌∙◌, arith, rules}
 use Rattle.indexmap.specs.IndexMap.{get}
 use Rattle.portmap_table.specs.Places.{TakesPlace, names_at}
 use Rattle.portmap_table.specs.Rows.{AreKept, Names, is_active, is_full_for, owns_name, registered, with_room}
 use Rattle.portmap_table.specs.Table.{TableState}
-use Rattle.portmap_table.proofs.Finding.{is_none}
-use Rattle.portmap_table.proofs.InPlace.{inactive_there, owns_placed, settled_names, settled_places}
+use Rattle.portmap_table.proofs.{Finding.is_none, InPlace.{inactive_there, owns_placed, settled_names, settled_places}}
 use Rattle.portmap_table.proofs.Kept.{kept_enters}
 use Rattle.portmap_table.proofs.table.Table.enter.Goals as goal
-use Rattle.std.proofs.Common.{rules}
 
 pub settle-requires-clause-name : goal.settle-requires-clause-name
 settle-requires-clause-name c = search (rules, inactive_there)

@@ -1,6 +1,6 @@
+use Rattle.std.proofs.Common.{rules}
 use Rattle.portmap_table.proofs.InPlace.{found_active, no_active}
 use Rattle.portmap_table.proofs.table.Table.find.Goals as goal
-use Rattle.std.proofs.Common.{rules}
 
 pub returns-in_err-place : goal.returns-in_err-place
 returns-in_err-place c = search (rules, no_active)

@@ -1,6 +1,5 @@
 use Rattle.std.proofs.Common.{ap, sym, ◌∙◌}
-use Rattle.portmap_table.specs.Rows.{owns_name}
-use Rattle.portmap_table.specs.Table.{TableState}
+use Rattle.portmap_table.specs.{Rows.owns_name, Table.TableState}
 use Rattle.portmap_table.proofs.InPlace.{owns_placed}
 use Rattle.portmap_table.proofs.table.Table.holds.Goals as goal
 

@@ -1,16 +1,14 @@
-use Rattle.std.proofs.Common.{◌≡◌, ◌+◌, take, Some, ap, sym, subst, ◌∙◌, true≢false}
+use Rattle.std.proofs.Common.{◌≡◌, ◌+◌, take, Some, ap, sym, subst, ◌∙◌, true≢false, rules}
 use Rattle.std.proofs.lemmas.Option.{slice_get-get_or}
-use Rattle.portmap_table.specs.declared.row.Row.{Row}
-use Rattle.portmap_table.specs.Creation.{IsCreationFor}
-use Rattle.portmap_table.specs.Rows.{AreKept, Names, is_known, owns_name}
-use Rattle.portmap_table.specs.Table.{TableState, new_table, with_names}
-use Rattle.portmap_table.proofs.Finding.{take_read}
-use Rattle.portmap_table.proofs.NameLaws.{admitted, new_active, new_owner, new_retired}
-use Rattle.portmap_table.proofs.table.Table.of.Goals.{then-old-eq0-via-then-old-eq0, then-old-eq0-via-else-old-eq0+then-is_known}
-use Rattle.portmap_table.proofs.table.Table.of.Goals.{then-is_known-2-via-then-is_known-2, then-is_known-2-via-else-is_known-2+then-holds}
+use Rattle.portmap_table.specs.{Creation.IsCreationFor, Rows.{AreKept, Names, is_known, owns_name}}
+use Rattle.portmap_table.specs.{Table.{TableState, new_table, with_names}, declared.row.Row.Row}
+use Rattle.portmap_table.proofs.{Finding.take_read, NameLaws.{admitted, new_active, new_owner, new_retired}}
+use Rattle.portmap_table.proofs.table.Table.of.Goals.{then-old-eq0-via-then-old-eq0}
+use Rattle.portmap_table.proofs.table.Table.of.Goals.{then-old-eq0-via-else-old-eq0+then-is_known}
+use Rattle.portmap_table.proofs.table.Table.of.Goals.{then-is_known-2-via-then-is_known-2}
+use Rattle.portmap_table.proofs.table.Table.of.Goals.{then-is_known-2-via-else-is_known-2+then-holds}
 use Rattle.portmap_table.proofs.table.Table.of.Goals.{then-is_known-2-via-else-is_known-2+else-holds+then-not-is_creation_for}
 use Rattle.portmap_table.proofs.table.Table.of.Goals as goal
-use Rattle.std.proofs.Common.{rules}
 
 pub returns-then-old-eq0-clause-none : goal.returns-then-old-eq0-clause-none
 returns-then-old-eq0-clause-none c e k =

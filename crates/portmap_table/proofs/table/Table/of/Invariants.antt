@@ -1,6 +1,5 @@
 use Rattle.std.proofs.Common.{◌≡◌, [], take}
-use Rattle.portmap_table.specs.Rows.{AreKept}
-use Rattle.portmap_table.specs.Table.{new_table, with_names}
+use Rattle.portmap_table.specs.{Rows.AreKept, Table.{new_table, with_names}}
 use Rattle.portmap_table.proofs.table.Table.of.Given as goal
 
 abbrev pub invariant-loop-old : goal.invariant-loop-old

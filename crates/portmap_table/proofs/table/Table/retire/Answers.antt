@@ -1,14 +1,10 @@
-use Rattle.std.proofs.Common.{◌≡◌, ◌≢◌, ℕ, Some, is_some, ap, sym, ◌∙◌, arith}
 use Rattle.std.specs.Prelude.{nat_eq}
-use Rattle.std.proofs.lemmas.Bool.{ne_eqb}
+use Rattle.std.proofs.{Common.{◌≡◌, ◌≢◌, ℕ, Some, is_some, ap, sym, ◌∙◌, arith, rules}, lemmas.Bool.ne_eqb}
 use Rattle.indexmap.specs.IndexMap.{get}
-use Rattle.portmap_table.specs.Places.{AreInPlace, names_at}
-use Rattle.portmap_table.specs.Rows.{AreKept, Names, owns_name, retired_of}
+use Rattle.portmap_table.specs.{Places.{AreInPlace, names_at}, Rows.{AreKept, Names, owns_name, retired_of}}
 use Rattle.portmap_table.specs.Table.{TableState, with_names}
-use Rattle.portmap_table.proofs.InPlace.{owns_placed, retires_names, retires_places, stays_whole}
-use Rattle.portmap_table.proofs.Kept.{kept_retired}
+use Rattle.portmap_table.proofs.{InPlace.{owns_placed, retires_names, retires_places, stays_whole}, Kept.kept_retired}
 use Rattle.portmap_table.proofs.table.Table.retire.Goals as goal
-use Rattle.std.proofs.Common.{rules}
 
 pub returns-in_default-clause-found : goal.returns-in_default-clause-found
 returns-in_default-clause-found c =

@@ -1,10 +1,8 @@
-use Rattle.std.proofs.Common.{ap, sym, ◌∙◌}
 use Rattle.std.specs.Prelude.{option_map}
-use Rattle.portmap_table.specs.Rows.{retired_name, standing}
-use Rattle.portmap_table.specs.Table.{TableState}
+use Rattle.std.proofs.Common.{ap, sym, ◌∙◌, rules}
+use Rattle.portmap_table.specs.{Rows.{retired_name, standing}, Table.TableState}
 use Rattle.portmap_table.proofs.InPlace.{how_kept, stands_kept, stands_new, stands_once}
 use Rattle.portmap_table.proofs.table.Table.standing.Goals as goal
-use Rattle.std.proofs.Common.{rules}
 
 pub returns-in-None : goal.returns-in-None
 returns-in-None c = search (rules, stands_new)

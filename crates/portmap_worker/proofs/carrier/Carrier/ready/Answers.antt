@@ -1,7 +1,5 @@
 use Rattle.std.proofs.Common.{take, arith, ap, ◌∙◌, subst, List, [], ◌∷◌, ◌++◌}
-use Rattle.portmap_link.specs.declared.device.Pull.{Pull}
-use Rattle.portmap_link.specs.declared.device.Pull.TheVariants.{Piece}
-use Rattle.portmap_link.specs.declared.device.Put.{Put}
+use Rattle.portmap_link.specs.{declared.device.Pull.{Pull, TheVariants.Piece}, declared.device.Put.Put}
 use Rattle.portmap_worker.specs.Carrying.{FollowsAnswer}
 use Rattle.portmap_worker.proofs.Carrying.{read_between, is_read, moves_more, follows_flush}
 use Rattle.portmap_worker.proofs.carrier.Carrier.ready.Goals as goal
