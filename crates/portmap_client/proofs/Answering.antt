@@ -9,9 +9,9 @@ use Rattle.portmap_client.specs.declared.fault.GivenUp.TheVariants.{NoMemory}
 -- of that to a registration
 pub creation_fault : (read bytes : List ℕ) (f : ReplyFault) → bytes ≡ read → Err f ≡ alive_answer bytes
     → MatchResult (of_reply f) (λ a. SaysCreation read (Err a)) (λ g. g ≡ NoMemory)
-creation_fault read bytes o same fault = search rules
+creation_fault read bytes f same fault = search rules
 
 -- of that to a look-up
 pub found_fault : (read bytes : List ℕ) (f : ReplyFault) → bytes ≡ read → GivesReply (Err f) (port2_answer bytes)
     → MatchResult (of_reply f) (λ a. SaysFound read (Err a)) (λ g. g ≡ NoMemory)
-found_fault read bytes o same gives = search rules
+found_fault read bytes f same gives = search rules

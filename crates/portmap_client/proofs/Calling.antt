@@ -19,15 +19,15 @@ whole_front bytes old new whole = record {
 -- all was written, by a call that is not given up in writing
 writes_all : {X : Type 0} (bytes : List ℕ) (old new : Option (List ℕ)) (result : Result X GivenUp) → result ≢ Err Write
     → Appends old new bytes → Writes bytes old new result
-writes_all bytes old new o reads whole = search (rules, whole_front)
+writes_all bytes old new result reads whole = search (rules, whole_front)
 
 never_write : {X : Type 0} (P : Type 0) (result : Result X GivenUp) → result ≢ Err Write → IfErr result (λ f. f ≡ Write → P)
-never_write o x reads = search rules
+never_write o result reads = search rules
 
 -- Laters that were met before count
 waits_longer : {X : Type 0} (old mid new met : ℕ) (result : Result X GivenUp) → mid ≡ old + met → Waits mid (met + new) result
     → Waits old new result
-waits_longer old mid new met o before waits = search rules
+waits_longer old mid new met result before waits = search rules
 
 no_write : NoMemory ≡ Write → ⊥
 no_write e = cc
@@ -38,7 +38,7 @@ pub not_asked : {X : Type 0} (bytes : List ℕ) (awaited : Awaited) (Says : List
     → WritesAt bytes old.held new.held f → WaitsAt (laters old.pulls old.puts) (laters new.pulls new.puts) f
     → (is_device_fault f ≡ true → new.broken ≡ true) → Keeps old.left new.left → new.pulls ≡ old.pulls
     → Exchanges bytes awaited Says old new result
-not_asked bytes awaited o old new f x failed asked waits broken keeps unread = search rules
+not_asked bytes awaited o old new f result failed asked waits broken keeps unread = search rules
 
 -- the request was written whole, and its answer read so far
 pub heard : {X : Type 0} (bytes : List ℕ) (awaited : Awaited) (Says : List ℕ → X → Type 0) (old mid new : StreamView) (met : ℕ)
@@ -61,7 +61,7 @@ heard bytes awaited Says old mid new met result wrote held reads left pulls answ
 
 told_from : {X : Type 0} (result : Result X ClientFault) (s : Result AnswerFault GivenUp) → IsErrAnd result (λ e. split e ≡ s)
     → told_fault s ≡ told result
-told_from o s failed = search rules
+told_from result s failed = search rules
 
 -- the exchange was given up
 pub gave_up : {X Y : Type 0} {bytes sent : List ℕ} {awaited : Awaited} {SaysX : List ℕ → X → Type 0}

@@ -46,4 +46,4 @@ reads_front awaited a b c read bytes buffer count most so_far one small same mis
 -- a call that is given up says nothing of what was read
 pub stops : {X : Type 0} (awaited : Awaited) (Says : List ℕ → X → Type 0) (a b : Option (List ℕ)) (asked answered : List Pull)
     (read : List ℕ) (result : Result X GivenUp) → IsErr result → HasRead awaited a b read → Answers awaited Says a b asked answered result
-stops awaited o a b asked answered read x failed has_read = search rules
+stops awaited o a b asked answered read result failed has_read = search rules

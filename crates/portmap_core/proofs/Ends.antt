@@ -28,7 +28,7 @@ replies names reply ended = absurd cc
 
 -- where it may end although names are active, its checks are relaxed
 none_left : (empty relaxed : Bool) → (empty || relaxed) ≡ true → relaxed ≡ false → empty ≡ true
-none_left o relaxed may strict = search rules
+none_left empty relaxed may strict = search rules
 
 kills : (cfg : Configuration) (names : Names) → cfg.relaxed ≡ false → LeavesNone names (kill_served cfg names)
 kills cfg names strict = search (rules, nil_from_length)
@@ -38,7 +38,7 @@ if_near local names told h = cond_both (not local) (closed names) told (LeavesNo
 
 module _ (cfg : Configuration) (names : Names) (local : Bool) (slot : ℕ) (strict : cfg.relaxed ≡ false) where
   serves_on : (request : Request) (creation : ℕ) → LeavesNone names (served cfg names local slot request creation)
-  serves_on o creation = search (rules, kills)
+  serves_on request creation = search (rules, kills)
 
 pub ends_leave_no_name : EndsLeaveNoName
 ends_leave_no_name cfg s s' o strict step ended = search (rules, serves_on)

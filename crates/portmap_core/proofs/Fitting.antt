@@ -22,10 +22,10 @@ found_has P q (x ∷ held) each = elim (cases_eq q x.slot) [
 
 slot_by : (owns : Bool) (o : Option Connection) → IfSome o (λ connection. IsSlotFor owns (Some connection)) → (owns ≡ true → IsSome o)
     → IsSlotFor owns o
-slot_by o x has some = search rules
+slot_by owns o has some = search rules
 
 is_open : (owns : Bool) (o : Option Connection) → owns ≡ true → IsSlotFor owns o → IsSome o
-is_open o x e has = search rules
+is_open owns o e has = search rules
 
 abbrev AreOpen : ConnectionMap → List Row → Type 0
 AreOpen connections rows = All (λ row. IsSome (map.get connections row.slot)) rows

@@ -25,7 +25,7 @@ any_held = record { slot = 0; local = true; phase = Waiting; bytes = [] }
 -- ---- order
 
 pub parts : (a b : Bool) → T (a && b) → T a × T b
-parts o b p = search rules
+parts a b p = search rules
 
 behind : (x : HeldValue) (held : List HeldValue) → SlotsRise (entries_held (x ∷ held)) → SlotsRise (entries_held held)
 behind x held rise = (parts _ _ rise).1

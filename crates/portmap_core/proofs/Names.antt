@@ -7,7 +7,7 @@ use Rattle.portmap_table.proofs.{First.{finds_none, no_place, none_at, none_foun
 use Rattle.portmap_core.specs.Names.{left_by}
 
 room_known : {X : Type 0} (many active retired : Bool) (x y : X) → retired ≡ true → cond (many && not (active || retired)) x y ≡ y
-room_known o active retired x y e = search rules
+room_known many active retired x y e = search rules
 
 pub enters : (known_max : ℕ) (names : Names) (row : Row) → is_active row.reg.name names ≡ false
     → record {
@@ -31,10 +31,10 @@ enters known_max names row inactive = by (position had names.retired) refl
 
     new : (b : Bool) → position had names.retired ≡ None
         → entered (left_by None b names.retired) ≡ enter (cond b (without_oldest names) names)
-    new o e = search rules
+    new b e = search rules
 
     known : (at : ℕ) → position had names.retired ≡ Some at → (b : Bool) → is_some (find had names.retired) ≡ b → b ≡ true
-    known at e o f = search (rules, no_place, none_found)
+    known at e b f = search (rules, no_place, none_found)
 
     by : (o : Option ℕ) → position had names.retired ≡ o
         → entered (left_by o many names.retired) ≡ enter (with_room known_max row.reg.name names)

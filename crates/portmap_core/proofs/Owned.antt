@@ -73,7 +73,7 @@ len_fresh connections slot connection e = map.len-insert nat_cmp_total connectio
     ∙ ap (λ (o : Option Connection). cond (is_some o) (map.len connections) (map.len connections + 1)) e
 
 fewer : (b : Bool) (n : ℕ) → cond b (n - 1) n ≤ n
-fewer o n = search rules
+fewer b n = search rules
 
 pub len_less : (connections : ConnectionMap) (slot : ℕ) → map.len (map.remove connections slot) ≤ map.len connections
 len_less connections slot = rw (map.len-remove nat_cmp_total connections slot)
@@ -170,7 +170,7 @@ module _ (w : WaitsAt) (owned : IsOwned w.config w.state) where
   KeepsBy P o = (o.stage ≡ Holding → P) → IsOwned cfg (settled s slot connection o)
 
   keeps_by : (P : Type 0) (b : Bool) (x y : Served) → (b ≡ true → KeepsBy P x) → (b ≡ false → KeepsBy P y) → KeepsBy P (cond b x y)
-  keeps_by o x y h f g = search rules
+  keeps_by o b x y f g = search rules
 
   local_owned : (P : Type 0) (told : Served) → (connection.local ≡ true → KeepsBy P told)
       → KeepsBy P (if_local connection.local s.names told)

@@ -33,7 +33,7 @@ run_owned cfg [] s s' owned run = subst (λ (x : State). IsOwned cfg x) (sym run
 run_owned cfg (e ∷ es) s s' owned run = run_owned cfg es run.0 s' (steps_keep cfg s run.0 e owned run.1) run.2
 
 holding : (b local : Bool) (stage : Stage) → b ≡ true → IsStageFor b local stage → stage ≡ Holding
-holding b local o e h = search rules
+holding b local stage e h = search rules
 
 holder : (b : Bool) (o : Option Connection) → b ≡ true → IsSlotFor b o
     → (connection : Connection) × (o ≡ Some connection) × (connection.stage ≡ Holding) × (connection.local ≡ true)
@@ -61,7 +61,7 @@ length-fields : (g : Node) → length (fields g) ≡ 12 + length g.name + length
 length-fields g = omega (arith, length-append (g.name ++ be2 (length g.extra)) g.extra, length-append g.name (be2 (length g.extra)))
 
 body_len : (r : Request) → IsRequest r → (0 < length (body_of r)) × (length (body_of r) ≤ BODY_MOST)
-body_len o is = search (rules, length-fields)
+body_len r is = search (rules, length-fields)
 
 -- a body behind its length
 whole_behind : (body more : List ℕ) (n : ℕ) → n ≡ length body → 0 < length body → length body ≤ BODY_MOST

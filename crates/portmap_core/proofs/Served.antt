@@ -23,14 +23,14 @@ use Rattle.portmap_core.specs.declared.connection.Phase.TheVariants as phase
 -- ---- a registration, by how its name stands
 
 second : {X : Type 0} (b : Bool) (x y : X) → b ≡ false → cond b x y ≡ y
-second o x y e = search rules
+second b x y e = search rules
 
 abbrev stands : Bool → Bool → Option ℕ → Standing
 stands taken full last = if taken then how.Active else if full then how.NoRoom else how.Free last
 
 is_free : (taken full : Bool) (last free : Option ℕ) → stands taken full last ≡ how.Free free
     → (taken ≡ false) × (full ≡ false) × (free ≡ last)
-is_free o full last free e = search rules
+is_free taken full last free e = search rules
 
 -- ---- a request
 
@@ -57,7 +57,7 @@ module _ {E : Type 0} (asked : Asked) where
 
 -- a registration for which there is no room
 is_full : (taken full : Bool) (last : Option ℕ) → stands taken full last ≡ how.NoRoom → (taken ≡ false) × (full ≡ true)
-is_full o full last e = search rules
+is_full taken full last e = search rules
 
 -- what is told so
 pub record Refuses (asked : Asked) (g : Node) (told : Response) : Type 0 where

@@ -68,7 +68,7 @@ if_near : (P : Type 0) (local : Bool) (names : Names) (told : Served) → TakesB
 if_near P local names told h = cond_both (not local) (closed names) told (TakesBy P names) (λ _ _. stays names) (λ _. h)
 
 stops_new : (P : Type 0) (names : Names) (owner : Option ℕ) → TakesBy P names (stops names owner)
-stops_new o names x = search (rules, retires)
+stops_new o names owner = search (rules, retires)
 
 module _ (cfg : Configuration) (names : Names) (local : Bool) (slot : ℕ) where
   serves_new : (request : Request) (creation : ℕ)

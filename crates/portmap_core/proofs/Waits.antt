@@ -41,7 +41,7 @@ module _ (cfg : Configuration) (names : Names) (local : Bool) (slot : ℕ) (P : 
       → ((served cfg names local slot request creation).stage ≡ Holding → MayTake names request creation)
       → P (served cfg names local slot request creation))
       → ToldAt cfg names local slot received sight o → P o
-  told_by received o x waits refused each told = search rules
+  told_by received sight o waits refused each told = search rules
 
 -- what holds of a state, and where a connection was told something, holds after a piece, and after a time-out
 module _ (P : State → Type 0) where

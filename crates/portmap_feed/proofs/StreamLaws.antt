@@ -17,17 +17,17 @@ take-room (high ∷ low ∷ behind) = take-append-add (high ∷ low ∷ []) behi
 -- bytes that keep all of themselves fit into the room of any stream that they begin
 pub length-kept : (held piece : List ℕ) → kept held ≡ held → length held ≤ room (held ++ piece)
 unfolding kept room
-length-kept o piece own = search rules
+length-kept held piece own = search rules
 
 -- once the length is known, what follows takes no more
 pub room_known : (held piece : List ℕ) → 2 ≤ length held → room (held ++ piece) ≡ room held
 unfolding room
-room_known o piece known = search rules
+room_known held piece known = search rules
 
 -- what is kept takes the room of all
 pub room-kept : (received : List ℕ) → room (kept received) ≡ room received
 unfolding kept room
-room-kept o = search rules
+room-kept received = search rules
 
 -- a front takes no more
 pub room-take : (n : ℕ) (held : List ℕ) → room (take n held) ≤ room held
@@ -43,7 +43,7 @@ room-take (suc (suc n)) (high ∷ low ∷ behind) = omega arith
 -- once the request is decided, its room is full
 pub room_decided : (held piece : List ℕ) → first_request held ≢ More → room (held ++ piece) ≤ length held
 unfolding first_request room
-room_decided o piece decided = search rules
+room_decided held piece decided = search rules
 
 -- held bytes and what fits behind them of a piece are what is kept of both
 pub kept-append : (held piece : List ℕ) (wanted : ℕ) → kept held ≡ held → wanted ≡ min (room (held ++ piece) - length held) (length piece)
@@ -65,7 +65,7 @@ take-append_take (suc n) (byte ∷ behind) piece = ap (λ (bytes : List ℕ). by
 -- what is kept of the joined bytes needs only what was kept of the first of them
 pub kept-append_kept : (received piece : List ℕ) → kept (kept received ++ piece) ≡ kept (received ++ piece)
 unfolding kept
-kept-append_kept o piece = search (rules, take-append_take)
+kept-append_kept received piece = search (rules, take-append_take)
 
 pub kept-kept : (received : List ℕ) → kept (kept received) ≡ kept received
 kept-kept received = ap kept (sym (append-nil (kept received))) ∙ kept-append_kept received [] ∙ ap kept (append-nil received)
@@ -79,12 +79,12 @@ sight_behind-take n behind = search (rules, ltb-length_take, take-take)
 -- the bytes kept show what all the bytes show
 pub first_request-kept : (received : List ℕ) → first_request (kept received) ≡ first_request received
 unfolding first_request kept
-first_request-kept o = search (rules, sight_behind-take)
+first_request-kept received = search (rules, sight_behind-take)
 
 -- no more is kept than a length and the longest body
 pub kept_most : (received : List ℕ) → length (kept received) ≤ BODY_MOST + 2
 unfolding kept
-kept_most o = search (rules, length-take)
+kept_most received = search (rules, length-take)
 
 -- ---- while the request is not whole
 
@@ -94,7 +94,7 @@ all_awaited n behind more = search (rules, take_all)
 -- while the request is not whole every byte is kept
 pub kept_more : (received : List ℕ) → first_request received ≡ More → kept received ≡ received
 unfolding first_request kept
-kept_more o more = search (rules, all_awaited)
+kept_more received more = search (rules, all_awaited)
 
 -- ---- after a cut
 

@@ -35,11 +35,11 @@ later_first answer answers = sum_by-cons (λ (p : Put). cond (is_put_later p) 1 
 
 -- no put adds to what is left of a limit
 pub left_less : (limit : Limit) (answer : Put) → left_in (left_after limit answer) ≤ left_in limit
-left_less o answer = search rules
+left_less limit answer = search rules
 
 -- a Later takes from it
 pub left_for_later : (limit : Limit) → 0 < left_in limit → 1 + left_in (left_after limit PutLater) ≡ left_in limit
-left_for_later o some = search rules
+left_for_later limit some = search rules
 
 -- with a put more
 pub has_put_more : {limit : Limit} {size : ℕ} {old mid new : List Put} {count laters : ℕ} {left : Limit} (count' laters' : ℕ) (answer : Put)
@@ -189,7 +189,7 @@ sends_once {size} {old} {count = count} Fault within on =
 -- all was written, or not
 pub sends_whole : {limit : Limit} {size : ℕ} {old new : List Put} {count laters : ℕ} (flush : Flush) → count ≤ size
     → SendsOn limit size old new count laters flush → (flush ≡ Empty) ↔ (count ≡ size)
-sends_whole o within on = search rules
+sends_whole flush within on = search rules
 
 -- where some was not written, something is left
 pub sends_part : {limit : Limit} {size : ℕ} {old new : List Put} {count laters : ℕ} (flush : Flush) → count ≤ size

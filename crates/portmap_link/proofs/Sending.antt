@@ -6,7 +6,7 @@ use Rattle.std.proofs.{Common.{append_assoc, arith, rules}, Math.Seq.take-add, l
 -- bytes that grew by the first n, and then by the next m
 pub appends_more : (a b c : Option (List ℕ)) (n m : ℕ) (xs : List ℕ) → Appends a b (take n xs) → Appends b c (take m (drop n xs))
     → Appends a c (take (n + m) xs)
-appends_more o b c n m xs first second = search (rules, append_assoc, take-add)
+appends_more a b c n m xs first second = search (rules, append_assoc, take-add)
 
 -- nothing is left where all was sent, and only there
 pub drop_is_nil : (n : ℕ) (xs : List ℕ) → n ≤ length xs → (drop n xs ≡ []) ↔ (n ≡ length xs)

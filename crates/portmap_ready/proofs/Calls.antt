@@ -21,13 +21,13 @@ use Rattle.portmap_ready.proofs.Tables.{shows-placed, shows-taken, shows-unliste
 use Rattle.portmap_ready.proofs.Times.{first_left, first_left_other, front, joined, joined_other, times-filter}
 
 pub not_key_here : (k : ℕ) (t : Option ℕ) → is_key (not_key k t) k ≡ false
-not_key_here k o = search rules
+not_key_here k t = search rules
 
 pub not_key_other : (k j : ℕ) (t : Option ℕ) → j ≢ k → is_key (not_key k t) j ≡ is_key t j
-not_key_other k j o d = search rules
+not_key_other k j t d = search rules
 
 less : (b : Bool) (n : ℕ) → cond b (n - 1) n ≡ n - one b
-less o n = search rules
+less b n = search rules
 
 module _ {T : Type 0} where
   slab_len-with_value : (s : Slab (Held T)) (k : ℕ) (h : Held T) → is_some (get s k) ≡ true → slab_len (with_value s k h) ≡ slab_len s
@@ -157,7 +157,7 @@ module _ {T : Type 0} where
 
   kept-front : (b c : Bool) {s s' : Slab (Held T)} {k : ℕ} {o : Option (Held T)} (xs : List ℕ) → Updates s s' k o → times k xs ≡ 0
       → is_live (get s k) ≡ c → kept is_live s (front b k xs) ≡ front (b && c) k (kept is_live s' xs)
-  kept-front o c xs u e l = search (rules, kept_absent)
+  kept-front b c xs u e l = search (rules, kept_absent)
 
   module _ (b : Bool) {k : ℕ} {old new : Inside T} (i : IsWhole old) (takes : Takes b k old new) where
     abbrev first_held : Option (Held T)
@@ -169,10 +169,10 @@ module _ {T : Type 0} where
         (first_left (not b) k new.pending.items takes.pending ∙ ap (λ m. m.pending) (i.marks k))
 
     told_here : (c : Bool) → is_key (cond c (Some k) None) k ≡ c
-    told_here o = search rules
+    told_here c = search rules
 
     told_other : (j : ℕ) → j ≢ k → (c : Bool) → is_key (cond c (Some k) None) j ≡ false
-    told_other j d o = search rules
+    told_other j d c = search rules
 
     pub take_whole : IsWhole new
     take_whole =

@@ -14,10 +14,10 @@ use Rattle.portmap_ready.proofs.Times.{times_fit, filter_same, filter-pushed, wi
 use Rattle.portmap_ready.proofs.Times.{without_absent}
 
 pub one_most : (b : Bool) → one b ≤ 1
-one_most o = search rules
+one_most b = search rules
 
 one_less : (b : Bool) (a n : ℕ) → a ≡ cond b (n - 1) n → n ≤ a + 1
-one_less o a n e = search rules
+one_less b a n e = search rules
 
 module _ {T : Type 0} where
   pub seen_is : (v w : Links T) → v.links ≡ w.links → v.queue ≡ w.queue → v.pending ≡ w.pending → v.resting ≡ w.resting

@@ -11,10 +11,10 @@ pub times-cons : (k x : ℕ) (xs : List ℕ) → times k (x ∷ xs) ≡ one (eqb
 times-cons k x xs = sum_by-cons (λ j. cond (eqb j k) 1 0) x xs
 
 pub times-pushed : (b : Bool) (k : ℕ) (xs : List ℕ) → times k (pushed b k xs) ≡ times k xs + one b
-times-pushed o k xs = search (rules, sum_by-append)
+times-pushed b k xs = search (rules, sum_by-append)
 
 times-pushed_other : (b : Bool) (j k : ℕ) (xs : List ℕ) → j ≢ k → times j (pushed b k xs) ≡ times j xs
-times-pushed_other o j k xs d = search (rules, sum_by-append)
+times-pushed_other b j k xs d = search (rules, sum_by-append)
 
 -- once a key went to the end, it stands there once more, and each other one as often as before
 pub joined : (b : Bool) (k : ℕ) (xs : List ℕ) {ys : List ℕ} → ys ≡ pushed b k xs → times k ys ≡ times k xs + one b
@@ -34,7 +34,7 @@ first_left false k ys e = rw e (omega arith)
 first_left true k ys e = rw e (grind (arith, nat_tests, times-cons k k ys))
 
 pub first_left_other : (b : Bool) (k : ℕ) {xs : List ℕ} (ys : List ℕ) → xs ≡ front b k ys → (j : ℕ) → j ≢ k → times j ys ≡ times j xs
-first_left_other o k ys e j d = search rules
+first_left_other b k ys e j d = search rules
 
 pub times-filter : (p : ℕ → Bool) (k : ℕ) (xs : List ℕ) → times k (filter p xs) ≡ cond (p k) (times k xs) 0
 times-filter p k [] = grind arith
@@ -85,14 +85,14 @@ filter_same p q (x ∷ xs) h =
     rw (here, rest)
 
 pub filter-pushed : (p : ℕ → Bool) (b : Bool) (x : ℕ) (xs : List ℕ) → p x ≡ true → filter p (pushed b x xs) ≡ pushed b x (filter p xs)
-filter-pushed p o x xs h = search (rules, filter-append)
+filter-pushed p b x xs h = search (rules, filter-append)
 
 -- what is kept without a key, whether the key passes or not
 without-first : (p : ℕ → Bool) (k : ℕ) (xs : List ℕ) → without k (filter p (k ∷ xs)) ≡ without k (filter p xs)
 without-first p k xs = search rules
 
 pub without-pushed : (p : ℕ → Bool) (b : Bool) (k : ℕ) (xs : List ℕ) → without k (filter p (pushed b k xs)) ≡ without k (filter p xs)
-without-pushed p o k xs = search (rules, filter-append)
+without-pushed p b k xs = search (rules, filter-append)
 
 -- tests that agree but at one key keep the same others
 pub without-filter : (p q : ℕ → Bool) (k : ℕ) (xs : List ℕ) → ((j : ℕ) → j ≢ k → q j ≡ p j)

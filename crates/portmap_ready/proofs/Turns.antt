@@ -65,7 +65,7 @@ one_turn k (Leaves j) old new d h s =
 module _ {T : Type 0} where
   becomes : (line : Line) (call : Call T) (old new : Links T) → Does call old new
       → Becomes (change line call) (keys_of line old) (keys_of line new)
-  becomes o call old new d = search rules
+  becomes line call old new d = search rules
 
   comes : (line : Line) (k : ℕ) (calls : List (Call T)) (old new : Links T) → Run calls old new → 0 < times k (keys_of line old)
       → AllSpare line k calls

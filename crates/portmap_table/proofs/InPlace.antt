@@ -166,7 +166,7 @@ how_kept (Some old) = how.Free (Some old.creation)
 
 how_retired : (over : Bool) (old : RetiredName)
     → (if over && not (false || true) then how.NoRoom else how.Free (Some old.creation)) ≡ how.Free (Some old.creation)
-how_retired o old = search rules
+how_retired over old = search rules
 
 module _ {entries : List Entry} {active retired : List ℕ} {owner : ℕ → Option ℕ} (placed : AreInPlace entries active retired owner)
     (name : List ℕ) where
@@ -354,7 +354,7 @@ module _ {entries : List Entry} {active retired : List ℕ} {owner : ℕ → Opt
 -- ---- a name comes, whole
 
 no_first : (xs : List RetiredName) → remove xs 0 ≡ drop 1 xs
-no_first o = search rules
+no_first xs = search rules
 
 module _ {entries new : List Entry} {active retired left : List ℕ} {owner : ℕ → Option ℕ} {known_max place : ℕ} {row : Row}
     (placed : AreInPlace entries active retired owner) (settles : TakesPlace known_max row entries new retired left place)

@@ -146,7 +146,7 @@ kept_enters {known_max} {c} {slot} {names} {g} is room = by (nat_le known_max (k
 
 retired_range : (short : Bool) (c : ℕ) → MatchBool short ((1 ≤ c) × (c ≤ SHORT_MOST)) ((COUNTER_LEAST ≤ c) × (c < 2 ^ 32))
     → (1 ≤ c) × (c < 2 ^ 32)
-retired_range o c h = search rules
+retired_range short c h = search rules
 
 kept_last : (known_max : ℕ) (names : Names) (at : ℕ) (o : Option Row) → slice_get names.active at ≡ o → AreKept known_max names
     → AreKept known_max (retired_last at o names)

@@ -120,7 +120,7 @@ retired_names_stay names slot = retired_at_stands_last names (position (λ (row 
 -- ---- names that are forgotten
 
 active_by : (b : Bool) (names : Names) → (if b then without_oldest names else names).active ≡ names.active
-active_by o names = search rules
+active_by b names = search rules
 
 pub active_names_stay : ActiveNamesStay
 active_names_stay known_max names name = active_by (nat_le known_max (known_len names) && not (is_known name names)) names

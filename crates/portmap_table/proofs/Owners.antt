@@ -47,7 +47,7 @@ owns_registered_other q g creation slot names other = search (rules, registered_
 
 -- room for a name is made at the cost of no owner
 owns_by : (b : Bool) (q : ℕ) (names : Names) → owns_name q (if b then without_oldest names else names) ≡ owns_name q names
-owns_by o q names = search rules
+owns_by b q names = search rules
 
 pub owns_in_room : (known_max : ℕ) (name : List ℕ) (q : ℕ) (names : Names)
     → owns_name q (with_room known_max name names) ≡ owns_name q names

@@ -18,11 +18,11 @@ look_ups (Some g) more is = search (rules, fields_again, name_again)
 -- ---- what is found is spelled so
 
 coded : (b : Bool) (r : Result (Option Node) ReplyFault) (g : Node) → cond b r (Ok None) ≡ Ok (Some g) → (b ≡ true) × (r ≡ Ok (Some g))
-coded o r g e = search rules
+coded b r g e = search rules
 
 named_takes : (h g : Node) (read : Result (List ℕ) NameFault) → with_name h read ≡ Ok (Some g)
     → (n : List ℕ) × (read ≡ Ok n) × (ltb BODY_MOST (13 + length h.name + length h.extra) ≡ false) × (h ≡ g)
-named_takes h g o e = search rules
+named_takes h g read e = search rules
 
 registered_takes : (o : Option (Node × List ℕ)) (g : Node) → registered_answer o ≡ Ok (Some g)
     → (f : Node × List ℕ) × (o ≡ Some f) × (with_name f.0 (name_in f.0.name) ≡ Ok (Some g))
@@ -58,4 +58,4 @@ look_up_takes (tag ∷ code ∷ rest) g fits e =
 
 pub look_up_found : (q : List ℕ) (answer : Result (Option Node) ReplyFault) → IsBytes q → GivesReply answer (port2_answer q)
     → IfOk answer (λ found. IfSome found (λ g. IsFound q g))
-look_up_found q o fits h = search (rules, look_up_takes)
+look_up_found q answer fits h = search (rules, look_up_takes)

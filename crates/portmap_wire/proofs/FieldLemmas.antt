@@ -17,7 +17,7 @@ pub record FitsFields (g : Node) : Type 0 where
   pub low : g.low < 2 ^ 16
 
 pub guard_none : {A : Type 0} (b : Bool) (o : Option A) (y : A) → cond b None o ≡ Some y → (b ≡ false) × (o ≡ Some y)
-guard_none o x y e = search rules
+guard_none b o y e = search rules
 
 pub some_is : {A : Type 0} (x y : A) → Some x ≡ Some y → x ≡ y
 some_is x y e = cc
@@ -38,7 +38,7 @@ pub u16_below : (q : List ℕ) (i : ℕ) → IsBytes q → u16_in q i < 2 ^ 16
 u16_below q i fits = let h : IsBytes (take 2 (drop i q)) = in_part 2 i q fits in omega (arith, h 0, h 1)
 
 pair : (q : List ℕ) → 4 ≤ length q → get_or q 2 0 ∷ get_or q 3 0 ∷ [] ≡ take 2 (drop 2 q)
-pair o long = search rules
+pair q long = search rules
 
 regroup : (a b c d e n f x r : List ℕ) → (a ++ b ++ c ++ d ++ e ++ n ++ f ++ x) ++ r
     ≡ a ++ (b ++ (c ++ (d ++ (e ++ (n ++ (f ++ (x ++ r)))))))

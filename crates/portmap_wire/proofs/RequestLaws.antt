@@ -18,14 +18,14 @@ use Rattle.portmap_wire.specs.declared.request.Malformed.TheVariants as malforme
 
 -- which way a test went, where one way fails
 pub guard : {A E : Type 0} (b : Bool) (d : E) (r : Result A E) (y : A) → cond b (Err d) r ≡ Ok y → (b ≡ false) × (r ≡ Ok y)
-guard o d r y e = search rules
+guard b d r y e = search rules
 
 pub guard_after : {A E : Type 0} (b : Bool) (d : E) (r : Result A E) (y : A) → cond b r (Err d) ≡ Ok y → (b ≡ true) × (r ≡ Ok y)
-guard_after o d r y e = search rules
+guard_after b d r y e = search rules
 
 -- which way a test went
 chosen : {A : Type 0} (b : Bool) (x y z : A) → cond b x y ≡ z → ((b ≡ true) × (x ≡ z)) ⊎ ((b ≡ false) × (y ≡ z))
-chosen o x y z e = search rules
+chosen b x y z e = search rules
 
 -- ---- names
 
@@ -45,11 +45,11 @@ IsBytes-rest b bytes h i = h (suc i)
 
 named_takes : (make : List ℕ → Request) (read : Result (List ℕ) NameFault) (r : Request) → named make read ≡ Ok r
     → (n : List ℕ) × (read ≡ Ok n) × (make n ≡ r)
-named_takes make o r e = search rules
+named_takes make read r e = search rules
 
 with_name_takes : (g : Node) (read : Result (List ℕ) NameFault) (r : Request) → with_name g read ≡ Ok r
     → (n : List ℕ) × (read ≡ Ok n) × (Alive g ≡ r)
-with_name_takes g o r e = search rules
+with_name_takes g read r e = search rules
 
 filled_takes : (o : Option (Node × List ℕ)) (r : Request) → filled o ≡ Ok r
     → (f : Node × List ℕ) × (o ≡ Some f) × (f.1 ≡ []) × (with_name f.0 (name_in f.0.name) ≡ Ok r)
@@ -138,7 +138,7 @@ request_again (Stop n) is = rw (name_again n is) refl
 
 pub found : (body : List ℕ) (answer : Result Request Malformed) → IsBytes body → Gives answer (request_in body)
     → IfOk answer (λ r. Spells body r)
-found body o fits h = search (rules, request_takes)
+found body answer fits h = search (rules, request_takes)
 
 -- a spelled body is read
 spelled_is_read : (body : List ℕ) (r : Request) → Spells body r → request_in body ≡ Ok r
