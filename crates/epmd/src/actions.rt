@@ -10,10 +10,8 @@ ghost use Rattle.portmap_record.specs.Playing.{local_record, IsRemoteRun, Plays,
 ghost use Rattle.portmap_record.specs.declared.verdict.Verdict.{Verdict};
 ghost use Rattle.portmap_record.specs.declared.playing.PlayFault.{PlayFault};
 ghost use Rattle.epmd.specs.Actions.{once_config, status_of, line_of, Fails, TellsVerdict, TellsErrors, Passes};
-ghost use Rattle.epmd.specs.Actions.{EndsWith, failure_of_once};
-ghost use Rattle.epmd.specs.Actions.{failure_of_play, status_of_fate, status_of_found, status_of_verdict, IsOfFile};
-ghost use Rattle.epmd.specs.Actions.{IsSilent, IsToShow};
-ghost use Rattle.epmd.specs.Actions.{Refuses, tells};
+ghost use Rattle.epmd.specs.Actions.{EndsWith, failure_of_once, failure_of_play, status_of_fate, status_of_found};
+ghost use Rattle.epmd.specs.Actions.{status_of_verdict, IsOfFile, IsSilent, IsToShow, Refuses, tells};
 
 use crate::errors::{say, say_number};
 use crate::words::Action;

@@ -2,8 +2,7 @@
 ghost use Rattle.std.specs.Prelude.{◌≡◌, false, IfOk, IfSome, None};
 ghost use Rattle.portmap_link.specs.Adapters.{writing_inner};
 ghost use Rattle.epmd.specs.Daemon.{SetsAs, beside, first_by, status_of_end, served_line, served_lines, unheard_beside};
-ghost use Rattle.epmd.specs.Daemon.{unheard_line};
-ghost use Rattle.epmd.specs.Daemon.{text_of_end};
+ghost use Rattle.epmd.specs.Daemon.{unheard_line, text_of_end};
 ghost use Rattle.epmd.specs.Errors.{IsTaken, IsSpent, IsSaid};
 
 use crate::actions::{CONNECTIONS_MOST, DONE, FAILED, Failure, NAMES_MOST, NOT_DONE, fail};

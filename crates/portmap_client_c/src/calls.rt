@@ -4,8 +4,7 @@ ghost use Rattle.portmap_wire.specs.RequestReading.{name_in};
 ghost use Rattle.portmap_client.specs.Exchange.{view};
 ghost use Rattle.portmap_client_c.specs.Calls.{Asks, Dumps, IfSaid, Kills, ListsNames, LooksUp, Registers, Stops};
 ghost use Rattle.portmap_client_c.specs.Calls.{TellsCreation, TellsDump, TellsLookup, TellsNames, TellsNode};
-ghost use Rattle.portmap_client_c.specs.Calls.{alive_after, kill_status};
-ghost use Rattle.portmap_client_c.specs.Calls.{stop_status};
+ghost use Rattle.portmap_client_c.specs.Calls.{alive_after, kill_status, stop_status};
 ghost use Rattle.portmap_client_c.specs.Writing.{node_said, with_name};
 ghost use Rattle.portmap_client_c.specs.declared.status.TheConstants.{EPMD_NO_MEMORY};
 

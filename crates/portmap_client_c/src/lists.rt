@@ -1,7 +1,6 @@
 //! The two lists of names in the caller's bytes, which are all that the port mapper sent.
 ghost use Rattle.std.specs.Prelude.{◌≡◌, ◌≢◌, ◌↔◌, ◌+◌, ◌<◌, ◌≤◌, ◌++◌, ℕ, List, drop, length, max, position};
-ghost use Rattle.std.specs.Prelude.{slice_index_or};
-ghost use Rattle.std.specs.Prelude.{IfSome, IfNone, IfOk, IfErr};
+ghost use Rattle.std.specs.Prelude.{slice_index_or, IfSome, IfNone, IfOk, IfErr};
 ghost use Rattle.portmap_wire.specs.Reply.{be4};
 ghost use Rattle.portmap_wire.specs.ListReading.{IsStrange, ReadsLine, is_newline};
 ghost use Rattle.portmap_client_c.specs.Status.{line_status};

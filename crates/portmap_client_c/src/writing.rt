@@ -6,8 +6,7 @@ ghost use Rattle.portmap_wire.specs.RequestReading.{name_in};
 ghost use Rattle.portmap_wire.specs.declared.request.Request.{Request};
 ghost use Rattle.portmap_wire.specs.declared.request.Request.TheVariants as request;
 ghost use Rattle.portmap_client_c.specs.Writing.{LacksMemory, Makes, MakesName, MakesNode, Puts, Writes, alive_said};
-ghost use Rattle.portmap_client_c.specs.Writing.{named_said, node_said};
-ghost use Rattle.portmap_client_c.specs.Writing.{unmade_status};
+ghost use Rattle.portmap_client_c.specs.Writing.{named_said, node_said, unmade_status};
 
 use crate::node::EpmdNode;
 use crate::status::{

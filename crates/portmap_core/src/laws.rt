@@ -1,11 +1,9 @@
 //! What always holds of the machine, as laws of its definitions.
 ghost use Rattle.portmap_core.specs.Laws.{ActiveNamesAreFound, ActiveNamesAreListed, ActiveNamesAreTaken, EndsAreFinal};
-ghost use Rattle.portmap_core.specs.Laws.{EndsLeaveNoName};
-ghost use Rattle.portmap_core.specs.Laws.{EntriesDetermine, HoldersOutlastTheirTime, KillsAreRefused, KillsEnd};
-ghost use Rattle.portmap_core.specs.Laws.{MalformedChangesNoName};
-ghost use Rattle.portmap_core.specs.Laws.{NamesBelongToConnections, NewNamesWantRoom, OthersAreToldNothing};
-ghost use Rattle.portmap_core.specs.Laws.{RunsKeepLimits};
-ghost use Rattle.portmap_core.specs.Laws.{StepsKeepOwned, TakenCreationsAreNew, WrittenIsWhole};
+ghost use Rattle.portmap_core.specs.Laws.{EndsLeaveNoName, EntriesDetermine, HoldersOutlastTheirTime, KillsAreRefused};
+ghost use Rattle.portmap_core.specs.Laws.{KillsEnd, MalformedChangesNoName, NamesBelongToConnections, NewNamesWantRoom};
+ghost use Rattle.portmap_core.specs.Laws.{OthersAreToldNothing, RunsKeepLimits, StepsKeepOwned, TakenCreationsAreNew};
+ghost use Rattle.portmap_core.specs.Laws.{WrittenIsWhole};
 
 /// The first request of what was written, whatever follows it, is the request written.
 pub fn written_is_whole()

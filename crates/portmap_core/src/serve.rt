@@ -9,8 +9,7 @@ ghost use Rattle.portmap_core.specs.declared.connection.Phase.TheVariants.{Done}
 ghost use Rattle.portmap_core.specs.declared.event.Fate.TheVariants.{Close};
 ghost use Rattle.portmap_core.specs.declared.serve.Change.TheVariants.{Nothing};
 ghost use Rattle.portmap_core.specs.Serving.{Serves, ServesBody, ToldAt, dump_lines, dump_served, kill_served, list_of};
-ghost use Rattle.portmap_core.specs.Serving.{names_served};
-ghost use Rattle.portmap_core.specs.Serving.{port_served, stop_served};
+ghost use Rattle.portmap_core.specs.Serving.{names_served, port_served, stop_served};
 ghost use Rattle.portmap_core.specs.Telling.{Answers, AnswersAll, MayChange, TellsAll, names_after, stopped_by};
 
 use crate::asked::Asked;

@@ -1,8 +1,7 @@
 //! A request in the making: the bytes received of it so far, as far as they matter.
 
 ghost use Rattle.std.specs.Prelude.{◌≡◌, ◌≢◌, ◌≤◌, ◌+◌, ◌*◌, ℕ, List, [], ◌++◌, length, take, max, vec_capacity, IsOk};
-ghost use Rattle.std.specs.Prelude.{IfOk, OnOk, OnErr};
-ghost use Rattle.std.specs.Prelude.{option_map};
+ghost use Rattle.std.specs.Prelude.{IfOk, OnOk, OnErr, option_map};
 ghost use Rattle.portmap_wire.specs.declared.request.TheConstants.{BODY_MOST};
 ghost use Rattle.portmap_feed.specs.Seen.{seen_of};
 ghost use Rattle.portmap_feed.specs.Stream.{More, first_request, room, kept, body_in};

@@ -1,7 +1,6 @@
 //! Bytes that wait to be written.
 ghost use Rattle.std.specs.Prelude.{◌≡◌, ℕ, ◌+◌, ◌-◌, ◌≤◌, ◌||◌, ◌↔◌, List, [], ◌++◌, length, take, drop, vec_len};
-ghost use Rattle.std.specs.Prelude.{vec_capacity, IfOk};
-ghost use Rattle.std.specs.Prelude.{OnOk, OnErr};
+ghost use Rattle.std.specs.Prelude.{vec_capacity, IfOk, OnOk, OnErr};
 ghost use Rattle.std.specs.Io.KnownBytes.{Keeps, Appends};
 ghost use Rattle.portmap_link.specs.Flush.{flush_is_fault, Sends, Moves};
 

@@ -15,9 +15,8 @@
 //! What no clause says: which link there is something to tell of, and that the caller goes on to take turns.
 #![tactic(auto)]
 
-ghost use Rattle.std.specs.Prelude.{◌≡◌, ◌≤◌, ◌<◌, ◌==◌, ℕ, [], true, false, Some, None};
-ghost use Rattle.std.specs.Prelude.{IfOk, IfErr, IsOk, OnErr, OnOk, IsSome, is_some, option_map, option_copied};
-ghost use Rattle.std.specs.Prelude.{slice_get, length};
+ghost use Rattle.std.specs.Prelude.{◌≡◌, ◌≤◌, ◌<◌, ◌==◌, ℕ, [], true, false, Some, None, IfOk, IfErr, IsOk, OnErr};
+ghost use Rattle.std.specs.Prelude.{OnOk, IsSome, is_some, option_map, option_copied, slice_get, length};
 ghost use Rattle.std.specs.Option.{option_copied_mut};
 ghost use Rattle.std.specs.Borrow.{sem};
 ghost use Rattle.std.specs.FinMap as map;

@@ -2,8 +2,7 @@
 ghost use Rattle.std.specs.Prelude.{◌≡◌, ◌↔◌, ℕ, IsTrue, Some, None};
 ghost use Rattle.portmap_table.specs.declared.creation.TheConstants.{COUNTER_LEAST, SHORT_MOST};
 ghost use Rattle.portmap_table.specs.Creation.{IsCounter, IsLegalCreation, IsCreationFor, ChoiceIsLegal, choice};
-ghost use Rattle.portmap_table.specs.Creation.{counter_after};
-ghost use Rattle.portmap_table.specs.Creation.{short_choice, successor, wide_choice};
+ghost use Rattle.portmap_table.specs.Creation.{counter_after, short_choice, successor, wide_choice};
 
 use portmap_wire::WIDE_VERSION;
 

@@ -1,12 +1,10 @@
 //! What is kept of each name, at a place that stays the name's own for as long as it is known.
 ghost use Rattle.std.specs.Prelude.{◌≡◌, ◌<◌, ◌^◌, ℕ, length, slice_get, option_copied, option_map, Some, None, IfSome};
-ghost use Rattle.std.specs.Prelude.{IfOk, OnOk, OnErr};
-ghost use Rattle.std.specs.Prelude.{[], ◌++◌, ◌∷◌};
+ghost use Rattle.std.specs.Prelude.{IfOk, OnOk, OnErr, [], ◌++◌, ◌∷◌};
 ghost use Rattle.portmap_table.specs.declared.entries.Kept.{Kept};
 ghost use Rattle.portmap_table.specs.declared.row.Row.{Row};
 ghost use Rattle.portmap_table.specs.Places.{AreNamed, IsActiveAt, IsNamed, IsNew, Puts, StandsAs, active_entry};
-ghost use Rattle.portmap_table.specs.Places.{active_in, retired_entry};
-ghost use Rattle.portmap_table.specs.Places.{retired_in};
+ghost use Rattle.portmap_table.specs.Places.{active_in, retired_entry, retired_in};
 ghost use Rattle.portmap_table.specs.Rows.{old_name, retired_name};
 
 use crate::row::{Old, Retired, Row};

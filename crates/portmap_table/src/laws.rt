@@ -1,10 +1,8 @@
 //! What registering and retiring do to each name.
 ghost use Rattle.portmap_table.specs.Laws.{ActiveNamesStay, KnownNamesCostNone, LastCreationsAreRemembered};
-ghost use Rattle.portmap_table.specs.Laws.{NamesOutliveConnections};
-ghost use Rattle.portmap_table.specs.Laws.{NoneIsRefusedForRetiredNames, OldestMakesRoom, OthersStayAtRegistration};
-ghost use Rattle.portmap_table.specs.Laws.{OthersStayAtRetirement};
-ghost use Rattle.portmap_table.specs.Laws.{RegisteredNamesAreActive, RegisteredNamesStandLast, RetiredNamesStandLast};
-ghost use Rattle.portmap_table.specs.Laws.{RetiredNamesStay};
+ghost use Rattle.portmap_table.specs.Laws.{NamesOutliveConnections, NoneIsRefusedForRetiredNames, OldestMakesRoom};
+ghost use Rattle.portmap_table.specs.Laws.{OthersStayAtRegistration, OthersStayAtRetirement, RegisteredNamesAreActive};
+ghost use Rattle.portmap_table.specs.Laws.{RegisteredNamesStandLast, RetiredNamesStandLast, RetiredNamesStay};
 ghost use Rattle.portmap_table.specs.Laws.{ReturningNamesGetAnother, RoomCostsNone};
 
 /// A name that registers is active. When its connection is lost it is so no more, and its port and its creation are

@@ -1,12 +1,10 @@
 //! The table of names.
 ghost use Rattle.std.specs.Prelude.{◌≡◌, false, length, slice_get, option_copied, option_map, Ok, Err, None, IfOk};
-ghost use Rattle.std.specs.Prelude.{IfSome, OnOk, OnErr};
-ghost use Rattle.std.specs.Prelude.{IsOk, ◌^◌, ◌<◌, ◌≤◌};
+ghost use Rattle.std.specs.Prelude.{IfSome, OnOk, OnErr, IsOk, ◌^◌, ◌<◌, ◌≤◌};
 ghost use Rattle.portmap_table.specs.Creation.{IsCounter, IsCreationFor, IsLegalCreation};
 ghost use Rattle.portmap_table.specs.Rows.{AreKept, active_row, and_retired, is_active, is_full_for, is_known};
-ghost use Rattle.portmap_table.specs.Rows.{known_len, owner_of};
-ghost use Rattle.portmap_table.specs.Rows.{owns_name, registered, remembered, retired_name, retired_of, standing};
-ghost use Rattle.portmap_table.specs.Rows.{with_room};
+ghost use Rattle.portmap_table.specs.Rows.{known_len, owner_of, owns_name, registered, remembered, retired_name};
+ghost use Rattle.portmap_table.specs.Rows.{retired_of, standing, with_room};
 ghost use Rattle.portmap_table.specs.Table.{GivesOffer, new_table, offered, with_names, with_registration};
 
 use crate::creation::{COUNTER_LEAST, counter_after, creation_for, is_creation_for};

@@ -4,10 +4,9 @@ ghost use Rattle.std.specs.Prelude.{MatchOption, None, Err};
 ghost use Rattle.std.specs.Str.Parse.{AllDigits};
 ghost use Rattle.portmap_wire.specs.Reply.{be4};
 ghost use Rattle.portmap_wire.specs.ListReading.{WritesPort, EndsInDigits, HasShape, HasNoReading, ReadsLine};
-ghost use Rattle.portmap_wire.specs.ListReading.{is_newline, HasNoNewline};
-ghost use Rattle.portmap_wire.specs.ListReading.{IsCut, ListsTo, IsLines, Lists, IsList, StrangeIn, IsLinesFault};
-ghost use Rattle.portmap_wire.specs.ListReading.{IsListFault};
-ghost use Rattle.portmap_wire.specs.ListReading.{LinesHaveOneReading, ListsHaveOneReading, NamesAreReadBack};
+ghost use Rattle.portmap_wire.specs.ListReading.{is_newline, HasNoNewline, IsCut, ListsTo, IsLines, Lists, IsList};
+ghost use Rattle.portmap_wire.specs.ListReading.{StrangeIn, IsLinesFault, IsListFault, LinesHaveOneReading};
+ghost use Rattle.portmap_wire.specs.ListReading.{ListsHaveOneReading, NamesAreReadBack};
 
 use crate::NoMemory;
 use crate::list::Line;

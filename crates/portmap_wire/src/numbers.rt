@@ -4,8 +4,7 @@ ghost use Rattle.portmap_wire.specs.declared.name.TheConstants.{NAME_MOST};
 ghost use Rattle.portmap_wire.specs.declared.reply_writing.TheConstants.{ALIVE2_RESP, ALIVE2_X_RESP, PORT2_RESP};
 ghost use Rattle.portmap_wire.specs.declared.reply_writing.TheConstants.{WIDE_VERSION};
 ghost use Rattle.portmap_wire.specs.declared.request.TheConstants.{ALIVE2_REQ, BODY_MOST, DUMP_REQ, KILL_REQ};
-ghost use Rattle.portmap_wire.specs.declared.request.TheConstants.{NAMES_REQ, PORT_PLEASE2_REQ};
-ghost use Rattle.portmap_wire.specs.declared.request.TheConstants.{STOP_REQ};
+ghost use Rattle.portmap_wire.specs.declared.request.TheConstants.{NAMES_REQ, PORT_PLEASE2_REQ, STOP_REQ};
 
 /// A law: the numbers that definitions take from the code are those of the protocol.
 pub fn numbers_are_the_protocols()

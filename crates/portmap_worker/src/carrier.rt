@@ -6,8 +6,7 @@ ghost use Rattle.portmap_book.specs.Told.{AsksPiece, SaysTo};
 ghost use Rattle.portmap_link.specs.Asking.{devices};
 ghost use Rattle.portmap_link.specs.Flush.{Moves};
 ghost use Rattle.portmap_worker.specs.Carrying.{IsLate, IsRead, FollowsAnswer, FollowsNothing, added, bytes_of};
-ghost use Rattle.portmap_worker.specs.Carrying.{fate_of, is_close};
-ghost use Rattle.portmap_worker.specs.Carrying.{next_after, next_of};
+ghost use Rattle.portmap_worker.specs.Carrying.{fate_of, is_close, next_after, next_of};
 
 use crate::limits::PULL_BYTES_MOST;
 use crate::{Gate, Point};
