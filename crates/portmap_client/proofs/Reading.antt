@@ -1,15 +1,11 @@
 -- An answer is read a piece at a time, and no further.
 use Rattle.std.specs.{Io.KnownBytes.Consumes, Prelude.{◌⊎◌, Result, IsErr}}
 use Rattle.std.proofs.Common.{◌≡◌, ℕ, ◌+◌, ◌-◌, ◌<◌, ◌≤◌, List, [], ◌++◌, length, take, Option, sym, subst, arith, inl}
-use Rattle.std.proofs.{Common.{inr, rules}, KnownBytes.{Consumes-nil, Consumes-trans}, Math.Seq.take-append-add}
-use Rattle.std.proofs.{lemmas.Bool.cases_lt, lemmas.List.{length-append, length-take, take-append-le}}
+use Rattle.std.proofs.{Common.{inr, rules}, KnownBytes.Consumes-trans, Math.Seq.take-append-add, lemmas.Bool.cases_lt}
+use Rattle.std.proofs.lemmas.List.{length-append, length-take, take-append-le}
 use Rattle.portmap_link.specs.declared.device.Pull.{Pull}
 use Rattle.portmap_client.specs.{Exchange.{Answers, HasRead, IsUnfinished}, declared.exchange.Awaited.Awaited}
 use Rattle.portmap_client.specs.declared.fault.GivenUp.{GivenUp}
-
--- nothing was read
-pub reads_none : (awaited : Awaited) (a : Option (List ℕ)) → HasRead awaited a a []
-reads_none awaited a = record { reads = Consumes-nil a; no_further = λ n none. absurd (omega (arith, none)) }
 
 -- a front of what was read and of a piece more is unfinished
 front_unfinished : (awaited : Awaited) (read piece : List ℕ) (most n : ℕ)

@@ -1,14 +1,13 @@
 -- Where the port mapper ends and what comes of it then, the limits that a run keeps, and a connection that holds its name,
 -- whose time is over.
-use Rattle.std.specs.Prelude.{not, ◌||◌}
-use Rattle.std.proofs.{Common.{◌≡◌, ℕ, Bool, true, false, List, [], rules}, lemmas.Bool.cond_both}
-use Rattle.std.proofs.lemmas.List.{nil_from_length}
+use Rattle.std.specs.Prelude.{◌||◌}
+use Rattle.std.proofs.{Common.{◌≡◌, ℕ, Bool, true, false, [], rules}, lemmas.List.nil_from_length}
 use Rattle.portmap_wire.specs.declared.request.Request.{Request}
 use Rattle.portmap_table.specs.Rows.{Names}
 use Rattle.portmap_core.specs.Config.{Configuration}
 use Rattle.portmap_core.specs.Laws.{EndsAreFinal, EndsLeaveNoName, HoldersOutlastTheirTime, KeepsLimits, RunsKeepLimits}
-use Rattle.portmap_core.specs.{Owned.IsOwned, Serving.{Served, closed, if_local, kill_served, replied, served}}
-use Rattle.portmap_core.specs.{State.{State, empty_state}, Step.halted_by}
+use Rattle.portmap_core.specs.{Owned.IsOwned, Serving.{Served, kill_served, served}, State.{State, empty_state}}
+use Rattle.portmap_core.specs.Step.{halted_by}
 use Rattle.portmap_core.proofs.{Owned.owned_empty, Runs.run_owned}
 
 pub ends_are_final : EndsAreFinal
@@ -23,18 +22,8 @@ holders_outlast_their_time cfg s s' slot fate connection here holds step = searc
 abbrev LeavesNone : Names → Served → Type 0
 LeavesNone names o = halted_by o.fate false ≡ true → names.active ≡ []
 
-replies : (names : Names) (reply : List ℕ) → LeavesNone names (replied names reply)
-replies names reply ended = absurd cc
-
--- where it may end although names are active, its checks are relaxed
-none_left : (empty relaxed : Bool) → (empty || relaxed) ≡ true → relaxed ≡ false → empty ≡ true
-none_left empty relaxed may strict = search rules
-
 kills : (cfg : Configuration) (names : Names) → cfg.relaxed ≡ false → LeavesNone names (kill_served cfg names)
 kills cfg names strict = search (rules, nil_from_length)
-
-if_near : (local : Bool) (names : Names) (told : Served) → LeavesNone names told → LeavesNone names (if_local local names told)
-if_near local names told h = cond_both (not local) (closed names) told (LeavesNone names) (λ _. replies names []) (λ _. h)
 
 module _ (cfg : Configuration) (names : Names) (local : Bool) (slot : ℕ) (strict : cfg.relaxed ≡ false) where
   serves_on : (request : Request) (creation : ℕ) → LeavesNone names (served cfg names local slot request creation)

@@ -6,7 +6,7 @@ use Rattle.std.specs.FinMap as map
 use Rattle.portmap_feed.specs.Stream.{More, first_request}
 use Rattle.portmap_core.specs.{Config.Configuration, Connections.ConnectionMap, Run.{Hears, waiting_state}}
 use Rattle.portmap_core.specs.{Serving.Served, State.{State, empty_state, phase_at, phase_of_stage, state_of}}
-use Rattle.portmap_core.specs.Step.{Opens, Outcome, Says, Settles, halted_by, outcome_of, settled}
+use Rattle.portmap_core.specs.Step.{Opens, Outcome, Says, Settles, halted_by, outcome_of}
 use Rattle.portmap_core.specs.{declared.connection.Connection.Connection, declared.connection.Stage.TheVariants.Waiting}
 use Rattle.portmap_core.specs.declared.event.Fate.{Fate}
 use Rattle.portmap_core.proofs.{Slots.{get_inserted, insert_again, stopped_alike}, Waits.said}
@@ -44,9 +44,6 @@ module _ {cfg : Configuration} {s s' : State} {slot : ℕ} {piece reply : List �
   -- it is told of all that was read
   settles : Settles cfg (waiting_state slot read) slot (sender read) (read ++ piece) (said reply fate s')
   settles = search (rules, get_inserted)
-
-  after : s' ≡ settled (waiting_state slot read) slot (sender read) settles.served
-  after = ap (λ (x : Outcome). x.state) settles.outcome
 
   phase_left : phase_at s' slot ≡ Some (phase_of_stage settles.served.stage)
   phase_left = search (rules, get_inserted)

@@ -1,13 +1,10 @@
 -- What a registration leaves of plain lists.
-use Rattle.std.specs.Prelude.{◌&&◌, ◌||◌, not, nat_le, find, position, is_some}
+use Rattle.std.specs.Prelude.{◌&&◌, ◌||◌, nat_le, find, position, is_some}
 use Rattle.std.proofs.Common.{◌≡◌, ℕ, Bool, true, false, cond, List, [], ◌∷◌, ◌++◌, Option, Some, None, refl, rules}
 use Rattle.portmap_table.specs.Rows.{Names, RetiredName, is_active, known_len, registered, with_room, without_oldest}
 use Rattle.portmap_table.specs.declared.row.Row.{Row}
 use Rattle.portmap_table.proofs.{First.{finds_none, no_place, none_at, none_found}, Kept.had_name}
 use Rattle.portmap_core.specs.Names.{left_by}
-
-room_known : {X : Type 0} (many active retired : Bool) (x y : X) → retired ≡ true → cond (many && not (active || retired)) x y ≡ y
-room_known many active retired x y e = search rules
 
 pub enters : (known_max : ℕ) (names : Names) (row : Row) → is_active row.reg.name names ≡ false
     → record {

@@ -7,8 +7,7 @@ use Rattle.portmap_wire.specs.Node.{Node}
 use Rattle.portmap_wire.specs.declared.request.Request.{Request, TheVariants.{Alive, Dump, Kill, Port, Stop}}
 use Rattle.portmap_wire.specs.declared.request.Request.TheVariants as request
 use Rattle.portmap_feed.specs.Stream.{first_request}
-use Rattle.portmap_table.specs.Rows.{AreKept, owns_name, is_active, is_full_for, owner_of, registered, retired_of}
-use Rattle.portmap_table.specs.Rows.{with_room}
+use Rattle.portmap_table.specs.Rows.{AreKept, owns_name, is_active, is_full_for, registered, retired_of, with_room}
 use Rattle.portmap_table.proofs.{Kept.{IsNew, kept_empty, kept_enters, kept_retired}, Owners.owns_in_room}
 use Rattle.portmap_table.proofs.Owners.{owns_registered, owns_registered_other, owns_retired, owns_retired_other}
 use Rattle.portmap_table.specs.Rows as rows

@@ -11,9 +11,8 @@ use Rattle.portmap_table.specs.Rows.{owns_name, known_names, same_name}
 use Rattle.portmap_table.proofs.Owners.{owner_owns}
 use Rattle.portmap_core.specs.{Config.Configuration, Entry.Entry, Laws.{WrittenIsWhole, NamesBelong}}
 use Rattle.portmap_core.specs.Laws.{NamesBelongToConnections, owners, MalformedChangesNoName}
-use Rattle.portmap_core.specs.{Owned.{IsStageFor, IsSlotFor, IsOwned}, Run.Run, State.State, Step.Step}
-use Rattle.portmap_core.specs.declared.connection.Connection.{Connection}
-use Rattle.portmap_core.specs.declared.connection.Stage.{Stage, TheVariants.Holding}
+use Rattle.portmap_core.specs.{Owned.{IsSlotFor, IsOwned}, Run.Run, State.State, Step.Step}
+use Rattle.portmap_core.specs.{declared.connection.Connection.Connection, declared.connection.Stage.TheVariants.Holding}
 use Rattle.portmap_core.proofs.Owned.{owned_empty, steps_keep}
 
 -- ---- names after a run
@@ -31,9 +30,6 @@ module _ (cfg : Configuration) where
 pub run_owned : (cfg : Configuration) (es : List Entry) (s s' : State) → IsOwned cfg s → Run cfg s es s' → IsOwned cfg s'
 run_owned cfg [] s s' owned run = subst (λ (x : State). IsOwned cfg x) (sym run) owned
 run_owned cfg (e ∷ es) s s' owned run = run_owned cfg es run.0 s' (steps_keep cfg s run.0 e owned run.1) run.2
-
-holding : (b local : Bool) (stage : Stage) → b ≡ true → IsStageFor b local stage → stage ≡ Holding
-holding b local stage e h = search rules
 
 holder : (b : Bool) (o : Option Connection) → b ≡ true → IsSlotFor b o
     → (connection : Connection) × (o ≡ Some connection) × (connection.stage ≡ Holding) × (connection.local ≡ true)

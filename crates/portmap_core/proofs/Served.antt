@@ -28,10 +28,6 @@ second b x y e = search rules
 abbrev stands : Bool → Bool → Option ℕ → Standing
 stands taken full last = if taken then how.Active else if full then how.NoRoom else how.Free last
 
-is_free : (taken full : Bool) (last free : Option ℕ) → stands taken full last ≡ how.Free free
-    → (taken ≡ false) × (full ≡ false) × (free ≡ last)
-is_free taken full last free e = search rules
-
 -- ---- a request
 
 module _ (cfg : Configuration) (names : Names) (local : Bool) (slot : ℕ) where
@@ -152,11 +148,6 @@ tells_whole asked received body (Whole whole) result is =
     (λ told h. subst (λ (b : List ℕ). TellsAll (λ slot. ServesBody cfg names asked.local slot b) asked received told) one (h received))
 
 -- what a feed keeps of it tells as much
-module _ (cfg : Configuration) (names : Names) (local : Bool) (slot : ℕ) (feed all : List ℕ) where
-  pub told_all : (o : Served) → first_request feed ≡ first_request all → (first_request all ≡ More → feed ≡ all)
-      → ToldAt cfg names local slot feed (first_request feed) o → ToldAt cfg names local slot all (first_request all) o
-  told_all o sight same p = search rules
-
 module _ (cfg : Configuration) (names : Names) {near local : Bool} (alike : near ≡ local) (slot : ℕ) where
   pub all_kept : {wanted : Option ℕ} {o : Served} (feed all : List ℕ) → feed ≡ kept all
       → IsAllTold (ToldAt cfg names near slot feed (first_request feed)) wanted o

@@ -3,7 +3,7 @@ use Rattle.std.specs.{List.flat_map, Prelude.{find, option_map, map as list_map}
 use Rattle.std.proofs.Common.{◌≡◌, ℕ, Bool, true, false, cond, List, [], ◌∷◌, ◌++◌, Option, Some, ap, ◌∙◌, append_assoc}
 use Rattle.std.proofs.{Common.{inl, inr, rules}, lemmas.Option.same_Some}
 use Rattle.portmap_wire.specs.{List.names_line, Reply.{be4, port2_reply}, Request.Spells}
-use Rattle.portmap_wire.specs.declared.request.Request.{Request, TheVariants.{Alive, Dump, Kill, Port, Stop}}
+use Rattle.portmap_wire.specs.declared.request.Request.{Request, TheVariants.Port}
 use Rattle.portmap_wire.proofs.RequestLaws.{one_request}
 use Rattle.portmap_wire.specs.declared.request.Request.TheVariants as request
 use Rattle.portmap_table.specs.{Rows.{Names, same_name}, declared.row.Row.Row}

@@ -5,18 +5,12 @@ use Rattle.portmap_wire.specs.declared.request.Request.{Request}
 use Rattle.portmap_feed.specs.Stream.{Sight, More}
 use Rattle.portmap_table.specs.Rows.{Names}
 use Rattle.portmap_core.specs.{Config.Configuration, Serving.{MayTake, Served, ToldAt, awaits, closed, served}}
-use Rattle.portmap_core.specs.{State.State, Step.{Expires, Outcome, Says, Settles, Told, settled}}
+use Rattle.portmap_core.specs.{State.State, Step.{Expires, Outcome, Says, Settles, settled}}
 use Rattle.portmap_core.specs.declared.connection.Connection.{Connection}
 use Rattle.portmap_core.specs.{declared.connection.Stage.TheVariants.{Waiting, Holding}, declared.event.Fate.Fate}
 
 abbrev pub said : List ℕ → Fate → State → Outcome
 said reply fate after = record { reply = reply; fate = fate; state = after }
-
--- it is told to the connection that is open there
-pub told_here : {cfg : Configuration} {s after : State} {slot : ℕ} {connection : Connection} {piece reply : List ℕ} {fate : Fate}
-    → map.get s.connections slot ≡ Some connection → Says cfg s slot piece reply fate after
-    → Told cfg s slot connection piece connection.stage (said reply fate after)
-told_here {cfg} {s} {after} {slot} {connection} {piece} {reply} {fate} is_open says = search rules
 
 -- a machine in a state, and the connection in a slot, which has sent these bytes
 pub record WaitsAt : Type 0 where

@@ -14,10 +14,10 @@ use Rattle.portmap_ready.specs.Links.{times, told_next, without, write_at, writt
 use Rattle.portmap_ready.specs.Whole.{IsWhole, links_of, kept, room, has_room, seen, marks, is_key}
 use Rattle.portmap_ready.specs.{declared.Held.Held, declared.Place.{Place, TheVariants.{Idle, Queued, Resting, Told}}}
 use Rattle.portmap_ready.specs.declared.Ready.TheInside.{Inside}
-use Rattle.portmap_ready.proofs.Steps.{one_most, IsStep, whole_step, seen_is, kept_same, kept_absent, kept_pushed}
-use Rattle.portmap_ready.proofs.Steps.{kept_others, kept_out, get-links_of, links_put, links_cut, links_same, links_to}
-use Rattle.portmap_ready.proofs.{Steps.{counted_to, len_most}, Tables.{marks_is, held_as, some_map, to_place, wake}}
-use Rattle.portmap_ready.proofs.Tables.{shows-placed, shows-taken, shows-unlisted, shows-cleared, free_marks}
+use Rattle.portmap_ready.proofs.Steps.{whole_step, seen_is, kept_same, kept_absent, kept_pushed, kept_others, kept_out}
+use Rattle.portmap_ready.proofs.Steps.{get-links_of, links_put, links_cut, links_same, links_to, counted_to, len_most}
+use Rattle.portmap_ready.proofs.Tables.{marks_is, held_as, some_map, to_place, wake, shows-placed, shows-taken}
+use Rattle.portmap_ready.proofs.Tables.{shows-unlisted, shows-cleared, free_marks}
 use Rattle.portmap_ready.proofs.Times.{first_left, first_left_other, front, joined, joined_other, times-filter}
 
 pub not_key_here : (k : ℕ) (t : Option ℕ) → is_key (not_key k t) k ≡ false

@@ -307,9 +307,6 @@ module _ {entries new : List Entry} {active retired : List ℕ} {owner : ℕ →
       ∙ ap (λ (o : Option Row). retired_last i o (names_at entries active retired))
       (read actives entries active i place mine.0 at mine.1))
 
-  same_place : (q there : ℕ) → owner q ≡ Some there → q ≡ slot → there ≡ place
-  same_place q there e same = let both : Some there ≡ Some place = sym e ∙ ap owner same ∙ owned in cc
-
   pub retires_places : AreInPlace new (remove active i) (retired ++ place ∷ []) owner'
   retires_places = record {
     active_places = rows_left.each;

@@ -43,10 +43,6 @@ name_again bytes name = search (rules, unscanned)
 IsBytes-rest : (b : ℕ) (bytes : List ℕ) → IsBytes (b ∷ bytes) → IsBytes bytes
 IsBytes-rest b bytes h i = h (suc i)
 
-named_takes : (make : List ℕ → Request) (read : Result (List ℕ) NameFault) (r : Request) → named make read ≡ Ok r
-    → (n : List ℕ) × (read ≡ Ok n) × (make n ≡ r)
-named_takes make read r e = search rules
-
 with_name_takes : (g : Node) (read : Result (List ℕ) NameFault) (r : Request) → with_name g read ≡ Ok r
     → (n : List ℕ) × (read ≡ Ok n) × (Alive g ≡ r)
 with_name_takes g read r e = search rules
