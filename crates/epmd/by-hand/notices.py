@@ -1,10 +1,10 @@
 """What a daemon tells while it runs: a recording that fails, and connections that can't be accepted. And where nobody reads that.
 
 usage: notices.py EPMD"""
-import os, socket, sys, tempfile, time
+import os, socket, subprocess, sys, tempfile, time
 from daemon import CANNOT_ACCEPT, Daemon, ask, end, say
 
-FAILED = "epmd: recording failed"
+FAILED = "epmd: recording failed: "
 
 
 def comes(seconds, wanted):
@@ -23,14 +23,30 @@ def is_answered(port):
 
 path = sys.argv[1]
 folder = tempfile.mkdtemp()
-for name, file in (("a folder that is not there", folder + "/none/session"), ("a folder", folder), ("a full device", "/dev/full")):
+none = folder + "/none/session"
+for name, file, reason in (("a folder that is not there", none, "No such file or directory"), ("a folder", folder, "Is a directory"),
+                           ("a full device", "/dev/full", "No space left on device")):
     with Daemon(path, "-record", file) as daemon:
         is_answered(daemon.port)
-        after = comes(5, lambda: daemon.lines() == [FAILED])
+        line = FAILED + file + ": " + reason
+        after = comes(5, lambda: daemon.lines() == [line])
         well = is_answered(daemon.port)
         ask(daemon.port, b"k")
         ended = daemon.ended(10)
-        say(after is not None and after < 2.5 and well and ended == (3, FAILED), f"{name}: told after {after} s, ended {ended}")
+        say(after is not None and after < 2.5 and well and ended == (3, line), f"{name}: told after {after} s, ended {ended}")
+
+# The folder comes while the daemon serves: the recording begins anew.
+with Daemon(path, "-record", none) as daemon:
+    failed = comes(5, lambda: len(daemon.lines()) == 1)
+    os.mkdir(folder + "/none")
+    again = comes(15, lambda: daemon.lines()[1:] == ["epmd: recording again: " + none])
+    ask(daemon.port, b"k")
+    ended = daemon.ended(10)
+    run = subprocess.run([path, "-check", none], capture_output=True, text=True).stdout
+    well = failed is not None and again is not None and ended[0] == 3 and run.startswith("run of ")
+    say(well, f"the folder comes: begun anew after {again} s, ended {ended[0]}, {run.strip()}")
+os.unlink(none)
+os.rmdir(folder + "/none")
 
 with Daemon(path, "-workers", "1", limits={"RLIMIT_NOFILE": 24}) as daemon:
     held = []

@@ -46,7 +46,8 @@ def case(what, path, file, fails=True, **how):
             time.sleep(0.05)
         gone = time.monotonic() - killed if not daemon.listens() else None
         ended = daemon.ended(SILENCE)
-        good = ended in ((3, "epmd: recording failed"), None if gone is not None else "") if fails else ended == (0, "")
+        failed = ended is not None and ended[0] == 3 and ended[1].startswith("epmd: recording failed: ")
+        good = failed or (ended is None and gone is not None) if fails else ended == (0, "")
         text = checked(path, file)
         whole = "-check" not in text or ": run of " in text or " 0 bytes" in text
         ok = (first, some, more, last) == (100, 20000, 2600, 100) and rss_more < MEMORY_MOST and gone is not None and good and whole

@@ -1,12 +1,15 @@
 -- What the command does as a client of the port mapper that runs: epmd(1) for `-names`, `-kill` and `-stop` and for what they
 -- print. `-dump`, what is told of answers that are not allowed or strange, and each status: profile.
 use Rattle.std.specs.{Fmt.decimal, List.flat_map}
-use Rattle.std.specs.Prelude.{◌≡◌, ◌≢◌, ℕ, List, [], ◌∷◌, ◌++◌, codes, Bool, Option, Result, Ok, Err, ◌⊎◌}
-use Rattle.std.specs.{declared.alloc.Global.Global, declared.io.ErrorKind.{ErrorKind, TheVariants.OutOfMemory}}
+use Rattle.std.specs.Prelude.{◌≡◌, ◌≢◌, ℕ, List, [], ◌∷◌, ◌++◌, codes, Bool, true, false, Option, Result, Ok, Err, ◌⊎◌}
+use Rattle.std.specs.{declared.alloc.Global.Global, declared.io.ErrorKind.ErrorKind}
+use Rattle.std.specs.declared.io.ErrorKind.TheVariants.{AddrNotAvailable, ConnectionRefused, HostUnreachable, NetworkDown}
+use Rattle.std.specs.declared.io.ErrorKind.TheVariants.{NetworkUnreachable, OutOfMemory}
 use Rattle.std.specs.declared.vec.Vec.{Vec}
 use Rattle.portmap_wire.specs.{List.names_line, declared.list.Line.Line}
 use Rattle.portmap_wire.specs.declared.request.Request.TheVariants as request
 use Rattle.portmap_link.specs.{Once.Telling, declared.single.OnceFault.OnceFault}
+use Rattle.portmap_worker.specs.Showing.{shown}
 use Rattle.portmap_client.specs.{Answer.{SaysNames, SaysDump, SaysKill, SaysStop}, Exchange.{StreamView, Calls}}
 use Rattle.portmap_client.specs.{declared.fault.ClientFault.ClientFault, declared.outcome.Kill.Kill}
 use Rattle.portmap_client.specs.declared.outcome.Stop.{Stop}
@@ -75,10 +78,10 @@ stop_told stop.Stopped = Ok (codes "STOPPED" ++ 10 ∷ [], the.DONE)
 stop_told stop.NoExist = Ok (codes "NOEXIST" ++ 10 ∷ [], the.NOT_DONE)
 stop_told stop.NotAllowed = Err StopRefused
 
--- a text for standard output and the status, or a failure
+-- a text for standard output and the status, or a failure; names stand in it so that no terminal obeys them
 abbrev pub answer_told : Answer → Result (List ℕ × ℕ) Failure
-answer_told (answer.Names list) = Ok (names_text list.0 list.1.items, the.DONE)
-answer_told (answer.Dump dump) = Ok (dump_text dump.0 dump.1.items, the.DONE)
+answer_told (answer.Names list) = Ok (shown (names_text list.0 list.1.items), the.DONE)
+answer_told (answer.Dump dump) = Ok (shown (dump_text dump.0 dump.1.items), the.DONE)
 answer_told (answer.Kill said) = kill_told said
 answer_told (answer.Stop said) = stop_told said
 
@@ -90,6 +93,15 @@ failure_of_client fault = StrangeAnswer
 abbrev pub failure_of_connect : ErrorKind → Failure
 failure_of_connect OutOfMemory = Memory
 failure_of_connect kind = NoConnection
+
+-- the port mapper is looked for at ::1 too, by why it is not found at 127.0.0.1: that is refused, or can't be reached
+abbrev pub tries_ipv6 : ErrorKind → Bool
+tries_ipv6 ConnectionRefused = true
+tries_ipv6 HostUnreachable = true
+tries_ipv6 NetworkUnreachable = true
+tries_ipv6 NetworkDown = true
+tries_ipv6 AddrNotAvailable = true
+tries_ipv6 kind = false
 
 -- the page of a text and a status, or the failure, or there was no memory for the page
 abbrev pub IsTold : Result (List ℕ × ℕ) Failure → Result Page Failure → Type 0

@@ -1,6 +1,6 @@
 -- What the daemon of a command is set to, and how its end is told. Profile.
 use Rattle.std.specs.{Duration.as_nanos, Fmt.decimal, List.concat, Prelude.{◌≡◌, ℕ, ◌+◌, ◌==◌, List, [], ◌∷◌, ◌++◌}}
-use Rattle.std.specs.Prelude.{codes, slice_get, slice_index, if◌then◌else◌, ◌%◌, ◌/◌, ◌^◌, Bool, true, false}
+use Rattle.std.specs.Prelude.{codes, slice_get, slice_index, if◌then◌else◌, ◌%◌, ◌^◌, Bool, true, false}
 use Rattle.std.specs.Prelude.{string_bytes, Option, Some, None, option_map, Result, Ok, Err}
 use Rattle.std.specs.declared.time.Duration.{Duration}
 use Rattle.portmap_core.specs.Config.{Configuration}
@@ -12,10 +12,10 @@ use Rattle.epmd.specs.declared.words.Command.{Command}
 use Rattle.epmd.specs.declared.actions.TheConstants as actions
 use Rattle.epmd.specs.declared.daemon.TheConstants as the
 
--- where creations start: at the seconds since 1970, as far as 32 bits hold them
+-- where creations start: at the nanoseconds since 1970, as far as 32 bits hold them
 abbrev pub first_by : Option Duration → ℕ
 first_by None = 0
-first_by (Some now) = as_nanos now / 1_000_000_000 % 2 ^ 32
+first_by (Some now) = as_nanos now % 2 ^ 32
 
 -- the port mapper of a command
 abbrev pub config_of : Command → Configuration

@@ -1,6 +1,7 @@
 -- What is said on standard error. Profile.
 use Rattle.std.specs.Io.KnownBytes.{Appends}
-use Rattle.std.specs.Prelude.{◌≡◌, ℕ, ◌<◌, ◌≤◌, List, length, take, Bool, true, false, Option, ◌⊎◌}
+use Rattle.std.specs.List.{concat}
+use Rattle.std.specs.Prelude.{◌≡◌, ℕ, ◌<◌, ◌≤◌, List, [], ◌∷◌, ◌++◌, length, take, codes, Bool, true, false, Option, ◌⊎◌}
 use Rattle.portmap_link.specs.Adapters.{writing_inner, writing_puts, writing_broken}
 use Rattle.portmap_link.specs.declared.adapters.writer.Writing.{Writing}
 use Rattle.epmd.specs.declared.errors.TheConstants.{PUTS_MOST}
@@ -18,3 +19,12 @@ IsSpent errors = (writing_broken errors ≡ true) ⊎ (PUTS_MOST ≤ length (wri
 abbrev pub IsSaid : {E : Type 0} → (E → Option (List ℕ)) → List ℕ → Writing E → Writing E → Type 0
 IsSaid contents text old new = (whole : Bool) × IsTaken text whole (contents (writing_inner old)) (contents (writing_inner new))
     × (whole ≡ false → IsSpent new)
+
+-- ---- files that are named behind the line of a failure
+
+abbrev pub file_line : List ℕ → List ℕ
+file_line path = codes "epmd: in " ++ path ++ codes "\n"
+
+-- with the system's words
+abbrev pub reason_line : List ℕ → List ℕ → List ℕ
+reason_line path reason = concat (codes "epmd: " ∷ path ∷ codes ": " ∷ reason ∷ codes "\n" ∷ [])

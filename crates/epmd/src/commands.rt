@@ -14,6 +14,7 @@ use crate::actions::{DONE, FAILED, Failure, NOT_DONE, end, fail};
 use crate::words::Action;
 use itoa::Buffer;
 use portmap_client::{ClientFault, Kill, Stop, dump, kill, names, stop};
+use portmap_daemon::shown;
 use portmap_link::{Input, NoMemory, Output, Writing, write_reply};
 use portmap_wire::{Line, put_names_line};
 use std::alloc::Global;
@@ -155,11 +156,11 @@ fn page_of(alloc: Global, answer: &Answer) -> Result<Page, Failure>
 {
     match answer {
         Answer::Names((port, lines)) => Ok(Page {
-            text: names_text(alloc, *port, lines)?,
+            text: shown(alloc, &names_text(alloc, *port, lines)?)?,
             status: DONE,
         }),
         Answer::Dump((port, lines)) => Ok(Page {
-            text: dump_text(alloc, *port, lines)?,
+            text: shown(alloc, &dump_text(alloc, *port, lines)?)?,
             status: DONE,
         }),
         Answer::Kill(said) => kill_page(alloc, *said),

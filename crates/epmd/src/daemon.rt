@@ -31,13 +31,13 @@ const EVERYWHERE: &[u8] = b"[::]:";
 
 const ITSELF: &[u8] = b"[::1]:";
 
-/// Where creations start, by the time since 1970: its seconds, so that a name which registers with the next daemon most
-/// likely gets another creation. 0 where the time is not known.
+/// Where creations start, by the time since 1970: its nanoseconds modulo 2^32, which two starts most likely don't
+/// share. 0 where the time is not known.
 fn first_by(now: Option<Duration>) -> u32
     ensures { result ≡ first_by now }
 {
     match now {
-        Some(now) => (now.as_secs() % 4_294_967_296) as u32,
+        Some(now) => (now.as_nanos() % 4_294_967_296) as u32,
         None => 0,
     }
 }

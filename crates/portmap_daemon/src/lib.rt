@@ -12,6 +12,7 @@
 #![tactic(auto)]
 
 mod daemon;
+mod descriptors;
 mod limits;
 mod listening;
 mod mio_system;
@@ -23,5 +24,5 @@ pub use crate::listening::{HandedFault, beside, handed_over};
 pub use crate::mio_system::{MioStream, MioSystem, MioWaker};
 pub use portmap_worker::{
     Carrier, FILE_BYTES_MOST, Gate, Host, Next, Notice, Open, Outcome, Point, RecordFile, Recorder,
-    Refused, Source, Turn, serve,
+    Refused, Source, Turn, serve, shown,
 };

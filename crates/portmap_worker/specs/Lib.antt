@@ -1,6 +1,7 @@
 pub mod Carrying
 pub mod Link
 pub mod Listening
+pub mod Notices
 pub mod Parts
 pub mod Peers
 pub mod Pending
@@ -8,3 +9,6 @@ pub mod Queue
 pub mod Quota
 pub mod Recording
 pub mod Refused
+pub mod Remote
+pub mod Showing
+pub mod Unsent

@@ -1,4 +1,6 @@
 -- What a worker's source knows of a connection: profile.
+use Rattle.portmap_link.specs.declared.device.Put.{Put, TheVariants.{Fault, Wrote}}
+use Rattle.portmap_link.specs.declared.device.Put.TheVariants as put
 use Rattle.std.specs.IoError.{error_kind}
 use Rattle.std.specs.Prelude.{ℕ, ◌-◌, ◌≤◌, Bool, true, false, not, ◌||◌, Option, Some, None, Result, Ok, Err, ◌≡◌}
 use Rattle.std.specs.declared.io.Error.{Error}
@@ -32,6 +34,12 @@ is_answered Left = true
 -- whether a peer has only so much time: one that was answered and has read the answer, as each that holds a name, has as much as it likes
 abbrev pub is_timed : Progress → Writing → Bool
 is_timed progress writing = not (is_answered progress) || is_unsent writing
+
+-- how many bytes wait to be written after so many were offered, by the answer
+abbrev pub unsent_after : Put → ℕ → ℕ
+unsent_after (Wrote n) offered = offered - n
+unsent_after put.Later offered = offered
+unsent_after Fault offered = 0
 
 -- what the poll is to report
 abbrev pub wanted : Writing → Interest

@@ -3,6 +3,7 @@ use Rattle.std.specs.Fmt.{decimal}
 use Rattle.std.specs.Prelude.{ℕ, ◌≡◌, ◌⊎◌, ◌==◌, List, [], ◌++◌, codes, Option, Some, None, if◌then◌else◌}
 use Rattle.portmap_wire.specs.{Reply.alive_reply, declared.reply_writing.TheConstants.WIDE_VERSION}
 use Rattle.portmap_core.specs.Entry.{Entry, Connected, Piece, Closed, Faulted, Late}
+use Rattle.portmap_worker.specs.Showing.{shown}
 
 -- result 1, as a short answer or a wide one
 abbrev pub TellsInUse : List ℕ → Type 0
@@ -19,10 +20,13 @@ IsInUse (Late slot fate) = ⊥
 -- by its name, where that is known
 abbrev pub named : Option (List ℕ) → List ℕ
 named None = codes "a name"
-named (Some name) = codes "name " ++ name
+named (Some name) = codes "name " ++ shown name
+
+-- the words for so many more
+abbrev pub and_more : ℕ → List ℕ
+and_more more = if more == 0 then [] else codes ", and " ++ decimal more ++ codes " more"
 
 -- the line that tells of the first one, and of so many more
 abbrev pub in_use_line : Option (List ℕ) → ℕ → List ℕ
 in_use_line name more =
-    codes "epmd: " ++ named name ++ codes " is in use"
-    ++ (if more == 0 then [] else codes ", and " ++ decimal more ++ codes " more") ++ codes "\n"
+    codes "epmd: " ++ named name ++ codes " is in use" ++ and_more more ++ codes "\n"

@@ -16,6 +16,7 @@ use crate::shared::Shared;
 use crate::socket_source::SocketSource;
 use crate::sockets::Sockets;
 use crate::system::{Stream, System};
+use crate::unsent::Unsent;
 use portmap_ready::Place;
 use std::net::IpAddr;
 use std::rt::Clock;
@@ -55,6 +56,8 @@ pub(crate) struct Door<S: Stream> {
     pub(crate) newcomer: Option<Newcomer<S>>,
     /// No link is looked for before this time that may be given up for another one.
     room_backoff: u64,
+    /// Since when a connection waits at a listener that can't be accepted, for want of descriptors or of memory.
+    lacking: Option<u64>,
 }
 
 impl<S: Stream> Door<S> {
@@ -65,6 +68,7 @@ impl<S: Stream> Door<S> {
             backlog: 0,
             newcomer: None,
             room_backoff: 0,
+            lacking: None,
         }
     }
 
@@ -154,8 +158,12 @@ impl<'a, L: Ledger, S: System, R: Host + Wait + Clock> SocketSource<'a, L, S, R>
         let has_waited = waiting.is_some();
         let newcomer = match waiting {
             Some(newcomer) => newcomer,
-            None => self.sockets.accept(self.shared, self.rounds.time)?,
+            None => match self.sockets.accept(self.shared, self.rounds.time) {
+                Some(newcomer) => newcomer,
+                None => return self.free_descriptor(),
+            },
         };
+        self.end_lack();
         let turn = match self.shared.quota.take(newcomer.is_local) {
             Some(permit) => self.take(newcomer, permit),
             None => self.make_room(newcomer),
@@ -197,6 +205,7 @@ impl<'a, L: Ledger, S: System, R: Host + Wait + Clock> SocketSource<'a, L, S, R>
             link: Link::new(self.alloc, newcomer.stream, local, self.rounds.time),
             waiting: Waiting::Come,
             permit,
+            unsent: Unsent::new(&self.shared.unsent, local, self.rounds.time),
         };
         let key = self.ready.insert(held).ok()? as u64;
         Some(Turn::Fresh { key, local })
@@ -228,6 +237,36 @@ impl<'a, L: Ledger, S: System, R: Host + Wait + Clock> SocketSource<'a, L, S, R>
         None
     }
 
+    /// None could be accepted: if that is for want of descriptors or of memory a connection is given up for it, as if
+    /// there were no place, here or by another worker soon. From which host it comes isn't known: remote ones go first.
+    fn free_descriptor(&mut self) -> Option<Turn>
+        ensures { self.new.ready.told ≡ self.old.ready.told }
+    {
+        if !self.sockets.listeners.take_lack() {
+            self.end_lack();
+            return None;
+        }
+        let now = self.rounds.time;
+        let waited = now.saturating_sub(*self.door.lacking.get_or_insert(now));
+        let remote_first = spares_local(waited, self.shared.quota.remote());
+        if let Some(key) = self.door.candidate(&self.ready, !remote_first, now) {
+            return Some(give_way(&mut self.ready, key, now));
+        }
+        if self.shared.quota.want(remote_first) {
+            self.shared.wake_others(self.sockets.worker);
+        }
+        None
+    }
+
+    /// Connections can be accepted, or none waits: none is to be given up for one.
+    fn end_lack(&mut self)
+        ensures { self.new.ready.told ≡ self.old.ready.told }
+    {
+        if self.door.lacking.take().is_some() {
+            self.shared.quota.want_none();
+        }
+    }
+
     /// Gives up a connection, if a local peer waits for a place at another worker and one may be.
     pub(crate) fn make_way(&mut self) -> Option<Turn> {
         let (is_wanted, is_any) = self.shared.quota.wanted();
@@ -241,7 +280,7 @@ impl<'a, L: Ledger, S: System, R: Host + Wait + Clock> SocketSource<'a, L, S, R>
 }
 
 /// The link with this key is given up.
-fn give_way<S: Stream>(links: &mut Links<'_, S>, key: usize, now: u64) -> Turn
+pub(crate) fn give_way<S: Stream>(links: &mut Links<'_, S>, key: usize, now: u64) -> Turn
     ensures told { links.new.told ≡ links.old.told }
     ensures late { result ≡ Turn.Late key }
 {

@@ -17,12 +17,14 @@
 //!   (`take_turn`), and the epoch that is passed had begun before the poll was asked (`ask_behind`).
 //! - Each place that is taken is a `Permit`, made by `Quota::take` alone and given back as it is dropped: so what the
 //!   quota counts is what links have.
-//! - Which connections are open is decided by functions over values, each exact (`is_free`, `goes_before`,
-//!   `spares_local`, `poll_timeout`, `note_poll`, `is_held`, `acceptors_without`, `accept_error`, `starved_for`,
-//!   `failure_of`), and so are a link's times (`may_move`, `since_at`, `expire`, `take_late`), how a registration waits
-//!   (`told_at_once`, `Waiting::next`), when the log is taken out, what waits and when a file is full (`is_due`,
-//!   `fits`, `is_full`), and what the operator is told (`notice`, `Refused`). That they are asked: tests and the
-//!   simulation.
+//! - These decisions are exact functions over values. That they are asked: tests and the simulation.
+//!   - Which connections are open: `is_free`, `goes_before`, `spares_local`, `may_reset`, `unread_since`,
+//!     `poll_timeout`, `note_poll`, `is_held`, `acceptors_without`, `accept_error`, `starved_for`, `failure_of`.
+//!   - The times of a link: `may_move`, `since_at`, `expire`, `take_late`. How a registration waits: `told_at_once`,
+//!     `Waiting::next`.
+//!   - When the log is taken out, what waits, and when a file is full: `is_due`, `fits`, `is_full`. When a recording
+//!     that failed begins anew, with what and in which file: `is_tried`, `begin_anew`, `next_number`.
+//!   - What the operator reads: `notice`, `news_of`, `Notice::line`, `Refused`, `RemoteRefused`, `shown`.
 //! - `System`, `Stream`, `Wake`: what workers ask of the system. Nothing is asked of who answers but that a read or a
 //!   write moves no more bytes than there is room for.
 #![tactic(auto)]
@@ -41,7 +43,9 @@ mod link;
 mod listener;
 mod memory;
 mod news;
+mod notice;
 mod open_link;
+mod operator;
 mod peer;
 mod pending;
 mod polling;
@@ -51,33 +55,43 @@ mod readiness;
 mod recorder;
 mod recording;
 mod refused;
+mod remote;
 mod rounds;
 mod serving;
 mod shared;
+mod showing;
 mod socket_source;
 mod sockets;
 mod source;
 mod system;
 mod timer;
+mod unsent;
 mod workplace;
+mod write_fault;
 
 pub use crate::carrier::{Carrier, Next};
 pub use crate::drain::{Drain, Drained, begin_file, drain_log};
 pub use crate::ending::{Ending, Failure};
 pub use crate::gate::{Gate, Open, Point};
-pub use crate::host::{Host, Notice, RecordFile};
-pub use crate::limits::{EVENTS_MOST, FILE_BYTES_MOST, PULL_BYTES_MOST, numbers_are_the_profiles};
+pub use crate::host::{Host, RecordFile};
+pub use crate::limits::{
+    EVENTS_MOST, FILE_BYTES_MOST, PULL_BYTES_MOST, UNSENT_BYTES_MOST, numbers_are_the_profiles,
+};
 pub use crate::link::Link;
 pub use crate::news::Noted;
+pub use crate::notice::Notice;
 pub use crate::peer::is_local_peer;
 pub use crate::queue::{FileStart, Part, RecordQueue};
 pub use crate::recorder::{Recorder, recordings_are_fronts, recordings_are_records};
 pub use crate::recording::{RecordWriter, write_recording};
 pub use crate::refused::Refused;
+pub use crate::remote::{LocalRequest, RemoteRefused, RemoteSlots};
 pub use crate::serving::{Outcome, Worker, serve};
 pub use crate::shared::{Shared, WorkerState};
+pub use crate::showing::{controls_are_escaped, plain_text_stays, shown};
 pub use crate::socket_source::SocketSource;
 pub use crate::sockets::Sockets;
 pub use crate::source::{Source, Turn};
 pub use crate::system::{Interest, Report, Stream, System, Wake};
 pub use crate::workplace::Workplace;
+pub use crate::write_fault::WriteFault;

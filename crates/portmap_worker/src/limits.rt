@@ -2,6 +2,8 @@
 ghost use Rattle.std.specs.Prelude.{◌≡◌, ◌+◌, ◌*◌, ◌^◌};
 ghost use Rattle.portmap_worker.specs.declared.limits.TheConstants.{ACCEPT_BACKOFF_MS, FILE_BYTES_MOST, KEPT_SHARE};
 ghost use Rattle.portmap_worker.specs.declared.limits.TheConstants.{LATERS_MOST};
+ghost use Rattle.portmap_worker.specs.declared.limits.TheConstants.{UNSENT_BYTES_MOST, UNSENT_HEAVY_SHARE};
+ghost use Rattle.portmap_worker.specs.declared.limits.TheConstants.{UNSENT_SPARED_SHARE};
 ghost use Rattle.portmap_worker.specs.declared.limits.TheConstants.{LOG_BYTES_HEAVY, PULL_BYTES_MOST, QUEUE_BYTES_MOST};
 ghost use Rattle.portmap_record.specs.declared.playing.TheConstants.{SESSION_MOST};
 
@@ -36,9 +38,6 @@ pub(crate) const RESTS_MOST: u32 = 4;
 
 // ---- pending registrations
 
-/// The most that are pending at one worker.
-pub(crate) const PENDING_MOST: usize = 64;
-
 /// For so long one waits for its name alone, and then until every worker has passed an epoch, or for so long and so
 /// many rounds.
 pub(crate) const NAME_TIMEOUT_MS: u64 = 50;
@@ -68,6 +67,22 @@ pub(crate) const IDLE_TIMEOUT_MS: u64 = 10_000;
 /// How long it waits at most while others are waited for.
 pub(crate) const SHORT_TIMEOUT_MS: u64 = 1;
 
+// ---- replies that wait to be read
+
+/// The most bytes of replies that may wait to be written, over all connections of a daemon. Beyond it connections are
+/// reset whose peers read nothing.
+pub const UNSENT_BYTES_MOST: u64 = 33_554_432;
+
+/// Only a connection for which more than such a share waits is reset. Of 1,024 connections one has so much if more
+/// waits than may.
+pub(crate) const UNSENT_HEAVY_SHARE: u64 = 1024;
+
+/// While a remote connection has so much, local ones are reset only if this share more waits than may.
+pub(crate) const UNSENT_SPARED_SHARE: u64 = 4;
+
+/// If such a share waits, a local peer that asks for a list is served after a rest.
+pub(crate) const UNSENT_CROWDED_SHARE: u64 = 32;
+
 // ---- which workers accept
 
 /// For so long a listener is left alone at which nothing can be accepted.
@@ -92,8 +107,9 @@ pub(crate) const BACKLOG_MOST: u32 = 32;
 
 // ---- the log and its recording
 
-/// The log is taken out each time that a second is over, each 50 milliseconds while memory is short, and at once if its
-/// entries take so many bytes: so few that the memory of a log serves the next ones. Then it is looked at again soon.
+/// The log is taken out each time that a second is over, each 50 milliseconds while memory is short (then memory is
+/// looked for too), and at once if its entries take so many bytes: so few that the memory of a log serves the next
+/// ones. Then it is looked at again soon.
 pub(crate) const SECOND_MS: u64 = 1000;
 
 pub(crate) const SHORT_OF_MEMORY_MS: u64 = 50;
@@ -126,6 +142,9 @@ pub(crate) const QUEUE_BYTES_MOST: u64 = 16_777_216;
 /// again.
 pub const FILE_BYTES_MOST: u64 = SESSION_MOST as u64 - QUEUE_BYTES_MOST;
 
+/// A recording that has failed is begun anew each time that it could be for so many seconds.
+pub(crate) const RESUME_SECONDS: u32 = 10;
+
 // ---- memory
 
 /// How many bytes are kept for the time when no other memory can be had: so many that the system has them back at once,
@@ -138,8 +157,7 @@ pub(crate) const PROBE_BYTES: usize = 65_536;
 /// After so many seconds on end in which nothing got through for want of memory the daemon ends.
 pub(crate) const STARVED_SECONDS_MOST: u32 = 5;
 
-/// Between two notices of a kind, that no connection can be accepted or that names were refused, so many seconds pass
-/// at least.
+/// Between two lines of a kind that an operator reads so many seconds pass at least.
 pub(crate) const NOTICE_SECONDS: u32 = 10;
 
 /// A law: the numbers that definitions take from the code are those of this profile.
@@ -147,5 +165,6 @@ pub fn numbers_are_the_profiles()
     ensures serving { (PULL_BYTES_MOST ≡ 4096) × (KEPT_SHARE ≡ 8) × (ACCEPT_BACKOFF_MS ≡ 20) }
     ensures recording { (LATERS_MOST ≡ 1000) × (LOG_BYTES_HEAVY ≡ 2 ^ 18) × (QUEUE_BYTES_MOST ≡ 2 ^ 24)
         × (FILE_BYTES_MOST ≡ 240 * 2 ^ 20) }
+    ensures unsent { (UNSENT_BYTES_MOST ≡ 2 ^ 25) × (UNSENT_HEAVY_SHARE ≡ 1024) × (UNSENT_SPARED_SHARE ≡ 4) }
     ensures file { FILE_BYTES_MOST + QUEUE_BYTES_MOST ≡ SESSION_MOST }
 {}

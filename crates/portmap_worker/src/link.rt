@@ -1,6 +1,6 @@
 //! A connection that a worker holds: its stream as a device, and what the worker's source has to know of it.
 ghost use Rattle.std.specs.Prelude.{◌≡◌, ◌↔◌, ◌+◌, ◌-◌, ◌^◌, ◌<◌, [], min, Some, None, true, false};
-ghost use Rattle.portmap_worker.specs.Link.{IsBroken, IsOf, is_answered, is_timed, may_move};
+ghost use Rattle.portmap_worker.specs.Link.{IsBroken, IsOf, is_answered, is_timed, may_move, unsent_after};
 ghost use Rattle.portmap_worker.specs.declared.limits.TheConstants.{YOUNG_MS};
 
 use crate::Turn;
@@ -49,8 +49,12 @@ pub struct Link<S: Read + Write> {
     /// When it came.
     pub(crate) came: u64,
     /// It was answered and goes on sending: what it sends is of no use, and is read piece by piece with rests in
-    /// between. Or the poll has refused to report it.
+    /// between. Or it asks for a list while many bytes wait to be written, or the poll has refused to report it.
     is_resting: bool,
+    /// Many bytes wait to be written, over all connections.
+    is_crowded: bool,
+    /// How many bytes wait to be written.
+    unsent_bytes: usize,
     /// How many bytes have moved since that was last asked.
     moved_bytes: usize,
 }
@@ -88,6 +92,8 @@ impl<S: Read + Write> Link<S> {
             is_local,
             came: now,
             is_resting: false,
+            is_crowded: false,
+            unsent_bytes: 0,
             moved_bytes: 0,
         }
     }
@@ -116,6 +122,18 @@ impl<S: Read + Write> Link<S> {
         ensures { result ≡ is_answered self.now.progress }
     {
         self.progress != Progress::Asked
+    }
+
+    /// How many bytes wait to be written.
+    pub(crate) fn unsent_bytes(&self) -> usize
+        ensures { result ≡ self.now.unsent_bytes }
+    {
+        self.unsent_bytes
+    }
+
+    /// Whether many bytes wait to be written, over all connections.
+    pub(crate) fn note_crowd(&mut self, is_crowded: bool) {
+        self.is_crowded = is_crowded;
     }
 
     /// How many bytes have moved since this was last asked.
@@ -301,6 +319,17 @@ impl<S: Read + Write> Device for Link<S> {
     ghost broken = { λ l. l.history.failed };
 }
 
+/// How many bytes wait to be written after so many were offered, by the answer.
+fn unsent_after(answer: &Put, offered: usize) -> usize
+    ensures { result ≡ unsent_after answer.now offered }
+{
+    match answer {
+        Put::Wrote(count) => offered.saturating_sub(*count),
+        Put::Later => offered,
+        Put::Fault => 0,
+    }
+}
+
 /// What a device that has failed tells.
 fn broken() -> io::Result<usize>
     ensures { IsBroken result }
@@ -315,8 +344,9 @@ impl<S: Read + Write> Input for Link<S> {
         } else if self.progress == Progress::Left {
             Ok(0)
         } else {
-            self.first.read(&mut self.stream, buffer)
+            self.first.read(&mut self.stream, buffer, self.is_crowded)
         };
+        self.is_resting = self.is_resting || self.first.asks_list();
         let is_blocked = would_block(&told);
         let answer = pull_from(told);
         self.history.failed = answer == Pull::Fault;
@@ -345,6 +375,7 @@ impl<S: Read + Write> Output for Link<S> {
         self.history.failed = answer == Put::Fault;
         self.history.puts.note(&answer);
         self.readiness.note_put(&answer, is_blocked);
+        self.unsent_bytes = unsent_after(&answer, bytes.len());
         if let Put::Wrote(count) = answer {
             self.note_written(count);
         }

@@ -129,8 +129,9 @@ pub(crate) struct Listeners {
     is_on: bool,
     /// How many reports in a row came to nothing.
     idle_reports: u32,
-    /// A connection could not be accepted since that was last asked.
+    /// A connection could not be accepted since that was last asked: by the poll, and by who frees a descriptor.
     exhausted: bool,
+    lacks_descriptor: bool,
 }
 
 impl Listeners {
@@ -154,6 +155,7 @@ impl Listeners {
             is_on,
             idle_reports: 0,
             exhausted: false,
+            lacks_descriptor: false,
         })
     }
 
@@ -223,7 +225,10 @@ impl Listeners {
                 AcceptError::Aborted => {}
                 AcceptError::WouldBlock if listener.took => {}
                 AcceptError::WouldBlock => self.idle_reports = self.idle_reports.saturating_add(1),
-                AcceptError::Exhausted => self.exhausted = true,
+                AcceptError::Exhausted => {
+                    self.exhausted = true;
+                    self.lacks_descriptor = true;
+                }
             },
         }
         None
@@ -244,6 +249,14 @@ impl Listeners {
         ensures asked { self.new.exhausted ≡ false }
     {
         mem::replace(&mut self.exhausted, false)
+    }
+
+    /// Whether one could not be accepted since this was last asked.
+    pub(crate) fn take_lack(&mut self) -> bool
+        ensures taken { result ≡ self.old.lacks_descriptor }
+        ensures asked { self.new.lacks_descriptor ≡ false }
+    {
+        mem::replace(&mut self.lacks_descriptor, false)
     }
 
     /// Watches the listeners from now on, or leaves them, as the worker accepts or not. Those that are to be watched

@@ -64,11 +64,21 @@ impl Memory {
         self.reserve.take().is_some()
     }
 
-    /// A peer went unanswered: if no memory can be had that is why, perhaps, and the reserve is given back.
-    pub(crate) fn relieve_if_short<R: Host>(&mut self, rt: &R, alloc: Global, short: &AtomicBool) {
-        if self.reserve.is_some() && !rt.has_memory(alloc) {
-            self.relieve(short);
-        }
+    /// A peer went unanswered: if no memory can be had that is why, perhaps, and the reserve is given back. Whether it
+    /// was.
+    pub(crate) fn relieve_if_short<R: Host>(
+        &mut self,
+        rt: &R,
+        alloc: Global,
+        short: &AtomicBool,
+    ) -> bool {
+        self.reserve.is_some() && !rt.has_memory(alloc) && self.relieve(short)
+    }
+
+    /// Looks for a reserve, or for a larger one than is held.
+    pub(crate) fn regain<R: Host>(&mut self, rt: &R, alloc: Global) {
+        let held = self.reserve.as_ref().map_or(0, |held| held.capacity());
+        self.reserve = reserve(rt, alloc, held).or(self.reserve.take());
     }
 
     /// Takes a look, once a second, by whether entries are left in the log that could not be taken out, and what has
@@ -85,8 +95,7 @@ impl Memory {
             self.relieve_if_short(rt, alloc, short);
         }
         if !stuck {
-            let held = self.reserve.as_ref().map_or(0, |held| held.capacity());
-            self.reserve = reserve(rt, alloc, held).or(self.reserve.take());
+            self.regain(rt, alloc);
         }
         self.starved_seconds = starved_for(self.starved_seconds, stuck, self.is_short(), news);
         self.starved_seconds >= STARVED_SECONDS_MOST

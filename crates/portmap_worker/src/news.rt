@@ -3,7 +3,7 @@ use crate::limits::WEIGH_BYTES;
 use crate::shared::Shared;
 use crate::system::Wake;
 use std::mem;
-use std::sync::atomic::{AtomicBool, Ordering};
+use std::sync::atomic::{AtomicBool, AtomicU64, Ordering};
 
 /// What has become of connections since that was last asked.
 #[derive(Clone, Copy, Debug, Default, PartialEq, Eq)]
@@ -14,6 +14,10 @@ pub(crate) struct News {
     pub(crate) unanswered: bool,
     /// One waits that can't be accepted, for want of descriptors or of memory.
     pub(crate) exhausted: bool,
+    /// So many have ended unanswered while the reserve of memory was given back.
+    pub(crate) refused: u64,
+    /// So many were reset, since too many bytes waited for peers that do not read.
+    pub(crate) resets: u64,
 }
 
 /// The news of all workers.
@@ -22,6 +26,8 @@ pub struct Noted {
     answered: AtomicBool,
     unanswered: AtomicBool,
     exhausted: AtomicBool,
+    refused: AtomicU64,
+    resets: AtomicU64,
 }
 
 impl Noted {
@@ -30,6 +36,8 @@ impl Noted {
     fn add(&self, news: News) -> bool {
         self.answered.fetch_or(news.answered, Ordering::SeqCst);
         self.exhausted.fetch_or(news.exhausted, Ordering::SeqCst);
+        self.refused.fetch_add(news.refused, Ordering::SeqCst);
+        self.resets.fetch_add(news.resets, Ordering::SeqCst);
         news.unanswered && !self.unanswered.swap(true, Ordering::SeqCst)
     }
 
@@ -44,6 +52,8 @@ impl Noted {
             answered: self.answered.swap(false, Ordering::SeqCst),
             unanswered: self.unanswered.swap(false, Ordering::SeqCst),
             exhausted: self.exhausted.swap(false, Ordering::SeqCst),
+            refused: self.refused.swap(0, Ordering::SeqCst),
+            resets: self.resets.swap(0, Ordering::SeqCst),
         }
     }
 }
@@ -76,7 +86,15 @@ impl Tally {
     /// A connection has ended, or was closed at once, to which nothing was ever written: perhaps for want of memory.
     pub(crate) fn note_unanswered<W: Wake>(&mut self, shared: &Shared<W>) {
         self.news.unanswered = true;
+        if shared.short.load(Ordering::SeqCst) {
+            self.news.refused = self.news.refused.saturating_add(1);
+        }
         self.publish(shared);
+    }
+
+    /// A connection was reset, since too many bytes waited for peers that do not read.
+    pub(crate) fn note_reset(&mut self) {
+        self.news.resets = self.news.resets.saturating_add(1);
     }
 
     /// The news are told.

@@ -6,6 +6,7 @@ use crate::link::Link;
 use crate::pending::Waiting;
 use crate::quota::Permit;
 use crate::system::{Stream, System};
+use crate::unsent::Unsent;
 use portmap_ready::{Place, Ready};
 
 /// What becomes of a link that was told.
@@ -26,6 +27,7 @@ pub(crate) struct OpenLink<'a, S: Stream> {
     /// How long its registration goes on waiting, while it is pending.
     pub(crate) waiting: Waiting,
     pub(crate) permit: Permit<'a>,
+    pub(crate) unsent: Unsent<'a>,
 }
 
 impl<S: Stream> Drop for OpenLink<'_, S> {
@@ -35,6 +37,7 @@ impl<S: Stream> Drop for OpenLink<'_, S> {
             link: _link,
             waiting: _,
             permit: _permit,
+            unsent: _unsent,
         } = self;
     }
 }
@@ -42,26 +45,39 @@ impl<S: Stream> Drop for OpenLink<'_, S> {
 /// The links of a worker, by key.
 pub(crate) type Links<'a, S> = Ready<OpenLink<'a, S>>;
 
-/// The link that was told last is put at the place that it is to stand at. How many bytes it has moved.
+/// What the turn of a link has moved.
+#[derive(Clone, Copy)]
+pub(crate) struct Moved {
+    pub(crate) bytes: usize,
+    /// More bytes wait to be written than before.
+    pub(crate) is_unread: bool,
+}
+
+/// The link that was told last is put at the place that it is to stand at, at this time. What it has moved.
 pub(crate) fn put_in_place<S: System>(
     links: &mut Links<'_, S::Stream>,
     system: &mut S,
     key: usize,
-) -> usize
+    now: u64,
+) -> Moved
     requires { links.old.told ≡ Some key }
     ensures { links.new.told ≡ None }
 {
     let Some(held) = links.get_mut(key) else {
         links.leave(key);
-        return 0;
+        return Moved {
+            bytes: 0,
+            is_unread: false,
+        };
     };
     let bytes = held.link.take_moved_bytes();
+    let is_unread = held.unsent.set(held.link.unsent_bytes() as u64, now);
     match held.link.fate(system, key) {
         Fate::Again => links.put_back(key),
         Fate::Rests => links.rest(key),
         Fate::Waits => links.leave(key),
     }
-    bytes
+    Moved { bytes, is_unread }
 }
 
 /// The poll has reported a link, and perhaps that its peer sends no more. There is something to tell of it, unless it

@@ -4,11 +4,10 @@
 //! is free soon. What the machine says after that is final.
 ghost use Rattle.std.specs.Prelude.{◌≡◌, ◌↔◌, ◌<◌, ◌≤◌, true, false, Some, None};
 ghost use Rattle.portmap_worker.specs.Pending.{GivesUp, GoesOn, earliest, until};
-ghost use Rattle.portmap_worker.specs.declared.limits.TheConstants.{PENDING_MOST};
 
 use crate::Turn;
 use crate::host::Host;
-use crate::limits::{EPOCH_ROUNDS_MOST, EPOCH_TIMEOUT_MS, NAME_TIMEOUT_MS, PENDING_MOST};
+use crate::limits::{EPOCH_ROUNDS_MOST, EPOCH_TIMEOUT_MS, NAME_TIMEOUT_MS};
 use crate::open_link::Links;
 use crate::rounds::Rounds;
 use crate::shared::Shared;
@@ -76,20 +75,19 @@ impl Waiting {
     }
 }
 
-/// What is told at once of the link with this key that keeps a registration back, while so many are pending; none if it
-/// is to wait.
-fn told_at_once(key: u64, is_short: bool, is_active: bool, pending: usize) -> Option<Turn>
+/// What is told at once of the link with this key that keeps a registration back; none if it is to wait, since its name
+/// is active. There are no more that wait than places.
+fn told_at_once(key: u64, is_short: bool, is_active: bool) -> Option<Turn>
     ensures short { is_short ≡ true → result ≡ Some (Turn.Late key) }
     ensures free { is_short ≡ false → is_active ≡ false → result ≡ Some (Turn.Ready key) }
-    ensures full { is_short ≡ false → PENDING_MOST ≤ pending → result ≡ Some (Turn.Ready key) }
-    ensures waits { is_short ≡ false → is_active ≡ true → pending < PENDING_MOST → result ≡ None }
+    ensures waits { is_short ≡ false → is_active ≡ true → result ≡ None }
 {
     if is_short {
         Some(Turn::Late(key))
-    } else if !is_active || pending >= PENDING_MOST {
-        Some(Turn::Ready(key))
-    } else {
+    } else if is_active {
         None
+    } else {
+        Some(Turn::Ready(key))
     }
 }
 
@@ -113,13 +111,12 @@ impl<L: Ledger, S: System, R: Host + Wait + Clock> SocketSource<'_, L, S, R> {
         self.shared.short.load(Ordering::SeqCst) || !self.rt.has_memory(self.alloc)
     }
 
-    /// What the link that was told last keeps back is told at once, unless its name is active and there is room for one
-    /// more that waits, or no memory is left that others may need.
+    /// What the link that was told last keeps back is told at once, unless its name is active, or no memory is left
+    /// that others may need.
     pub(crate) fn hold_back(&mut self) -> Option<Turn> {
         let key = self.ready.told()?;
         let is_active = self.is_name_active(key)?;
-        let pending = self.ready.pending();
-        let told = told_at_once(key as u64, self.is_short(), is_active, pending);
+        let told = told_at_once(key as u64, self.is_short(), is_active);
         if told.is_some() {
             return told;
         }

@@ -32,6 +32,7 @@ impl<L: Ledger, S: System, R: Host + Wait + Clock> SocketSource<'_, L, S, R> {
         self.state
             .busy_since
             .store(self.rounds.time, Ordering::SeqCst);
+        self.looks_for_unread = true;
         if !is_well {
             return Some(self.fail());
         }

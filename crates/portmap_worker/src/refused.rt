@@ -1,8 +1,10 @@
 //! Names that were refused since they are in use, and the line that tells of them.
-ghost use Rattle.std.specs.Prelude.{◌≡◌, ◌↔◌, ◌+◌, ◌-◌, ◌^◌, ◌⊎◌, min, true, Some, None, IfOk, IfSome};
+ghost use Rattle.std.specs.Prelude.{◌≡◌, ◌↔◌, ◌+◌, ◌-◌, ◌^◌, ◌⊎◌, ◌++◌, min, true, Some, None, IfOk, IfSome};
+ghost use Rattle.std.specs.Prelude.{OnOk};
 ghost use Rattle.portmap_core.specs.Entry.{entry_in};
-ghost use Rattle.portmap_worker.specs.Refused.{IsInUse, TellsInUse, in_use_line};
+ghost use Rattle.portmap_worker.specs.Refused.{IsInUse, TellsInUse, and_more, in_use_line};
 
+use crate::showing::shown;
 use itoa::Buffer;
 use portmap_core::{Entry, Name, NoMemory, name_to_register};
 use std::alloc::Global;
@@ -72,17 +74,25 @@ impl Refused {
         match &self.name {
             Some(name) => {
                 line.extend_from_slice(b"name ")?;
-                line.extend_from_slice(name.bytes())?;
+                line.extend_from_slice(&shown(alloc, name.bytes())?)?;
             }
             None => line.extend_from_slice(b"a name")?,
         }
         line.extend_from_slice(b" is in use")?;
-        if self.count > 1 {
-            line.extend_from_slice(b", and ")?;
-            line.extend_from_slice(Buffer::new().format(self.count - 1).as_bytes())?;
-            line.extend_from_slice(b" more")?;
-        }
+        put_more(&mut line, self.count)?;
         line.extend_from_slice(b"\n")?;
         Ok(line)
     }
+}
+
+/// Appends how many more there were of so many than the one that a line names.
+pub(crate) fn put_more(line: &mut Vec<u8>, count: u64) -> Result<(), NoMemory>
+    ensures { OnOk result (line.new.items ≡ line.old.items ++ and_more (count - 1)) }
+{
+    if count > 1 {
+        line.extend_from_slice(b", and ")?;
+        line.extend_from_slice(Buffer::new().format(count - 1).as_bytes())?;
+        line.extend_from_slice(b" more")?;
+    }
+    Ok(())
 }

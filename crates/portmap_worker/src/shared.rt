@@ -6,6 +6,7 @@ use crate::epochs::NO_CONNECTIONS;
 use crate::news::Noted;
 use crate::quota::Quota;
 use crate::system::Wake;
+use crate::unsent::AllUnsent;
 use portmap_link::NoMemory;
 use std::alloc::Global;
 use std::rt::Clock;
@@ -56,6 +57,7 @@ pub struct Shared<W: Wake> {
     /// When the daemon began, by the clock that only goes on; if it could not be read, when that began.
     begun: Duration,
     pub(crate) quota: Quota,
+    pub(crate) unsent: AllUnsent,
     /// How many workers accept connections: the first ones, at least one.
     pub(crate) acceptors: AtomicU64,
     /// The last poll epoch that has begun.
@@ -67,8 +69,15 @@ pub struct Shared<W: Wake> {
 }
 
 impl<W: Wake> Shared<W> {
-    /// What the threads of a daemon share that begins, with so many places for connections.
-    pub fn new<R: Clock>(rt: &R, workers: Vec<WorkerState<W>>, drain: W, places: u32) -> Shared<W>
+    /// What the threads of a daemon share that begins, with so many places for connections, and room for so many bytes
+    /// that wait to be written.
+    pub fn new<R: Clock>(
+        rt: &R,
+        workers: Vec<WorkerState<W>>,
+        drain: W,
+        places: u32,
+        unsent_bytes_most: u64,
+    ) -> Shared<W>
         ensures { vec_len result.workers ≡ vec_len workers }
     {
         Shared {
@@ -76,6 +85,7 @@ impl<W: Wake> Shared<W> {
             drain,
             begun: rt.monotonic().unwrap_or(Duration::ZERO),
             quota: Quota::new(places),
+            unsent: AllUnsent::new(unsent_bytes_most),
             acceptors: AtomicU64::new(1),
             epoch: AtomicU64::new(0),
             short: AtomicBool::new(false),

@@ -39,6 +39,8 @@ pub struct SocketSource<'a, L: Ledger, S: System, R: Host + Wait + Clock> {
     pub(crate) rounds: Rounds,
     /// What is to be told to others soon.
     pub(crate) tally: Tally,
+    /// More bytes may wait to be written than may, over all connections.
+    pub(crate) looks_for_unread: bool,
 }
 
 impl<'a, L: Ledger, S: System, R: Host + Wait + Clock> SocketSource<'a, L, S, R> {
@@ -62,6 +64,7 @@ impl<'a, L: Ledger, S: System, R: Host + Wait + Clock> SocketSource<'a, L, S, R>
             door: Door::new(),
             rounds: Rounds::new(),
             tally: Tally::default(),
+            looks_for_unread: false,
         })
     }
 
@@ -88,8 +91,10 @@ impl<'a, L: Ledger, S: System, R: Host + Wait + Clock> SocketSource<'a, L, S, R>
         let Some(key) = self.ready.told() else {
             return;
         };
-        let bytes = put_in_place(&mut self.ready, &mut self.sockets.system, key);
-        self.note_moved(bytes);
+        let now = self.rounds.time;
+        let moved = put_in_place(&mut self.ready, &mut self.sockets.system, key, now);
+        self.looks_for_unread = self.looks_for_unread || moved.is_unread;
+        self.note_moved(moved.bytes);
     }
 
     /// What is to be told without a poll. A connection that comes and a link that is held are told by turns.
@@ -120,6 +125,10 @@ impl<'a, L: Ledger, S: System, R: Host + Wait + Clock> SocketSource<'a, L, S, R>
             return held_back;
         }
         self.put_back();
+        let unread = self.give_up_unread();
+        if unread.is_some() {
+            return unread;
+        }
         match self.next() {
             None => self.poll(),
             turn => turn,
@@ -133,6 +142,7 @@ impl<'a, L: Ledger, S: System, R: Host + Wait + Clock> SocketSource<'a, L, S, R>
         ensures none { IfNone result ((self.old.ready.queue ≡ []) × (self.new.ready.told ≡ None)) }
     {
         let is_short = self.shared.short.load(Ordering::SeqCst);
+        let is_crowded = self.shared.unsent.is_crowded();
         let key = self.ready.next();
         self.rounds.pass.note_turn(key.is_some());
         let key = key?;
@@ -142,6 +152,7 @@ impl<'a, L: Ledger, S: System, R: Host + Wait + Clock> SocketSource<'a, L, S, R>
         if is_short {
             held.link.refuse_part();
         }
+        held.link.note_crowd(is_crowded);
         Some(held.link.turn(key))
     }
 }

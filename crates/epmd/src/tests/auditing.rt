@@ -1,6 +1,6 @@
 //! Recordings in several files, over memory.
 use super::ending;
-use crate::auditing::{do_audit, number_of, parts_of};
+use crate::auditing::{do_audit, first_place, number_of, parts_of};
 use portmap_core::{Config, Core, Entry, Event, State};
 use portmap_link::{Reading, Writing};
 use portmap_record::{Record, Version, write_record};
@@ -132,13 +132,14 @@ impl Trial for Files {
             files.push(file_of(alloc, word)?)?;
         }
         let parts = parts_of(alloc, "session", numbers)?;
+        let first = files.first().map_or(0, |file| first_place(file.as_slice()));
         let mut inputs = VecDeque::new(alloc);
         for file in &files {
             inputs.push_back(Reading::new(file.as_slice()))?;
         }
         let mut output = Writing::new(Vec::new(alloc));
         let mut errors = Writing::new(Vec::new(alloc));
-        let status = do_audit(alloc, &parts, inputs, &mut output, &mut errors);
+        let status = do_audit(alloc, &parts, first, inputs, &mut output, &mut errors);
         Ok(ending(alloc, status, &output.into_inner(), &errors.into_inner())?)
     }
 }
@@ -150,6 +151,8 @@ fn files_that_lead_on_are_one_run(rt: HostRuntime) -> Result<(), Fail> {
         0=a0..2 1=a2..5 2=a5..6 -> 0 out run of 6 entries in 3 files|
         0=a0..2 1=a2..2 2=a2..6 -> 0 out run of 6 entries in 3 files|
         1=a2..5 2=a5..6 -> 0 out run of 4 entries in 2 files| err epmd: the files before session.1 are gone|
+        0=a2..5 1=a5..6 -> 0 out run of 4 entries in 2 files| err epmd: the files before session are gone|
+        1=a0..2 2=a2..6 -> 0 out run of 6 entries in 2 files|
     ";
     all_come(&rt, &Files, table)
 }
@@ -180,7 +183,7 @@ fn the_last_file_may_be_cut(rt: HostRuntime) -> Result<(), Fail> {
         0=a0..2 1=a2..2:30 -> 0 out run of 2 entries in 1 files| err epmd: session.1 is cut before its first entry|
         0=a0..2 1=a2..5:100 -> 0 out run of 3 entries in 2 files| err epmd: session.1 is cut in an entry|
         0=a0..2 1=a2..2:0 -> 0 out run of 2 entries in 1 files| err epmd: session.1 is cut before its first entry|
-        1=a0..2:80 -> 0 out run of 1 entries in 1 files| err epmd: the files before session.1 are gone|epmd: session.1 is cut in an entry|
+        1=a2..5:100 -> 0 out run of 1 entries in 1 files| err epmd: the files before session.1 are gone|epmd: session.1 is cut in an entry|
         0=a0..2:30 -> 2 err epmd: session: bad record|
         0=a0..2:80 1=a2..5 -> 2 err epmd: session: bad record|
     ";

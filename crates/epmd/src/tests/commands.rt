@@ -103,12 +103,27 @@ fn what_is_asked_for_is_done_and_told(rt: HostRuntime) -> Result<(), Fail> {
         names 4369: -> 0 out 4369:
         dump 4369:active name     a at port 5000, fd = 0| -> 0 out 4369:active name     a at port 5000, fd = 0|
         dump/pairs 4369:old/unused name a at port 5000, fd = -1| -> 0 out 4369:old/unused name a at port 5000, fd = -1|
-        dump 4369:\0no line -> 0 out 4369:\0no line
+        dump 4369:no line -> 0 out 4369:no line
         dump 4369:MANY -> 0 out 4369:MANY
         dump 4369: -> 0 out 4369:
         kill OK -> 0 out Killed|
         stop STOPPED -> 0 out STOPPED|
         stop NOEXIST -> 1 out NOEXIST|
+    ";
+    all_come(&rt, &Asks, table)
+}
+
+#[test]
+fn no_terminal_obeys_what_is_printed(rt: HostRuntime) -> Result<(), Fail> {
+    // As epmd-log prints names.
+    let table = "
+        names 4369:name \u{9b}31m at port 1| -> 0 out 4369:name \\x9b31m at port 1|
+        names 4369:name a? at port 1| -> 0 out 4369:name a\\xff at port 1|
+        names 4369:name \u{202e}gpj at port 1| -> 0 out 4369:name \\u202egpj at port 1|
+        names 4369:name \u{2028}\u{200b} at port 1| -> 0 out 4369:name \\u2028\\u200b at port 1|
+        names 4369:name \u{e0041} at port 1| -> 0 out 4369:name \\U000e0041 at port 1|
+        names 4369:name \u{e9}\u{20ac}\u{1f600} at port 1| -> 0 out 4369:name \u{e9}\u{20ac}\u{1f600} at port 1|
+        dump 4369:\x1b\0\x7f\\n| -> 0 out 4369:\\x1b\\x00\\x7f\\n|
     ";
     all_come(&rt, &Asks, table)
 }

@@ -10,7 +10,7 @@ use portmap_testing::sessions::{SESSION, wrong_session};
 use portmap_testing::streams::Broken;
 use std::fs::File;
 use std::io::{Read, Write};
-use std::net::{Ipv4Addr, Net, TcpListener, TcpStream};
+use std::net::{Ipv4Addr, Ipv6Addr, Net, TcpListener, TcpStream};
 use std::os::fd::AsRawFd;
 use std::rt::Clock;
 use std::sync::Wait;
@@ -63,6 +63,15 @@ fn a_port_mapper_that_is_silent_holds_nobody(rt: HostRuntime) -> Result<(), Fail
     Ok(())
 }
 
+#[test]
+fn a_port_mapper_of_ipv6_alone_is_found(rt: HostRuntime) -> Result<(), Fail> {
+    // A system without IPv6 has none.
+    if let Ok(_listener) = TcpListener::bind(&rt, (Ipv6Addr::LOCALHOST, 14_473)) {
+        assert_eq!(rt; is_impatient(&rt, 14_473), Some(true));
+    }
+    Ok(())
+}
+
 /// An ALIVE2_REQ of the name `a` by a node of version 6.
 const ALIVE: &[u8] = b"\x00\x0E\x78\x13\x88\x4D\x00\x00\x06\x00\x05\x00\x01\x61\x00\x00";
 
@@ -77,7 +86,7 @@ fn node<R: Net<Stream = TcpStream> + Clock>(rt: &R, port: u16) -> Option<(TcpStr
     Some((stream, u64::from(u32::from_be_bytes([a, b, c, d]))))
 }
 
-/// Whether the first creation is a second between these times.
+/// Whether the first creation is a nanosecond between these times, all modulo 2^32.
 fn is_between(
     node: &Option<(TcpStream, u64)>,
     before: Option<Duration>,
@@ -85,7 +94,9 @@ fn is_between(
 ) -> bool {
     match (node, before, after) {
         (Some((_, creation)), Some(before), Some(after)) => {
-            before.as_secs() <= *creation && *creation <= after.as_secs()
+            let spent = after.saturating_sub(before).as_nanos();
+            let begun = before.as_nanos() % 4_294_967_296;
+            (u128::from(*creation) + 4_294_967_296 - begun) % 4_294_967_296 <= spent
         }
         _ => false,
     }
@@ -139,6 +150,8 @@ fn a_daemon_and_its_commands_meet_at_the_port_of_their_words(rt: HostRuntime) ->
 
 const FAILED: &str = "3 err epmd: input or output failed|";
 
+const GONE: &str = "3 err epmd: input or output failed|epmd: judged: No such file or directory|";
+
 #[test]
 fn a_file_is_judged_at_its_path(rt: HostRuntime) -> Result<(), Fail> {
     let wrong = wrong_session();
@@ -161,14 +174,21 @@ fn a_file_is_judged_at_its_path(rt: HostRuntime) -> Result<(), Fail> {
         (
             b"EPMX".as_slice(),
             "epmd -play judged",
-            "2 err epmd: bad record|",
+            "2 err epmd: bad record|epmd: in judged|",
         ),
     ] {
         fs::write(&rt, "judged", bytes)?;
         assert!(rt; ends_so(&rt, &rt, line, wanted), "{wanted}");
     }
     fs::remove_file(&rt, "judged")?;
-    assert!(rt; ends_so(&rt, &rt, "epmd -check judged", FAILED));
+    assert!(rt; ends_so(&rt, &rt, "epmd -check judged", GONE));
+    Ok(())
+}
+
+#[test]
+fn a_folder_is_no_record(rt: HostRuntime) -> Result<(), Fail> {
+    let told = "3 err epmd: input or output failed|epmd: in .|";
+    assert!(rt; ends_so(&rt, &rt, "epmd -check .", told));
     Ok(())
 }
 
@@ -190,9 +210,12 @@ fn the_files_of_a_recording_are_found_beside_its_first(rt: HostRuntime) -> Resul
         ("epmd -audit recorded", "0 out run of 6 entries in 3 files|"),
         (
             "epmd -audit ./recorded.2",
-            "0 out run of 3 entries in 1 files|",
+            "0 out run of 3 entries in 1 files| err epmd: the files before ./recorded.2 are gone|",
         ),
-        ("epmd -audit ./recorded.1", FAILED),
+        (
+            "epmd -audit ./recorded.1",
+            "3 err epmd: input or output failed|epmd: in ./recorded.1|",
+        ),
     ] {
         assert!(rt; ends_so(&rt, &rt, line, wanted), "{line}");
     }
@@ -200,10 +223,23 @@ fn the_files_of_a_recording_are_found_beside_its_first(rt: HostRuntime) -> Resul
     let told =
         "0 out run of 4 entries in 2 files| err epmd: the files before ./recorded.2 are gone|";
     assert!(rt; ends_so(&rt, &rt, "epmd -audit ./recorded", told));
-    assert!(rt; ends_so(&rt, &rt, "epmd -audit gone/recorded", FAILED));
+    let told = "3 err epmd: input or output failed|epmd: gone: No such file or directory|";
+    assert!(rt; ends_so(&rt, &rt, "epmd -audit gone/recorded", told));
     for (path, _) in RECORDED.iter().skip(1) {
         fs::remove_file(&rt, *path)?;
     }
+    Ok(())
+}
+
+#[test]
+fn a_file_that_is_no_plain_one_is_not_opened(rt: HostRuntime) -> Result<(), Fail> {
+    fs::write(&rt, "plain", &file_of(rt.alloc(), "a0..2")?)?;
+    fs::create_dir(&rt, "plain.1")?;
+    let told = "3 err epmd: plain.1: input or output failed|";
+    assert!(rt; ends_so(&rt, &rt, "epmd -audit plain", told));
+    fs::remove_file(&rt, "plain")?;
+    assert!(rt; ends_so(&rt, &rt, "epmd -audit plain", told));
+    fs::remove_dir(&rt, "plain.1")?;
     Ok(())
 }
 

@@ -1,0 +1,13 @@
+-- Bytes of replies that wait to be written, and for whom a connection is reset: profile.
+use Rattle.std.specs.Prelude.{◌≡◌, ℕ, ◌+◌, ◌/◌, ◌<◌, ◌⊎◌, Bool, true, false}
+use Rattle.portmap_worker.specs.declared.limits.TheConstants.{UNSENT_HEAVY_SHARE, UNSENT_SPARED_SHARE}
+
+-- so many of the bytes that may wait over all connections are many for one
+abbrev pub AreMany : ℕ → ℕ → Type 0
+AreMany most bytes = most / UNSENT_HEAVY_SHARE < bytes
+
+-- a connection may be reset where so many bytes may wait, so many do, and so many of these for remote peers with many each: a local one
+-- only while there are none of these, or if far more wait than may
+abbrev pub MayReset : Bool → ℕ → ℕ → ℕ → Type 0
+MayReset false most total remote = most < total
+MayReset true most total remote = (most < total) × ((remote ≡ 0) ⊎ (most + most / UNSENT_SPARED_SHARE < total))

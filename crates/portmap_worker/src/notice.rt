@@ -1,0 +1,139 @@
+//! What an operator reads while the daemon runs.
+ghost use Rattle.std.specs.Prelude.{◌≡◌, ◌++◌, IfOk, codes};
+ghost use Rattle.std.specs.Fmt.{decimal};
+ghost use Rattle.std.specs.String.{string_bytes};
+ghost use Rattle.portmap_worker.specs.Notices.{file_path, notice_line};
+
+use crate::refused::Refused;
+use crate::remote::RemoteRefused;
+use itoa::Buffer;
+use portmap_core::NoMemory;
+use std::alloc::Global;
+
+/// What an operator reads.
+#[derive(Drop)]
+pub enum Notice<'a> {
+    /// A connection waits that can't be accepted, for want of descriptors or of memory.
+    CannotAccept,
+    /// Registrations were refused since their names are in use.
+    InUse(Refused),
+    /// Requests of other hosts were refused that only this host may make.
+    Remote(RemoteRefused),
+    /// So many connections were closed unanswered since memory is short.
+    ShortOfMemory(u64),
+    /// So many connections were reset, since too many bytes wait for peers that do not read.
+    Unread(u64),
+    /// The file of this number of the recording at this path failed, for this reason.
+    RecordingFailed {
+        path: &'a str,
+        number: u32,
+        reason: &'a [u8],
+    },
+    /// The recording goes on again, in the file of this number.
+    RecordingAgain {
+        path: &'a str,
+        number: u32,
+    },
+    /// The daemon has so many places, since the limit of descriptors is this.
+    FewerPlaces {
+        places: u64,
+        limit: u64,
+    },
+}
+
+/// The line for a connection that can't be accepted, which takes no memory.
+pub(crate) const CANNOT_ACCEPT: &[u8] = b"epmd: cannot accept connections\n";
+
+const SHORT_BEHIND: &[u8] = b" requests were refused\n";
+
+const UNREAD_BEHIND: &[u8] = b" connections that did not read their replies were reset\n";
+
+const PLACES_BEHIND: &[u8] = b" connections, since the limit of descriptors is ";
+
+/// Returns the path of a file of a recording: the first one, of number 0, is at its path, and each other one has a dot
+/// and its number behind that.
+pub(crate) fn path_of(alloc: Global, path: &str, number: u32) -> Result<String, NoMemory>
+    ensures { IfOk result (λ text. string_bytes text ≡ file_path path.now number) }
+{
+    let mut text = String::from_str(alloc, path)?;
+    if number > 0 {
+        text.push_str(".")?;
+        text.push_str(Buffer::new().format(number))?;
+    }
+    Ok(text)
+}
+
+/// Returns this text, the path of a file, and what follows it.
+fn file_line(
+    alloc: Global,
+    text: &[u8],
+    path: &str,
+    number: u32,
+    behind: &[u8],
+) -> Result<Vec<u8>, NoMemory>
+    ensures { IfOk result (λ line. line.items ≡ text.now ++ file_path path.now number ++ behind.now ++ codes "\n") }
+{
+    let path = path_of(alloc, path, number)?;
+    let mut line = Vec::from_slice(alloc, text)?;
+    line.extend_from_slice(path.as_bytes())?;
+    line.extend_from_slice(behind)?;
+    line.extend_from_slice(b"\n")?;
+    Ok(line)
+}
+
+/// Returns this text, a number, and what follows it.
+fn count_line(alloc: Global, text: &[u8], count: u64, behind: &[u8]) -> Result<Vec<u8>, NoMemory>
+    ensures { IfOk result (λ line. line.items ≡ text.now ++ decimal count ++ behind.now) }
+{
+    let mut line = Vec::from_slice(alloc, text)?;
+    line.extend_from_slice(Buffer::new().format(count).as_bytes())?;
+    line.extend_from_slice(behind)?;
+    Ok(line)
+}
+
+/// Returns the line for a file that failed, and why.
+fn failed_line(alloc: Global, path: &str, number: u32, reason: &[u8]) -> Result<Vec<u8>, NoMemory>
+    ensures { IfOk result (λ line. line.items
+        ≡ codes "epmd: recording failed: " ++ file_path path.now number ++ codes ": " ++ reason.now ++ codes "\n") }
+{
+    let mut behind = Vec::from_slice(alloc, b": ")?;
+    behind.extend_from_slice(reason)?;
+    file_line(alloc, b"epmd: recording failed: ", path, number, &behind)
+}
+
+/// Returns the line for a daemon that has so many places, since the limit of descriptors is this.
+fn places_line(alloc: Global, places: u64, limit: u64) -> Result<Vec<u8>, NoMemory>
+    ensures { IfOk result (λ line. line.items ≡ codes "epmd: at most " ++ decimal places
+        ++ codes " connections, since the limit of descriptors is " ++ decimal limit ++ codes "\n") }
+{
+    let mut line = count_line(alloc, b"epmd: at most ", places, PLACES_BEHIND)?;
+    line.extend_from_slice(Buffer::new().format(limit).as_bytes())?;
+    line.extend_from_slice(b"\n")?;
+    Ok(line)
+}
+
+impl Notice<'_> {
+    /// Returns the line that an operator reads.
+    pub fn line(&self, alloc: Global) -> Result<Vec<u8>, NoMemory>
+        ensures { IfOk result (λ line. line.items ≡ notice_line self.now) }
+    {
+        match self {
+            Notice::CannotAccept => Ok(Vec::from_slice(alloc, CANNOT_ACCEPT)?),
+            Notice::InUse(refused) => refused.line(alloc),
+            Notice::Remote(refused) => refused.line(alloc),
+            Notice::ShortOfMemory(count) => {
+                count_line(alloc, b"epmd: memory is short, ", *count, SHORT_BEHIND)
+            }
+            Notice::Unread(count) => count_line(alloc, b"epmd: ", *count, UNREAD_BEHIND),
+            Notice::RecordingFailed {
+                path,
+                number,
+                reason,
+            } => failed_line(alloc, path, *number, reason),
+            Notice::RecordingAgain { path, number } => {
+                file_line(alloc, b"epmd: recording again: ", path, *number, b"")
+            }
+            Notice::FewerPlaces { places, limit } => places_line(alloc, *places, *limit),
+        }
+    }
+}
