@@ -32,7 +32,9 @@ AGAIN = {
 POLL = (3, "epmd: polling failed")
 LISTEN = (1, "epmd: cannot listen on 127.0.0.1:")
 LISTEN_BESIDE = (1, "epmd: cannot listen on [::1]:")
-RECORD = (3, "epmd: recording failed")
+# What a daemon prints that goes on, and what it ends with where its recording failed.
+RECORD = "epmd: recording failed: "
+PASSING = (RECORD, "epmd: recording again: ", "epmd: memory is short, ")
 ENDS = {
     "memory": [OUT_OF_MEMORY, POLL, LISTEN],
     "epoll_create1": [POLL],
@@ -57,8 +59,14 @@ def is_end(ended, wanted):
     if ended is None:
         return False
     # What ends it may have ended the recording before.
-    told = ended[1].removeprefix(RECORD[1] + " / ")
+    told = " / ".join(line for line in ended[1].split(" / ") if not line.startswith(PASSING))
     return any(ended[0] == status and told.startswith(text) for status, text in wanted)
+
+
+def lacks_record(ended):
+    """Whether it ended since its recording failed, and with no other text."""
+    lines = ended[1].split(" / ") if ended else []
+    return bool(lines) and ended[0] == 3 and RECORD in ended[1] and all(line.startswith(PASSING) for line in lines)
 
 
 def is_run(path, file):
@@ -73,7 +81,7 @@ def ended_well(case, daemon, file):
         if not is_run(case.path, file):
             raise Wrong("the recording is no run, and nothing is said of that")
         return "recorded"
-    if ended == RECORD and case.call in MAY_NOT_RECORD:
+    if lacks_record(ended) and case.call in MAY_NOT_RECORD:
         return "said to be not recorded"
     ends = ENDS_SERVING if case.is_slow else ENDS
     if is_end(ended, ends.get(case.call, [])):

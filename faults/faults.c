@@ -14,6 +14,7 @@
 #include <sys/eventfd.h>
 #include <sys/ioctl.h>
 #include <sys/mman.h>
+#include <sys/resource.h>
 #include <sys/socket.h>
 #include <time.h>
 #include <unistd.h>
@@ -21,7 +22,7 @@
 enum { BEGIN = 1000003, END = 1000033, ASK = 1000037, FILES = 65536 };
 enum kind {
     MEMORY, ACCEPT, RECEIVE, SEND, POLL_MAKE, POLL_CHANGE, POLL_WAIT, WAKE_MAKE, WAKE, CLOCK, THREAD, OPEN, WRITE,
-    SOCKET, OPTION, OPTION_READ, BIND, LISTEN, COPY, MODE, KINDS
+    SOCKET, OPTION, OPTION_READ, BIND, LISTEN, COPY, MODE, LIMIT, KINDS
 };
 struct page { volatile int on, kind, nth, run, error, refused, room, count[KINDS]; };
 static struct page none, *page = &none;
@@ -166,3 +167,4 @@ int ioctl(int fd, unsigned long what, ...) {
     va_end(rest);
     return fails(MODE) ? -1 : REAL(ioctl)(fd, what, with);
 }
+int getrlimit(__rlimit_resource_t what, struct rlimit *limit) { return fails(LIMIT) ? -1 : REAL(getrlimit)(what, limit); }

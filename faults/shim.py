@@ -30,6 +30,7 @@ CALLS = {
     "listen": "EADDRINUSE EBADF ENOTSOCK EOPNOTSUPP",
     "fcntl": "EACCES EAGAIN EBADF EBUSY EDEADLK EFAULT EINTR EINVAL EMFILE ENOLCK ENOTDIR EPERM",
     "ioctl": "EBADF EFAULT EINVAL ENOTTY",
+    "getrlimit": "EFAULT EINVAL EPERM",
 }
 KINDS = list(CALLS)
 FIELDS = "on", "kind", "nth", "run", "error", "refused", "room"

@@ -172,15 +172,21 @@ impl<'a> Scene<'a> {
         let timeout = self.scenario.timeout_us;
         let mut world = self.world()?;
         let is_early = world.is_early(late, timeout)?;
+        let is_unread = world.was_unread(late)?;
+        if is_early && is_unread {
+            let now = world.now;
+            world.notices.note_unread(now);
+        }
+        let is_early = is_early && !is_unread;
         let given_up = self.given_up.saturating_add(u32::from(is_early));
         let is_wanted = given_up <= world.wanting;
         let is_first = !is_early || world.goes_first(late, has_news)?;
-        let is_anew = world.note_late(late, timeout)? || world.wanting > 0;
+        let is_anew = world.note_late(late, timeout)? || world.wanting > 0 || is_unread;
         drop(world);
         self.given_up = given_up;
         if self.scenario.is_strict {
             self.check(
-                is_early || !has_news,
+                is_early || is_unread || !has_news,
                 "one was told late of whom there was news",
             );
             self.check(is_wanted, "a connection was given up for no one");
@@ -224,6 +230,10 @@ impl<'a> Scene<'a> {
         if world.has_made(STEPS_MOST) {
             return Some("a worker does not poll");
         }
+        let unsent_most = self.scenario.unsent_bytes_most;
+        if world.unsent() > unsent_most.saturating_add(unsent_most / 2) {
+            return Some("too many bytes wait to be read");
+        }
         // One that waits for a place may be at each worker beside those that have one.
         let conn_max = self.scenario.conn_max;
         let most = conn_max.saturating_sub(conn_max / KEPT_SHARE) as usize;
@@ -251,6 +261,19 @@ impl<'a> Scene<'a> {
         self.check(sleep, "a worker does not sleep");
         self.check(are_few, "who takes the log out does not sleep");
         true
+    }
+
+    /// The recording goes on, unless its disk is full, or it has failed, and it has rested for long.
+    pub(crate) fn judge_recording(&mut self, records: bool) -> Option<()> {
+        let mut world = self.world()?;
+        let may_fail = world.is_disk_full();
+        world.has_rested = true;
+        drop(world);
+        self.check(
+            records || may_fail,
+            "a recording that failed never begins anew",
+        );
+        Some(())
     }
 
     /// The log is out or is not, who went unanswered was looked into or was not, and each connection that is open is

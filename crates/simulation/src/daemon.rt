@@ -27,7 +27,7 @@ pub struct Daemon<'a, L: Ledger, S: Source + Drop, R: Wait + Drop> {
     /// The seats of the workers that have ended: all are to, once one has.
     pub(crate) seats: Vec<Seat<L>>,
     pub(crate) drain: Drain<'a>,
-    pub(crate) writer: RecordWriter<'a, SimFile>,
+    pub(crate) writer: RecordWriter<SimFile>,
     /// More may be written.
     pub(crate) is_writing: bool,
 }
@@ -119,6 +119,8 @@ impl<'a, L: Ledger, S: Source + Drop, R: Wait + Drop> Daemon<'a, L, S, R> {
         let around = self.around;
         let alloc = self.scene.alloc;
         self.is_writing = self.writer.turn(around.host, alloc, around.queue);
+        let has_failed = around.queue.has_failed(around.host);
+        self.scene.world()?.note_written(has_failed);
         Some(())
     }
 

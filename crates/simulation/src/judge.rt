@@ -1,8 +1,9 @@
 //! What is checked of a daemon that has ended.
 use crate::checks::Wrong;
 use crate::world::World;
-use portmap_core::Entry;
+use portmap_core::{Entry, Fate};
 use portmap_record::{Record, RecordFault, Version, check, read_record};
+use portmap_worker::LocalRequest;
 use std::alloc::Global;
 
 /// A file goes on for a second or two once it is full. What comes in these takes no more bytes, also where each place
@@ -23,6 +24,24 @@ struct Replies {
     opened: usize,
     /// How many registrations were refused since their names are in use.
     in_use: u64,
+    /// What other hosts asked for and were refused.
+    remote: Vec<LocalRequest>,
+}
+
+/// Which request of this host alone these bytes are, if they are one.
+fn local_request(bytes: &[u8]) -> Option<LocalRequest> {
+    let [high, low, tag, ..] = *bytes else {
+        return None;
+    };
+    let size = usize::from(u16::from_be_bytes([high, low])).saturating_add(2);
+    match tag {
+        _ if size != bytes.len() => None,
+        b'x' => Some(LocalRequest::Registration),
+        b'd' => Some(LocalRequest::Dump),
+        b'k' => Some(LocalRequest::Kill),
+        b's' => Some(LocalRequest::Stop),
+        _ => None,
+    }
 }
 
 impl Replies {
@@ -46,15 +65,38 @@ impl Replies {
             .ok()
     }
 
+    /// Notes that a connection in this slot was closed without a reply, if it asked for what only this host may.
+    fn note_refused(&mut self, world: &World, slot: u64, bytes: &[u8]) -> Option<()> {
+        let number = self.slots.get(slot as usize).copied()??;
+        match local_request(bytes) {
+            Some(asked) if !world.wires.get(number)?.is_local => self.remote.push(asked).ok(),
+            _ => Some(()),
+        }
+    }
+
     /// Notes an entry, where the connections were opened in this order.
-    fn note(&mut self, alloc: Global, opened: &[usize], entry: &Entry) -> Option<()> {
+    fn note(
+        &mut self,
+        alloc: Global,
+        world: &World,
+        opened: &[usize],
+        entry: &Entry,
+    ) -> Option<()> {
         match entry {
             Entry::Connected { local: _, slot } => {
                 let number = opened.get(self.opened).copied();
                 self.opened = self.opened.saturating_add(1);
                 self.assign(*slot as usize, number)
             }
-            Entry::Piece { slot, reply, .. } => {
+            Entry::Piece {
+                slot,
+                bytes,
+                reply,
+                fate,
+            } => {
+                if reply.is_empty() && *fate == Fate::Close {
+                    self.note_refused(world, *slot, bytes)?;
+                }
                 if reply.starts_with(IN_USE) {
                     self.in_use = self.in_use.saturating_add(1);
                 }
@@ -69,6 +111,21 @@ impl Replies {
             }
             Entry::Late { .. } => Some(()),
         }
+    }
+
+    /// What is wrong about what the operator has read of requests of other hosts: each line names the first of those
+    /// that it counts.
+    fn find_remote(&self, world: &World) -> Option<Wrong> {
+        let mut place = 0usize;
+        for seen in &world.refusals {
+            if seen.first != self.remote.get(place).copied() {
+                return Some("the operator is told of another request of another host");
+            }
+            place = place.saturating_add(seen.count as usize);
+        }
+        let are_all = place == self.remote.len() || !world.has_rested;
+        let are_few = place <= self.remote.len();
+        (!are_all || !are_few).then_some("the operator is told of other requests of other hosts")
     }
 
     /// What is wrong about what peers were told.
@@ -93,9 +150,25 @@ impl Replies {
     }
 }
 
-/// What is wrong with what a file has, which is to be a run that begins with this entry; and with which one the next
-/// file begins.
-fn judge_record(alloc: Global, record: &Record, next: &mut u64) -> Result<(), Wrong> {
+/// The place at which the next file begins, and how often entries may be missing before one.
+#[derive(Drop)]
+struct Next {
+    place: u64,
+    gaps: u32,
+}
+
+impl Next {
+    fn new(world: &World) -> Next {
+        Next {
+            place: 0,
+            gaps: world.notices.failures,
+        }
+    }
+}
+
+/// What is wrong with what a file has, which is to be a run that begins with this entry, or, where entries may be
+/// missing, with a later one; and with which one the next file begins.
+fn judge_record(alloc: Global, record: &Record, next: &mut Next) -> Result<(), Wrong> {
     if check(alloc, record).is_err() {
         return Err("a file is no run");
     }
@@ -103,10 +176,16 @@ fn judge_record(alloc: Global, record: &Record, next: &mut u64) -> Result<(), Wr
         Version::One => 0,
         Version::Two { first, .. } => *first,
     };
-    if first != *next {
-        return Err("a file does not begin where the one before it ended");
+    if first < next.place {
+        return Err("entries are recorded twice");
     }
-    *next = first.saturating_add(record.entries.len() as u64);
+    if first > next.place {
+        if next.gaps == 0 {
+            return Err("a file does not begin where the one before it ended");
+        }
+        next.gaps = next.gaps.saturating_sub(1);
+    }
+    next.place = first.saturating_add(record.entries.len() as u64);
     Ok(())
 }
 
@@ -115,7 +194,7 @@ fn judge_record(alloc: Global, record: &Record, next: &mut u64) -> Result<(), Wr
 fn read_file(
     alloc: Global,
     file: &[u8],
-    next: &mut u64,
+    next: &mut Next,
     is_cut: bool,
 ) -> Result<Option<Record>, Wrong> {
     let read = match read_record(alloc, file) {
@@ -135,7 +214,7 @@ fn read_file(
 /// What is wrong with the files as a kill has left them: the last one is cut anywhere, since what was written last may
 /// be lost.
 fn judge_killed(alloc: Global, world: &mut World) -> Result<(), Wrong> {
-    let mut next = 0u64;
+    let mut next = Next::new(world);
     let count = world.killed.len();
     for (number, file) in world.killed.iter().enumerate() {
         let is_last = number.saturating_add(1) == count;
@@ -157,10 +236,16 @@ fn judge_sizes(world: &World, most: u64) -> Option<Wrong> {
     let (_, ended) = world.files.split_last()?;
     let room = most.saturating_add(BEHIND_BYTES);
     let mut files = world.files.iter();
+    let unfilled = ended
+        .iter()
+        .filter(|file| (file.len() as u64) < most)
+        .count();
     if !world.scenario.is_plain && !ended.is_empty() {
         Some("a file follows what is no file")
-    } else if ended.iter().any(|file| (file.len() as u64) < most) {
+    } else if unfilled > world.notices.failures as usize {
         Some("a file ends that is not full")
+    } else if world.is_misnumbered {
+        Some("a file is made anew that has a start, or a number is left out")
     } else if world.scenario.is_plain && files.any(|file| file.len() as u64 > room) {
         Some("a file goes on that is full")
     } else {
@@ -185,10 +270,6 @@ fn judge_cut(alloc: Global, world: &World) -> Option<Wrong> {
 
 /// What is wrong with what the operator was told, and with the files whatever is in them.
 fn judge_kept(alloc: Global, world: &mut World, most: u64) -> Option<Wrong> {
-    let failed = u32::from(world.is_disk_full);
-    if world.notices.failed != failed {
-        return Some("a recording that fails is told once");
-    }
     world
         .notices
         .judge(world.now)
@@ -213,13 +294,14 @@ pub fn judge(
     if wrong.is_some() {
         return Some(wrong);
     }
-    let has_failed = world.notices.failed > 0;
-    let mut next = 0u64;
+    let has_failed = world.notices.failures > 0;
+    let mut next = Next::new(world);
     let mut replies = Replies {
         slots: Vec::new(alloc),
         by_connection: Vec::new(alloc),
         opened: 0,
         in_use: 0,
+        remote: Vec::new(alloc),
     };
     for file in &world.files {
         if has_failed && file.is_empty() {
@@ -228,21 +310,28 @@ pub fn judge(
         match read_file(alloc, file, &mut next, false) {
             Err(wrong) => return Some(Some(wrong)),
             Ok(None) => {}
+            Ok(Some(_)) if has_failed => {}
             Ok(Some(record)) => {
                 for entry in &record.entries {
-                    replies.note(alloc, opened, entry)?;
+                    replies.note(alloc, world, opened, entry)?;
                 }
             }
         }
     }
+    let is_whole = if has_failed && (world.is_disk_full() || !world.has_rested) {
+        next.place <= acts
+    } else {
+        next.place == acts
+    };
+    if !is_whole {
+        return Some(Some("acts are missing in the recording"));
+    }
     if has_failed {
         return Some(None);
-    }
-    if next != acts {
-        return Some(Some("acts are missing in the recording"));
     }
     if world.notices.in_use_notified > replies.in_use {
         return Some(Some("the operator is told of names that were not refused"));
     }
-    Some(replies.find(world, opened))
+    let wrong = replies.find_remote(world);
+    Some(wrong.or(replies.find(world, opened)))
 }

@@ -21,6 +21,7 @@ mod scenarios;
 mod scene;
 mod steps;
 mod system;
+mod unread;
 mod weather;
 mod wire;
 mod world;

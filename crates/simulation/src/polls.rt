@@ -425,11 +425,20 @@ impl World {
             self.exhausted_until = until;
             self.exhausted_kind = ErrorKind::OutOfMemory;
         }
-        if self.now < self.exhausted_until {
+        if self.now < self.exhausted_until || self.has_no_descriptor() {
             self.notices.note_unaccepted(self.now);
+            // Whom it is for, nobody knows: one may be given up for it.
+            self.wanting = self.wanting.saturating_add(1);
             return Some(self.exhausted_kind);
         }
         None
+    }
+
+    /// Whether all descriptors are taken, while a connection waits.
+    fn has_no_descriptor(&self) -> bool {
+        let taken = self.local.saturating_add(self.remote);
+        taken >= self.scenario.descriptors
+            && self.backlogs.iter().any(|waiting| !waiting.is_empty())
     }
 
     /// A connection is accepted that wants a place.

@@ -52,8 +52,8 @@ impl<'a, L: Ledger, S: Source + Drop, R: Wait + Drop> Daemon<'a, L, S, R> {
             && self.pass(SETTLING_US)
             && self.sleep(scenario.rest_us)
             && self.judge_rest()
-            && self.greet(scenario.conn_max)
-            && self.fill(scenario.conn_max).is_some()
+            && self.greet(scenario.places())
+            && self.fill(scenario.places()).is_some()
     }
 
     /// The world is at rest for so long, in microseconds: threads sleep.
@@ -67,7 +67,9 @@ impl<'a, L: Ledger, S: Source + Drop, R: Wait + Drop> Daemon<'a, L, S, R> {
         let is_written = !self.is_writing || self.around.queue.is_idle(self.around.host);
         let is_out = self.weight() == 0 && is_written;
         let is_looked_into = !self.around.shared.noted.is_unanswered();
-        self.scene.judge_rest(is_out, is_looked_into).is_some()
+        let records = !self.around.queue.has_failed(self.around.host);
+        self.scene.judge_recording(records).is_some()
+            && self.scene.judge_rest(is_out, is_looked_into).is_some()
     }
 
     /// Who comes at rest is accepted, let in and told the names, if a place is left.

@@ -10,7 +10,7 @@ use crate::scene::Scene;
 use crate::steps::{Step, Stepped};
 use crate::system::{SharedWorld, SimFile, SimHost, SimThread};
 use crate::weather::FaultCounts;
-use crate::world::World;
+use crate::world::{PATH, World};
 use portmap_book::{Book, Desk, PARTS, Seat};
 use portmap_core::Config;
 use portmap_worker::{
@@ -242,9 +242,9 @@ fn simulate<'a, L: Ledger, S: Source + Drop, R: Wait + Drop>(
 ) -> Option<(Outcome, Vec<Seat<L>>)> {
     let workers = workers_of(alloc, around, sources)?;
     let scene = Scene::new(alloc, &around.host.world, case)?;
-    let drain = Drain::begin(around.host, alloc, around.desk, Some(around.queue)).ok()?;
-    let most = case.scenario.file_bytes_most;
-    let writer: RecordWriter<'a, SimFile> = RecordWriter::new("recording", most);
+    let (queue, places) = (Some(around.queue), case.scenario.conn_max);
+    let drain = Drain::begin(around.host, alloc, around.desk, queue, places).ok()?;
+    let writer: RecordWriter<SimFile> = RecordWriter::new(case.scenario.file_bytes_most);
     let daemon = Daemon {
         around,
         scene,
@@ -269,7 +269,8 @@ fn shared_of<R: Wait + Drop>(
         states.push(WorkerState::new(waker)).ok()?;
     }
     let drain = SimThread::of(&host.world, case.workers as usize)?;
-    Some(Shared::new(host, states, drain, case.scenario.conn_max))
+    let (places, unsent) = (case.scenario.conn_max, case.scenario.unsent_bytes_most);
+    Some(Shared::new(host, states, drain, places, unsent))
 }
 
 /// The book of a scenario.
@@ -290,7 +291,7 @@ fn at_desk<L: Ledger, R: Wait + Drop>(
     requires enough { blank.parts ≡ PARTS }
 {
     let desk: Desk<L> = Desk::new(blank, book_of(alloc, case.scenario)?);
-    let queue = RecordQueue::new(alloc);
+    let queue = RecordQueue::new(alloc, PATH.to_string(alloc).ok()?);
     let shared = shared_of(host, alloc, case)?;
     let around = Around {
         host,

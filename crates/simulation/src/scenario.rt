@@ -56,10 +56,16 @@ pub struct Scenario {
     /// The most connections that wait at a listener.
     pub backlog_most: usize,
     pub conn_max: u32,
+    /// So many connections can be accepted at once, by descriptors.
+    pub descriptors: u32,
+    /// So many bytes may wait to be read, over all connections.
+    pub unsent_bytes_most: u64,
     /// A file of the recording that has so many bytes is full.
     pub file_bytes_most: u64,
     /// What is recorded to is a plain file, and no pipe.
     pub is_plain: bool,
+    /// So long the disk is full once it is.
+    pub full_us: u64,
     /// Once the log has so many bytes it is told to end, in the midst of the storm.
     pub end_bytes: u64,
     /// A node that comes back has its name within so many microseconds.
@@ -91,6 +97,11 @@ impl Scenario {
         } else {
             self.people
         }
+    }
+
+    /// How many connections can be open at once.
+    pub fn places(&self) -> u32 {
+        self.conn_max.min(self.descriptors)
     }
 
     /// Whether somebody registers a name that is another one's.
@@ -132,8 +143,11 @@ pub const USUAL: Scenario = Scenario {
     timeout_us: 5_000_000,
     backlog_most: 512,
     conn_max: 64,
+    descriptors: u32::MAX,
+    unsent_bytes_most: u64::MAX,
     file_bytes_most: 100_000_000,
     is_plain: true,
+    full_us: u64::MAX,
     end_bytes: u64::MAX,
     patience_us: u64::MAX,
     burst_us: 1,

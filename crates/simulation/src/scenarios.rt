@@ -97,10 +97,20 @@ pub const ENDS: &[Scenario] = scenarios! {
     "scarce" (74, 25211, 14576, 0) [] [Famine 100] is_strict: false, limit_ms: 3000;
     "stalls" (130, 90, 2429, 0) [] [Stalled 700, Short 50];
     "full" (138, 98, 2384, 0) [] [Full 400];
+    "refilled" (740, 660, 5300, 0) [Local NODE 12, Local SEEKER 2]
+        [Full 150, Short 50] full_us: 25_000_000, file_bytes_most: 20_000;
+    "foreign" (44, 1280, 300, 0) [Remote NODE 4, Remote DUMPER 3, Remote STOPPER 2, Remote KILLER 2, Local NODE 4,
+        Local SEEKER 3]
+        [] conn_max: 32, file_bytes_most: 4000;
+    "short" (500, 800, 3000, 0) [Local NODE 12, Local SEEKER 4] [Starved 10] is_strict: false, limit_ms: 3000;
     "kills" (50, 40, 80, 0) [Local NODE 4, Local SEEKER 4, Local STOPPER 2, Local KILLER 1]
         [] hold_us: 5_000, is_relaxed: true, is_strict: false, may_end: true;
     "stops" (646, 606, 5827, 0) [Local NODE 6, Local STOPPER 3, Local SEEKER 2]
         [] hold_us: 5_000_000, is_relaxed: true, is_strict: false;
+    "choked" (182, 0, 228, 0) [Local UNREADING 200, Remote UNREADING 40, Local NODE 30, Local SEEKER 3, Local LISTER 3]
+        [] conn_max: 512, hold_us: 60_000_000, unsent_bytes_most: 20_000;
+    "penned" (56, 42, 156, 0) [Local SILENT 40, Remote SILENT 10, Local NODE 4, Local SEEKER 4]
+        [] conn_max: 256, descriptors: 24, limit_ms: 3000, is_strict: false;
     "unheeded" (130, 110, 2100, 0) [Local SILENT 6, Remote SILENT 3, Remote DRIPPER 3, Local NODE 3, Local SEEKER 3]
         [Unreported 1000] limit_ms: 10;
     "floods" (654, 577, 14512, 0) [Local TARDY 750, Local NODE 30]

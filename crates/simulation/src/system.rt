@@ -1,6 +1,6 @@
 //! The world as a daemon's system: its streams, its polls, its clock and its disk.
 use crate::world::{LISTENERS, World};
-use portmap_worker::{Host, Interest, Notice, RecordFile, Refused, Report, Stream, System, Wake};
+use portmap_worker::{Host, Interest, Notice, RecordFile, Report, Stream, System, Wake};
 use std::alloc::Global;
 use std::cell::{RefCell, RefMut};
 use std::io;
@@ -227,30 +227,15 @@ impl<R: Wait + Drop> Clock for SimHost<R> {
 impl<R: Wait + Drop> Host for SimHost<R> {
     type File = SimFile;
 
-    fn make(&self, _path: &str) -> io::Result<SimFile> {
+    fn make(&self, path: &str) -> io::Result<SimFile> {
         let world = self.world.clone()?;
-        let number = borrow(&self.world)?.make().ok_or(ErrorKind::OutOfMemory)?;
+        let number = borrow(&self.world)?.make(path)?;
         Ok(SimFile { world, number })
     }
 
-    fn notify(&self, notice: Notice) {
+    fn notify(&self, _alloc: Global, notice: &Notice<'_>) {
         if let Ok(mut world) = self.world.try_borrow_mut() {
-            match notice {
-                Notice::RecordingFailed => {
-                    world.notices.failed = world.notices.failed.saturating_add(1);
-                }
-                Notice::CannotAccept => {
-                    let now = world.now;
-                    world.notices.note_unaccepted_notice(now);
-                }
-            }
-        }
-    }
-
-    fn notify_refused(&self, _alloc: Global, refused: &Refused) {
-        if let Ok(mut world) = self.world.try_borrow_mut() {
-            let now = world.now;
-            world.notices.note_in_use_notice(now, refused.count());
+            world.notify(notice);
         }
     }
 

@@ -37,6 +37,9 @@ pub struct Wire {
     pub down: VecDeque<u8>,
     /// How many bytes may be underway to the peer.
     pub room: usize,
+    /// How many bytes the daemon had to keep back as it wrote last, and since when the peer has read nothing of them.
+    pub unsent: usize,
+    pub unread_since: u64,
     /// The daemon has given the connection up: it sends no more.
     pub is_down_ended: bool,
     /// It did so by an end, while the peer was there.
@@ -70,6 +73,8 @@ impl Wire {
             is_gone: false,
             down: VecDeque::new(alloc),
             room,
+            unsent: 0,
+            unread_since: 0,
             is_down_ended: false,
             is_ended_well: false,
             is_reset: false,
@@ -174,6 +179,21 @@ impl Wire {
             }
         }
         count
+    }
+
+    /// The daemon has written so many of these bytes.
+    pub fn note_unsent(&mut self, now: u64, offered: usize, count: usize) {
+        let unsent = offered.saturating_sub(count);
+        if self.unsent == 0 || unsent < self.unsent {
+            self.unread_since = now;
+        }
+        self.unsent = unsent;
+    }
+
+    /// Which thread has it, if so many bytes that wait for it are more than these.
+    pub fn unread_at(&self, bytes: u64) -> Option<usize> {
+        let is_unread = self.unsent as u64 > bytes && !self.is_down_ended;
+        if is_unread { self.worker() } else { None }
     }
 
     /// The daemon sends the first of these bytes, so many. Whether there is memory for them.

@@ -1,15 +1,19 @@
 //! The world of a daemon: a network, a clock, memory and a disk that are values.
 ghost use Rattle.std.specs.Prelude.{◌≤◌, IfOk, length};
 
-use crate::notices::Notices;
+use crate::notices::{Notices, Refusals};
 use crate::polls::Thread;
 use crate::random::Random;
 use crate::scenario::Scenario;
 use crate::weather::{Fault, Weather};
 use crate::wire::Wire;
+use portmap_worker::Notice;
 use std::alloc::Global;
 use std::collections::VecDeque;
 use std::io::ErrorKind;
+
+/// Where the recording's first file is.
+pub const PATH: &str = "recording";
 
 /// Of so many nodes it is known when they were stopped.
 const NODES_MOST: usize = 8;
@@ -21,7 +25,7 @@ pub const LISTENERS: usize = 2;
 const YOUNG_US: u64 = 1_000_000;
 
 /// Those that come within so much time have come together.
-const TOGETHER_US: u64 = 100_000;
+pub(crate) const TOGETHER_US: u64 = 100_000;
 
 /// No famine begins before this time.
 const FAMINE_US: u64 = 1_300_000;
@@ -68,7 +72,8 @@ pub struct World {
     /// A worker has held its first connection, for which there is no room yet, while no memory could be had.
     pub is_overdrawn: bool,
     pub stalled_until: u64,
-    pub is_disk_full: bool,
+    /// The disk takes nothing before this time.
+    disk_full_until: u64,
     /// How many connections of other hosts the daemon has, and of this one.
     pub remote: u32,
     pub local: u32,
@@ -81,7 +86,13 @@ pub struct World {
     pub killed: Vec<Vec<u8>>,
     /// The file that was cut last, as it was before.
     pub uncut: Option<(usize, Vec<u8>)>,
+    /// A file that has bytes was made anew, or the number of one was left out.
+    pub is_misnumbered: bool,
     pub notices: Notices,
+    /// Of which requests of other hosts the operator has read that they were refused.
+    pub refusals: Vec<Refusals>,
+    /// It has rested for so long that all was told.
+    pub has_rested: bool,
     /// How many bytes the daemon has read since the log was taken out.
     pub read_bytes: u64,
     /// No memory for the world itself.
@@ -95,6 +106,15 @@ fn backlogs(alloc: Global) -> Option<Vec<VecDeque<usize>>> {
         backlogs.push(VecDeque::new(alloc)).ok()?;
     }
     Some(backlogs)
+}
+
+/// The number of the file of the recording that is at this path.
+fn number_of(path: &str) -> Option<usize> {
+    let behind = path.strip_prefix(PATH)?;
+    if behind.is_empty() {
+        return Some(0);
+    }
+    behind.strip_prefix(".")?.parse::<usize>().ok()
 }
 
 impl World {
@@ -124,7 +144,7 @@ impl World {
             starved_until: 0,
             is_overdrawn: false,
             stalled_until: 0,
-            is_disk_full: false,
+            disk_full_until: 0,
             remote: 0,
             local: 0,
             stopped: [(0, 0); NODES_MOST],
@@ -132,7 +152,10 @@ impl World {
             files: Vec::new(alloc),
             killed: Vec::new(alloc),
             uncut: None,
+            is_misnumbered: false,
             notices: Notices::default(),
+            refusals: Vec::new(alloc),
+            has_rested: false,
             read_bytes: 0,
             is_lost: false,
         })
@@ -169,6 +192,9 @@ impl World {
         self.unread_until = 0;
         self.starved_until = 0;
         self.stalled_until = 0;
+        if self.disk_full_until < u64::MAX {
+            self.disk_full_until = 0;
+        }
         for thread in &mut self.threads {
             thread.held_until = 0;
         }
@@ -180,11 +206,56 @@ impl World {
         Some(())
     }
 
-    /// A file with nothing in it: its number, if there is memory for it.
-    pub fn make(&mut self) -> Option<usize> {
-        let number = self.files.len();
-        self.files.push(Vec::new(self.alloc)).ok()?;
-        Some(number)
+    /// Whether the disk takes nothing now.
+    pub fn is_disk_full(&self) -> bool {
+        self.now < self.disk_full_until
+    }
+
+    /// Makes the file at this path, with nothing in it, if the disk has room for that. Its number.
+    pub fn make(&mut self, path: &str) -> Result<usize, ErrorKind> {
+        if self.is_disk_full() && self.random.happens(500) {
+            self.notices.note_write_failed(self.now);
+            return Err(ErrorKind::StorageFull);
+        }
+        let number = number_of(path).ok_or(ErrorKind::InvalidInput)?;
+        if number == self.files.len() {
+            self.files
+                .push(Vec::new(self.alloc))
+                .map_err(|_| ErrorKind::OutOfMemory)?;
+        }
+        let is_empty = self.files.get(number).is_some_and(|file| file.is_empty());
+        let is_last = number.saturating_add(1) == self.files.len();
+        self.is_misnumbered = self.is_misnumbered || !is_empty || !is_last;
+        self.uncut = None;
+        self.notices.note_made();
+        Ok(number)
+    }
+
+    /// Who writes has written what was handed on, or failed to.
+    pub fn note_written(&mut self, has_failed: bool) {
+        self.notices.note_written(self.now, has_failed);
+    }
+
+    /// The operator reads a line.
+    pub fn notify(&mut self, notice: &Notice<'_>) {
+        let now = self.now;
+        match notice {
+            Notice::CannotAccept => self.notices.note_unaccepted_notice(now),
+            Notice::InUse(refused) => self.notices.note_in_use_notice(now, refused.count()),
+            Notice::Remote(refused) => {
+                self.notices.note_remote_notice(now);
+                let seen = Refusals {
+                    first: refused.first(),
+                    count: refused.count(),
+                };
+                self.is_lost = self.is_lost || self.refusals.push(seen).is_err();
+            }
+            Notice::ShortOfMemory(count) => self.notices.note_short_notice(now, *count),
+            Notice::RecordingFailed { .. } => self.notices.note_failure_notice(now),
+            Notice::RecordingAgain { .. } => self.notices.note_again_notice(now),
+            Notice::Unread(count) => self.notices.note_unread_notice(now, *count),
+            Notice::FewerPlaces { .. } => {}
+        }
     }
 
     /// Leaves the first bytes of a file, so many.
@@ -361,10 +432,11 @@ impl World {
             return Err(self.reset_error());
         }
         let room = wire.room.saturating_sub(wire.down.len());
+        let count = bytes.len().min(if is_short { room.min(1) } else { room });
+        wire.note_unsent(self.now, bytes.len(), count);
         if room == 0 {
             return Err(ErrorKind::WouldBlock);
         }
-        let count = bytes.len().min(if is_short { 1 } else { room });
         let is_kept = wire.put(bytes, count);
         self.is_lost = self.is_lost || !is_kept;
         Ok(count)
@@ -375,7 +447,7 @@ impl World {
         ensures { result ≤ size }
     {
         if self.happens(Fault::Full) {
-            self.is_disk_full = true;
+            self.disk_full_until = self.now.saturating_add(self.scenario.full_us);
             // There is room for some more.
             (self.random.below(size as u64) as usize).min(size)
         } else if self.happens(Fault::Short) {
@@ -392,7 +464,8 @@ impl World {
         if self.happens(Fault::Interrupted) {
             return Err(ErrorKind::Interrupted);
         }
-        if self.is_disk_full {
+        if self.is_disk_full() {
+            self.notices.note_write_failed(self.now);
             return Err(ErrorKind::StorageFull);
         }
         let count = self.taken(bytes.len());
@@ -416,9 +489,14 @@ impl World {
     /// The daemon gives a connection up. One that it could not hold for want of memory could not be accepted.
     pub fn close(&mut self, number: usize) {
         let is_starved = self.is_starved();
+        // Long enough for who takes the log out to see it.
+        let is_starved_on = self.now.saturating_add(100_000) < self.starved_until;
         if let Some(wire) = self.wires.get_mut(number) {
             if is_starved && !wire.is_held {
                 self.notices.note_unaccepted(self.now);
+            }
+            if is_starved_on && wire.down.is_empty() && wire.received.is_empty() {
+                self.notices.note_unanswered(self.now);
             }
             wire.is_down_ended = true;
             wire.is_ended_well = !wire.is_up_ended && !wire.is_reset;

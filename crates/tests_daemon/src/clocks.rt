@@ -1,5 +1,5 @@
 //! A clock that a test pushes forward.
-use portmap_worker::{Host, Notice, Refused};
+use portmap_worker::{Host, Notice};
 use std::alloc::{AllocError, Global};
 use std::fs::{File, Files};
 use std::io;
@@ -30,6 +30,10 @@ pub struct Pushing {
     pub asked: AtomicU64,
     /// How often the operator was told that the recording has failed.
     pub told: AtomicU64,
+    /// How often, that it goes on again, that memory is short, and that another host was refused.
+    pub again: AtomicU64,
+    pub short: AtomicU64,
+    pub remote: AtomicU64,
     /// No further copy of it can be had.
     pub is_alone: AtomicBool,
 }
@@ -42,6 +46,9 @@ impl<R: Clock + Copy> Pushed<R> {
             is_short: AtomicBool::new(false),
             asked: AtomicU64::new(0),
             told: AtomicU64::new(0),
+            again: AtomicU64::new(0),
+            short: AtomicU64::new(0),
+            remote: AtomicU64::new(0),
             is_alone: AtomicBool::new(false),
         };
         let shared = Arc::new(alloc, pushing)?;
@@ -122,13 +129,16 @@ impl<R: Clock + Files<File = File>> Host for Pushed<R> {
         File::create(&self.rt, path)
     }
 
-    fn notify(&self, notice: Notice) {
-        if notice == Notice::RecordingFailed {
-            self.shared.told.fetch_add(1, Ordering::SeqCst);
-        }
+    fn notify(&self, _alloc: Global, notice: &Notice<'_>) {
+        let count = match notice {
+            Notice::RecordingFailed { .. } => &self.shared.told,
+            Notice::RecordingAgain { .. } => &self.shared.again,
+            Notice::ShortOfMemory(_) => &self.shared.short,
+            Notice::Remote(_) => &self.shared.remote,
+            _ => return,
+        };
+        count.fetch_add(1, Ordering::SeqCst);
     }
-
-    fn notify_refused(&self, _alloc: Global, _refused: &Refused) {}
 
     fn has_memory(&self, _alloc: Global) -> bool {
         self.shared.asked.fetch_add(1, Ordering::SeqCst);

@@ -4,7 +4,7 @@ ghost use Rattle.std.specs.Prelude.{◌≡◌};
 use portmap_book::{Desk, PARTS};
 use portmap_daemon::{MioStream, MioSystem, MioWaker};
 use portmap_testing::books::small_book;
-use portmap_worker::{Drain, Host, Interest, Report, Shared, System, drain_log};
+use portmap_worker::{Drain, Host, Interest, Report, Shared, System, UNSENT_BYTES_MOST, drain_log};
 use std::alloc::Global;
 use std::fs::File;
 use std::io::ErrorKind;
@@ -86,9 +86,9 @@ fn polls<L: Ledger + Send + Sync, R: Net + Host<File = File> + Threads + Wait + 
 {
     let desk: Desk<L> = Desk::new(blank, small_book(alloc)?);
     let (_, waker) = MioSystem::open(rt, alloc, &[]).ok()?;
-    let shared = Shared::new(rt, Vec::new(alloc), waker, 2);
+    let shared = Shared::new(rt, Vec::new(alloc), waker, 2, UNSENT_BYTES_MOST);
     shared.ending.begin_one();
-    let drain = Drain::begin(rt, alloc, &desk, None).ok()?;
+    let drain = Drain::begin(rt, alloc, &desk, None, 2).ok()?;
     let polls = AtomicU64::new(0);
     let deaf = Deaf { polls: &polls };
     let (is_out, _) = thread::join(

@@ -116,6 +116,11 @@ fn hand_on<R: Wait + Clock>(
     is_handed_on::<Brand, R>(rt, alloc, Blank::new(PARTS), queue, turn)
 }
 
+/// A queue for a recording at this path.
+fn queue_at(alloc: Global, path: &str) -> Option<RecordQueue> {
+    Some(RecordQueue::new(alloc, path.to_string(alloc).ok()?))
+}
+
 /// Whether all of that, which is handed on before any of it is written, is written to a file that is full once it has
 /// so many bytes, and whether the queue says then that it is full.
 fn written<R: Files<File = File> + Wait + Clock>(
@@ -125,9 +130,9 @@ fn written<R: Files<File = File> + Wait + Clock>(
     file_most: u64,
     path: &str,
 ) -> Option<(bool, bool)> {
-    let queue = RecordQueue::new(alloc);
+    let queue = queue_at(alloc, path)?;
     let is_handed_on = hand_on(rt, alloc, &queue, turn)?;
-    write_recording(rt, alloc, &queue, path, file_most);
+    write_recording(rt, alloc, &queue, file_most);
     let is_written = is_handed_on && queue.is_written(rt, Duration::ZERO);
     Some((is_written, queue.is_full(rt)))
 }
@@ -143,10 +148,10 @@ fn has_had(rt: &HostRuntime, path: &str, bytes: &[u8]) -> Result<bool, Fail> {
 fn a_file_that_is_full_is_followed_by_one_that_begins_where_it_ended(
     rt: HostRuntime,
 ) -> Result<(), Fail> {
-    let queue = RecordQueue::new(rt.alloc());
+    let queue = RecordQueue::new(rt.alloc(), "full".to_string(rt.alloc())?);
     let (_, is_handed_on) = thread::join(
         &rt,
-        || write_recording(&rt, rt.alloc(), &queue, "full", 93),
+        || write_recording(&rt, rt.alloc(), &queue, 93),
         || hand_on(&rt, rt.alloc(), &queue, Turn::Full),
     );
     assert!(rt; is_handed_on == Some(true) && queue.is_written(&rt, Duration::ZERO));
@@ -182,13 +187,13 @@ fn a_file_that_waits_for_the_one_before_it_is_not_full(rt: HostRuntime) -> Resul
 /// Ends a recording to which nothing is put, after a moment.
 fn end_late<R: Files<File = File> + Wait + Clock>(rt: &R, alloc: Global, queue: &RecordQueue) {
     thread::sleep(rt, Duration::from_millis(100));
-    write_recording(rt, alloc, queue, "none", 93);
+    write_recording(rt, alloc, queue, 93);
 }
 
 #[test]
 fn who_waits_for_the_end_of_a_recording_is_told_at_once(rt: HostRuntime) -> Result<(), Fail> {
     let (alloc, patience) = (rt.alloc(), Duration::from_secs(10));
-    let queue = RecordQueue::new(alloc);
+    let queue = RecordQueue::new(alloc, "none".to_string(alloc)?);
     queue.close(&rt);
     let before = rt.monotonic()?;
     let (_, is_written) = thread::join(

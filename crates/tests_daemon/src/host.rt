@@ -2,13 +2,16 @@
 use portmap_core::Fate;
 use portmap_testing::bytes::{ALIVE_A, ALIVE_B, FOURTH, NOT_FOUND, PORT_A};
 use portmap_testing::entries::{Kept, entry};
-use portmap_worker::{Host, Notice, RecordFile, Refused};
+use portmap_worker::{Host, LocalRequest, Notice, RecordFile, Refused, RemoteRefused, RemoteSlots};
 use std::alloc::Global;
 use std::fs;
-use std::fs::{File, Permissions};
+use std::fs::{File, Files, Permissions};
 use std::io::Write;
 use std::os::unix::fs::{MetadataExt, PermissionsExt, symlink};
 use std::test::Fail;
+
+/// A user that is not root.
+const NOBODY: u32 = 65_534;
 
 /// Whether the file at the path has these bytes, and its owner alone may read and write it.
 fn is_private(rt: &HostRuntime, path: &str, bytes: &[u8]) -> Result<bool, Fail> {
@@ -72,6 +75,28 @@ fn a_link_is_not_followed(rt: HostRuntime) -> Result<(), Fail> {
     Ok(())
 }
 
+/// Whether a file of another user is refused and keeps what it has.
+fn refuses_others(rt: &HostRuntime) -> Result<bool, Fail> {
+    fs::write(rt, "others", b"kept")?;
+    let user = fs::metadata(rt, "others")?.uid();
+    // Only root may give a file away, and who has the other user's number already keeps it.
+    let _ = rt.chown("others", Some(NOBODY), None);
+    if fs::metadata(rt, "others")?.uid() == user {
+        fs::remove_file(rt, "others")?;
+        return Ok(true);
+    }
+    let is_refused = rt.make("others").is_err();
+    let is_kept = fs::read(rt, "others")?.as_slice() == b"kept".as_slice();
+    fs::remove_file(rt, "others")?;
+    Ok(is_refused && is_kept)
+}
+
+#[test]
+fn a_file_of_another_user_is_refused(rt: HostRuntime) -> Result<(), Fail> {
+    assert!(rt; refuses_others(&rt)?);
+    Ok(())
+}
+
 /// A device is written to, stays everybody's, and is no plain file.
 #[test]
 fn a_device_is_taken_as_it_is(rt: HostRuntime) -> Result<(), Fail> {
@@ -99,15 +124,44 @@ fn a_plain_file_is_cut(rt: HostRuntime) -> Result<(), Fail> {
 }
 
 #[test]
-fn an_operator_reads_one_line(rt: HostRuntime) -> Result<(), Fail> {
-    assert_eq!(rt;
-        Notice::RecordingFailed.line(),
-        b"epmd: recording failed\n".as_slice()
-    );
-    assert_eq!(rt;
-        Notice::CannotAccept.line(),
-        b"epmd: cannot accept connections\n".as_slice()
-    );
+fn an_operator_reads_a_line_of_each_kind(rt: HostRuntime) -> Result<(), Fail> {
+    let alloc = rt.alloc();
+    let failed = Notice::RecordingFailed {
+        path: "/var/session",
+        number: 0,
+        reason: b"No space left on device",
+    };
+    let again = Notice::RecordingAgain {
+        path: "/var/session",
+        number: 12,
+    };
+    let fewer = Notice::FewerPlaces {
+        places: 990,
+        limit: 1024,
+    };
+    let read: &[(Notice<'_>, &[u8])] = &[
+        (Notice::CannotAccept, b"epmd: cannot accept connections\n"),
+        (
+            Notice::ShortOfMemory(1200),
+            b"epmd: memory is short, 1200 requests were refused\n",
+        ),
+        (
+            Notice::Unread(3),
+            b"epmd: 3 connections that did not read their replies were reset\n",
+        ),
+        (
+            failed,
+            b"epmd: recording failed: /var/session: No space left on device\n",
+        ),
+        (again, b"epmd: recording again: /var/session.12\n"),
+        (
+            fewer,
+            b"epmd: at most 990 connections, since the limit of descriptors is 1024\n",
+        ),
+    ];
+    for (notice, line) in read {
+        assert_eq!(rt; notice.line(alloc)?.as_slice(), *line);
+    }
     Ok(())
 }
 
@@ -150,5 +204,76 @@ fn an_operator_reads_of_names_that_are_in_use(rt: HostRuntime) -> Result<(), Fai
     assert!(rt; is_told(alloc, unknown, 1, b"epmd: a name is in use\n")?);
     assert!(rt; is_told(alloc, &REFUSED[1..2], 1, b"epmd: name a is in use\n")?);
     assert!(rt; is_told(alloc, REFUSED, 3, b"epmd: name a is in use, and 2 more\n")?);
+    Ok(())
+}
+
+/// A DUMP, a KILL, a STOP and a look-up, as they are sent.
+const DUMP_SENT: &[u8] = &[0, 1, 100];
+
+const KILL_SENT: &[u8] = &[0, 1, 107];
+
+const STOP_SENT: &[u8] = &[0, 2, 115, 97];
+
+/// Another host has slots 1 and 3, and this one slot 2.
+const ROUNDS: &[Kept] = &[
+    Kept::Connected(false, 1),
+    Kept::Connected(true, 2),
+    Kept::Connected(false, 3),
+];
+
+/// None of these is a request of another host that was refused: of this host, answered, in parts, a look-up, or of a
+/// slot that is this host's again.
+const UNCOUNTED: &[Kept] = &[
+    Kept::Piece(2, DUMP_SENT, b"", Fate::Close),
+    Kept::Piece(1, DUMP_SENT, b"dump", Fate::Close),
+    Kept::Piece(1, DUMP_SENT, b"", Fate::Stay),
+    Kept::Piece(1, b"\0", b"", Fate::Close),
+    Kept::Piece(1, PORT_A, b"", Fate::Close),
+    Kept::Closed(1),
+    Kept::Connected(true, 1),
+    Kept::Piece(1, DUMP_SENT, b"", Fate::Close),
+    Kept::Piece(7, DUMP_SENT, b"", Fate::Close),
+];
+
+/// Each of these is one.
+const COUNTED: &[Kept] = &[
+    Kept::Piece(3, STOP_SENT, b"", Fate::Close),
+    Kept::Piece(3, KILL_SENT, b"", Fate::Close),
+    Kept::Piece(3, DUMP_SENT, b"", Fate::Close),
+    Kept::Piece(3, ALIVE_A, b"", Fate::Close),
+];
+
+/// Notes these entries of a log with five slots.
+fn note_all(
+    alloc: Global,
+    refused: &mut RemoteRefused,
+    slots: &mut RemoteSlots,
+    entries: &[Kept],
+) -> Result<(), Fail> {
+    for kept in entries {
+        let entry = entry(alloc, kept)?;
+        refused.note(alloc, slots, &entry);
+        slots.note(&entry);
+    }
+    Ok(())
+}
+
+#[test]
+fn an_operator_reads_of_other_hosts(rt: HostRuntime) -> Result<(), Fail> {
+    let alloc = rt.alloc();
+    let mut slots = RemoteSlots::new(alloc, 5)?;
+    let mut refused = RemoteRefused::new();
+    note_all(alloc, &mut refused, &mut slots, ROUNDS)?;
+    note_all(alloc, &mut refused, &mut slots, UNCOUNTED)?;
+    assert_eq!(rt; refused.count(), 0);
+    note_all(alloc, &mut refused, &mut slots, COUNTED)?;
+    assert_eq!(rt;
+        (refused.count(), refused.first()),
+        (4, Some(LocalRequest::Stop))
+    );
+    assert_eq!(rt;
+        refused.line(alloc)?.as_slice(),
+        b"epmd: a STOP from another host was refused, and 3 more\n".as_slice()
+    );
     Ok(())
 }

@@ -15,7 +15,7 @@ use std::time::Duration;
 /// A port of this test alone.
 const PORT: u16 = 14_460;
 
-/// The daemon looks for memory as it begins and in its first turn.
+/// The daemon looks for memory as it begins, before it takes its reserve and behind that.
 const FIRST_LOOKS: u64 = 2;
 
 /// In so many milliseconds it has looked once more, where memory is short.
@@ -24,7 +24,7 @@ const LOOK: u64 = 200;
 /// So many seconds are more than it serves on while nothing gets through.
 const SECONDS: u32 = 40;
 
-/// Whether the daemon has begun, within ten seconds, and found memory short.
+/// Whether the daemon has begun, within ten seconds.
 fn has_begun<R: Clock>(rt: &R, host: &Pushing) -> bool {
     for _ in 0..1000u32 {
         if host.asked.load(Ordering::SeqCst) >= FIRST_LOOKS {
@@ -44,18 +44,17 @@ fn is_taken_in_two<R: Net<Stream = TcpStream> + Clock>(rt: &R) -> Option<bool> {
     Some(is_sent && stream.read_exact(&mut [0; 6]).is_ok())
 }
 
-/// Memory can be had again, but that which is kept for want of it is not yet: whether a look-up is answered then, and
-/// no name registered.
+/// No memory can be had from now on: whether a look-up is answered then, as before, and no name registered.
 fn is_spared<R: Net<Stream = TcpStream> + Clock>(rt: &R, host: &Pushing) -> Option<bool> {
-    host.is_short.store(false, Ordering::SeqCst);
-    let is_answered = is_answered(rt, PORT, PORT_A, NOT_FOUND)?;
+    let was_answered = is_answered(rt, PORT, PORT_A, NOT_FOUND)?;
+    host.is_short.store(true, Ordering::SeqCst);
     let is_taken = registered(rt, PORT).is_some() || is_taken_in_two(rt)?;
-    Some(is_answered && !is_taken)
+    Some(is_answered(rt, PORT, PORT_A, NOT_FOUND)? && was_answered && !is_taken)
 }
 
-/// Whether a name is registered, once the next second is over.
+/// Memory can be had again: whether a name is registered soon, before the second is over.
 fn is_over<R: Net<Stream = TcpStream> + Clock>(rt: &R, host: &Pushing) -> bool {
-    host.push(1);
+    host.is_short.store(false, Ordering::SeqCst);
     for _ in 0..50u32 {
         if registered(rt, PORT).is_some() {
             return true;
@@ -89,6 +88,7 @@ fn while_memory_is_short_no_name_is_registered_and_for_five_seconds_at_most(
     let settings = settings_at(alloc, PORT, 60, 1, None)?;
     let host = Pushed::new(rt, alloc)?;
     host.pushing().stand();
+    host.pushing().is_short.store(false, Ordering::SeqCst);
     let (ended, told) = thread::join(
         &rt,
         || run(&host, alloc, settings),
@@ -105,6 +105,7 @@ fn while_memory_is_short_no_name_is_registered_and_for_five_seconds_at_most(
         },
     );
     assert_eq!(rt; told, (true, Some(true), true, Some(true)));
+    assert!(rt; host.pushing().short.load(Ordering::SeqCst) > 0);
     assert!(rt; matches!(ended, Err(RunFault::NoMemory)));
     Ok(())
 }

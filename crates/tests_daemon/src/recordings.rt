@@ -1,6 +1,6 @@
 //! Recordings of a daemon: where the file stalls it serves on, and ends when it is told to; where the file is full it
 //! goes on in a further one.
-use crate::clocks::Pushed;
+use crate::clocks::{Pushed, Pushing};
 use crate::daemon::{acts_of, is_answered, registered, settings_at};
 use portmap_daemon::{Open, RunEnd, RunFault, run, run_over};
 use portmap_record::{Version, check, read_record};
@@ -85,6 +85,62 @@ fn a_recording_that_fails_is_told_at_once_and_once(rt: HostRuntime) -> Result<()
         || is_told_at_once(&rt, &host, MUTE_PORT),
     );
     assert!(rt; told == Some(true) && is_told_once(&host, &ended));
+    Ok(())
+}
+
+/// A port of the next test alone, and a folder that is not there at first.
+const AGAIN_PORT: u16 = 14_424;
+
+const AGAIN_FOLDER: &str = "recording-14424";
+
+const AGAIN: &str = "recording-14424/session";
+
+/// So many seconds are more than pass until a recording is begun anew.
+const AGAIN_SECONDS: u32 = 30;
+
+/// Whether the operator reads that the recording failed, and that it goes on again once its folder is there: a node
+/// that has registered before is found in it.
+fn goes_on_again(rt: &HostRuntime, host: &Pushing) -> Option<bool> {
+    let has_failed = is_raised(rt, &host.told);
+    let _node = registered(rt, AGAIN_PORT)?;
+    fs::create_dir(rt, AGAIN_FOLDER).ok()?;
+    for _ in 0..AGAIN_SECONDS {
+        host.push(1);
+        // Who leaves unanswered has the log looked at.
+        drop(TcpStream::connect(rt, (Ipv4Addr::LOCALHOST, AGAIN_PORT)).ok()?);
+        thread::sleep(rt, Duration::from_millis(100));
+    }
+    let is_again = is_raised(rt, &host.again);
+    let is_found = is_answered(rt, AGAIN_PORT, PORT_A, FOUND_A)?;
+    Some(is_answered(rt, AGAIN_PORT, KILL, b"OK")? && has_failed && is_again && is_found)
+}
+
+/// How many of a file's entries there are, where it is a run that begins with a connection that holds a name.
+fn begins_held(rt: &HostRuntime, path: &str) -> Result<Option<usize>, Fail> {
+    let bytes = fs::read(rt, path)?;
+    fs::remove_file(rt, path)?;
+    let Ok(session) = read_record(rt.alloc(), &bytes) else {
+        return Ok(None);
+    };
+    let begins_later = matches!(&session.version, Version::Two { first, .. } if *first > 0);
+    let is_run = check(rt.alloc(), &session) == Ok(());
+    Ok((begins_later && is_run).then_some(session.entries.len()))
+}
+
+#[test]
+fn a_recording_that_failed_begins_anew_once_it_can(rt: HostRuntime) -> Result<(), Fail> {
+    let alloc = rt.alloc();
+    let settings = settings_at(alloc, AGAIN_PORT, 60, 1, Some(AGAIN))?;
+    let host = Pushed::new(rt, alloc)?;
+    let (ended, told) = thread::join(
+        &rt,
+        || run(&host, alloc, settings),
+        || goes_on_again(&rt, host.pushing()),
+    );
+    assert_eq!(rt; told, Some(true));
+    assert!(rt; is_told_once(&host, &ended));
+    assert!(rt; begins_held(&rt, AGAIN)?.is_some_and(|count| count > 3));
+    fs::remove_dir(&rt, AGAIN_FOLDER)?;
     Ok(())
 }
 

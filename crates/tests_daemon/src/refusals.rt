@@ -9,7 +9,9 @@ use portmap_book::{Desk, PARTS};
 use portmap_testing::books::small_book;
 use portmap_testing::bytes::ALIVE_A;
 use portmap_testing::marks::{begin, end, was_refused};
-use portmap_worker::{Drain, Drained, Host, RecordQueue, Shared, Wake, write_recording};
+use portmap_worker::{
+    Drain, Drained, Host, RecordQueue, Shared, UNSENT_BYTES_MOST, Wake, write_recording,
+};
 use std::alloc::Global;
 use std::io::{PipeReader, Read, pipe};
 use std::marker::Brand;
@@ -42,7 +44,7 @@ fn is_out<L: Ledger, R: Host + Wait + Clock>(
     desk: &Desk<L>,
     drain: &mut Drain<'_>,
 ) -> bool {
-    let shared = Shared::new(rt, Vec::new(alloc), Nobody, 2);
+    let shared = Shared::new(rt, Vec::new(alloc), Nobody, 2, UNSENT_BYTES_MOST);
     begin(alloc);
     let drained = drain.turn(rt, alloc, desk, &shared);
     end(alloc);
@@ -54,19 +56,19 @@ fn is_told_whole<L: Ledger, R: Host + Wait + Clock>(
     rt: &R,
     alloc: Global,
     blank: Blank,
-    path: &String,
+    path: String,
 ) -> Option<bool>
     requires name { blank.name ≡ L.name }
     requires parts { blank.parts ≡ L.parts }
     requires enough { blank.parts ≡ PARTS }
 {
     let desk: Desk<L> = Desk::new(blank, small_book(alloc)?);
-    let queue = RecordQueue::new(alloc);
-    let mut drain = Drain::begin(rt, alloc, &desk, Some(&queue)).ok()?;
+    let queue = RecordQueue::new(alloc, path);
+    let mut drain = Drain::begin(rt, alloc, &desk, Some(&queue), 2).ok()?;
     registers(rt, alloc, &desk)?;
     let is_out = is_out(rt, alloc, &desk, &mut drain);
     queue.close(rt);
-    write_recording(rt, alloc, &queue, path.as_str(), u64::MAX);
+    write_recording(rt, alloc, &queue, u64::MAX);
     Some(is_out && queue.is_written(rt, Duration::ZERO))
 }
 
@@ -84,7 +86,7 @@ fn a_recording_that_lacks_entries_is_told_to_have_failed(rt: HostRuntime) -> Res
     let path = path_of(alloc, &writer)?;
     let host = Pushed::new(rt, alloc)?;
     let blank = Blank::new(PARTS);
-    let told = is_told_whole::<Brand, Pushed<HostRuntime>>(&host, alloc, blank, &path);
+    let told = is_told_whole::<Brand, Pushed<HostRuntime>>(&host, alloc, blank, path);
     drop(writer);
     let has_all = has_all(alloc, reader)?;
     assert_eq!(rt; told, Some(has_all));
