@@ -46,8 +46,13 @@ ADDED = $(addsuffix /10-proved.conf,epmd.socket.d epmd.service.d epmd-proved.ser
 CLIENT = $(and $(wildcard build/libepmd_client.a),$(wildcard build/libepmd_client.so))
 built = $(if $(shell ls build/epmd 2> /dev/null),,$(error there is no build/epmd: `make epmd` first))
 
+# The commit of this checkout, and whether it was changed since. It is empty where this is no checkout.
+GIT = git --no-optional-locks -c safe.directory='*'
+COMMIT = $(shell test -e .git && $(GIT) describe --always --exclude='*' --abbrev=7 --dirty=', changed' 2> /dev/null)
+
 # Says in files that are in place which version they are of, and where they lie.
-fill = sed -i 's|/usr/local/lib/systemd/system|$(UNITS)|g; s|/usr/local|$(PREFIX)|g; s|@LIBRARIES@|$(LIBRARIES)|; s|@VERSION@|$(shell cat VERSION)|' $(addprefix $(DESTDIR),$(1))
+fill = sed -i 's|/usr/local/lib/systemd/system|$(UNITS)|g; s|/usr/local|$(PREFIX)|g; s|@LIBRARIES@|$(LIBRARIES)|; \
+    s|@VERSION@|$(shell cat VERSION)|; s|@COMMIT@|$(if $(COMMIT), (commit $(COMMIT)))|' $(addprefix $(DESTDIR),$(1))
 
 # Puts the program, the wrapper that is called `epmd`, the tools, the manual pages and the units in their places, and the client for C with
 # its header, its manual page and its file for pkg-config. How to start it is told where this is the machine that it is for.
@@ -60,7 +65,8 @@ ifeq ($(DESTDIR),)
 endif
 
 install-program:
-	$(built)install -D -m 755 -t $(DESTDIR)$(LIB) build/epmd contrib/renew
+	$(built)install -D -m 755 -t $(DESTDIR)$(LIB) build/epmd contrib/renew contrib/state-folder
+	ln -sf epmd $(DESTDIR)$(LIB)/epmd-all-options-ignored
 	install -m 644 contrib/epmd_recording.py $(DESTDIR)$(LIB)
 	install -D -m 755 -t $(DESTDIR)$(BIN) $(addprefix contrib/,$(COMMANDS))
 	install -D -m 644 -t $(DESTDIR)$(UNITS) $(addprefix contrib/units/,$(SERVICES))
@@ -69,7 +75,7 @@ install-program:
 	install -D -m 644 contrib/units/proved.conf $(DESTDIR)$(UNITS)/epmd-proved.service.d/10-proved.conf
 	install -D -m 644 -t $(DESTDIR)$(MAN)/man1 $(addprefix docs/,$(PAGES))
 	install -D -m 644 -t $(DESTDIR)$(DOC) README.md
-	@$(call fill,$(BIN)/epmd $(addprefix $(MAN)/man1/,$(PAGES)) $(addprefix $(UNITS)/,$(SERVICES) $(ADDED)))
+	@$(call fill,$(BIN)/epmd $(LIB)/epmd_recording.py $(addprefix $(MAN)/man1/,$(PAGES)) $(addprefix $(UNITS)/,$(SERVICES) $(ADDED)))
 
 install-client:
 	install -D -m 644 build/libepmd_client.so $(DESTDIR)$(LIBRARIES)/libepmd_client.so.0

@@ -7,6 +7,7 @@ import os
 import re
 import shutil
 import subprocess
+import sys
 import tempfile
 import unittest
 
@@ -129,7 +130,9 @@ def below(root):
 def program_below(prefix):
     return {**{f"{prefix}/bin/{name}": 0o755 for name in COMMANDS}, **{f"{prefix}/share/man/man1/{name}.1": 0o644 for name in COMMANDS},
             **{f"{prefix}/lib/systemd/system/{name}": 0o644 for name in UNITS}, f"{prefix}/lib/epmd-proved/epmd": 0o755,
-            f"{prefix}/lib/epmd-proved/renew": 0o755, f"{prefix}/lib/epmd-proved/epmd_recording.py": 0o644, f"{prefix}/share/doc/epmd-proved/README.md": 0o644}
+            f"{prefix}/lib/epmd-proved/renew": 0o755, f"{prefix}/lib/epmd-proved/state-folder": 0o755,
+            f"{prefix}/lib/epmd-proved/epmd-all-options-ignored": "epmd", f"{prefix}/lib/epmd-proved/epmd_recording.py": 0o644,
+            f"{prefix}/share/doc/epmd-proved/README.md": 0o644}
 
 
 def client_below(prefix):
@@ -174,6 +177,10 @@ class Install(Checkout):
         version = read(os.path.join(TOP, "VERSION")).strip()
         self.assertIn("prefix=/opt/own\nlibdir=/opt/own/lib\n", read(os.path.join(self.root, "opt/own/lib/pkgconfig/epmd_client.pc")))
         self.assertEqual(self.run_in("/", os.path.join(self.root, "opt/own/bin/epmd"), "-version").stdout, f"epmd-proved {version}\n")
+        done = self.run_in("/", sys.executable, os.path.join(self.root, "opt/own/bin/epmd-log"), "-version")
+        self.assertEqual(done.stdout, f"epmd-log {version}\n")
+        for unit in ("epmd.service.d", "epmd-proved.service.d"):
+            self.assertIn("\nExecStartPre=-+/opt/own/lib/epmd-proved/state-folder\n", read(os.path.join(units, unit, "10-proved.conf")))
 
     def test_nothing_is_proved(self):
         self.made("install", f"DESTDIR={self.root}")
@@ -280,6 +287,12 @@ class Package(Checkout):
         lines = self.run_in("/", "dpkg-deb", "--contents", package, TZ="UTC").stdout.splitlines()
         return {line.split(maxsplit=5)[5]: line.split(maxsplit=5) for line in lines}
 
+    def version(self):
+        """What the `epmd` of the package says of itself."""
+        package, = glob.glob(os.path.join(self.top, "build", "epmd-proved_*.deb"))
+        self.run_in("/", "dpkg-deb", "--extract", package, os.path.join(self.folder, "tree"))
+        return self.run_in("/", os.path.join(self.folder, "tree/usr/bin/epmd"), "-version").stdout
+
     def test_the_same_sources_have_the_same_bytes(self):
         self.with_client()
         self.made("deb")
@@ -298,6 +311,14 @@ class Package(Checkout):
             self.assertEqual(self.run_in(self.top, *git, *words, GIT_COMMITTER_DATE="1700000000 +0000").returncode, 0)
         self.made("deb")
         self.assertEqual({tuple(line[3:5]) for line in self.listed("epmd-proved").values()}, {("2023-11-14", "22:13")})
+        version = read(os.path.join(TOP, "VERSION")).strip()
+        commit = self.run_in(self.top, *git, "rev-parse", "HEAD").stdout[:7]
+        self.assertEqual(self.version(), f"epmd-proved {version} (commit {commit})\n")
+        write(os.path.join(self.top, "VERSION"), "9.9\n")
+        self.made("install", f"DESTDIR={self.folder}/changed")
+        done = self.run_in("/", os.path.join(self.folder, "changed/usr/local/bin/epmd"), "-version")
+        self.assertEqual(done.stdout, f"epmd-proved 9.9 (commit {commit}, changed)\n")
+        write(os.path.join(self.top, "VERSION"), version + "\n")
         self.made("deb", SOURCE_DATE_EPOCH="1600000000")
         self.assertEqual({tuple(line[3:5]) for line in self.listed("epmd-proved").values()}, {("2020-09-13", "12:26")})
 
@@ -316,15 +337,23 @@ class Package(Checkout):
         self.run_in("/", "dpkg-deb", "--extract", package, os.path.join(self.folder, "tree"))
         told = read(os.path.join(self.folder, "tree/usr/lib/x86_64-linux-gnu/pkgconfig/epmd_client.pc"))
         self.assertIn("prefix=/usr\nlibdir=/usr/lib/x86_64-linux-gnu\n", told)
+        package, = glob.glob(os.path.join(self.top, "build", "libepmd-client0_*.deb"))
+        self.run_in("/", "dpkg-deb", "--control", package, os.path.join(self.folder, "control"))
+        head, *symbols = read(os.path.join(self.folder, "control", "symbols")).splitlines()
+        self.assertEqual(head, "libepmd_client.so.0 libepmd-client0 #MINVER#")
+        calls = set(re.findall(r"(?m)^\w+ (epmd_\w+)\(", read(os.path.join(TOP, "include", "epmd_client.h"))))
+        self.assertEqual(set(symbols), {f" {call}@Base 1.0.0" for call in calls})
 
     def test_it_has_the_files_of_an_installation_and_what_a_package_has(self):
         self.stand_in("rt", RT)
         self.made("deb", KIT=self.folder)
         wanted = {name.replace("usr/lib/systemd", "lib/systemd") + (".gz" if "/man/" in name else "") for name in program_below("usr")}
         doc = "usr/share/doc/epmd-proved/"
-        wanted |= {"usr/lib/epmd-proved/erts", "usr/share/lintian/overrides/epmd-proved", *(doc + name for name in
-                   ("changelog.gz", "copyright", "epmd-proved.spdx.json"))}
-        self.assertEqual({name[2:] for name in self.listed("epmd-proved") if not name.endswith("/")}, wanted)
+        wanted |= {"usr/share/lintian/overrides/epmd-proved", *(doc + name for name in ("changelog.gz", "copyright", "epmd-proved.spdx.json"))}
+        ignored = "usr/lib/epmd-proved/epmd-all-options-ignored"
+        listed = {name[2:] for name in self.listed("epmd-proved") if not name.endswith("/")}
+        self.assertEqual(listed, wanted - {ignored} | {ignored + " -> epmd"})
+        wanted -= {ignored}
         tree = os.path.join(self.folder, "tree")
         package, = glob.glob(os.path.join(self.top, "build", "*.deb"))
         self.run_in("/", "dpkg-deb", "--raw-extract", package, tree)
@@ -333,8 +362,9 @@ class Package(Checkout):
         control = read(os.path.join(tree, "DEBIAN", "control"))
         self.assertNotIn("@", control.replace("epmd@cekhtsoni", ""))
         shutil.rmtree(os.path.join(tree, "DEBIAN"))
-        # As Debian's policy has it: each file in whole kibibytes, and one for each folder.
-        sizes = [-(-os.path.getsize(os.path.join(folder, name)) // 1024) for folder, _, names in os.walk(tree) for name in names]
+        # As Debian's policy has it: each file in whole kibibytes, and one for each folder and each link.
+        paths = [os.path.join(folder, name) for folder, _, names in os.walk(tree) for name in names]
+        sizes = [1 if os.path.islink(path) else -(-os.path.getsize(path) // 1024) for path in paths]
         self.assertIn(f"\nInstalled-Size: {sum(sizes) + sum(1 for _ in os.walk(tree))}\n", control)
 
     def test_without_a_toolchain_it_takes_what_was_told_or_says_that_nothing_is(self):

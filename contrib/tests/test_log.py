@@ -193,10 +193,22 @@ class Told(unittest.TestCase):
 
     def test_a_file_of_another_run_is_told(self):
         self.write(start(9), self.path + ".1")
+        os.utime(self.path + ".1", (1, 1))
         self.write(start() + connect(0))
         done = self.run_log()
         self.assertEqual(done.returncode, 2)
         self.assertEqual(done.stderr, f"epmd-log: {self.path}.1: it begins at place 9, and the one before it ends at 1: another run wrote it\n")
+
+    def test_a_recording_that_began_anew_has_a_gap(self):
+        self.write(start() + connect(0) + connect(1)[:-1])
+        self.write(start(9, [(b"a", 5000, 4, 0)], (), [(0, 1, 1, b"")]) + close(0), self.path + ".1")
+        self.write(start(12) + visit(b"b"), self.path + ".2")
+        for time, behind in enumerate(("", ".1", ".2")):
+            os.utime(self.path + behind, (time, time))
+        lines = ["1 gap: 8 entries are missing", "9 leave a port 5000", "10 gap: 2 entries are missing", "13 lookup b by a local peer: not registered"]
+        self.assertEqual(self.run_log().stdout.splitlines(), lines)
+        self.assertEqual(self.run_log("-n", "a").stdout.splitlines(), lines[:3])
+        self.assertEqual(json.loads(self.run_log("-json").stdout.splitlines()[0]), {"place": 1, "event": "gap", "missing": 8})
 
     def test_what_is_cut_or_strange_is_told(self):
         for cut, where in ((start()[:20], "its start"), (start() + connect(0)[:-1], "place 0")):
@@ -258,6 +270,12 @@ class Told(unittest.TestCase):
         self.assertEqual([line.split(" by")[0] for line in done.stdout.splitlines()], ["71 lookup a", "74 lookup b"])
         self.assertEqual(done.returncode, 0)
 
+    def test_a_letter_that_the_locale_lacks_is_printed_by_its_number(self):
+        self.write(start() + visit("aé\u4e00".encode()))
+        for encoding, shown in (("ascii", "a\\xe9\\u4e00"), ("latin-1", "a\xe9\\u4e00"), ("utf-8", "aé\u4e00")):
+            done = subprocess.run([sys.executable, LOG, self.path], capture_output=True, timeout=30, env={**os.environ, "PYTHONIOENCODING": encoding})
+            self.assertEqual((done.returncode, done.stderr, done.stdout), (0, b"", f"1 lookup {shown} by a local peer: not registered\n".encode(encoding)))
+
     def test_one_that_is_not_there_is_told(self):
         done = self.run_log()
         self.assertEqual((done.returncode, done.stderr), (2, f"epmd-log: {self.path}: no such file\n"))
@@ -266,6 +284,19 @@ class Told(unittest.TestCase):
         done = subprocess.run([sys.executable, LOG, "--help"], capture_output=True, text=True, timeout=30)
         for word in ("usage: epmd-log", "The status is 0", "-json", "-f ", "-n NAME"):
             self.assertIn(word, done.stdout)
+
+    def test_each_tool_has_a_version_and_says_what_it_lacks(self):
+        with open(os.path.join(CONTRIB, "..", "VERSION")) as file:
+            version = file.read().strip()
+        lacking = "import sys, runpy; sys.modules['argparse'] = None; sys.argv = sys.argv[1:]; runpy.run_path(sys.argv[0], run_name='__main__')"
+        for name in ("epmd-log", "epmd-metrics", "epmd-prune"):
+            tool = os.path.join(CONTRIB, name)
+            for word in ("-version", "--version"):
+                done = subprocess.run([sys.executable, tool, word], capture_output=True, text=True, timeout=30)
+                self.assertEqual((done.returncode, done.stdout, done.stderr), (0, f"{name} {version}\n", ""))
+            done = subprocess.run([sys.executable, "-c", lacking, tool], capture_output=True, text=True, timeout=30)
+            self.assertEqual((done.returncode, done.stdout), (2, ""))
+            self.assertRegex(done.stderr, f"^{name}: a module of python3 is missing, [^\n]*argparse[^\n]*\n$")
 
     def test_installed_it_finds_what_the_tools_share_and_leaves_nothing_beside_it(self):
         places = [os.path.join(self.folder.name, *each) for each in (("bin",), ("lib", "epmd-proved"), ("links",))]
@@ -359,7 +390,7 @@ class Followed(Written, unittest.TestCase):
         self.recording.following = following
 
     def seen(self):
-        return [f"{event.place} {event.name.decode()}" for event in self.recording.events()]
+        return [f"{event.place} {event.name.decode() if event.missing is None else f'gap {event.missing}'}" for event in self.recording.events()]
 
     def test_what_is_not_whole_is_waited_for(self):
         whole = start(0, [(b"n", 1, 4, 3)], [(b"o", 2, 5)], [(2, 1, 0, b"\0"), (3, 1, 1, b"")]) + visit(b"a") + late(2) + close(3)
@@ -485,14 +516,45 @@ class Followed(Written, unittest.TestCase):
         self.write(start(9) + visit(b"d"), ".1")
         self.assertEqual(self.seen(), ["7 c", "10 d"])
 
-    def test_a_newer_file_is_not_told_before_its_place(self):
+    def test_what_was_written_before_a_newer_file_is_told_first_and_is_no_gap(self):
         self.write(start() + visit(b"a"))
-        self.write(start(6) + visit(b"c"), ".1")
         self.assertEqual(self.seen(), ["1 a"])
-        self.add(visit(b"b"))
-        self.assertEqual(self.seen(), ["4 b"])
+        self.at_the_next_look(before=lambda: (self.add(visit(b"b")), self.write(start(6) + visit(b"c"), ".1")))
+        self.assertEqual(self.seen(), ["4 b", "7 c"])
         self.add(visit(b"c"), ".1")
-        self.assertEqual(self.seen(), ["7 c", "10 c"])
+        self.assertEqual(self.seen(), ["10 c"])
+
+    def test_a_recording_that_begins_anew_is_followed_over_the_gap(self):
+        self.write(start() + visit(b"a") + connect(0)[:-1])
+        self.assertEqual(self.seen(), ["1 a"])
+        self.write(start(7) + visit(b"b"), ".1")
+        self.assertEqual(self.seen(), ["3 gap 4", "8 b"])
+        self.write(start(20)[:20], ".2")
+        self.assertEqual(self.seen(), [])
+        self.write(start(30) + visit(b"c"), ".3")
+        self.assertEqual(self.seen(), ["10 gap 20", "31 c"])
+
+    def test_one_that_failed_in_its_start_is_followed_too(self):
+        self.write(b"")
+        self.assertEqual(self.seen(), [])
+        self.write(start(7) + visit(b"b"), ".1")
+        self.assertEqual(self.seen(), ["8 b"])
+
+    def test_a_left_over_file_is_no_gap(self):
+        self.write(start(7) + visit(b"old"), ".1")
+        self.write(start() + visit(b"a"))
+        self.assertEqual(self.seen() + self.seen(), ["1 a"])
+
+    def test_a_gap_is_no_reason_to_read_more_than_was_asked_for(self):
+        recording = Recording(self.path, True, most=1)
+        self.addCleanup(recording.close)
+        self.write(start() + visit(b"a"))
+        self.write(start(7) + visit(b"b"), ".1")
+        self.assertEqual([event.event for event in recording.events()], ["lookup"])
+        self.assertTrue(recording.is_spent())
+        following = Recording(self.path, True, kept=recording.kept())
+        self.addCleanup(following.close)
+        self.assertEqual([(event.place, event.event) for event in following.events()], [(3, "gap"), (8, "lookup")])
 
     def test_the_first_files_are_pruned(self):
         self.write(start() + visit(b"a"))

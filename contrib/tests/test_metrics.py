@@ -95,6 +95,7 @@ class Metrics(unittest.TestCase):
         self.assertEqual([found["epmd_up"], found['epmd_names{state="active"}'], found['epmd_names{state="retired"}']], [1, 2, 1])
         self.assertTrue(0 < found["epmd_answer_seconds"] < 10)
         self.assertTrue(found["epmd_open_descriptors"] >= 4 and found["epmd_resident_bytes"] > 1_000_000)
+        self.assertEqual(found["epmd_options_ignored"], 0)
         self.assertNotIn("epmd_recording_moves", found)
 
     def test_connections_are_those_of_its_own_port(self):
@@ -122,6 +123,13 @@ class Metrics(unittest.TestCase):
         own.kill()
         own.wait()
         self.assertIsNone(tool().process_at(port))
+
+    def test_a_process_of_that_name_ignores_its_options(self):
+        for name, ignores in (("/usr/lib/epmd-proved/epmd-all-options-ignored", True), ("/usr/lib/epmd-proved/epmd", False)):
+            process = subprocess.Popen([name, "60"], executable="/bin/sleep")
+            self.addCleanup(process.wait)
+            self.addCleanup(process.kill)
+            self.assertEqual(tool().ignores_options(f"/proc/{process.pid}"), ignores)
 
     def test_a_recording_that_is_not_there_is_told(self):
         done = run(free_port(), *self.recorded)
@@ -191,6 +199,14 @@ class Counted(Written, unittest.TestCase):
             self.add(whole[size:])
             self.assertEqual([self.lookups(), self.lookups()], [2, 2], size)
             os.remove(self.state)
+
+    def test_a_recording_that_began_anew_is_counted_on(self):
+        self.write(start() + visit(b"a") + connect(0)[:-1])
+        self.assertEqual(self.lookups(), 1)
+        self.write(start(9) + visit(b"b"), ".1")
+        self.assertEqual([self.lookups(), self.lookups()], [2, 2])
+        self.add(visit(b"c"), ".1")
+        self.assertEqual(self.lookups(), 3)
 
     def test_a_call_reads_only_what_is_new(self):
         self.write(start() + visit(b"a") * 200)

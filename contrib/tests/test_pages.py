@@ -7,9 +7,10 @@ import unittest
 TOP = os.path.join(os.path.dirname(os.path.abspath(__file__)), "..", "..")
 README, CONTRIBUTING, PROVED, DECISIONS = "README.md", "docs/CONTRIBUTING.md", "docs/PROVED.md", "docs/DECISIONS.md"
 PAGES = [README, CONTRIBUTING, PROVED, DECISIONS, "docs/FORMATS.md", "docs/PROTOCOL.md"]
-CHANGES = "CHANGELOG.md"
+# These come and go with versions, and count for no length.
+OTHERS = ["CHANGELOG.md", "SECURITY.md"]
 # Of a line, and of one of the code; of all pages; of the decisions.
-COLUMNS_MOST, CODE_COLUMNS_MOST, LINES_MOST, WORDS_MOST = 140, 120, 1300, 6000
+COLUMNS_MOST, CODE_COLUMNS_MOST, LINES_MOST, WORDS_MOST = 140, 120, 1330, 6300
 
 FOLDERS = ["crates", "contrib", "docs", "bench", "faults", "include", ".ci"]
 # Where a name has to stand as a word. This file is left out: what it names itself would be found in it.
@@ -136,7 +137,7 @@ class Pages(unittest.TestCase):
         self.none(self.CHECKOUT.missing_members, README, CONTRIBUTING, PROVED, DECISIONS)
 
     def test_each_link_leads_somewhere(self):
-        self.assertEqual([(page, *found) for page in [*PAGES, CHANGES] for found in broken_links(page)], [])
+        self.assertEqual([(page, *found) for page in [*PAGES, *OTHERS] for found in broken_links(page)], [])
 
     def test_each_decision_names_a_file_and_each_room_is_in_the_index(self):
         page = read(DECISIONS)
@@ -148,7 +149,7 @@ class Pages(unittest.TestCase):
         self.assertEqual([item for item, named in zip(items, files) if not named], [])
 
     def test_no_line_is_too_wide(self):
-        self.none(too_wide, *PAGES, CHANGES)
+        self.none(too_wide, *PAGES, *OTHERS)
 
     def test_no_line_of_the_crates_is_too_wide(self):
         """Of the code, rows of tests are left out: a case is one line."""

@@ -29,7 +29,16 @@ class Prune(unittest.TestCase):
         self.assertEqual(self.left([], 2), [])
 
     def test_the_newest_one_always_stays(self):
-        self.assertEqual(self.left(["s", "s.1"], 0), ["s.1"])
+        self.assertEqual(self.left(["s", "s.1"], 1), ["s.1"])
+
+    def test_where_a_number_is_none_from_1_on_nothing_is_removed(self):
+        for keep in ("0", "-1", "", "x", "1.5", " 1", "0000000001"):
+            with tempfile.TemporaryDirectory() as folder:
+                for name in ("s", "s.1"):
+                    open(os.path.join(folder, name), "w").close()
+                done = subprocess.run([sys.executable, TOOL, "-keep", keep, os.path.join(folder, "s")], capture_output=True, text=True, timeout=30)
+                self.assertEqual((done.returncode, done.stdout, sorted(os.listdir(folder))), (2, "", ["s", "s.1"]))
+                self.assertEqual(done.stderr, f"epmd-prune: the number of files to keep is no number from 1 on, so nothing is removed: '{keep}'\n")
 
     def test_others_stay(self):
         self.assertEqual(self.left(["s", "s.1", "s.2", "s.last", "s.01", "s.1.last", "t"], 1), ["s.01", "s.1.last", "s.2", "s.last", "t"])
@@ -42,8 +51,7 @@ class Prune(unittest.TestCase):
             self.assertEqual(self.left(runs, keep), sorted(runs[-keep:]), keep)
 
     def test_earlier_runs_alone(self):
-        for keep in (-1, 0, 1):
-            self.assertEqual(self.left([DAY + "000000Z.3", DAY + "000001Z"], keep), [DAY + "000001Z"])
+        self.assertEqual(self.left([DAY + "000000Z.3", DAY + "000001Z"], 1), [DAY + "000001Z"])
 
     def test_what_a_run_writes_over_an_earlier_one_stays(self):
         self.assertEqual(self.left(["s", "s.1", "s.2", "s.3"], 2, written=["s"]), ["s", "s.3"])

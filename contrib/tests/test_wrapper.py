@@ -1,6 +1,7 @@
 """What the wrapper calls, with a stand-in for the port mapper that notes its words."""
 import os
 import re
+import shutil
 import subprocess
 import tempfile
 import time
@@ -23,6 +24,7 @@ for word in "$@"; do
     if [ "$word" = -names ]; then [ -e "$FOLDER/up" ]; exit; fi
 done
 if [ -n "$TELLS" ]; then echo $$; fi
+if [ -n "$LIMITS" ]; then echo "$0 $(ulimit -S -n) $(ulimit -H -n) $MALLOC_ARENA_MAX"; fi
 if [ -n "$FAILS" ]; then echo "epmd: $FAILS" >&2; exit 3; fi
 if [ -n "$STAYS" ]; then sleep "$DELAY"; touch "$FOLDER/up"; exec sleep 5; fi
 """
@@ -86,6 +88,36 @@ class Wrapper(unittest.TestCase):
         self.assertEqual(self.handed("-systemd", "-d", "-bogus"), ("epmd: bad word 1: -bogus: no option counts\n", [""]))
         self.assertEqual(self.handed("-d", ERL_EPMD_PORT="x"), ("epmd: bad port in environment: x: no option counts\n", ["", ""]))
         self.assertEqual(self.handed("-d"), ("", ["", "", "-d"]))
+
+    def test_where_no_option_counts_the_process_says_so(self):
+        os.symlink("program", os.path.join(self.folder, "epmd-all-options-ignored"))
+        call = ["sh", "-c", 'LISTEN_PID=$$ exec "$@"', "sh", WRAPPER]
+        for words, name in (["-systemd", "-bogus"], "epmd-all-options-ignored"), (["-names"], "epmd-all-options-ignored"), (["-d"], "program"):
+            done = subprocess.run(call + words, capture_output=True, text=True, timeout=30, env=self.env(LISTEN_FDS="1", LIMITS="yes"))
+            self.assertEqual(os.path.basename(done.stdout.split(" ")[0]), name)
+
+    def limits(self, soft, hard, **env):
+        script = f'ulimit -S -n {soft} && ulimit -H -n {hard} && exec "$@"'
+        done = subprocess.run(["sh", "-c", script, "sh", WRAPPER], capture_output=True, text=True, timeout=30, env=self.env(LIMITS="yes", **env))
+        self.assertEqual((done.returncode, done.stderr), (0, ""))
+        return done.stdout.split()[1:]
+
+    def test_it_raises_its_limit_of_descriptors_as_far_as_it_may(self):
+        for soft, hard, becomes in (("1024", "8192", "4096"), ("1024", "4096", "4096"), ("512", "600", "600"), ("700", "700", "700"), ("5000", "8192", "5000")):
+            self.assertEqual(self.limits(soft, hard), [becomes, hard, "1"])
+
+    def test_all_threads_have_one_heap_unless_it_is_said_otherwise(self):
+        for said, becomes in (("4", ["4"]), ("", [])):
+            self.assertEqual(self.limits("1024", "8192", MALLOC_ARENA_MAX=said)[2:], becomes)
+
+    def test_the_program_is_called_by_the_path_that_it_has(self):
+        place = os.path.join(self.folder, "usr", "lib", "epmd-proved")
+        os.makedirs(place)
+        os.makedirs(os.path.join(self.folder, "usr", "bin"))
+        for here, there in ((WRAPPER, "usr/bin/epmd"), (self.program, "usr/lib/epmd-proved/epmd")):
+            shutil.copy(here, os.path.join(self.folder, there))
+        done = self.call(wrapper=os.path.join(self.folder, "usr/bin/epmd"), EPMD="", LIMITS="yes")
+        self.assertEqual(done.stdout.split()[0], os.path.join(os.path.realpath(place), "epmd"))
 
     def test_with_such_sockets_no_command_is_carried_out(self):
         self.assertEqual(self.handed("-systemd", "-record", "a", "-names"), ("epmd: -names is a command: no option counts\n", [""]))
