@@ -2,7 +2,7 @@
 import errno, mmap, os, struct, sys, tempfile
 
 HERE = os.path.dirname(os.path.abspath(__file__))
-sys.path.append(os.path.join(HERE, "..", "crates", "epmd", "by-hand"))
+sys.path.append(os.path.join(HERE, "..", "tests"))
 from daemon import built
 
 # The kinds of calls, in the order of faults.c: the call, and the errors that its manual page lists.

@@ -13,7 +13,7 @@ import unittest
 TOP = os.path.join(os.path.dirname(os.path.abspath(__file__)), "..", "..")
 BUILD = os.path.join(TOP, "build")
 CLIENT = os.path.join(TOP, "contrib", "client")
-BY_HAND = os.path.join(TOP, "crates", "epmd", "by-hand")
+BY_HAND = os.path.join(TOP, "tests")
 LIBRARY = os.path.join(BUILD, "libepmd_client.so")
 TYPES = {"u8": "uint8_t", "u16": "uint16_t", "u32": "uint32_t", "usize": "size_t", "EpmdText": "struct epmd_text", "EpmdNode": "struct epmd_node"}
 

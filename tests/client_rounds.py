@@ -4,7 +4,7 @@ usage: client_rounds.py EPMD [how many rounds]        build/libepmd_client.a is 
 import os, subprocess, sys, time
 from daemon import HERE, PRODUCTS, Daemon, end, say
 
-BUILD = os.path.join(HERE, "..", "..", "..", "build")
+BUILD = os.path.join(HERE, "..", "build")
 
 
 def main(path, rounds="10000"):

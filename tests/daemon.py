@@ -1,13 +1,13 @@
-"""Helpers of these scripts: a daemon on a port of loopback, requests in bytes, looks at its memory, and one line a case."""
+"""Helpers of tests and scripts: a daemon on a port of loopback, requests in bytes, looks at its memory, and one line a case."""
 import contextlib, os, random, resource, selectors, socket, struct, subprocess, sys, tempfile, time
 
 HERE = os.path.dirname(os.path.abspath(__file__))
-PRODUCTS = os.path.join(tempfile.gettempdir(), f"epmd-by-hand-{os.getuid()}")  # What gcc makes.
+PRODUCTS = os.path.join(tempfile.gettempdir(), f"epmd-tests-{os.getuid()}")  # What gcc makes.
 SILENCE = 6.0  # A daemon may be silent for 5 seconds before it ends; one more for a machine that is shared.
 OUT_OF_MEMORY = (3, "epmd: out of memory")
 CANNOT_ACCEPT = "epmd: cannot accept connections"
 bad = 0
-sys.path.append(os.path.join(HERE, "..", "..", "..", "faults"))  # Where the shim is that has calls fail.
+sys.path.append(os.path.join(HERE, "..", "faults"))  # Where the shim is that has calls fail.
 
 
 def free_port():

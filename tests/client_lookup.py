@@ -4,7 +4,7 @@ usage: client_lookup.py EPMD [how many look-ups]        build/libepmd_client.a i
 import glob, os, statistics, subprocess, sys
 from daemon import HERE, PRODUCTS, Daemon, end, hold, say
 
-BUILD = os.path.join(HERE, "..", "..", "..", "build")
+BUILD = os.path.join(HERE, "..", "build")
 TURNS = 7
 
 

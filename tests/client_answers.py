@@ -5,7 +5,7 @@ usage: client_answers.py [how many changed answers]        build/libepmd_client.
 import ctypes, os, random, struct, sys
 from daemon import end, say
 
-TOP = os.path.join(os.path.dirname(os.path.abspath(__file__)), "..", "..", "..")
+TOP = os.path.join(os.path.dirname(os.path.abspath(__file__)), "..")
 LIBRARY = ctypes.CDLL(os.path.join(TOP, "build", "libepmd_client.so"))
 LIBRARY.epmd_alive_missing.restype = LIBRARY.epmd_port2_missing.restype = ctypes.c_size_t
 OK, SHORT, BAD_TAG, STRANGE, REFUSED, NOT_REGISTERED, STRANGE_LINE, LIST_END = 0, 5, 6, 7, 8, 9, 10, 11
