@@ -2,7 +2,7 @@
 use crate::random::Random;
 use crate::weather::Fault;
 use crate::wire::{Watch, Wire};
-use crate::world::{LISTENERS, World};
+use crate::world::{HELD_US, LISTENERS, World};
 use portmap_worker::{Interest, Report, Turn};
 use std::alloc::Global;
 use std::io::ErrorKind;
@@ -271,7 +271,7 @@ impl World {
         let until = if begins_late || self.happens_first(Fault::Hung) {
             Some(self.now.saturating_add(HUNG_US))
         } else {
-            match self.lasts(Fault::Held, 500_000) {
+            match self.lasts(Fault::Held, HELD_US) {
                 None => self.lasts(Fault::Stuck, 30_000_000),
                 until => until,
             }

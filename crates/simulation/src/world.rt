@@ -27,6 +27,9 @@ const YOUNG_US: u64 = 1_000_000;
 /// Those that come within so much time have come together.
 pub(crate) const TOGETHER_US: u64 = 100_000;
 
+/// A thread that is held stands still for so long at most.
+pub(crate) const HELD_US: u64 = 500_000;
+
 /// No famine begins before this time.
 const FAMINE_US: u64 = 1_300_000;
 
@@ -543,6 +546,7 @@ impl World {
         let given_up = self.wires.get(number)?;
         let (worker, came) = given_up.accepted?;
         let young = self.now.saturating_sub(YOUNG_US);
+        let together = self.together();
         for wire in &self.wires {
             let until = if wire.is_local != given_up.is_local {
                 if given_up.is_local { young } else { 0 }
@@ -553,12 +557,22 @@ impl World {
             } else {
                 0
             };
-            let goes_before = |at: u64| at.saturating_add(TOGETHER_US) < until;
+            let goes_before = |at: u64| at.saturating_add(together) < until;
             if wire.waits_since(worker).is_some_and(goes_before) {
                 return Some(false);
             }
         }
         Some(true)
+    }
+
+    /// Connections that a worker accepts within so long may have come at one time for it: it reads the clock once a
+    /// round, and may be held between that and what it accepts.
+    fn together(&self) -> u64 {
+        if self.weather.has_happened(Fault::Held) {
+            HELD_US.saturating_add(TOGETHER_US)
+        } else {
+            TOGETHER_US
+        }
     }
 
     /// A connection is told that its time is over. Whether it was not told so within this time before, as a daemon with
