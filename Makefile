@@ -1,6 +1,7 @@
 # `make epmd`, `make run` and `make test` need `rt`, the command of the Rattle toolchain, on the path, and nothing else. `make install` and
 # `make deb` take what is in build, and need no toolchain; the latter needs `dpkg-deb` and `strip`. `make bench` needs `cc`, and another port
-# mapper; `make client` needs `cc` and binutils too, `make faults` `gcc` and `python3`, and `make check-contrib` `python3` alone.
+# mapper; `make client` needs `cc` and binutils too. `make faults` needs `gcc` and `python3`, `make check-contrib` and `make check-program`
+# `python3` alone.
 
 PREFIX = /usr/local
 
@@ -10,7 +11,8 @@ OTHER = /usr/bin/epmd
 # The crates of tests that refuse memory.
 REFUSING = tests_book tests_daemon
 
-.PHONY: run epmd client install install-program install-client uninstall deb check-contrib quick attack test bench faults
+.PHONY: run epmd client install install-program install-client uninstall deb check-contrib check-program quick attack \
+    test test-long bench faults
 
 # Builds the proved daemon and serves on port 4369.
 run: epmd
@@ -116,7 +118,11 @@ deb:
 # Tests what is in contrib, with python3 and no port mapper: packages where dpkg-deb and strip are there, and the client for C where it is in
 # build, with cc, rustc and a port mapper where they are there.
 check-contrib:
-	python3 -B -m unittest discover -s contrib/tests
+	tests/run contrib/tests
+
+# Tests the program from end to end, with python3: over sockets, files, signals and limits of this machine.
+check-program: build/epmd
+	tests/run tests
 
 # Measures the program beside another port mapper, for about a minute, on ports of its own.
 bench: build/epmd
@@ -134,9 +140,14 @@ quick:
 attack:
 	contrib/attack
 
-# The gate: every proof from nothing, the must-fail edits, the tests, and the program as two compilers build it.
+# The gate: `rt ci`, which makes every proof from nothing, tries the must-fail edits, and runs the tests, and the program as two compilers
+# build it; then `make check-contrib`, `make check-program` and half of the failing calls. The last line is the sum.
 test:
-	rt ci
+	tests/gate
+
+# What takes minutes, or wants root, strace or valgrind: each script of `tests`, one after another.
+test-long: build/epmd
+	tests/long
 
 # Refuses each request for memory, and has each call of the system fail, one in each run: in the tests of `refusals` and in the
 # stories, and in the daemon. It takes minutes once all are built.

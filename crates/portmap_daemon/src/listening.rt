@@ -1,8 +1,9 @@
 //! The sockets that a daemon listens on: those that it opens, and those that are handed over to it.
-ghost use Rattle.std.specs.Prelude.{◌≡◌, length, IfErr};
+ghost use Rattle.std.specs.Prelude.{◌≡◌, ◌↔◌, ◌⊎◌, true, length, Some, IfErr};
 ghost use Rattle.std.specs.Net.Addr.{ipv4_octets, IsV4And};
 ghost use Rattle.std.specs.Net.Socket.{socket_ip, socket_port};
 ghost use Rattle.portmap_daemon.specs.Running.{IsOfAddresses};
+ghost use Rattle.portmap_daemon.specs.declared.listening.TheConstants.{EADDRNOTAVAIL, EAFNOSUPPORT};
 
 use crate::daemon::RunFault;
 use libc::net::{
@@ -65,7 +66,7 @@ pub(crate) fn listen<R: Net>(
         match beside(*address).map(|ipv6| listen_alone(ipv6, port)) {
             None => {}
             Some(Ok(listener)) => listening.push(listener)?,
-            Some(Err(error)) if lacks_ipv6(&error) => {}
+            Some(Err(error)) if lacks_ipv6(error.raw_os_error()) => {}
             Some(Err(_)) => return Err(RunFault::ListenBeside(place)),
         }
     }
@@ -90,9 +91,11 @@ pub fn beside(address: [u8; 4]) -> Option<Ipv6Addr> {
     }
 }
 
-/// Whether a system without IPv6 says so.
-fn lacks_ipv6(error: &io::Error) -> bool {
-    matches!(error.raw_os_error(), Some(EAFNOSUPPORT | EADDRNOTAVAIL))
+/// Whether a system without IPv6 says so by the error of this number.
+fn lacks_ipv6(number: Option<i32>) -> bool
+    ensures { (result ≡ true) ↔ ((number ≡ Some EAFNOSUPPORT) ⊎ (number ≡ Some EADDRNOTAVAIL)) }
+{
+    number == Some(EAFNOSUPPORT) || number == Some(EADDRNOTAVAIL)
 }
 
 /// Listens on an IPv6 address at this port, and takes no IPv4 peer there.

@@ -89,6 +89,23 @@ fn a_stream_that_was_reset_is_not_told_as_closed(rt: HostRuntime) -> Result<(), 
     Ok(())
 }
 
+/// Whether a stream that is watched already can be watched for more, and is reported for that.
+fn is_watched_for_more(rt: &HostRuntime, port: u16) -> Option<bool> {
+    let mut system = listening(rt, &[port])?;
+    let (_peer, mut stream) = accepted(rt, &mut system, port)?;
+    let (reading, both) = (Interest::Reading, Interest::Both);
+    system.watch(&mut stream, KEY, reading, false).ok()?;
+    let is_quiet = system.poll(100) && system.report(0).is_none();
+    system.watch(&mut stream, KEY, both, true).ok()?;
+    Some(is_quiet && reported(&mut system, PATIENCE).is_some())
+}
+
+#[test]
+fn a_stream_that_is_watched_may_be_watched_for_more(rt: HostRuntime) -> Result<(), Fail> {
+    assert_eq!(rt; is_watched_for_more(&rt, 14_458), Some(true));
+    Ok(())
+}
+
 /// What a peer reads where its connection is reset, or just ends.
 fn read_at_end(rt: &HostRuntime, port: u16, is_reset: bool) -> Option<Result<usize, ErrorKind>> {
     let mut system = listening(rt, &[port])?;

@@ -8,9 +8,10 @@ use std::alloc::Global;
 use std::test::Fail;
 
 /// For which process, how many, and how many of these are handed over to process 77.
-const HANDED: [(Option<&str>, Option<&str>, u32); 9] = [
+const HANDED: [(Option<&str>, Option<&str>, u32); 10] = [
     (Some("77"), Some("1"), 1),
     (Some("77"), Some("3"), 3),
+    (Some("77"), Some("900"), 900),
     (Some("78"), Some("1"), 0),
     (Some("7"), Some("1"), 0),
     (Some(""), Some("1"), 0),
