@@ -12,9 +12,9 @@ OTHERS = ["CHANGELOG.md", "SECURITY.md"]
 # Of a line, and of one of the code; of all pages; of the decisions.
 COLUMNS_MOST, CODE_COLUMNS_MOST, LINES_MOST, WORDS_MOST = 140, 120, 1330, 6300
 
-FOLDERS = ["crates", "contrib", "docs", "bench", "faults", "include", ".ci"]
+FOLDERS = ["crates", "contrib", "docs", "bench", "faults", "include", "tests", ".ci"]
 # Where a name has to stand as a word. This file is left out: what it names itself would be found in it.
-CODE = ["crates", "contrib", "faults"]
+CODE = ["crates", "contrib", "faults", "tests"]
 # What a build leaves, and what a page says for any name.
 MADE, ANY = ("build", "out", "__pycache__"), ("NAME", "PLAIN_WORDS")
 ENDING = re.compile(r"\.(antt|c|conf|edit|h|md|pc|py|rs|rt|story|txt)$|[a-z]\.[13]$")
