@@ -18,3 +18,4 @@ pub mod HeldLaws
 pub mod Fitting
 pub mod Names
 pub mod Trusting
+pub mod Registered

@@ -1,15 +1,16 @@
 -- Laws of the machine, each proved on a public function.
 use Rattle.std.specs.Prelude.{◌≡◌, ◌≢◌, ℕ, ◌<◌, ◌≤◌, ◌==◌, true, false, List, [], ◌∷◌, ◌++◌, length, map as list_map}
-use Rattle.std.specs.Prelude.{slice_index_or, ◌⊎◌, Some, None, codes, nat_lt, if◌then◌else◌}
+use Rattle.std.specs.Prelude.{slice_index_or, ◌⊎◌, Some, None, All, codes, nat_lt, if◌then◌else◌}
 use Rattle.std.specs.FinMap as map
-use Rattle.portmap_wire.specs.{List.names_line, Node.Node, Reply.port2_reply}
+use Rattle.portmap_wire.specs.{List.names_line, Node.Node, Reply.{alive_reply, port2_reply}}
 use Rattle.portmap_wire.specs.Request.{body_of, sent, IsRequest, IsMalformed, Spells}
 use Rattle.portmap_wire.specs.declared.request.Request.{Request}
 use Rattle.portmap_wire.specs.declared.request.Request.TheVariants as request
 use Rattle.portmap_feed.specs.Stream.{Sight, More, Zero, TooLarge, Whole, first_request}
 use Rattle.portmap_table.specs.Rows.{Names, active_row, is_known, known_len, known_names, remembered, same_name}
-use Rattle.portmap_table.specs.declared.row.Row.{Row}
-use Rattle.portmap_core.specs.{Config.{Configuration, IsConfiguration}, Entry.{Entry, Late}, Owned.IsOwned, Run.Run}
+use Rattle.portmap_table.specs.{Creation.IsLegalCreation, declared.row.Row.Row}
+use Rattle.portmap_core.specs.Entry.{Entry, Connected, Piece, Closed, Faulted, Late}
+use Rattle.portmap_core.specs.{Config.{Configuration, IsConfiguration}, Owned.IsOwned, Run.Run}
 use Rattle.portmap_core.specs.{Serving.names_line_of, State.{State, empty_state}, Step.{Step, Says}}
 use Rattle.portmap_core.specs.declared.connection.Connection.{Connection}
 use Rattle.portmap_core.specs.declared.connection.Stage.TheVariants.{Waiting, Holding}
@@ -185,3 +186,45 @@ abbrev pub KillsAreRefused : Type 0
 KillsAreRefused =
     (cfg : Configuration) (s s' : State) (reply : List ℕ) (fate : Fate) → IsTold cfg s request.Kill reply fate s'
     → s.names.active ≢ [] → cfg.relaxed ≡ false → IsRefused s (codes "NO") reply fate s'
+
+-- ---- how long a name stays registered
+
+-- a registration of a name that is not active, and known or one for which there is room, succeeds
+abbrev pub FreeNamesRegister : Type 0
+FreeNamesRegister =
+    (cfg : Configuration) (s s' : State) (g : Node) (reply : List ℕ) (fate : Fate) (t : IsTold cfg s (request.Alive g) reply fate s')
+    → active_row g.name s.names ≡ None → (is_known g.name s.names ≡ true) ⊎ (length s.names.active < cfg.known_max)
+    → (creation : ℕ) × IsLegalCreation g.high (remembered g.name s.names) creation × (reply ≡ alive_reply g.high 0 creation) × (fate ≡ Stay)
+    × (active_row g.name s'.names ≡ Some (record { reg = g; creation = creation; slot = t.slot }))
+
+-- an entry by which the connection in this slot ends, or the registration of some name
+abbrev pub MayEnd : ℕ → Entry → Type 0
+MayEnd slot (Connected local other) = ⊥
+MayEnd slot (Piece other piece reply fate) = reply ≡ codes "STOPPED"
+MayEnd slot (Closed other) = other ≡ slot
+MayEnd slot (Faulted other) = other ≡ slot
+MayEnd slot (Late other fate) = ⊥
+
+abbrev pub NoneEnds : ℕ → List Entry → Type 0
+NoneEnds slot es = All (λ e. MayEnd slot e → ⊥) es
+
+-- a name that is active stays so, as it was registered, until its connection ends or a name is stopped
+abbrev pub NamesStay : Type 0
+NamesStay =
+    (cfg : Configuration) (es : List Entry) (s s' : State) (name : List ℕ) (row : Row) → Run cfg s es s'
+    → active_row name s.names ≡ Some row → NoneEnds row.slot es → active_row name s'.names ≡ Some row
+
+-- who has registered is found by whoever asks, whatever comes between
+abbrev pub RegisteredAreFound : Type 0
+RegisteredAreFound =
+    (cfg : Configuration) (es : List Entry) (s first last s' : State) (g : Node) (reply : List ℕ)
+    (t : IsTold cfg s (request.Alive g) reply Stay first) (asker : ℕ) (connection : Connection) (body answer : List ℕ)
+    → Run cfg first es last → NoneEnds t.slot es → Completes cfg last asker connection body answer s'
+    → Spells body (request.Port g.name) → answer ≡ port2_reply (Some g)
+
+-- and nobody else can register its name
+abbrev pub RegisteredAreAlone : Type 0
+RegisteredAreAlone =
+    (cfg : Configuration) (es : List Entry) (s first last s' : State) (g other : Node) (reply answer : List ℕ) (fate : Fate)
+    (t : IsTold cfg s (request.Alive g) reply Stay first) → Run cfg first es last → NoneEnds t.slot es
+    → IsTold cfg last (request.Alive other) answer fate s' → other.name ≡ g.name → IsRefused last (refusal other.high 1) answer fate s'

@@ -4,6 +4,7 @@ ghost use Rattle.portmap_core.specs.Laws.{EndsLeaveNoName, EntriesDetermine, Hol
 ghost use Rattle.portmap_core.specs.Laws.{KillsEnd, MalformedChangesNoName, NamesBelongToConnections, NewNamesWantRoom};
 ghost use Rattle.portmap_core.specs.Laws.{OthersAreToldNothing, RunsKeepLimits, StepsKeepOwned, TakenCreationsAreNew};
 ghost use Rattle.portmap_core.specs.Laws.{WrittenIsWhole};
+ghost use Rattle.portmap_core.specs.Laws.{FreeNamesRegister, NamesStay, RegisteredAreAlone, RegisteredAreFound};
 
 /// The first request of what was written, whatever follows it, is the request written.
 pub fn written_is_whole()
@@ -80,4 +81,13 @@ pub fn refused_names_are_told_why()
 pub fn kills_end_where_they_may()
     ensures ends { KillsEnd }
     ensures refused { KillsAreRefused }
+{}
+
+/// A local peer that registers a free name succeeds; and until its connection ends, or a name is stopped, whoever asks
+/// for the name is told what it was registered with, and nobody else can register it.
+pub fn registered_names_stay()
+    ensures free { FreeNamesRegister }
+    ensures stay { NamesStay }
+    ensures found { RegisteredAreFound }
+    ensures alone { RegisteredAreAlone }
 {}

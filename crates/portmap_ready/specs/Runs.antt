@@ -9,6 +9,7 @@ use Rattle.portmap_ready.specs.Links.{told_next, written}
 -- a call, with what comes of it
 pub data Call (T : Type 0) : Type 0 where
   Insert : ℕ → T → Call T
+  Refuse : Call T
   Report : ℕ → Call T
   Next : Option ℕ → Call T
   NextPending : Option ℕ → Call T
@@ -55,6 +56,7 @@ module _ {T : Type 0} where
   -- what each call ensures
   abbrev pub Does : Call T → Links T → Links T → Type 0
   Does (Insert k value) old new = IsButForRoom new (inserted k value old)
+  Does Refuse old new = IsButForRoom new old
   Does (Report k) old new = new ≡ reported k old
   Does (Next told) old new = (told ≡ slice_get old.queue 0) × IsButForRoom new (told_next old)
   Does (NextPending told) old new = (told ≡ slice_get old.pending 0) × IsButForRoom new (taken_next old)

@@ -571,6 +571,7 @@ impl<T: Drop> Ready<T> {
     /// who takes a turn, puts back what was told, and does that again, tells each link that was queued before any that
     /// was queued after it. It costs nothing.
     pub fn in_order()
-        ensures { ComesInOrder T line.Queue }
+        ensures queue { ComesInOrder T line.Queue }
+        ensures pending { ComesInOrder T line.Held }
     {}
 }
