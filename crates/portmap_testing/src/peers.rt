@@ -1,19 +1,22 @@
 //! Peers of a daemon on this host.
-use std::io::Write;
+use std::io::{ErrorKind, Write};
 use std::net::{Ipv4Addr, Net, TcpStream};
 use std::rt::Clock;
 use std::thread;
 use std::time::Duration;
 
-/// Connects, as soon as the daemon listens. A read fails after ten seconds.
+/// Connects, as soon as the daemon listens: until then the system refuses it. A read fails after ten seconds.
 pub fn connect<R: Net<Stream = TcpStream> + Clock>(rt: &R, port: u16) -> Option<TcpStream> {
     for _ in 0..500u32 {
-        if let Ok(stream) = TcpStream::connect(rt, (Ipv4Addr::LOCALHOST, port)) {
-            let patience = Duration::from_secs(10);
-            stream.set_read_timeout(Some(patience)).ok()?;
-            return Some(stream);
+        match TcpStream::connect(rt, (Ipv4Addr::LOCALHOST, port)) {
+            Ok(stream) => {
+                let patience = Duration::from_secs(10);
+                stream.set_read_timeout(Some(patience)).ok()?;
+                return Some(stream);
+            }
+            Err(error) if error.kind() != ErrorKind::ConnectionRefused => return None,
+            Err(_) => thread::sleep(rt, Duration::from_millis(10)),
         }
-        thread::sleep(rt, Duration::from_millis(10));
     }
     None
 }

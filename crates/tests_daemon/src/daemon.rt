@@ -140,11 +140,14 @@ fn resets<R: Net<Stream = TcpStream> + Clock>(rt: &R, port: u16) -> Option<bool>
     Some(is_found && comes_to(rt, port, PORT_A, NOT_FOUND))
 }
 
+/// Whether a connection that is silent is closed once its second is over, and a registered one is not.
 fn is_silent<R: Net<Stream = TcpStream> + Clock>(rt: &R, port: u16) -> Option<bool> {
     let _node = registered(rt, port)?;
+    let before = rt.monotonic().ok()?;
     let mut silent = connect(rt, port)?;
     let is_closed = silent.read(&mut [0; 1]).ok()? == 0;
-    Some(is_closed && is_answered(rt, port, PORT_A, FOUND_A)?)
+    let is_due = rt.monotonic().ok()?.saturating_sub(before) >= Duration::from_millis(900);
+    Some(is_closed && is_due && is_answered(rt, port, PORT_A, FOUND_A)?)
 }
 
 /// A registration of a name of 1,020 (0x03FC) bytes, which begins with these two. Its body has 1,033 (0x0409).

@@ -2,13 +2,10 @@
 ghost use Rattle.std.specs.Prelude.{◌≡◌};
 
 use portmap_book::{Desk, PARTS};
-use portmap_record::{records_grow, records_have_parts};
 use portmap_testing::books::small_book;
 use portmap_testing::bytes::ALIVE_A;
 use portmap_testing::sessions::CLOSES;
-use portmap_worker::{
-    Part, RecordQueue, begin_file, recordings_are_fronts, recordings_are_records, write_recording,
-};
+use portmap_worker::{Part, RecordQueue, begin_file, write_recording};
 use std::alloc::Global;
 use std::fs::{File, Files};
 use std::marker::Brand;
@@ -220,12 +217,4 @@ fn a_file_that_takes_nothing_is_told(rt: HostRuntime) -> Result<(), Fail> {
     let written = written(&rt, rt.alloc(), Turn::Full, 94, "/dev/full");
     assert!(rt; matches!(written, Some((false, _))));
     Ok(())
-}
-
-#[test]
-fn the_laws_of_recordings_are_calls_that_do_nothing() {
-    records_have_parts();
-    records_grow();
-    recordings_are_fronts();
-    recordings_are_records();
 }
