@@ -5,10 +5,12 @@ import os
 import signal
 import socket
 import subprocess
+import sys
 
 CONTRIB = os.path.join(os.path.dirname(os.path.abspath(__file__)), "..")
-# Seconds after which a program counts as hung. No test waits for that unless it fails.
-PATIENCE = 300
+sys.path.append(CONTRIB)  # Where the module is that the tools share.
+# Seconds after which a program counts as hung, and after which one that is to write a line counts as silent. Only a test that fails waits so long.
+PATIENCE, SILENCE = 300, 60
 # What a program gets of the environment around the tests. PYTHON*, EPMD*, ERL_*, LISTEN_* and what `make` sets are not among it.
 PASSED = "PATH", "HOME", "TMPDIR", "CARGO_HOME", "RUSTUP_HOME"
 # The zone of India, five and a half hours before UTC, in the form that needs no list of zones: a local time is seen.
