@@ -208,7 +208,7 @@ def end():
 
 
 def places(most, number, is_half):
-    """The places at which a call fails with the error of this number: of those that were counted all or every second, and one behind them."""
+    """The places at which a call fails with the error of this number: all that were counted or every second, and the one behind them."""
     counted = range(1, most + 1)
     return [*(counted[number % 2::2] if is_half and most > 1 else counted), most + 1]
 

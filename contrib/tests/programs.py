@@ -9,7 +9,8 @@ import sys
 
 CONTRIB = os.path.join(os.path.dirname(os.path.abspath(__file__)), "..")
 sys.path.append(CONTRIB)  # Where the module is that the tools share.
-# Seconds after which a program counts as hung, and after which one that is to write a line counts as silent. Only a test that fails waits so long.
+# Seconds after which a program counts as hung, and after which one that is to write a line counts as silent. A test waits so long only
+# where it fails.
 PATIENCE, SILENCE = 300, 60
 # What a program gets of the environment around the tests. PYTHON*, EPMD*, ERL_*, LISTEN_* and what `make` sets are not among it.
 PASSED = "PATH", "HOME", "TMPDIR", "CARGO_HOME", "RUSTUP_HOME"

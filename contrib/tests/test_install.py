@@ -339,6 +339,7 @@ class Package(Checkout):
         self.assertIn("prefix=/usr\nlibdir=/usr/lib/x86_64-linux-gnu\n", told)
         package, = glob.glob(os.path.join(self.top, "build", "libepmd-client0_*.deb"))
         self.run_in("/", "dpkg-deb", "--control", package, os.path.join(self.folder, "control"))
+        self.assertEqual(read(os.path.join(self.folder, "control", "triggers")), "activate-noawait ldconfig\n")
         head, *symbols = read(os.path.join(self.folder, "control", "symbols")).splitlines()
         self.assertEqual(head, "libepmd_client.so.0 libepmd-client0 #MINVER#")
         calls = set(re.findall(r"(?m)^\w+ (epmd_\w+)\(", read(os.path.join(TOP, "include", "epmd_client.h"))))
@@ -359,6 +360,7 @@ class Package(Checkout):
         self.run_in("/", "dpkg-deb", "--raw-extract", package, tree)
         self.assertEqual(self.run_in(tree, "md5sum", "--check", "--quiet", "DEBIAN/md5sums").returncode, 0)
         self.assertEqual(len(read(os.path.join(tree, "DEBIAN", "md5sums")).splitlines()), len(wanted))
+        self.assertEqual(read(os.path.join(tree, "DEBIAN", "triggers")), "interest-noawait /usr/lib/erlang\n")
         control = read(os.path.join(tree, "DEBIAN", "control"))
         self.assertNotIn("@", control.replace("epmd@cekhtsoni", ""))
         shutil.rmtree(os.path.join(tree, "DEBIAN"))
@@ -371,9 +373,10 @@ class Package(Checkout):
         self.with_client()
         self.stand_in("strip", '#!/bin/sh\necho "strip $*" >> "$NOTES"\n')
         self.made("deb")
-        stripped = [re.sub("/[^ ]*/(?=epmd-proved/|libepmd-client0/)", "", line, count=1) for line in self.noted() if line.startswith("strip")]
-        library = "libepmd-client0/usr/lib/x86_64-linux-gnu/libepmd_client.so.0"
-        self.assertEqual(stripped, ["strip epmd-proved/usr/lib/epmd-proved/epmd", f"strip --strip-unneeded {library}"])
+        words = [line.split() for line in self.noted() if line.startswith("strip ")]
+        self.assertEqual([each[1:-1] for each in words], [[], ["--strip-unneeded"]])
+        paths = ["/epmd-proved/usr/lib/epmd-proved/epmd", "/libepmd-client0/usr/lib/x86_64-linux-gnu/libepmd_client.so.0"]
+        self.assertEqual([path for each, path in zip(words, paths) if each[-1].endswith(path)], paths)
 
     def test_without_a_toolchain_it_takes_what_was_told_or_says_that_nothing_is(self):
         self.assertIn("does not tell of what it is made", self.made("deb"))

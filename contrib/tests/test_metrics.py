@@ -183,8 +183,8 @@ class Metrics(unittest.TestCase):
                     raise FileNotFoundError(path)
                 return io.StringIO(head + "".join(row.format(*each) for each in tables[path]))
             module.open = opened
-            wanted = [inode for path in tables if path != absent for _, port, state, inode in tables[path] if (port, state) == ("1111", "0A")]
-            self.assertEqual(module.sockets_at(0x1111, module.LISTENS), [str(inode) for inode in wanted])
+            wanted = [inode for path, inode in (("/proc/net/tcp", "1"), ("/proc/net/tcp6", "4")) if path != absent]
+            self.assertEqual(module.sockets_at(0x1111, module.LISTENS), wanted)
         self.assertEqual(module.sockets_at(0x1111, module.ESTABLISHED), [])
         module.open = lambda path: io.StringIO(head + row.format(*tables["/proc/net/tcp"][2]))
         self.assertEqual(module.sockets_at(0x1111, module.ESTABLISHED), ["3", "3"])
@@ -387,8 +387,16 @@ class Counted(Written, unittest.TestCase):
         self.assertEqual(os.listdir(os.path.dirname(state)), [os.path.basename(state)])
         self.assertEqual([os.stat(path).st_mode & 0o777 for path in (os.path.dirname(state), state)], [0o700, 0o600])
 
+    def test_the_state_of_root_outlasts_a_boot(self):
+        for user, folder in ((0, "/var/lib"), (1000, "/home/own/.local/state")):
+            with unittest.mock.patch("os.geteuid", lambda: user), unittest.mock.patch.dict(os.environ, {"HOME": "/home/own"}):
+                os.environ.pop("XDG_STATE_HOME", None)
+                self.assertEqual(self.tool.default_state("/a/session"), f"{folder}/epmd-metrics/%2Fa%2Fsession")
+
     def test_wrong_words_and_help(self):
-        self.assertEqual((run("70000").returncode, run("70000").stderr), (2, "epmd-metrics: bad port in environment\n"))
+        for port in ("0", "65536", "70000", "-1", "x", "1" * 10):
+            done = run(port)
+            self.assertEqual((done.returncode, done.stdout, done.stderr), (2, "", "epmd-metrics: bad port in environment\n"), port)
         self.assertEqual(run(4369, "-nothing").returncode, 2)
         told = printed(4369, "--help")
         for word in ("usage: epmd-metrics", "cd FOLDER && epmd-metrics", "The status is 0", "-recording FILE", "-state FILE"):

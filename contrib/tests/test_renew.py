@@ -1,5 +1,5 @@
-"""Which processes `renew` ends, that it waits for their end, and what it says: with a process table of its own, in which each process is one
-that the test started, and stand-ins for the service manager and the port mapper."""
+"""Which processes `renew` ends, that it waits for their end, and what it says: with a process table of its own, in which each process is
+one that the test started, and stand-ins for the service manager and the port mapper."""
 import os
 import signal
 import tempfile
@@ -78,7 +78,8 @@ class Renew(unittest.TestCase):
         for name, rows in self.rows.items():
             self.write(f"proc/net/{name}", HEAD + "".join(rows))
         path = f"{self.folder}bin:{os.environ['PATH']}"
-        given = {"ACTIVE": active, "LISTEN": listen, "SAID": said, "GONE": str(gone), "ANSWERS": "4369", "TABLE": self.table, "NOTES": self.notes, **env}
+        given = {"ACTIVE": active, "LISTEN": listen, "SAID": said, "GONE": str(gone), "ANSWERS": "4369", **env}
+        given.update(TABLE=self.table, NOTES=self.notes)
         done = programs.run(["sh", os.path.join(self.folder, "lib", "renew")], env=programs.environment(PATH=path, **given))
         with open(self.notes) as file:
             self.noted = file.read().splitlines()
@@ -90,7 +91,8 @@ class Renew(unittest.TestCase):
     def test_it_ends_each_port_mapper_at_the_port_and_nothing_else(self):
         ended = [self.process("usr/lib/erlang/erts-13/bin/epmd", 101), self.process("usr/local/lib/epmd-proved/epmd", 102, table="tcp6"),
                  self.process("usr/lib/erlang/erts-14/bin/epmd (deleted)", 103)]
-        staying = [self.process("usr/lib/erlang/erts-13/bin/epmd", 201, port="1112"), self.process("usr/lib/erlang/erts-13/bin/epmd", 202, state="01"),
+        staying = [self.process("usr/lib/erlang/erts-13/bin/epmd", 201, port="1112"),
+                   self.process("usr/lib/erlang/erts-13/bin/epmd", 202, state="01"),
                    self.process("usr/lib/erlang/erts-13/bin/beam.smp", 203), self.process("usr/bin/other", 204)]
         self.assertEqual(self.call(), (0, "", ""))
         self.assertEqual([process.wait(programs.SILENCE) for process in ended], [-signal.SIGTERM] * 3)

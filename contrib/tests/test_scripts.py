@@ -221,11 +221,20 @@ class Scripts(Checkout):
                          ["systemctl stop epmd-proved.socket epmd-proved.service", "deb-systemd-invoke start epmd.socket"])
 
     def test_a_removal_ends_the_units_and_an_update_does_not(self):
-        self.assertEqual(self.noted_of("prerm", "remove"), ["deb-systemd-invoke stop epmd-proved-prune.timer epmd-proved.socket epmd-proved.service"])
+        stop = "deb-systemd-invoke stop epmd-proved-prune.timer epmd-proved.socket epmd-proved.service"
+        self.assertEqual(self.noted_of("prerm", "remove"), [stop])
         self.assertEqual(self.noted_of("prerm", "upgrade", "2"), [])
         reload, kill = "systemctl daemon-reload", "systemctl kill epmd.service"
-        for words, wanted in (["remove"], [reload, kill]), (["disappear", "other", "1"], [reload, kill]), (["abort-install"], [reload]), (["upgrade", "2"], []):
+        for words, wanted in ((["remove"], [reload, kill]), (["disappear", "other", "1"], [reload, kill]), (["abort-install"], [reload]),
+                              (["upgrade", "2"], [])):
             self.assertEqual(self.noted_of("postrm", *words), wanted, words)
+
+    def test_where_the_service_manager_fails_a_removal_goes_on(self):
+        self.install()
+        for name in ("systemctl", "deb-systemd-invoke"):
+            self.stand_in(name, "#!/bin/sh\nexit 1\n")
+        self.remove()
+        self.is_theirs()
 
     def test_where_no_service_manager_runs_none_is_called(self):
         for name, *words in ("postinst", "configure", ""), ("prerm", "remove"), ("postrm", "remove"):
@@ -237,9 +246,10 @@ class Scripts(Checkout):
             self.assertEqual([line for line in self.noted() if line.startswith(("systemctl", "deb-systemd-invoke", "renew"))], [], name)
 
     def test_a_purge_leaves_nothing_and_an_update_leaves_recordings(self):
-        kept = ["var/lib/epmd-proved/session", "var/lib/private/epmd-proved/session", "var/lib/epmd-metrics/state", "etc/default/epmd-proved",
-                "etc/systemd/system/timers.target.wants/epmd-proved-prune.timer", "var/lib/systemd/timers/stamp-epmd-proved-prune.timer"]
-        others = ["var/lib/other/session", "etc/default/other", "etc/systemd/system/timers.target.wants/other.timer", "var/lib/systemd/timers/stamp-other.timer"]
+        wants, stamps = "etc/systemd/system/timers.target.wants/", "var/lib/systemd/timers/stamp-"
+        kept = ["var/lib/epmd-proved/session", "var/lib/private/epmd-proved/session", "var/lib/epmd-metrics/state",
+                "etc/default/epmd-proved", wants + "epmd-proved-prune.timer", stamps + "epmd-proved-prune.timer"]
+        others = ["var/lib/other/session", "etc/default/other", wants + "other.timer", stamps + "other.timer"]
         for path in kept + others:
             write(self.at(path), "")
         for words in (["remove"], ["upgrade", "2"], ["abort-install"]):
@@ -402,18 +412,38 @@ class Scripts(Checkout):
 
 
 class StateFolder(Checkout):
-    """The folder of recordings, which the service makes before a start. Who calls is the service's user here."""
+    """The folder of recordings, which the service makes before a start. Who calls is the service's user here, but for one test."""
 
     def setUp(self):
         super().setUp()
         self.lib = os.path.join(self.folder, "var", "lib")
         os.makedirs(os.path.join(self.lib, "private"))
         self.at = os.path.join(self.lib, "epmd-proved")
-        write(os.path.join(self.folder, "script"), read(os.path.join(TOP, "contrib", "state-folder")).replace("/var/lib", self.lib))
+        self.users = os.path.join(self.folder, "run", "systemd", "dynamic-uid")
+        os.makedirs(self.users)
+        script = read(os.path.join(TOP, "contrib", "state-folder")).replace("/var/lib", self.lib).replace("/run/", f"{self.folder}/run/")
+        write(os.path.join(self.folder, "script"), script)
 
-    def call(self):
-        done = self.run_in("/", "sh", os.path.join(self.folder, "script"), USER=str(os.getuid()))
+    def call(self, user=str(os.getuid())):
+        done = self.run_in("/", "sh", os.path.join(self.folder, "script"), USER=user)
         return done.returncode, done.stderr
+
+    def test_it_is_given_to_the_services_user_and_no_link_in_it_is_followed(self):
+        self.stand_in("chown", '#!/bin/sh\necho "chown $*" >> "$NOTES"\n')
+        self.assertEqual(self.call(), (0, ""))
+        self.assertEqual(self.noted(), [])
+        os.symlink("61234", os.path.join(self.users, "direct:epmd-proved"))
+        for user, number in ("61235", "61235"), ("epmd-proved", "61234"):
+            self.assertEqual(self.call(user), (0, ""))
+            self.assertEqual(self.noted(), [f"chown -R -h {number}:root {self.at}/"])
+            os.remove(self.notes)
+
+    def test_what_is_there_is_not_written_over(self):
+        for folder, text in (os.path.join(self.lib, "private", "epmd-proved"), "old"), (self.at, "new"):
+            write(os.path.join(folder, "session"), text)
+        self.assertEqual(self.call(), (0, ""))
+        self.assertEqual(read(os.path.join(self.at, "session")), "new")
+        self.assertEqual(read(os.path.join(self.lib, "private", "epmd-proved", "session")), "old")
 
     def test_it_is_made_for_its_user_alone(self):
         for _ in range(2):

@@ -48,7 +48,8 @@ ROWS = {
         "Install": ["WantedBy=sockets.target"],
     },
     "socket.conf": {
-        "Unit": ["Wants=epmd-proved-away.target", "After=epmd-proved-away.target"],  # Ours has ended before erlang-base's socket opens the port.
+        # Ours has ended before erlang-base's socket opens the port.
+        "Unit": ["Wants=epmd-proved-away.target", "After=epmd-proved-away.target"],
         "Socket": ["TriggerLimitIntervalSec=0"],
     },
     "epmd-proved-away.target": {
@@ -98,8 +99,9 @@ class Units(unittest.TestCase):
         self.assertEqual(sorted(os.listdir(UNITS)), sorted(ROWS))
         for name, wanted in ROWS.items():
             with self.subTest(unit=name), open(os.path.join(UNITS, name), encoding="utf-8") as file:
-                found = {head: [line for line in lines if not line.startswith(TELLING)] for head, lines in sections(file.read()).items()}
-                self.assertEqual({head: sorted(lines) for head, lines in found.items()}, {head: sorted(lines) for head, lines in wanted.items()})
+                found = sections(file.read())
+                told = {head: sorted(line for line in lines if not line.startswith(TELLING)) for head, lines in found.items()}
+                self.assertEqual(told, {head: sorted(lines) for head, lines in wanted.items()})
 
     def test_the_order_of_lines_that_add_to_one_another(self):
         """An empty line takes away those before it, and a later file of settings counts more than an earlier line."""

@@ -37,7 +37,7 @@ if [ -n "$STAYS" ]; then
     mv "$FOLDER/pid.new" "$FOLDER/pid"
     /bin/sleep "$DELAY"
     if [ -z "$UP_AT" ]; then touch "$FOLDER/up"; fi
-    exec /bin/sleep 600
+    exec /bin/sleep 60
 fi
 """
 
