@@ -216,9 +216,10 @@ class Wrapper(unittest.TestCase):
         done = self.call("-daemon", "-port", "1", STAYS="yes", DELAY="0.5", TMPDIR=self.temporary)
         self.assertEqual((done.returncode, done.stdout, done.stderr), (0, "", ""))
         self.assertTrue(os.path.exists(os.path.join(self.folder, "up")))
-        # It runs on, in a session of its own.
+        # It runs on, in a session of its own, and holds no input or output of its caller.
         pid = self.staying()
         self.assertEqual(os.getsid(pid), pid)
+        self.assertEqual([os.readlink(f"/proc/{pid}/fd/{each}") for each in (0, 1)], ["/dev/null"] * 2)
         self.assertEqual(os.listdir(self.temporary), [])
 
     def paused(self, **env):
