@@ -88,7 +88,7 @@ def is_run(path, file):
     return done.returncode == 0 and done.stdout.startswith("run of ")
 
 
-def ended_well(case, daemon, file, refused, is_told_to_end):
+def ended_well(case, daemon, file, faults, is_told_to_end):
     """Waits for the end. How it ended, where that is as it should: with status 0 where it was told to, else with the status and the text of
     the call that failed."""
     ended = daemon.ended(PATIENCE)
@@ -98,7 +98,7 @@ def ended_well(case, daemon, file, refused, is_told_to_end):
         if not is_run(case.path, file):
             raise Wrong("the recording is no run, and nothing is said of that")
         return "recorded"
-    if not refused:
+    if not faults.refused:
         raise Wrong(f"no call failed, and it {daemon.how()}")
     if lacks_record(ended) and case.call in MAY_NOT_RECORD:
         return "said to be not recorded"
@@ -167,7 +167,7 @@ def tried(case, faults, daemon, file):
             told_after(case, session)
         if daemon.runs():
             killed(case, session, faults)
-        how = ended_well(case, daemon, file, faults.refused, session.is_told_to_end)
+        how = ended_well(case, daemon, file, faults, session.is_told_to_end)
     return f"{'answers cut' if cut else 'all answered'}, {how}"
 
 
@@ -190,7 +190,7 @@ def tried_anew(case):
                 if daemon.runs():
                     how = tried(case, faults, daemon, file)
                 else:
-                    how = f"did not begin, {ended_well(case, daemon, file, faults.refused, False)}"
+                    how = f"did not begin, {ended_well(case, daemon, file, faults, False)}"
                 return True, how, faults.refused, faults.counts()
             except Wrong as wrong:
                 return False, f"{wrong}", faults.refused, faults.counts()
