@@ -1,21 +1,27 @@
 """Has each call of the system that a daemon makes fail, each time at another place and with each error that its manual page lists,
 while nodes register, are looked up and listed, and leave. Then a whole session has to be answered as it should, the names are to be
-those of the connections that are open, the recording a run or said to have failed, and a KILL has to end it.
+those of the connections that are open, the recording a run or said to have failed, and a KILL has to end it. Status 0 without a KILL is
+wrong, and so is a call that is made in no run.
 
-usage: calls.py EPMD [CALL..]     CALL is the name of a call, as recv"""
+usage: calls.py EPMD [-half] [CALL..]     CALL is the name of a call, as recv. With -half each error is tried at every second place: at the
+                                          odd ones for the first, third and so on of a call, at the even ones for the others.
+
+Each line that ends with OK or BAD is a case, and the last line says how many there were of each. It ends at the first that is BAD."""
 import concurrent.futures, os, subprocess, sys, tempfile, time
 from collections import Counter, namedtuple
-from shim import CALLS, FOR_EVER, Faults
-from daemon import OUT_OF_MEMORY, Daemon, end, say
+from shim import CALLS, FOR_EVER, HERE, Faults, shim
+from daemon import OUT_OF_MEMORY, Daemon, say
 from session import PATIENCE, Session, Wrong
+import daemon as helpers
 
 AT_ONCE = 8  # So many daemons are tried at a time.
 PART = 16  # So many places are tried before it is looked whether there are more.
 COUNTINGS = 3  # How often the calls are counted. One more or less is made each time.
-SEALED = 1.2  # After so many seconds the log was written out once more.
-RESERVED = 1.2  # No name is registered while the reserve of memory is gone, which is looked for once a second.
+SEALED = 1.2  # After so many seconds the log was written out once more, unless the machine is busy: then fewer writes are met.
+PAUSE = 0.1  # While the reserve of memory is gone no name is registered. It is looked for once a second.
 ROOM = 4096  # For what is not sent yet, where a reader takes its time.
 NAMES = [b"%0250d" % i for i in range(40)]
+counts = Counter()  # How many cases were as wanted, and how many not.
 
 # What is not lost: such a call is made again.
 AGAIN = {
@@ -34,7 +40,8 @@ LISTEN = (1, "epmd: cannot listen on 127.0.0.1:")
 LISTEN_BESIDE = (1, "epmd: cannot listen on [::1]:")
 # What a daemon prints that goes on, and what it ends with where its recording failed.
 RECORD = "epmd: recording failed: "
-PASSING = (RECORD, "epmd: recording again: ", "epmd: memory is short, ")
+SHORT = "epmd: memory is short, "
+PASSING = (RECORD, "epmd: recording again: ", SHORT)
 ENDS = {
     "memory": [OUT_OF_MEMORY, POLL, LISTEN],
     "epoll_create1": [POLL],
@@ -49,10 +56,18 @@ ENDS = {
     "listen": [LISTEN, LISTEN_BESIDE],
     "pthread_create": [OUT_OF_MEMORY],
 }
-ENDS_SERVING = {"epoll_wait": [POLL]}
+# In which way a daemon is tried: from its start on, once nodes are there and a reader takes its time, or with a socket handed over.
+PLAIN, SLOW, HANDED = "", "a slow reader", "a socket handed over"
+NOT_LISTENING = (1, "epmd: descriptor 3 is no listening socket")
+ENDS_IN = {PLAIN: ENDS, SLOW: {"epoll_wait": [POLL]}, HANDED: {**ENDS, **{
+    call: [NOT_LISTENING, POLL] for call in ("getsockopt", "listen", "fcntl", "ioctl")
+}}}
+# What is called for a socket that is handed over. The other calls are those of the plain way.
+CALLS_IN = {PLAIN: [*CALLS], SLOW: [*CALLS], HANDED: ["getsockopt", "setsockopt", "listen", "fcntl", "ioctl"]}
+HANDING = os.path.join(HERE, "handed.py")
 MAY_NOT_RECORD = "memory", "open to record", "write to record", "pthread_create", "clock_gettime"
 
-Case = namedtuple("Case", "path call error nth run is_slow")
+Case = namedtuple("Case", "path call error nth run way")
 
 
 def is_end(ended, wanted):
@@ -74,24 +89,30 @@ def is_run(path, file):
     return done.returncode == 0 and done.stdout.startswith("run of ")
 
 
-def ended_well(case, daemon, file):
-    """Waits for the end. How it ended, where that is as it should."""
+def ended_well(case, daemon, file, faults, is_told_to_end):
+    """Waits for the end. How it ended, where that is as it should: with status 0 where it was told to, else with the status and the text of
+    the call that failed."""
     ended = daemon.ended(PATIENCE)
-    if ended == (0, ""):
+    # Once a second a daemon says that it refused requests for want of memory.
+    is_silent = ended and all(case.call == "memory" and line.startswith(SHORT) for line in ended[1].split(" / ") if line)
+    if is_silent and ended[0] == 0:
+        if not is_told_to_end:
+            raise Wrong("it ended with status 0, and nobody told it to")
         if not is_run(case.path, file):
             raise Wrong("the recording is no run, and nothing is said of that")
         return "recorded"
+    if not faults.refused:
+        raise Wrong(f"no call failed, and it {daemon.how()}")
     if lacks_record(ended) and case.call in MAY_NOT_RECORD:
         return "said to be not recorded"
-    ends = ENDS_SERVING if case.is_slow else ENDS
-    if is_end(ended, ends.get(case.call, [])):
+    if is_end(ended, ENDS_IN[case.way].get(case.call, [])):
         return "ended with a text"
     raise Wrong(daemon.how())
 
 
 def told_under_fault(case, session, faults):
     """The session in which the call fails. The answers that were cut."""
-    if case.is_slow:
+    if case.way == SLOW:
         session.slow()
         faults.on = 0
     else:
@@ -105,26 +126,30 @@ def told_under_fault(case, session, faults):
 
 
 def told_after(case, session):
-    """What follows without faults, of which nothing is lost."""
-    if case.call == "memory":
-        time.sleep(RESERVED)
-    session.cut = 0
-    session.list()
-    session.register(b"three")
-    session.look_up(b"three")
-    session.list()
-    session.leave(b"three")
-    session.is_gone(b"three")
-    if session.cut and session.daemon.runs():
-        raise Wrong("afterwards answers are cut")
+    """What follows without faults, of which nothing is lost, once memory that was refused is there again."""
+    until = time.monotonic() + (PATIENCE if case.call == "memory" else 0)
+    while True:
+        session.cut = 0
+        session.list()
+        session.register(b"three")
+        session.look_up(b"three")
+        session.list()
+        session.leave(b"three")
+        session.is_gone(b"three")
+        if not session.cut or not session.daemon.runs():
+            return
+        if time.monotonic() > until:
+            raise Wrong("afterwards answers are cut")
+        time.sleep(PAUSE)
 
 
 def killed(case, session, faults):
     """All leave and the daemon is killed, again where the first time met the fault."""
     if not session.end() and faults.on and session.daemon.ended(0.5) is None:
         faults.on = 0
-        told_after(case, session)
-        session.end()
+        if session.runs_on():
+            told_after(case, session)
+            session.end()
 
 
 def held(session):
@@ -135,7 +160,7 @@ def held(session):
 
 def tried(case, faults, daemon, file):
     with Session(daemon) as session:
-        if case.is_slow:
+        if case.way == SLOW:
             held(session)
             faults.room, faults.on = ROOM, 1
         cut = told_under_fault(case, session, faults)
@@ -145,8 +170,15 @@ def tried(case, faults, daemon, file):
             told_after(case, session)
         if daemon.runs():
             killed(case, session, faults)
-        how = ended_well(case, daemon, file)
+        how = ended_well(case, daemon, file, faults, session.is_told_to_end)
     return f"{'answers cut' if cut else 'all answered'}, {how}"
+
+
+def started(case, faults, file):
+    if case.way != HANDED:
+        return Daemon(case.path, "-record", file, env=faults.env, patience=PATIENCE)
+    env = {"PROGRAM": case.path, "SHIM": shim(), "FAULT_PAGE": faults.path}
+    return Daemon(HANDING, "-record", file, env=env, patience=PATIENCE)
 
 
 def tried_anew(case):
@@ -155,59 +187,94 @@ def tried_anew(case):
     with Faults() as faults, tempfile.TemporaryDirectory() as folder:
         file = os.path.join(folder, "recording")
         faults.refuse(case.call, case.nth, case.error, case.run)
-        faults.on = not case.is_slow
-        with Daemon(case.path, "-record", file, env=faults.env, patience=PATIENCE) as daemon:
+        faults.on = case.way != SLOW
+        with started(case, faults, file) as daemon:
             try:
-                how = tried(case, faults, daemon, file) if daemon.runs() else f"did not begin, {ended_well(case, daemon, file)}"
+                if daemon.runs():
+                    how = tried(case, faults, daemon, file)
+                else:
+                    how = f"did not begin, {ended_well(case, daemon, file, faults, False)}"
                 return True, how, faults.refused, faults.counts()
             except Wrong as wrong:
                 return False, f"{wrong}", faults.refused, faults.counts()
 
 
-def swept(pool, path, call, error, most, run=1, is_slow=False):
-    """Has the call fail at each of its places. Whether all went well."""
-    seen, refused, bad = Counter(), 0, []
-    for first in range(1, most + 1, PART):
-        cases = [Case(path, call, error, nth, run, is_slow) for nth in range(first, min(first + PART, most + 1))]
+def judge(ok, words):
+    counts[ok] += 1
+    return say(ok, words)
+
+
+def end():
+    """Ends this script, with the number of cases in its last line."""
+    print(f"{counts[True]} passed, {counts[False]} failed", flush=True)
+    helpers.end()
+
+
+def places(most, number, is_half):
+    """The places at which a call fails with the error of this number: all that were counted or every second, and the one behind them."""
+    counted = range(1, most + 1)
+    return [*(counted[number % 2::2] if is_half and most > 1 else counted), most + 1]
+
+
+def swept(pool, case, nths, least):
+    """Has the call fail at each of these places. Whether all went well. So many calls are made at least, so a place up to there is met."""
+    began, seen, refused, bad = time.monotonic(), Counter(), 0, []
+    for first in range(0, len(nths), PART):
+        cases = [case._replace(nth=nth) for nth in nths[first : first + PART]]
         before = refused
-        for case, (ok, how, times, _) in zip(cases, pool.map(tried_anew, cases)):
+        for each, (ok, how, times, _) in zip(cases, pool.map(tried_anew, cases)):
             if times or not ok:
                 refused += 1
                 seen[how] += ok
-                bad += [(case.nth, how)] * (not ok)
+                bad += [(each.nth, how)] * (not ok)
         if bad or refused == before:
             break
     for nth, how in bad[:5]:
-        print(f"  {call} number {nth}, {error}: {how}")
+        print(f"  {case.call} number {nth}, {case.error}: {how}")
     told = ", ".join(f"{how} {times}" for how, times in seen.items() if times)
-    what = f"{call} {error}{f', {run} in a row' if run > 1 else ''}{', a slow reader' if is_slow else ''}"
-    return say(not bad, f"{what}: refused at {refused} places: {told}:")
+    run = f", {case.run} in a row" if case.run > 1 else ""
+    what = f"{case.call} {case.error}{run}{case.way and ', ' + case.way}"
+    is_met = refused > 0 or nths[0] > least
+    return judge(not bad and is_met, f"{what}: refused at {refused} places: {told}: {time.monotonic() - began:.1f} s")
 
 
-def counted(pool, path, is_slow):
-    """How many calls of each kind are made at most where none fails."""
-    cases = [Case(path, "memory", "ENOMEM", FOR_EVER, 1, is_slow)] * COUNTINGS
-    most = Counter()
-    for ok, how, _, counts in pool.map(tried_anew, cases):
-        if not say(ok, f"none refused{', a slow reader' if is_slow else ''}: {how}:"):
+def counted(pool, path, way):
+    """How many calls of each kind are made at most, and at least, where none fails."""
+    cases = [Case(path, "memory", "ENOMEM", FOR_EVER, 1, way)] * COUNTINGS
+    most, least = Counter(), Counter(dict.fromkeys(CALLS, FOR_EVER))
+    for ok, how, _, made in pool.map(tried_anew, cases):
+        if not judge(ok, f"none refused{way and ', ' + way}: {how}:"):
             end()
-        most |= Counter(counts)
+        most |= Counter(made)
+        least &= Counter(made)
+    print("calls:", ", ".join(f"{call} {times}" for call, times in most.items()))
+    return most, least
+
+
+def all_swept(pool, path, way, calls, is_half):
+    """Sweeps these calls in this way. How many of each were made where none failed."""
+    most, least = counted(pool, path, way)
+    for call in calls:
+        for number, error in enumerate(CALLS[call].split() if most[call] else ()):
+            for run in (1, 10) if call == "memory" and way == PLAIN else (1,):
+                case = Case(path, call, error, 0, run, way)
+                if not swept(pool, case, places(most[call], number, is_half), least[call]):
+                    end()
     return most
 
 
-def main(path, *calls):
-    start = time.monotonic()
-    path = os.path.abspath(path)
+def main(path, *words):
+    began, path, made = time.monotonic(), os.path.abspath(path), Counter()
+    is_half = "-half" in words
+    wanted = [word for word in words if word != "-half"] or [*CALLS]
     with concurrent.futures.ProcessPoolExecutor(AT_ONCE) as pool:
-        for is_slow in False, True:
-            most = counted(pool, path, is_slow)
-            print("calls:", ", ".join(f"{call} {times}" for call, times in most.items()))
-            for call in calls or CALLS:
-                for error in CALLS[call].split() if most[call] else ():
-                    for run in (1, 10) if call == "memory" and not is_slow else (1,):
-                        if not swept(pool, path, call, error, most[call] + 1, run, is_slow):
-                            end()
-    print(f"{time.monotonic() - start:.0f} s")
+        for way in PLAIN, SLOW, HANDED:
+            calls = [call for call in CALLS_IN[way] if call in wanted]
+            if calls:
+                made += all_swept(pool, path, way, calls, is_half)
+    never = [call for call in wanted if not made[call]]
+    judge(not never, f"calls that are made in no run: {', '.join(never) or 'none'}:")
+    print(f"{time.monotonic() - began:.0f} s")
     end()
 
 

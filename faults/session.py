@@ -3,7 +3,7 @@ whether its answer was whole, or a front of it with the end of the connection; a
 import contextlib, select, socket, struct, time
 from daemon import alive, connect, framed, read_most
 
-PATIENCE = 6.0  # A daemon may be silent for 5 seconds before it ends; one more for a machine that is shared.
+PATIENCE = 30.0  # A daemon may be silent for 5 seconds before it ends. The rest is for a machine on which all processors are busy.
 NOT_FOUND = b"w\1"
 
 
@@ -45,6 +45,7 @@ class Session:
 
     def __init__(self, daemon):
         self.daemon, self.nodes, self.cut = daemon, {}, 0
+        self.is_sent = self.is_told_to_end = False  # Whether the last request was sent, and whether a KILL was.
 
     def __enter__(self):
         return self
@@ -93,6 +94,7 @@ class Session:
 
     def ask(self, step, body, *rights):
         """The answer to a request, if it came whole."""
+        self.is_sent = False
         s = self.connect(step)
         if s is None:
             self.cut += 1
@@ -100,6 +102,7 @@ class Session:
         with s:
             with contextlib.suppress(ConnectionResetError, BrokenPipeError):
                 s.sendall(framed(body))
+                self.is_sent = True
             return self.told(step, s, rights)
 
     def register(self, name, at_once=True):
@@ -179,7 +182,19 @@ class Session:
         for name in list(self.nodes):
             self.leave(name)
         self.is_empty()
-        return self.ask("kill", b"k", b"OK") is not None
+        answer = self.ask("kill", b"k", b"OK")
+        self.is_told_to_end |= self.is_sent
+        return answer is not None
+
+    def runs_on(self):
+        """Whether the daemon answers a request after a KILL whose answer was cut. Waits until it answers or has ended."""
+        until = time.monotonic() + PATIENCE
+        while self.daemon.ended(0.05) is None:
+            if self.ask("look up behind a kill", b"znone", NOT_FOUND) is not None:
+                return True
+            if time.monotonic() > until:
+                raise Wrong(f"{PATIENCE:.0f} s behind a kill it neither answers nor ends")
+        return False
 
     def is_empty(self):
         """Waits until no name is listed any more."""

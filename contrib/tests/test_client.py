@@ -10,6 +10,8 @@ import tempfile
 import time
 import unittest
 
+import programs
+
 TOP = os.path.join(os.path.dirname(os.path.abspath(__file__)), "..", "..")
 BUILD = os.path.join(TOP, "build")
 CLIENT = os.path.join(TOP, "contrib", "client")
@@ -65,8 +67,9 @@ class Mapper:
 
     def __init__(self, program):
         self.port = free_port()
-        self.process = subprocess.Popen([program, "-port", str(self.port)], stdout=subprocess.DEVNULL, stderr=subprocess.DEVNULL)
-        for _ in range(100):
+        self.process = programs.start([program, "-port", str(self.port)], stdout=subprocess.DEVNULL, stderr=subprocess.DEVNULL)
+        until = time.monotonic() + programs.SILENCE
+        while time.monotonic() < until and self.process.poll() is None:
             try:
                 socket.create_connection(("127.0.0.1", self.port)).close()
                 return
@@ -76,7 +79,7 @@ class Mapper:
 
     def end(self):
         self.process.kill()
-        self.process.wait(10)
+        self.process.wait(programs.SILENCE)
 
 
 def missing(*reasons):
@@ -106,24 +109,24 @@ class Examples(unittest.TestCase):
         if missing((not shutil.which(words[0]), f"no {words[0]}")):
             self.skipTest(words[0])
         out = os.path.join(self.folder.name, self.id())
-        done = subprocess.run([*words, "-o", out], capture_output=True, text=True, timeout=120)
+        done = programs.run([*words, "-o", out])
         self.assertEqual((done.returncode, done.stderr), (0, ""))
         return [out]
 
     def told(self, example, *words):
-        done = subprocess.run([*example, *words], capture_output=True, text=True, timeout=60, env=self.env)
+        done = programs.run([*example, *words], env=self.env)
         self.assertEqual(done.stderr, "")
         return done.returncode, done.stdout
 
     def comes(self, example, words, wanted):
-        for _ in range(100):
-            if self.told(example, *words) == wanted:
-                return
+        until = time.monotonic() + programs.SILENCE
+        while time.monotonic() < until and self.told(example, *words) != wanted:
             time.sleep(0.05)
         self.assertEqual(self.told(example, *words), wanted)
 
     def registers(self, example, port, end):
-        process = subprocess.Popen([*example, "register", port, "node", "5000"], stdin=subprocess.PIPE, stdout=subprocess.PIPE, text=True, env=self.env)
+        words = [*example, "register", port, "node", "5000"]
+        process = programs.start(words, env=self.env, stdin=subprocess.PIPE, stdout=subprocess.PIPE)
         with process:
             self.assertRegex(process.stdout.readline(), r"^creation [1-9]\d*\n$")
             self.assertEqual(self.told(example, "lookup", port, "node"), (0, "node at port 5000, kind 72, versions 5 to 6, 0 extra bytes\n"))
@@ -134,7 +137,7 @@ class Examples(unittest.TestCase):
         self.assertEqual(self.told(example, "names", port), (0, ""))
 
     def runs(self, example):
-        self.env = {**os.environ, "EPMD_CLIENT": LIBRARY}
+        self.env = programs.environment(EPMD_CLIENT=LIBRARY)
         for program in self.mappers:
             with self.subTest(mapper=program):
                 mapper = Mapper(program)
@@ -161,13 +164,13 @@ class Examples(unittest.TestCase):
             with self.subTest(mapper=mapper):
                 mapper = Mapper(mapper)
                 try:
-                    done = subprocess.run([*program, str(mapper.port), "3"], capture_output=True, text=True, timeout=60)
+                    done = programs.run([*program, str(mapper.port), "3"])
                 finally:
                     mapper.end()
                 self.assertRegex(done.stdout, r"^\d+ calls, 0 wrong\n$")
 
     def test_answers_are_read_as_by_another_reader(self):
-        done = subprocess.run([sys.executable, os.path.join(BY_HAND, "client_answers.py"), "3000"], capture_output=True, text=True, timeout=60)
+        done = programs.run([sys.executable, os.path.join(BY_HAND, "client_answers.py"), "3000"])
         self.assertEqual((done.returncode, done.stderr), (0, ""), done.stdout)
 
 

@@ -6,10 +6,11 @@ import json
 import os
 import re
 import shutil
-import subprocess
 import sys
 import tempfile
 import unittest
+
+import programs
 
 TOP = os.path.join(os.path.dirname(os.path.abspath(__file__)), "..", "..")
 PARTS = ["Makefile", "VERSION", "README.md", "CHANGELOG.md", "crates.txt", "contrib", "docs", "include"]
@@ -98,11 +99,10 @@ class Checkout(unittest.TestCase):
     def env(self, **more):
         """With no toolchain but a stand-in, and nothing of a `make` around this test."""
         folders = [folder for folder in os.environ["PATH"].split(":") if not os.path.exists(os.path.join(folder, "rt"))]
-        clean = {name: value for name, value in os.environ.items() if name not in ("MAKEFLAGS", "MAKELEVEL", "MFLAGS", "SOURCE_DATE_EPOCH", "DESTDIR")}
-        return {**clean, "PATH": ":".join([self.bin, *folders]), "NOTES": self.notes, **more}
+        return programs.environment(**{"PATH": ":".join([self.bin, *folders]), "NOTES": self.notes, **more})
 
     def run_in(self, top, *words, umask=0o022, **env):
-        return subprocess.run(words, cwd=top, capture_output=True, text=True, timeout=60, umask=umask, env=self.env(**env))
+        return programs.run(words, cwd=top, umask=umask, env=self.env(**env))
 
     def make(self, *words, top=None, umask=0o022, **env):
         return self.run_in(top or self.top, "make", "--no-print-directory", *words, umask=umask, **env)
@@ -339,6 +339,7 @@ class Package(Checkout):
         self.assertIn("prefix=/usr\nlibdir=/usr/lib/x86_64-linux-gnu\n", told)
         package, = glob.glob(os.path.join(self.top, "build", "libepmd-client0_*.deb"))
         self.run_in("/", "dpkg-deb", "--control", package, os.path.join(self.folder, "control"))
+        self.assertEqual(read(os.path.join(self.folder, "control", "triggers")), "activate-noawait ldconfig\n")
         head, *symbols = read(os.path.join(self.folder, "control", "symbols")).splitlines()
         self.assertEqual(head, "libepmd_client.so.0 libepmd-client0 #MINVER#")
         calls = set(re.findall(r"(?m)^\w+ (epmd_\w+)\(", read(os.path.join(TOP, "include", "epmd_client.h"))))
@@ -359,6 +360,7 @@ class Package(Checkout):
         self.run_in("/", "dpkg-deb", "--raw-extract", package, tree)
         self.assertEqual(self.run_in(tree, "md5sum", "--check", "--quiet", "DEBIAN/md5sums").returncode, 0)
         self.assertEqual(len(read(os.path.join(tree, "DEBIAN", "md5sums")).splitlines()), len(wanted))
+        self.assertEqual(read(os.path.join(tree, "DEBIAN", "triggers")), "interest-noawait /usr/lib/erlang\n")
         control = read(os.path.join(tree, "DEBIAN", "control"))
         self.assertNotIn("@", control.replace("epmd@cekhtsoni", ""))
         shutil.rmtree(os.path.join(tree, "DEBIAN"))
@@ -366,6 +368,15 @@ class Package(Checkout):
         paths = [os.path.join(folder, name) for folder, _, names in os.walk(tree) for name in names]
         sizes = [1 if os.path.islink(path) else -(-os.path.getsize(path) // 1024) for path in paths]
         self.assertIn(f"\nInstalled-Size: {sum(sizes) + sum(1 for _ in os.walk(tree))}\n", control)
+
+    def test_the_program_and_the_library_are_stripped(self):
+        self.with_client()
+        self.stand_in("strip", '#!/bin/sh\necho "strip $*" >> "$NOTES"\n')
+        self.made("deb")
+        words = [line.split() for line in self.noted() if line.startswith("strip ")]
+        self.assertEqual([each[1:-1] for each in words], [[], ["--strip-unneeded"]])
+        paths = ["/epmd-proved/usr/lib/epmd-proved/epmd", "/libepmd-client0/usr/lib/x86_64-linux-gnu/libepmd_client.so.0"]
+        self.assertEqual([path for each, path in zip(words, paths) if each[-1].endswith(path)], paths)
 
     def test_without_a_toolchain_it_takes_what_was_told_or_says_that_nothing_is(self):
         self.assertIn("does not tell of what it is made", self.made("deb"))
@@ -466,8 +477,7 @@ class Parts(Checkout):
 
     @needs("rt")
     def test_the_notices_of_the_kit_stand_in_the_packages_copyright(self):
-        done = subprocess.run([os.path.join(TOP, "contrib", "sbom")], capture_output=True, text=True, timeout=60, check=True,
-                              env={**os.environ, "SOURCE_DATE_EPOCH": "1700000000"})
+        done = programs.run([os.path.join(TOP, "contrib", "sbom")], check=True, env=programs.environment(SOURCE_DATE_EPOCH="1700000000"))
         notices = re.sub(r"\s+", " ", read(os.path.join(TOP, "contrib", "debian", "copyright")))
         for name, package in self.judged(json.loads(done.stdout)).items():
             if package["copyrightText"] not in ("NOASSERTION", "Cekhtsoni"):

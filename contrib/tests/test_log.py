@@ -1,4 +1,5 @@
 """What epmd-log tells of recorded bytes, which are put together here as docs/FORMATS.md has them; and in which order files are read."""
+import calendar
 import json
 import os
 import re
@@ -11,12 +12,14 @@ import threading
 import time
 import unittest
 
-CONTRIB = os.path.join(os.path.dirname(os.path.abspath(__file__)), "..")
-sys.path.append(CONTRIB)
+import programs
+from programs import CONTRIB, SILENCE
 from epmd_recording import BODY_MOST, NAME_MOST, Recording
 
 LOG = os.path.join(CONTRIB, "epmd-log")
 STAMP = r"\d{4}-\d\d-\d\dT\d\d:\d\d:\d\dZ "
+# Seconds within which the clock of the file system surely advances, so that a later file has a later time.
+LATER = 0.05
 
 
 def number(value, count):
@@ -92,12 +95,12 @@ class Told(unittest.TestCase):
             file.write(data)
 
     def run_log(self, *words):
-        return subprocess.run([sys.executable, LOG, *words, self.path], capture_output=True, text=True, timeout=30)
+        return programs.run([sys.executable, LOG, *words, self.path])
 
     def follower(self):
         """One that follows the recording, and is ended where it says nothing for long."""
-        running = subprocess.Popen([sys.executable, LOG, "-f", self.path], stdout=subprocess.PIPE, stderr=subprocess.PIPE, text=True)
-        patience = threading.Timer(20, running.kill)
+        running = programs.start([sys.executable, LOG, "-f", self.path], stdout=subprocess.PIPE, stderr=subprocess.PIPE)
+        patience = threading.Timer(SILENCE, running.kill)
         patience.start()
         for each in (running.stdout.close, running.stderr.close, running.wait, running.kill, patience.cancel):
             self.addCleanup(each)
@@ -152,7 +155,7 @@ class Told(unittest.TestCase):
         self.assertEqual(self.told(start() + entries)[1:], ["3 stop a by a local peer: STOPPED"])
 
     def test_malformed_requests_are_called_so(self):
-        bad = [b"\0\0", b"\x20\x01", sized(b"a"), sized(b"nn"), sized(b"z"), sized(b"z\n"), sized(b"z" + b"a" * 1021),
+        bad = [b"\0\0", b"\x20\x01", number(5, 2) + b"za", sized(b"a"), sized(b"nn"), sized(b"z"), sized(b"z\n"), sized(b"z" + b"a" * 1021),
                sized(b"x" + bytes(11)), alive(b"a", 1)[:2] + b"x\0\1\x4d\0\0\6\0\5\0\2a\0\0"]
         entries = b"".join(connect(slot) + piece(slot, request, 1) for slot, request in enumerate(bad))
         wanted = [f"{2 * slot + 1} malformed request by a local peer: {request[:40].hex()}" for slot, request in enumerate(bad)]
@@ -260,7 +263,7 @@ class Told(unittest.TestCase):
 
     def test_a_name_that_is_no_text_can_be_asked_for(self):
         self.write(start() + visit(b"a\xff") + visit(b"a"))
-        done = subprocess.run([sys.executable, LOG, "-n", b"a\xff", self.path], capture_output=True, text=True, timeout=30)
+        done = programs.run([sys.executable, LOG, "-n", b"a\xff", self.path])
         self.assertEqual(done.stdout, "1 lookup a\\xff by a local peer: not registered\n")
 
     def test_it_begins_with_the_oldest_file_that_is_there(self):
@@ -273,7 +276,7 @@ class Told(unittest.TestCase):
     def test_a_letter_that_the_locale_lacks_is_printed_by_its_number(self):
         self.write(start() + visit("aé\u4e00".encode()))
         for encoding, shown in (("ascii", "a\\xe9\\u4e00"), ("latin-1", "a\xe9\\u4e00"), ("utf-8", "aé\u4e00")):
-            done = subprocess.run([sys.executable, LOG, self.path], capture_output=True, timeout=30, env={**os.environ, "PYTHONIOENCODING": encoding})
+            done = programs.run([sys.executable, LOG, self.path], env=programs.environment(PYTHONIOENCODING=encoding), text=False)
             self.assertEqual((done.returncode, done.stderr, done.stdout), (0, b"", f"1 lookup {shown} by a local peer: not registered\n".encode(encoding)))
 
     def test_one_that_is_not_there_is_told(self):
@@ -281,7 +284,7 @@ class Told(unittest.TestCase):
         self.assertEqual((done.returncode, done.stderr), (2, f"epmd-log: {self.path}: no such file\n"))
 
     def test_help_is_whole(self):
-        done = subprocess.run([sys.executable, LOG, "--help"], capture_output=True, text=True, timeout=30)
+        done = programs.run([sys.executable, LOG, "--help"])
         for word in ("usage: epmd-log", "The status is 0", "-json", "-f ", "-n NAME"):
             self.assertIn(word, done.stdout)
 
@@ -292,9 +295,9 @@ class Told(unittest.TestCase):
         for name in ("epmd-log", "epmd-metrics", "epmd-prune"):
             tool = os.path.join(CONTRIB, name)
             for word in ("-version", "--version"):
-                done = subprocess.run([sys.executable, tool, word], capture_output=True, text=True, timeout=30)
+                done = programs.run([sys.executable, tool, word])
                 self.assertEqual((done.returncode, done.stdout, done.stderr), (0, f"{name} {version}\n", ""))
-            done = subprocess.run([sys.executable, "-c", lacking, tool], capture_output=True, text=True, timeout=30)
+            done = programs.run([sys.executable, "-c", lacking, tool])
             self.assertEqual((done.returncode, done.stdout), (2, ""))
             self.assertRegex(done.stderr, f"^{name}: a module of python3 is missing, [^\n]*argparse[^\n]*\n$")
 
@@ -307,7 +310,7 @@ class Told(unittest.TestCase):
             shutil.copy(os.path.join(CONTRIB, name), places[0])
             os.symlink(os.path.join(places[0], name), os.path.join(places[2], name))
             for place in (places[0], places[2]):
-                done = subprocess.run([sys.executable, os.path.join(place, name), "-h"], capture_output=True, text=True, timeout=30)
+                done = programs.run([sys.executable, os.path.join(place, name), "-h"])
                 self.assertEqual((done.returncode, done.stderr), (0, ""))
         self.assertEqual(os.listdir(places[1]), ["epmd_recording.py"])
 
@@ -318,10 +321,11 @@ class Told(unittest.TestCase):
         self.write(start() + visit(b"a"))
         self.assertRegex(running.stdout.readline(), f"^{STAMP}1 lookup a ")
         os.rename(self.path, self.path + "-20261128T040632Z")
+        time.sleep(LATER)
         self.write(start() + visit(b"b"))
         self.assertRegex(running.stdout.readline(), f"^{STAMP}1 lookup b ")
         running.send_signal(signal.SIGINT)
-        self.assertEqual((running.wait(10), running.stderr.read()), (0, ""))
+        self.assertEqual((running.wait(SILENCE), running.stderr.read()), (0, ""))
 
     def test_a_live_recording_is_followed_into_the_next_file(self):
         self.write(start())
@@ -334,15 +338,36 @@ class Told(unittest.TestCase):
         self.write(start(2, [(b"a", 5000, 4, 0)], (), [(0, 1, 1, b"")]) + close(0), self.path + ".1")
         self.assertRegex(running.stdout.readline(), f"^{STAMP}2 leave a port 5000$")
         running.send_signal(signal.SIGINT)
-        self.assertEqual(running.wait(10), 0)
+        self.assertEqual(running.wait(SILENCE), 0)
 
     def test_a_pipe_is_read_to_its_end(self):
         os.mkfifo(self.path)
-        running = subprocess.Popen([sys.executable, LOG, self.path], stdout=subprocess.PIPE, text=True)
+        running = programs.start([sys.executable, LOG, self.path], stdout=subprocess.PIPE)
+        began = int(time.time())
         with open(self.path, "wb") as pipe:
             pipe.write(start() + connect(0) + piece(0, alive(b"a", 5000), 0, GRANTED))
-        told, _ = running.communicate(timeout=10)
+        told, _ = running.communicate(timeout=SILENCE)
         self.assertTrue(re.fullmatch(f"{STAMP}1 register a port 5000 creation 4\n", told))
+        stamp = calendar.timegm(time.strptime(told.split(" ")[0], "%Y-%m-%dT%H:%M:%SZ"))
+        self.assertTrue(began <= stamp <= time.time(), told)
+
+    def test_an_event_of_a_pipe_is_told_at_once(self):
+        os.mkfifo(self.path)
+        running = programs.start([sys.executable, LOG, self.path], stdout=subprocess.PIPE)
+        patience = threading.Timer(SILENCE, running.kill)
+        patience.start()
+        for each in (running.stdout.close, running.wait, running.kill, patience.cancel):
+            self.addCleanup(each)
+        with open(self.path, "wb", buffering=0) as pipe:
+            pipe.write(start() + visit(b"a"))
+            self.assertRegex(running.stdout.readline(), f"^{STAMP}1 lookup a ")
+
+    def test_where_the_reader_of_its_lines_has_gone_it_ends_well(self):
+        self.write(start() + visit(b"a") * 5000)
+        running = programs.start([sys.executable, LOG, self.path], stdout=subprocess.PIPE, stderr=subprocess.PIPE)
+        running.stdout.close()
+        with running.stderr:
+            self.assertEqual((running.stderr.read(), running.wait(SILENCE)), ("", 0))
 
 
 class Written:

@@ -1,6 +1,6 @@
 """What epmd-metrics prints of a port mapper that a test plays, and what it counts in recorded bytes."""
-import importlib.machinery
-import importlib.util
+import contextlib
+import io
 import json
 import os
 import re
@@ -9,9 +9,12 @@ import subprocess
 import sys
 import tempfile
 import threading
+import time
 import unittest
 import unittest.mock
 
+import programs
+from programs import closed_port
 from test_log import FOUND, GRANTED, IN_USE, NO_ROOM, Written, alive, close, connect, late, piece, sized, start, visit
 
 HERE = os.path.dirname(os.path.abspath(__file__))
@@ -22,8 +25,7 @@ TOOL = os.path.join(HERE, "..", "epmd-metrics")
 
 
 def run(port, *words, **environment):
-    return subprocess.run([sys.executable, TOOL, *words], capture_output=True, text=True, timeout=60,
-                          env={**os.environ, "ERL_EPMD_PORT": str(port), **environment})
+    return programs.run([sys.executable, TOOL, *words], env=programs.environment(ERL_EPMD_PORT=str(port), **environment))
 
 
 def printed(port, *words, **environment):
@@ -33,16 +35,7 @@ def printed(port, *words, **environment):
 
 
 def tool():
-    """The tool as a module, of which a test may change a constant."""
-    loader = importlib.machinery.SourceFileLoader("epmd_metrics", TOOL)
-    module = importlib.util.module_from_spec(importlib.util.spec_from_loader("epmd_metrics", loader))
-    loader.exec_module(module)
-    return module
-
-
-def free_port():
-    with socket.create_server(("127.0.0.1", 0)) as listener:
-        return listener.getsockname()[1]
+    return programs.tool("epmd-metrics")
 
 
 def figures(text):
@@ -72,7 +65,7 @@ class Played:
             stream.sendall(self.answer)
 
     def end(self):
-        self.thread.join(10)
+        self.thread.join(programs.PATIENCE)
         self.listener.close()
 
 
@@ -108,8 +101,8 @@ class Metrics(unittest.TestCase):
 
     def holder(self, listener, name):
         """A process of this name that holds a socket."""
-        named = f"import time; open('/proc/self/comm', 'w').write('{name}'); print(flush=True); time.sleep(60)"
-        process = subprocess.Popen([sys.executable, "-c", named], pass_fds=[listener.fileno()], stdout=subprocess.PIPE)
+        named = f"import time; open('/proc/self/comm', 'w').write('{name}'); print(flush=True); time.sleep(600)"
+        process = programs.start([sys.executable, "-c", named], pass_fds=[listener.fileno()], stdout=subprocess.PIPE)
         self.addCleanup(process.communicate)
         self.addCleanup(process.kill)
         process.stdout.readline()
@@ -126,23 +119,80 @@ class Metrics(unittest.TestCase):
 
     def test_a_process_of_that_name_ignores_its_options(self):
         for name, ignores in (("/usr/lib/epmd-proved/epmd-all-options-ignored", True), ("/usr/lib/epmd-proved/epmd", False)):
-            process = subprocess.Popen([name, "60"], executable="/bin/sleep")
+            process = programs.start([name, "600"], executable="/bin/sleep")
             self.addCleanup(process.wait)
             self.addCleanup(process.kill)
             self.assertEqual(tool().ignores_options(f"/proc/{process.pid}"), ignores)
 
     def test_a_recording_that_is_not_there_is_told(self):
-        done = run(free_port(), *self.recorded)
+        done = run(closed_port(self), *self.recorded)
         told = f"epmd-metrics: no counters: {self.path}: there is no recording, or it can't be seen\n"
         self.assertEqual((done.returncode, done.stderr, "_total" in done.stdout), (0, told, False))
 
     def test_none_answers(self):
-        self.assertEqual(figures(printed(free_port())), {"epmd_up": 0, "epmd_connections": 0})
+        self.assertEqual(figures(printed(closed_port(self))), {"epmd_up": 0, "epmd_connections": 0})
 
     def test_half_an_answer_is_none(self):
         played = Played(b"\0\0\x11")
         self.assertEqual(figures(printed(played.port))["epmd_up"], 0)
         played.end()
+
+    def test_an_answer_without_a_name_is_one(self):
+        played = Played(DUMP[:4])
+        found = figures(printed(played.port))
+        played.end()
+        self.assertEqual([found["epmd_up"], found['epmd_names{state="active"}'], found['epmd_names{state="retired"}']], [1, 0, 0])
+
+    def test_a_name_that_begins_as_another_line_does_counts_once(self):
+        played = Played(b"\0\0\x11\x11active name     old/unused name at port 1, fd = 3\nold name c at port 3\n")
+        found = figures(printed(played.port))
+        played.end()
+        self.assertEqual([found['epmd_names{state="active"}'], found['epmd_names{state="retired"}']], [1, 0])
+
+    def test_an_answer_that_comes_too_slowly_is_none(self):
+        module = tool()
+
+        def drip(stream):
+            for _ in range(40):
+                stream.sendall(b"a")
+                time.sleep(0.05)
+        for is_slow in (True, False):
+            with socket.create_server(("127.0.0.1", 0)) as listener:
+                thread = threading.Thread(target=self.answer, args=(listener, drip if is_slow else lambda stream: stream.sendall(DUMP)))
+                thread.start()
+                module.PATIENCE = 0.3 if is_slow else programs.PATIENCE
+                self.assertEqual(module.dump_of(listener.getsockname()[1]) is None, is_slow)
+                thread.join()
+
+    @staticmethod
+    def answer(listener, how):
+        stream, _ = listener.accept()
+        with stream, contextlib.suppress(OSError):
+            stream.recv(16)
+            how(stream)
+
+    def test_sockets_are_those_of_both_tables_at_this_port_and_in_this_state(self):
+        head = "  sl  local_address rem_address   st tx_queue rx_queue tr tm->when retrnsmt   uid  timeout inode\n"
+        row = "   0: {}:{} 00000000:0000 {} 00000000:00000000 00:00000000 00000000     0        0 {} 1\n"
+        tables = {"/proc/net/tcp": [("0100007F", "1111", "0A", 1), ("0100007F", "1112", "0A", 2), ("0100007F", "1111", "01", 3)],
+                  "/proc/net/tcp6": [("0" * 31 + "1", "1111", "0A", 4), ("0" * 32, "1111", "06", 5)]}
+        module = tool()
+        for absent in (None, "/proc/net/tcp6", "/proc/net/tcp"):
+            def opened(path):
+                if path == absent:
+                    raise FileNotFoundError(path)
+                return io.StringIO(head + "".join(row.format(*each) for each in tables[path]))
+            module.open = opened
+            wanted = [inode for path, inode in (("/proc/net/tcp", "1"), ("/proc/net/tcp6", "4")) if path != absent]
+            self.assertEqual(module.sockets_at(0x1111, module.LISTENS), wanted)
+        self.assertEqual(module.sockets_at(0x1111, module.ESTABLISHED), [])
+        module.open = lambda path: io.StringIO(head + row.format(*tables["/proc/net/tcp"][2]))
+        self.assertEqual(module.sockets_at(0x1111, module.ESTABLISHED), ["3", "3"])
+
+    def test_its_memory_is_told_in_bytes(self):
+        with open(os.path.join(self.folder.name, "status"), "w") as file:
+            file.write("Name:\tepmd\nVmHWM:\t    9000 kB\nVmRSS:\t    1234 kB\nRssAnon:\t     500 kB\n")
+        self.assertEqual(tool().memory_of(self.folder.name), 1234 * 1024)
 
     def test_a_recording_moves(self):
         self.write(self.path, b"EPMS")
@@ -179,12 +229,12 @@ class Counted(Written, unittest.TestCase):
 
     def test_each_counter_moves_by_what_it_counts(self):
         self.write(start())
-        zeros = figures(printed(free_port(), "-recording", self.path, "-state", self.state))
+        zeros = figures(printed(closed_port(self), "-recording", self.path, "-state", self.state))
         entries = connect(0) + piece(0, alive(b"a", 5000), 0, GRANTED) + connect(1) + piece(1, sized(b"za"), 1, FOUND) + visit(b"q") * 2
         entries += connect(2) + piece(2, alive(b"a", 1), 1, IN_USE) + connect(3) + piece(3, alive(b"b", 1), 1, NO_ROOM)
         entries += connect(4, 0) + piece(4, alive(b"c", 1), 1) + connect(5) + late(5) + connect(6) + piece(6, b"\0\0", 1) + close(0)
         self.add(entries)
-        counts = figures(printed(free_port(), "-recording", self.path, "-state", self.state))
+        counts = figures(printed(closed_port(self), "-recording", self.path, "-state", self.state))
         self.assertEqual({name: (zeros[name], count) for name, count in counts.items() if "_total" in name}, {
             'epmd_lookups_total{result="found"}': (0, 1), 'epmd_lookups_total{result="missing"}': (0, 2), "epmd_registrations_total": (0, 1),
             'epmd_refusals_total{reason="in_use"}': (0, 1), 'epmd_refusals_total{reason="no_room"}': (0, 1),
@@ -214,6 +264,20 @@ class Counted(Written, unittest.TestCase):
         self.add(visit(b"b"))
         self.tool.BYTES_MOST = len(visit(b"b"))
         self.assertEqual([self.lookups(), self.lookups()], [201, 201])
+
+    def test_a_call_reads_no_more_than_it_is_to(self):
+        self.tool.BYTES_MOST = 1000
+        self.write(start() + visit(b"a") * 1000)
+        with unittest.mock.patch("epmd_recording.CHUNK", 1000), unittest.mock.patch("os.pread", wraps=os.pread) as read:
+            self.assertEqual(self.given()["epmd_recording_counted"], {"": 0})
+        self.assertLess(sum(call.args[1] for call in read.call_args_list), 10_000)
+
+    def test_the_new_state_is_written_beside_the_old_one(self):
+        self.write(start() + visit(b"a"))
+        with unittest.mock.patch("os.replace", wraps=os.replace) as replace:
+            self.given()
+        (new, path), = (call.args for call in replace.call_args_list)
+        self.assertEqual((os.path.dirname(new), path), (os.path.dirname(self.state), self.state))
 
     def test_a_long_recording_is_counted_over_several_calls(self):
         self.tool.BYTES_MOST = 1
@@ -310,7 +374,7 @@ class Counted(Written, unittest.TestCase):
     def test_what_can_not_be_read_or_kept_is_told(self):
         for data, state in ((b"EPMS\3\0" + bytes(40), self.state), (start(), os.path.join(self.path, "state"))):
             self.write(data)
-            done = run(free_port(), "-recording", self.path, "-state", state)
+            done = run(closed_port(self), "-recording", self.path, "-state", state)
             self.assertEqual((done.returncode, "_total" in done.stdout), (0, False))
             self.assertRegex(done.stderr, "^epmd-metrics: no counters: .+\n$")
             self.assertIn("epmd_up 0", done.stdout)
@@ -319,12 +383,20 @@ class Counted(Written, unittest.TestCase):
         self.write(start())
         state = os.path.join(self.folder.name, "home", "epmd-metrics", self.path.replace("/", "%2F"))
         for _ in range(2):
-            printed(free_port(), "-recording", self.path, XDG_STATE_HOME=os.path.join(self.folder.name, "home"))
+            printed(closed_port(self), "-recording", self.path, XDG_STATE_HOME=os.path.join(self.folder.name, "home"))
         self.assertEqual(os.listdir(os.path.dirname(state)), [os.path.basename(state)])
         self.assertEqual([os.stat(path).st_mode & 0o777 for path in (os.path.dirname(state), state)], [0o700, 0o600])
 
+    def test_the_state_of_root_outlasts_a_boot(self):
+        for user, folder in ((0, "/var/lib"), (1000, "/home/own/.local/state")):
+            with unittest.mock.patch("os.geteuid", lambda: user), unittest.mock.patch.dict(os.environ, {"HOME": "/home/own"}):
+                os.environ.pop("XDG_STATE_HOME", None)
+                self.assertEqual(self.tool.default_state("/a/session"), f"{folder}/epmd-metrics/%2Fa%2Fsession")
+
     def test_wrong_words_and_help(self):
-        self.assertEqual((run("70000").returncode, run("70000").stderr), (2, "epmd-metrics: bad port in environment\n"))
+        for port in ("0", "65536", "70000", "-1", "x", "1" * 10):
+            done = run(port)
+            self.assertEqual((done.returncode, done.stdout, done.stderr), (2, "", "epmd-metrics: bad port in environment\n"), port)
         self.assertEqual(run(4369, "-nothing").returncode, 2)
         told = printed(4369, "--help")
         for word in ("usage: epmd-metrics", "cd FOLDER && epmd-metrics", "The status is 0", "-recording FILE", "-state FILE"):

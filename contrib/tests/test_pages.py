@@ -6,15 +6,30 @@ import unittest
 
 TOP = os.path.join(os.path.dirname(os.path.abspath(__file__)), "..", "..")
 README, CONTRIBUTING, PROVED, DECISIONS = "README.md", "docs/CONTRIBUTING.md", "docs/PROVED.md", "docs/DECISIONS.md"
-PAGES = [README, CONTRIBUTING, PROVED, DECISIONS, "docs/FORMATS.md", "docs/PROTOCOL.md"]
+FORMATS, PROTOCOL = "docs/FORMATS.md", "docs/PROTOCOL.md"
+PAGES = [README, CONTRIBUTING, PROVED, DECISIONS, FORMATS, PROTOCOL]
 # These come and go with versions, and count for no length.
 OTHERS = ["CHANGELOG.md", "SECURITY.md"]
 # Of a line, and of one of the code; of all pages; of the decisions.
 COLUMNS_MOST, CODE_COLUMNS_MOST, LINES_MOST, WORDS_MOST = 140, 120, 1330, 6300
 
 FOLDERS = ["crates", "contrib", "docs", "bench", "faults", "include", "tests", ".ci"]
-# Where a name has to stand as a word. This file is left out: what it names itself would be found in it.
+# Where a name has to stand as a word of the code. This file is left out: what it names itself would be found in it.
 CODE = ["crates", "contrib", "faults", "tests"]
+# What is a name, and of none of our code: one is of Erlang/OTP, the other of the comments that say where a choice comes from.
+FOREIGN = {"net_kernel", "profile"}
+# What looks as a path, and is a text of the protocol.
+TEXTS = {"old/unused"}
+# The folders of a crate.
+PARTS = "src/", "specs/", "proofs/"
+# Comments, by the endings of files; of all others those of the shell. Texts that are no code have none.
+COMMENTS = {
+    (".rt", ".rs", ".c", ".h"): r"/\*[\s\S]*?\*/|//.*",
+    (".antt",): r"\{-[\s\S]*?-\}|(?:(?<=\s)|^)--(?=\s|$).*",
+    (".py",): r'"""[\s\S]*?"""|(?:(?<=\s)|^)#.*',
+    (".story", ".edit", ".md"): r"[\s\S]+",
+}
+OF_SHELL = r"(?:(?<=\s)|^)#.*"
 # What a build leaves, and what a page says for any name.
 MADE, ANY = ("build", "out", "__pycache__"), ("NAME", "PLAIN_WORDS")
 ENDING = re.compile(r"\.(antt|c|conf|edit|h|md|pc|py|rs|rt|story|txt)$|[a-z]\.[13]$")
@@ -27,6 +42,12 @@ LINK = re.compile(r"\]\(([^)#\s]*)(?:#([^)\s]*))?\)")
 def read(*path):
     with open(os.path.join(TOP, *path), encoding="utf-8", errors="replace") as file:
         return file.read()
+
+
+def code_of(path, text):
+    """A text without its comments."""
+    comment = next((comment for endings, comment in COMMENTS.items() if path.endswith(endings)), OF_SHELL)
+    return re.sub(comment, "", text, flags=re.M)
 
 
 def below(folders):
@@ -58,23 +79,25 @@ class Checkout:
         self.targets = {target for rule in rules for target in rule.split()}
         own = os.path.relpath(os.path.abspath(__file__), TOP)
         files = [path for path in below(CODE) if os.path.isfile(os.path.join(TOP, path)) and path != own]
-        self.words = set(re.findall(r"\w+", "\n".join([self.makefile, *map(read, files)])))
+        code = [code_of(path, read(path)) for path in ["Makefile", *files]]
+        self.words = FOREIGN.union(*(re.findall(r"\w+", text) for text in code))
         self.sources = [read(path) for path in files if path.endswith(".rt")]
 
     def has(self, path, crates):
-        """Whether a path is there. One of a part of a crate is so in one of these crates, where there are any."""
+        """Whether a path is there. One of a part of a crate has to be so in one of these crates."""
         for word in ANY:
             path = re.sub(rf"(?<![A-Z]){word}(?![A-Z])", "*", path)
         if f"$(PREFIX)/{path}" in self.makefile:
             return True
-        fronts = [f"/crates/{crate}/" for crate in crates] if crates and path.startswith(("src/", "specs/", "proofs/")) else ["*/"]
+        fronts = [f"/crates/{crate}/" for crate in crates] if path.startswith(PARTS) else ["*/"]
         return any(fnmatch.fnmatchcase(found, front + path) for found in self.paths for front in fronts)
 
     def missing_paths(self, page):
         for number, span, part in spans(page):
             for path in (word.strip(",;:").rstrip("/") for word in span.split()):
                 is_path = re.fullmatch(r"[\w.*/-]+", path) and ("/" in path or ENDING.search(path)) and not path.startswith(("/", "-"))
-                if is_path and ".." not in path and path.split("/")[0] not in MADE and not self.has(path, CRATE.findall(part)):
+                is_path = is_path and path not in TEXTS and ".." not in path
+                if is_path and path.split("/")[0] not in MADE and not self.has(path, CRATE.findall(part)):
                     yield number, path
 
     def missing_targets(self, page):
@@ -127,14 +150,34 @@ class Pages(unittest.TestCase):
         self.assertEqual([(page, *found) for page in pages for found in find(read(page))], [])
 
     def test_each_path_is_there(self):
-        self.none(self.CHECKOUT.missing_paths, README, CONTRIBUTING, PROVED, DECISIONS)
+        self.none(self.CHECKOUT.missing_paths, *PAGES)
+
+    def test_a_path_of_a_crate_is_so_in_a_crate_that_is_named_beside_it(self):
+        for page, missing in (
+            ("`portmap_core`: `src/machine.rt`", []), ("`src/machine.rt`", [(1, "src/machine.rt")]), ("`portmap_core/src/machine.rt`", []),
+            ("`portmap_wire`: `src/machine.rt`", [(1, "src/machine.rt")]),
+            ("- `portmap_core`\n- `src/machine.rt`", [(2, "src/machine.rt")]),
+        ):
+            self.assertEqual(list(self.CHECKOUT.missing_paths(page)), missing, page)
+
+    def test_a_word_of_a_comment_is_none_of_the_code(self):
+        for path, text in {
+            "a.rt": "one(); // two\n/// two\nthree /* two\n two */ four", "a.c": "one\n//two\nthree /*two*/ four",
+            "a.antt": "one -- two\nthree {- two\n two -} four",
+            "a.py": 'one  # two\n"""two\ntwo"""\nthree\n# two\nfour',
+            "epmd": "one # two\nthree\n#two\nfour", "a.service": "one\n# two\nthree four",
+        }.items():
+            self.assertEqual(re.findall(r"\w+", code_of(path, text)), ["one", "three", "four"], path)
+        self.assertEqual(code_of("a.antt", "x--y ⟶ a"), "x--y ⟶ a")
+        self.assertEqual(code_of("epmd", '${word#-} "$#"'), '${word#-} "$#"')
+        self.assertEqual(code_of("a.story", "two"), "")
 
     def test_each_target_is_one_of_the_makefile(self):
-        self.none(self.CHECKOUT.missing_targets, README, CONTRIBUTING, PROVED, DECISIONS)
+        self.none(self.CHECKOUT.missing_targets, *PAGES)
 
     def test_each_name_stands_in_the_code(self):
-        self.none(self.CHECKOUT.missing_names, CONTRIBUTING, PROVED, DECISIONS)
-        self.none(self.CHECKOUT.missing_members, README, CONTRIBUTING, PROVED, DECISIONS)
+        self.none(self.CHECKOUT.missing_names, CONTRIBUTING, PROVED, DECISIONS, FORMATS, PROTOCOL)
+        self.none(self.CHECKOUT.missing_members, *PAGES)
 
     def test_each_link_leads_somewhere(self):
         self.assertEqual([(page, *found) for page in [*PAGES, *OTHERS] for found in broken_links(page)], [])

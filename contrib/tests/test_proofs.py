@@ -5,8 +5,10 @@ import re
 import unittest
 
 TOP = os.path.join(os.path.dirname(os.path.abspath(__file__)), "..", "..")
-CRATES = ["portmap_table", "portmap_core", "portmap_book", "portmap_record"]
 ARGUMENTS_MOST = 7
+# How many declarations of these crates take more. There are none in the others, and these are to become fewer.
+MANY_MOST = {"epmd": 10, "portmap_client": 6, "portmap_client_c": 3, "portmap_link": 9, "portmap_ready": 3, "portmap_wire": 9,
+             "portmap_worker": 8}
 OPENING, CLOSING = "({[", ")}]"
 HEAD = re.compile(r"( *)(?:abbrev )?(?:pub )?([^\s(){}:,.]+) : (.*)")
 
@@ -60,15 +62,16 @@ class Proofs(unittest.TestCase):
             self.assertEqual(arguments(signature), count, signature)
 
     def test_a_lemma_takes_few_arguments(self):
-        many, seen = [], 0
-        for crate in CRATES:
-            for path in glob.glob(f"{TOP}/crates/{crate}/proofs/**/*.antt", recursive=True):
-                with open(path, encoding="utf-8") as file:
-                    counts = [(os.path.relpath(path, TOP), name, arguments(type)) for name, type in signatures(file.read())]
-                seen += len(counts)
-                many += [found for found in counts if found[-1] > ARGUMENTS_MOST]
-        self.assertGreater(seen, 0)
-        self.assertEqual(many, [])
+        many, seen = {}, set()
+        for path in glob.glob(f"{TOP}/crates/*/proofs/**/*.antt", recursive=True):
+            crate, *name = os.path.relpath(path, os.path.join(TOP, "crates")).split(os.sep)
+            with open(path, encoding="utf-8") as file:
+                counts = [("/".join(name), declared, arguments(type)) for declared, type in signatures(file.read())]
+            if counts:
+                seen.add(crate)
+            many.setdefault(crate, []).extend(found for found in counts if found[-1] > ARGUMENTS_MOST)
+        self.assertGreaterEqual(seen, {*MANY_MOST, "portmap_table", "portmap_core", "portmap_book", "portmap_record", "portmap_daemon"})
+        self.assertEqual({crate: found for crate, found in many.items() if len(found) > MANY_MOST.get(crate, 0)}, {})
 
 
 if __name__ == "__main__":

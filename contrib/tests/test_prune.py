@@ -1,9 +1,13 @@
 """What epmd-prune removes of the files of a recording, and what stays."""
+import contextlib
+import io
 import os
-import subprocess
 import sys
 import tempfile
 import unittest
+import unittest.mock
+
+import programs
 
 TOOL = os.path.join(os.path.dirname(os.path.abspath(__file__)), "..", "epmd-prune")
 DAY = "s-20261128T"
@@ -17,7 +21,7 @@ class Prune(unittest.TestCase):
                 path = os.path.join(folder, name)
                 open(path, "w").close()
                 os.utime(path, (time, time))
-            done = subprocess.run([sys.executable, TOOL, "-keep", str(keep), os.path.join(folder, "s")], capture_output=True, text=True, timeout=30)
+            done = programs.run([sys.executable, TOOL, "-keep", str(keep), os.path.join(folder, "s")])
             self.assertEqual((done.returncode, done.stdout, done.stderr), (0, "", ""))
             return sorted(os.listdir(folder))
 
@@ -36,7 +40,7 @@ class Prune(unittest.TestCase):
             with tempfile.TemporaryDirectory() as folder:
                 for name in ("s", "s.1"):
                     open(os.path.join(folder, name), "w").close()
-                done = subprocess.run([sys.executable, TOOL, "-keep", keep, os.path.join(folder, "s")], capture_output=True, text=True, timeout=30)
+                done = programs.run([sys.executable, TOOL, "-keep", keep, os.path.join(folder, "s")])
                 self.assertEqual((done.returncode, done.stdout, sorted(os.listdir(folder))), (2, "", ["s", "s.1"]))
                 self.assertEqual(done.stderr, f"epmd-prune: the number of files to keep is no number from 1 on, so nothing is removed: '{keep}'\n")
 
@@ -61,13 +65,42 @@ class Prune(unittest.TestCase):
         with tempfile.TemporaryDirectory() as folder:
             os.mkfifo(os.path.join(folder, "s"))
             open(os.path.join(folder, "s.1"), "w").close()
-            subprocess.run([sys.executable, TOOL, "-keep", "1", os.path.join(folder, "s")], check=True, timeout=30)
+            programs.run([sys.executable, TOOL, "-keep", "1", os.path.join(folder, "s")], check=True)
             self.assertEqual(sorted(os.listdir(folder)), ["s", "s.1"])
+
+    def called(self, folder, find=None, remove=os.remove):
+        """The status, and what is told, of a call that finds or removes files in a way of its own. One file is to stay."""
+        tool, told = programs.tool("epmd-prune"), io.StringIO()
+        words = ["epmd-prune", "-keep", "1", os.path.join(folder, "s")]
+        with contextlib.redirect_stderr(told), unittest.mock.patch.object(sys, "argv", words), unittest.mock.patch("os.remove", remove), \
+                unittest.mock.patch.object(tool, "files_of", find or tool.files_of):
+            return tool.main(), told.getvalue()
+
+    def test_what_another_one_has_removed_meanwhile_is_no_fault(self):
+        find = programs.tool("epmd-prune").files_of
+
+        def found_too_late(recording):
+            parts = find(recording)
+            os.remove(recording)
+            return parts
+        with tempfile.TemporaryDirectory() as folder:
+            for name in ("s", "s.1", "s.2"):
+                open(os.path.join(folder, name), "w").close()
+            self.assertEqual(self.called(folder, find=found_too_late), (0, ""))
+            self.assertEqual(os.listdir(folder), ["s.2"])
+
+    def test_a_file_that_can_not_be_removed_is_told(self):
+        def refuse(path):
+            raise PermissionError(f"{path}: refused")
+        with tempfile.TemporaryDirectory() as folder:
+            for name in ("s", "s.1"):
+                open(os.path.join(folder, name), "w").close()
+            self.assertEqual(self.called(folder, remove=refuse), (1, f"epmd-prune: {folder}/s: refused\n"))
 
     def test_wrong_words_and_help(self):
         for words in ([], ["-keep", "1"], ["-keep", "x", "s"], ["s"]):
-            self.assertEqual(subprocess.run([sys.executable, TOOL, *words], capture_output=True, timeout=30).returncode, 2)
-        done = subprocess.run([sys.executable, TOOL, "--help"], capture_output=True, text=True, timeout=30)
+            self.assertEqual(programs.run([sys.executable, TOOL, *words]).returncode, 2)
+        done = programs.run([sys.executable, TOOL, "--help"])
         for word in ("usage: epmd-prune", "always stays", "The status is 0", "-keep N"):
             self.assertIn(word, done.stdout)
 

@@ -4,15 +4,19 @@ import glob
 import os
 import re
 import shutil
-import subprocess
 import unittest
 
+import programs
 from test_install import TOP, Checkout, needs, read, write
 
-# Notes its words. A socket is active unless $CLOSED says otherwise.
+# Notes its words. A socket is active unless $CLOSED says otherwise, enabled unless $DISABLED does, and was so unless $WAS_DISABLED does.
 SYSTEMCTL = """#!/bin/sh
 echo "$(basename "$0") $*" >> "$NOTES"
-case "$*" in *is-active*) [ -z "$CLOSED" ] ;; esac
+case "$*" in
+    *is-active*) [ -z "$CLOSED" ] ;;
+    *is-enabled*) [ -z "$DISABLED" ] ;;
+    *was-enabled*) [ -z "$WAS_DISABLED" ] ;;
+esac
 """
 RENEW = """#!/bin/sh
 echo renew >> "$NOTES"
@@ -89,8 +93,7 @@ class Scripts(Checkout):
         if os.path.exists(self.changes):
             os.remove(self.changes)
         counted = {"CHANGES": self.changes, "AT": str(at)} if at else {}
-        done = subprocess.run(["sh", os.path.join(self.scripts, name), *words], capture_output=True, text=True, timeout=30,
-                              env=self.env(ADMIN=self.admin, **counted, **env))
+        done = programs.run(["sh", os.path.join(self.scripts, name), *words], env=self.env(ADMIN=self.admin, **counted, **env))
         return None if done.returncode == -9 else done
 
     def well(self, name, *words, **env):
@@ -180,6 +183,81 @@ class Scripts(Checkout):
         self.assertRegex(done.stderr, "^epmd: bad word 0: -a: no option counts\nepmd: call .*/renew once that is mended\n$")
         for words in (["triggered", "/usr/lib/erlang"], ["abort-upgrade", "2"]):
             self.assertEqual(self.well("postinst", *words), "")
+
+    def noted_of(self, name, *words, **env):
+        """What a script of a package that is installed calls of the service manager and of `renew`."""
+        self.begin()
+        if (name, words[0]) != ("postinst", "configure"):
+            self.install()
+        else:
+            self.well("preinst", "install")
+            self.unpack()
+        if os.path.exists(self.notes):
+            os.remove(self.notes)
+        self.well(name, *words, **env)
+        return [line for line in self.noted() if "is-" not in line and "was-" not in line]
+
+    def test_the_port_is_served_anew_where_its_socket_is_enabled_or_active(self):
+        enabled, reload, renew = "deb-systemd-helper enable epmd-proved.socket", "systemctl daemon-reload", "renew"
+        stop, start = "systemctl stop epmd-proved.socket epmd-proved.service", "deb-systemd-invoke start epmd-proved.socket"
+        self.assertEqual(self.noted_of("postinst", "configure", ""), [enabled, reload, renew])
+        self.assertEqual(self.noted_of("postinst", "configure", "", DISABLED="yes"), [enabled, reload, renew])
+        self.assertEqual(self.noted_of("postinst", "configure", "", CLOSED="yes"), [enabled, reload, renew, stop, start])
+        self.assertEqual(self.noted_of("postinst", "configure", "", CLOSED="yes", DISABLED="yes"), [enabled, reload])
+        self.assertEqual(self.noted_of("postinst", "triggered", "/usr/lib/erlang"), [reload])
+        # An operator's `disable` outlasts an update.
+        state = "deb-systemd-helper update-state epmd-proved.socket"
+        self.assertEqual(self.noted_of("postinst", "configure", "", CLOSED="yes", DISABLED="yes", WAS_DISABLED="yes"), [state, reload])
+
+    def test_the_socket_of_erlang_base_is_the_one_that_serves_where_it_is_there(self):
+        self.begin()
+        self.well("preinst", "install")
+        self.unpack()
+        write(self.at("lib/systemd/system/epmd.socket"), "")
+        self.assertIn("serves at epmd.socket: ", self.well("postinst", "configure", ""))
+        os.remove(self.notes)
+        self.well("postinst", "configure", "", CLOSED="yes")
+        self.assertEqual([line for line in self.noted() if "start" in line or "stop" in line],
+                         ["systemctl stop epmd-proved.socket epmd-proved.service", "deb-systemd-invoke start epmd.socket"])
+
+    def test_a_removal_ends_the_units_and_an_update_does_not(self):
+        stop = "deb-systemd-invoke stop epmd-proved-prune.timer epmd-proved.socket epmd-proved.service"
+        self.assertEqual(self.noted_of("prerm", "remove"), [stop])
+        self.assertEqual(self.noted_of("prerm", "upgrade", "2"), [])
+        reload, kill = "systemctl daemon-reload", "systemctl kill epmd.service"
+        for words, wanted in ((["remove"], [reload, kill]), (["disappear", "other", "1"], [reload, kill]), (["abort-install"], [reload]),
+                              (["upgrade", "2"], [])):
+            self.assertEqual(self.noted_of("postrm", *words), wanted, words)
+
+    def test_where_the_service_manager_fails_a_removal_goes_on(self):
+        self.install()
+        for name in ("systemctl", "deb-systemd-invoke"):
+            self.stand_in(name, "#!/bin/sh\nexit 1\n")
+        self.remove()
+        self.is_theirs()
+
+    def test_where_no_service_manager_runs_none_is_called(self):
+        for name, *words in ("postinst", "configure", ""), ("prerm", "remove"), ("postrm", "remove"):
+            self.begin()
+            shutil.rmtree(self.at("run/systemd"))
+            if os.path.exists(self.notes):
+                os.remove(self.notes)
+            self.well(name, *words)
+            self.assertEqual([line for line in self.noted() if line.startswith(("systemctl", "deb-systemd-invoke", "renew"))], [], name)
+
+    def test_a_purge_leaves_nothing_and_an_update_leaves_recordings(self):
+        wants, stamps = "etc/systemd/system/timers.target.wants/", "var/lib/systemd/timers/stamp-"
+        kept = ["var/lib/epmd-proved/session", "var/lib/private/epmd-proved/session", "var/lib/epmd-metrics/state",
+                "etc/default/epmd-proved", wants + "epmd-proved-prune.timer", stamps + "epmd-proved-prune.timer"]
+        others = ["var/lib/other/session", "etc/default/other", wants + "other.timer", stamps + "other.timer"]
+        for path in kept + others:
+            write(self.at(path), "")
+        for words in (["remove"], ["upgrade", "2"], ["abort-install"]):
+            self.well("postrm", *words)
+            self.assertEqual([path for path in kept if not os.path.exists(self.at(path))], [], words)
+        self.well("postrm", "purge")
+        self.assertEqual([path for path in kept + others if os.path.exists(self.at(path))], others)
+        self.assertIn("deb-systemd-helper purge epmd-proved.socket", self.noted())
 
     def test_an_installation_that_is_stopped_leaves_theirs(self):
         def after():
@@ -334,18 +412,38 @@ class Scripts(Checkout):
 
 
 class StateFolder(Checkout):
-    """The folder of recordings, which the service makes before a start. Who calls is the service's user here."""
+    """The folder of recordings, which the service makes before a start. Who calls is the service's user here, but for one test."""
 
     def setUp(self):
         super().setUp()
         self.lib = os.path.join(self.folder, "var", "lib")
         os.makedirs(os.path.join(self.lib, "private"))
         self.at = os.path.join(self.lib, "epmd-proved")
-        write(os.path.join(self.folder, "script"), read(os.path.join(TOP, "contrib", "state-folder")).replace("/var/lib", self.lib))
+        self.users = os.path.join(self.folder, "run", "systemd", "dynamic-uid")
+        os.makedirs(self.users)
+        script = read(os.path.join(TOP, "contrib", "state-folder")).replace("/var/lib", self.lib).replace("/run/", f"{self.folder}/run/")
+        write(os.path.join(self.folder, "script"), script)
 
-    def call(self):
-        done = self.run_in("/", "sh", os.path.join(self.folder, "script"), USER=str(os.getuid()))
+    def call(self, user=str(os.getuid())):
+        done = self.run_in("/", "sh", os.path.join(self.folder, "script"), USER=user)
         return done.returncode, done.stderr
+
+    def test_it_is_given_to_the_services_user_and_no_link_in_it_is_followed(self):
+        self.stand_in("chown", '#!/bin/sh\necho "chown $*" >> "$NOTES"\n')
+        self.assertEqual(self.call(), (0, ""))
+        self.assertEqual(self.noted(), [])
+        os.symlink("61234", os.path.join(self.users, "direct:epmd-proved"))
+        for user, number in ("61235", "61235"), ("epmd-proved", "61234"):
+            self.assertEqual(self.call(user), (0, ""))
+            self.assertEqual(self.noted(), [f"chown -R -h {number}:root {self.at}/"])
+            os.remove(self.notes)
+
+    def test_what_is_there_is_not_written_over(self):
+        for folder, text in (os.path.join(self.lib, "private", "epmd-proved"), "old"), (self.at, "new"):
+            write(os.path.join(folder, "session"), text)
+        self.assertEqual(self.call(), (0, ""))
+        self.assertEqual(read(os.path.join(self.at, "session")), "new")
+        self.assertEqual(read(os.path.join(self.lib, "private", "epmd-proved", "session")), "old")
 
     def test_it_is_made_for_its_user_alone(self):
         for _ in range(2):

@@ -2,15 +2,18 @@
 import os
 import re
 import shutil
+import signal
 import subprocess
 import tempfile
 import time
 import unittest
 
+import programs
+
 WRAPPER = os.path.join(os.path.dirname(os.path.abspath(__file__)), "..", "epmd")
 
 # Tells the place of a word that it does not know, does nothing with -once in front, and notes its words. With -names it ends well once it is
-# up; else it says what it is told to say, and ends or stays.
+# up, or was asked $UP_AT times; else it says what it is told to say, and ends or stays.
 STAND_IN = """#!/bin/sh
 place=0
 for word in "$@"; do
@@ -21,12 +24,21 @@ if [ "$ERL_EPMD_PORT" = x ]; then echo "epmd: bad port in environment" >&2; exit
 if [ "$1" = -once ]; then exit 0; fi
 echo "$@" >> "$FOLDER/words"
 for word in "$@"; do
-    if [ "$word" = -names ]; then [ -e "$FOLDER/up" ]; exit; fi
+    if [ "$word" = -names ]; then
+        if [ "$(grep -c -e -names "$FOLDER/words")" -ge "${UP_AT:-1000}" ]; then exit 0; fi
+        [ -e "$FOLDER/up" ]; exit
+    fi
 done
 if [ -n "$TELLS" ]; then echo $$; fi
 if [ -n "$LIMITS" ]; then echo "$0 $(ulimit -S -n) $(ulimit -H -n) $MALLOC_ARENA_MAX"; fi
 if [ -n "$FAILS" ]; then echo "epmd: $FAILS" >&2; exit 3; fi
-if [ -n "$STAYS" ]; then sleep "$DELAY"; touch "$FOLDER/up"; exec sleep 5; fi
+if [ -n "$STAYS" ]; then
+    echo $$ > "$FOLDER/pid.new"
+    mv "$FOLDER/pid.new" "$FOLDER/pid"
+    /bin/sleep "$DELAY"
+    if [ -z "$UP_AT" ]; then touch "$FOLDER/up"; fi
+    exec /bin/sleep 60
+fi
 """
 
 
@@ -39,13 +51,23 @@ class Wrapper(unittest.TestCase):
         with open(self.program, "w") as file:
             file.write(STAND_IN)
         os.chmod(self.program, 0o755)
+        self.temporary = os.path.join(self.folder, "temporary")
+        os.mkdir(self.temporary)
+
+    def staying(self):
+        """The process of a program that stays, which ends with the test."""
+        while not os.path.exists(os.path.join(self.folder, "pid")):
+            time.sleep(0.01)
+        with open(os.path.join(self.folder, "pid")) as file:
+            pid = int(file.read())
+        self.addCleanup(os.kill, pid, signal.SIGKILL)
+        return pid
 
     def env(self, **env):
-        clean = {name: value for name, value in os.environ.items() if not name.startswith(("ERL_", "EPMD"))}
-        return {**clean, "EPMD": self.program, "FOLDER": self.folder, "DELAY": "0", **env}
+        return programs.environment(**{"EPMD": self.program, "FOLDER": self.folder, "DELAY": "0", **env})
 
     def call(self, *words, wrapper=WRAPPER, **env):
-        return subprocess.run([wrapper, *words], capture_output=True, text=True, timeout=30, env=self.env(**env))
+        return programs.run([wrapper, *words], env=self.env(**env))
 
     def words(self):
         with open(os.path.join(self.folder, "words")) as file:
@@ -77,10 +99,19 @@ class Wrapper(unittest.TestCase):
         for words in ([], ["-names"]):
             self.refused("bad port in environment: x", *words, ERL_EPMD_PORT="x")
 
+    def test_sockets_of_another_process_are_not_its_own(self):
+        path = os.path.join(self.folder, "session")
+        for process in ("1", ""):
+            self.left("session")
+            self.refused("bad word 2: -bogus", "-record", path, "-bogus", LISTEN_PID=process, LISTEN_FDS="1")
+            self.assertEqual(self.call("-record", path, LISTEN_PID=process, LISTEN_FDS="1").returncode, 0)
+            self.assertEqual(self.files(), ["session"])
+            os.remove(os.path.join(self.folder, "words"))
+
     def handed(self, *words, **env):
         """What it says and calls where sockets are handed over to it."""
         call = ["sh", "-c", 'LISTEN_PID=$$ exec "$@"', "sh", WRAPPER, *words]
-        done = subprocess.run(call, capture_output=True, text=True, timeout=30, env=self.env(LISTEN_FDS="1", **env))
+        done = programs.run(call, env=self.env(LISTEN_FDS="1", **env))
         self.assertEqual((done.returncode, done.stdout), (0, ""))
         return done.stderr, self.words()
 
@@ -93,12 +124,12 @@ class Wrapper(unittest.TestCase):
         os.symlink("program", os.path.join(self.folder, "epmd-all-options-ignored"))
         call = ["sh", "-c", 'LISTEN_PID=$$ exec "$@"', "sh", WRAPPER]
         for words, name in (["-systemd", "-bogus"], "epmd-all-options-ignored"), (["-names"], "epmd-all-options-ignored"), (["-d"], "program"):
-            done = subprocess.run(call + words, capture_output=True, text=True, timeout=30, env=self.env(LISTEN_FDS="1", LIMITS="yes"))
+            done = programs.run(call + words, env=self.env(LISTEN_FDS="1", LIMITS="yes"))
             self.assertEqual(os.path.basename(done.stdout.split(" ")[0]), name)
 
     def limits(self, soft, hard, **env):
         script = f'ulimit -S -n {soft} && ulimit -H -n {hard} && exec "$@"'
-        done = subprocess.run(["sh", "-c", script, "sh", WRAPPER], capture_output=True, text=True, timeout=30, env=self.env(LIMITS="yes", **env))
+        done = programs.run(["sh", "-c", script, "sh", WRAPPER], env=self.env(LIMITS="yes", **env))
         self.assertEqual((done.returncode, done.stderr), (0, ""))
         return done.stdout.split()[1:]
 
@@ -144,6 +175,12 @@ class Wrapper(unittest.TestCase):
         self.call("-systemd", *words)
         self.assertEqual(self.files(), first + ["session-20010909T014640Za.3", "session.3.copy"])
 
+    def test_a_pipe_beside_files_stays_where_it_is(self):
+        self.left("session")
+        os.mkfifo(os.path.join(self.folder, "session.1"))
+        self.handed("-record", os.path.join(self.folder, "session"))
+        self.assertEqual(self.files(), ["session-20010909T014640Z", "session.1"])
+
     def test_a_recording_is_left_where_no_option_counts(self):
         self.left("session")
         self.handed("-record", os.path.join(self.folder, "session"), "-bogus")
@@ -176,16 +213,39 @@ class Wrapper(unittest.TestCase):
         self.assertEqual(self.words(), ["-address 127.0.0.1"])
 
     def test_a_daemon_goes_into_the_background_and_is_up_then(self):
-        began = time.monotonic()
-        done = self.call("-daemon", "-port", "1", STAYS="yes", DELAY="0.5")
-        self.assertEqual((done.returncode, done.stderr), (0, ""))
+        done = self.call("-daemon", "-port", "1", STAYS="yes", DELAY="0.5", TMPDIR=self.temporary)
+        self.assertEqual((done.returncode, done.stdout, done.stderr), (0, "", ""))
         self.assertTrue(os.path.exists(os.path.join(self.folder, "up")))
-        self.assertTrue(0.4 < time.monotonic() - began < 4)
+        # It runs on, in a session of its own, and holds no input or output of its caller.
+        pid = self.staying()
+        self.assertEqual(os.getsid(pid), pid)
+        self.assertEqual([os.readlink(f"/proc/{pid}/fd/{each}") for each in (0, 1)], ["/dev/null"] * 2)
+        self.assertEqual(os.listdir(self.temporary), [])
+
+    def paused(self, **env):
+        """The status of a start, and how many seconds of pauses it took: `sleep` ends at once, and notes for how long it was called."""
+        with open(os.path.join(self.folder, "sleep"), "w") as file:
+            file.write('#!/bin/sh\necho "$1" >> "$FOLDER/pauses"\n')
+        os.chmod(os.path.join(self.folder, "sleep"), 0o755)
+        done = self.call("-daemon", STAYS="yes", PATH=f"{self.folder}:{os.environ['PATH']}", **env)
+        self.staying()
+        with open(os.path.join(self.folder, "pauses")) as file:
+            return done.returncode, sum(map(float, file))
+
+    def test_a_start_may_take_its_time(self):
+        status, seconds = self.paused(UP_AT="90")
+        self.assertEqual(status, 0)
+        self.assertGreater(seconds, 4)
+
+    def test_one_that_never_answers_is_given_up_after_five_seconds(self):
+        status, seconds = self.paused(UP_AT="100000")
+        self.assertEqual((status, round(seconds)), (3, 5))
 
     def test_a_daemon_that_fails_is_told(self):
-        for folder in (self.folder, "/none"):
+        for folder in (self.temporary, "/none"):
             done = self.call("-daemon", FAILS="cannot listen on 0.0.0.0:4369", TMPDIR=folder)
             self.assertEqual((done.returncode, done.stderr), (3, "epmd: cannot listen on 0.0.0.0:4369\n"))
+        self.assertEqual(os.listdir(self.temporary), [])
 
     def test_where_nothing_can_be_written_its_status_is_told(self):
         with open(os.path.join(self.folder, "mktemp"), "w") as file:
@@ -195,6 +255,7 @@ class Wrapper(unittest.TestCase):
         done = self.call("-daemon", FAILS="polling failed", PATH=path)
         self.assertEqual((done.returncode, done.stderr), (3, "epmd: the start failed with status 3\n"))
         self.assertEqual(self.call("-daemon", STAYS="yes", PATH=path).returncode, 0)
+        self.staying()
 
     def test_where_one_is_up_a_daemon_is_well(self):
         open(os.path.join(self.folder, "up"), "w").close()
@@ -207,8 +268,8 @@ class Wrapper(unittest.TestCase):
         self.assertEqual(self.words(), ["-record a b"])
 
     def test_the_program_is_the_process_that_the_service_manager_started(self):
-        process = subprocess.Popen([WRAPPER, "-systemd"], stdout=subprocess.PIPE, text=True, env=self.env(TELLS="yes"))
-        self.assertEqual(process.communicate(timeout=30)[0], f"{process.pid}\n")
+        process = programs.start([WRAPPER, "-systemd"], stdout=subprocess.PIPE, env=self.env(TELLS="yes"))
+        self.assertEqual(process.communicate(timeout=programs.PATIENCE)[0], f"{process.pid}\n")
 
     def test_a_command_is_asked_in_the_foreground(self):
         self.call("-daemon", "-kill")
@@ -249,7 +310,7 @@ class Wrapper(unittest.TestCase):
             self.assertIn("-packet_timeout SECONDS", self.call(word).stdout)
 
     def test_a_command_without_an_output_ends_as_the_program_does(self):
-        done = subprocess.run(["sh", "-c", f"{WRAPPER} -kill >&-"], capture_output=True, text=True, timeout=30, env=self.env(FAILS="is closed"))
+        done = programs.run(["sh", "-c", f"{WRAPPER} -kill >&-"], env=self.env(FAILS="is closed"))
         self.assertEqual((done.returncode, done.stderr), (3, "epmd: is closed\n"))
 
 
