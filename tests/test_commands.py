@@ -7,14 +7,19 @@ import shutil
 import socket
 import struct
 import subprocess
+import sys
 import threading
 import time
 import unittest
 
 from case import EPMD, PATIENCE, Case
-from daemon import alive, ask, connect, framed, free_port, listens, preload, read_most, register
+from daemon import alive, ask, framed, free_port, listens, preload, read_most, register
+
+sys.path.append(os.path.join(os.path.dirname(os.path.abspath(__file__)), "..", "faults"))
+from shim import Faults
 
 PIPE_ROOM = 4096
+REFUSALS_MOST = 1000
 LIST_MOST = 16_777_216
 STRANGE = 1, b"", b"epmd: strange answer\n"
 NOBODY = 1, b"", b"epmd: Cannot connect to local epmd\n"
@@ -360,7 +365,8 @@ class Answered(CommandCase):
     def test_strange_lists_of_names(self):
         good = b"name a at port 5000\n"
         for text in (b"name a at port 5000", b"name a at port 65536\n", b"name a at port \n", b"name a at port 000001\n",
-                     b"name  at port 1\n", b"name a at port +1\n", b"name a at port 1 \n", b"Name a at port 1\n", b"name a  at port1\n", b"\n", b"name a\n",
+                     b"name  at port 1\n", b"name a at port +1\n", b"name a at port 1 \n", b"Name a at port 1\n", b"name a  at port1\n",
+                     b"\n", b"name a\n",
                      b"name a\x1b at port 1\n", b"name a\x7f at port 1\n", b"name %s at port 1\n" % (b"n" * 1021), b"x",
                      b"active name     a at port 5000, fd = 5\n", b"name a at port 1\r\n", b"name \0 at port 1\n"):
             for answer in reply(text), reply(good + text):
@@ -392,7 +398,8 @@ class Answered(CommandCase):
 
     def test_answers_to_a_stop(self):
         for answer, told in ((b"STOPPED", (0, b"STOPPED\n", b"")), (b"STOPPED.", (0, b"STOPPED\n", b"")),
-                             (b"NOEXIST", (1, b"NOEXIST\n", b"")), (b"", NO_STOP), (b"STOPPE", STRANGE), (b"NOEXISt", STRANGE), (b"S", STRANGE), (b"OK", STRANGE)):
+                             (b"NOEXIST", (1, b"NOEXIST\n", b"")), (b"", NO_STOP), (b"STOPPE", STRANGE),
+                             (b"NOEXISt", STRANGE), (b"S", STRANGE), (b"OK", STRANGE)):
             with self.subTest(answer=answer):
                 self.assertEqual(self.answered(answer, "-stop", "a")[0], told)
 
@@ -509,8 +516,8 @@ class Once(CommandCase):
         self.assertEqual(self.once(framed(b"sa"), words=words, env=env), (0, b"", b""))
 
     def test_no_request(self):
-        for data in (b"", b"\0", b"\0\4", b"\0\4zab", b"\0\0", b"\xff\xff", b"\x20\1" + bytes(10), framed(b"q"), framed(b"z"), framed(b"nn"),
-                     framed(b"za\n")):
+        for data in (b"", b"\0", b"\0\4", b"\0\4zab", b"\0\0", b"\xff\xff", b"\x20\1" + bytes(10), framed(b"q"), framed(b"z"),
+                     framed(b"nn"), framed(b"za\n")):
             with self.subTest(data=data):
                 self.assertEqual(self.once(data), (0, b"", b""))
 
@@ -594,6 +601,50 @@ class Output(CommandCase):
     def test_a_long_list_byte_by_byte(self):
         for word in "-names", "-dump":
             self.piped(1500, lambda _: None, word, env={**os.environ, "LD_PRELOAD": preload("dribble")})
+
+
+@unittest.skipUnless(shutil.which("gcc"), "no gcc")
+class WantOfMemory(CommandCase):
+    """Each request of a command for memory is refused in one run. The command does what it should, or says that memory ran out."""
+
+    def refused(self, told, *words, env=None, **how):
+        """How often memory was refused to a command that prints this if it is not."""
+        with Faults() as faults:
+            for nth in range(1, REFUSALS_MOST):
+                faults.page[:] = bytes(len(faults.page))
+                faults.refuse("memory", nth)
+                faults.on = 1
+                got = self.run_epmd(*words, env={**(env or {}), **faults.env}, **how)
+                if not faults.refused:
+                    self.assertEqual(got, told, words)
+                    return nth - 1
+                if got != told:
+                    status, out, err = got
+                    self.assertEqual((status, out), (3, b""), (words, nth))
+                    self.assertRegex(err, b"^epmd: out of memory\n(epmd: .*\n)?$", (words, nth))
+        self.fail("there is no end of requests for memory")
+
+    def test_the_port_of_the_environment(self):
+        daemon = self.daemon()
+        list(self.held(daemon, b"a", b"b"))
+        told = 0, head(daemon.port) + b"name a at port 5000\nname b at port 5000\n", b""
+        self.assertGreater(self.refused(told, "-names", env={"ERL_EPMD_PORT": str(daemon.port)}), 5)
+
+    def test_a_name(self):
+        daemon = self.daemon("-relaxed_command_check")
+        told = 1, b"NOEXIST\n", b""
+        self.assertGreater(self.refused(told, "-port", str(daemon.port), "-stop", "name", "-address", "127.0.0.1,10.0.0.1"), 5)
+
+    def test_files(self):
+        with open(self.path("record"), "wb") as file:
+            file.write(b"EPMS" + struct.pack(">BBHII", 1, 0, 4369, 2, 2) + b"\1\1" + bytes(8))
+        for word, told in (("-check", b"run of 1 entries\n"), ("-play", b"0 connect 0 local\nrun of 1 entries\n"),
+                           ("-audit", b"run of 1 entries in 1 files\n")):
+            with self.subTest(word=word):
+                self.assertGreater(self.refused((0, told, b""), word, file.name), 5)
+
+    def test_once(self):
+        self.assertGreater(self.refused((0, b"w\1", b""), "-once", input=framed(b"za")), 1)
 
 
 if __name__ == "__main__":

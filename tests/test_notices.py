@@ -12,7 +12,8 @@ import time
 import unittest
 
 from case import PATIENCE, Case
-from daemon import CANNOT_ACCEPT, alive, ask, connect, framed, look_up, read_most, register
+from daemon import CANNOT_ACCEPT, OUT_OF_MEMORY, alive, ask, connect, framed, look_up, read_most, register
+from records import local_part, transcript
 
 sys.path.append(os.path.join(os.path.dirname(os.path.abspath(__file__)), "..", "faults"))
 from shim import FOR_EVER, Faults
@@ -177,6 +178,21 @@ class PeersOfOtherHosts(NoticeCase):
         self.assertEqual(self.asked(daemon, b"znear"), b"w\0" + alive(b"near")[1:])
         self.ends(daemon)
 
+    def test_what_local_peers_were_told_is_left_of_a_recording(self):
+        file = self.path("session")
+        daemon = self.start("-relaxed_command_check", "-record", file, address=None)
+        self.hold(daemon, b"near")
+        for body in b"znear", b"n", b"d", alive(b"far"), b"q":
+            self.asked(daemon, body)
+            self.assertEqual(ask(daemon.port, b"zfar", PATIENCE), b"w\1")
+        self.assertEqual(ask(daemon.port, b"k", PATIENCE), b"OK")
+        self.assertEqual(daemon.process.wait(PATIENCE), 0)
+        with open(file, "rb") as lines:
+            record = lines.read()
+        self.assertEqual(transcript(record).count(b" remote\n"), 5)
+        self.assertEqual(self.run_epmd("-play", file), (0, transcript(record), b""))
+        self.assertEqual(self.run_epmd("-local", file), (0, local_part(record), b""))
+
 
 @unittest.skipUnless(shutil.which("gcc"), "no gcc")
 class ShortMemory(NoticeCase):
@@ -200,23 +216,61 @@ class ShortMemory(NoticeCase):
             self.assertEqual(os.fstat(self.out.fileno()).st_size, 0)
 
 
+@unittest.skipUnless(shutil.which("gcc"), "no gcc")
+class NoMemory(NoticeCase):
+    """Each request for memory fails from now on: after five seconds the daemon ends."""
+
+    def starved(self, *words):
+        with Faults() as faults:
+            faults.refuse("memory", 1, run=FOR_EVER)
+            daemon = self.start(*words, env=faults.env)
+            self.hold(daemon, b"one")
+            began, faults.on = time.monotonic(), 1
+            until = began + PATIENCE
+            while daemon.runs() and time.monotonic() < until:
+                self.assertIn(ask(daemon.port, alive(b"two", bytes(4000)), 1.0), (b"", None))
+                time.sleep(0.05)
+            return daemon.ended(), time.monotonic() - began
+
+    def test_it_ends(self):
+        ended, seconds = self.starved()
+        self.assertEqual(ended, OUT_OF_MEMORY)
+        self.assertGreater(seconds, 4)
+
+
+@unittest.skipUnless(shutil.which("gcc"), "no gcc")
 class UnreadReplies(NoticeCase):
+    """Peers that ask for lists and read nothing. The system takes little of a reply, so the rest waits in the daemon."""
+
+    LIST = 400 * 1019
+
     def test_peers_that_do_not_read(self):
-        daemon = self.start("-relaxed_command_check")
-        names = [b"%01000d" % number for number in range(400)]
-        self.hold(daemon, *names)
-        with contextlib.ExitStack() as peers:
-            asked = 0
-            while not daemon.lines():
-                self.assertLess(asked, 500)
-                s = peers.enter_context(connect(daemon.port, PATIENCE, room=4096))
-                s.sendall(framed(b"n"))
-                asked += 1
-                time.sleep(0.002)
-            self.assertGreater(asked, 32 * 1024 * 1024 // 400_000)
-            self.assertRegex(daemon.lines()[0], r"^epmd: [1-9]\d* connections that did not read their replies were reset$")
-            self.assertEqual(len(ask(daemon.port, b"n", PATIENCE)), 4 + sum(len(name) + 19 for name in names))
+        with Faults() as faults, contextlib.ExitStack() as peers:
+            faults.room = 4096
+            daemon = self.start("-relaxed_command_check", env=faults.env)
+            self.hold(daemon, *(b"%01000d" % number for number in range(400)))
+            for _ in range(150):
+                peers.enter_context(connect(daemon.port, PATIENCE, room=4096)).sendall(framed(b"n"))
+            self.comes(daemon.lines, "the line")
+            line, = daemon.lines()
+            self.assertRegex(line, r"^epmd: [1-9]\d* connections that did not read their replies were reset$")
+            self.assertLess(int(line.split()[1]), 150 - 32 * 1024 * 1024 // self.LIST + 20)
+            self.assertEqual(len(ask(daemon.port, b"n", PATIENCE)), 4 + self.LIST)
         self.assertEqual(os.fstat(self.out.fileno()).st_size, 0)
+
+    def test_fewer_bytes_may_wait(self):
+        with Faults() as faults, contextlib.ExitStack() as peers:
+            faults.room = 4096
+            daemon = self.start("-relaxed_command_check", env=faults.env)
+            self.hold(daemon, *(b"%01000d" % number for number in range(400)))
+            waiting = [peers.enter_context(connect(daemon.port, PATIENCE, room=4096)) for _ in range(60)]
+            for s in waiting:
+                s.sendall(framed(b"n"))
+            time.sleep(2)
+            for s in waiting:
+                self.assertEqual(len(read_most(s)), 4 + self.LIST)
+            self.ends(daemon)
+            self.assertEqual(daemon.lines(), [])
 
 
 class FewPlaces(NoticeCase):

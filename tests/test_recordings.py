@@ -254,7 +254,7 @@ class Recorded(RecordCase):
         self.assertEqual(self.kill(daemon), 0)
         record = content(self.file)
         self.assertEqual(self.run_epmd("-play", self.file), (0, transcript(record), b""))
-        self.assertTrue(transcript(record).count(b" get 00077a6e6f6465") == 180)
+        self.assertTrue(transcript(record).count(b" get 00067a6e6f6465") == 180)
 
     def test_it_can_be_read_meanwhile(self):
         daemon = self.daemon("-record", self.file)
@@ -598,12 +598,14 @@ class Killed(RecordCase):
 class FilesCase(RecordCase):
     """A recording of more than one file."""
 
+    BEHIND = 4_000_000  # So many bytes may wait to be written: fewer than end a recording.
+
     def grow(self, daemon):
         """Asks for lists until the second file is there, and no faster than the disk takes them."""
-        asked = 0
-        while not os.path.exists(f"{self.file}.1"):
+        asked, further = 0, f"{self.file}.1"
+        while not os.path.exists(further):
             self.assertTrue(daemon.process.poll() is None)
-            self.comes(lambda: os.path.exists(f"{self.file}.1") or os.path.exists(self.file) and os.path.getsize(self.file) > asked - 4_000_000)
+            self.comes(lambda: os.path.exists(further) or os.path.exists(self.file) and os.path.getsize(self.file) > asked - self.BEHIND)
             with connect(self.port, PATIENCE) as s:
                 s.sendall(framed(b"n"))
                 asked += len(read_most(s))
