@@ -344,7 +344,7 @@ class Recorded(AuditCase):
         self.addCleanup(ended.set)
 
         def load(number):
-            while not ended.is_set():
+            while not ended.is_set() and daemon.runs():
                 held = register(daemon.port, b"node%d" % number, seconds=PATIENCE)
                 look_up(daemon.port, b"node%d" % number, PATIENCE)
                 ask(daemon.port, b"n", PATIENCE)

@@ -24,6 +24,7 @@ BAD = b"epmd: bad record\n"
 FAILED, AGAIN = "epmd: recording failed: ", "epmd: recording again: "
 FILE_MOST = 268_435_456
 FILE_FULL = 240 * 1024 * 1024
+BEHIND = 4_000_000  # So many bytes may wait to be written: fewer than end a recording.
 KILLED_ENDS = 5  # Seconds for which a daemon waits at its end for the last write.
 NAMES = [b"%01000d" % number for number in range(300)]
 
@@ -67,7 +68,7 @@ def is_root():
 class RecordCase(Case):
     def setUp(self):
         super().setUp()
-        self.file = self.path("session")
+        self.file, self.answered = self.path("session"), 0
 
     def read(self, word, data):
         write(self.file, data)
@@ -88,6 +89,16 @@ class RecordCase(Case):
             s = register(daemon.port, name, seconds=PATIENCE)
             self.assertTrue(s, name)
             self.addCleanup(s.close)
+
+    def list(self, daemon, is_over=lambda: False):
+        """Asks for a list, once nearly all that was answered before is in a file, so that no slow disk falls behind too far."""
+        file = self.file
+
+        def is_near():
+            sizes = [os.path.getsize(path) for path in (file, f"{file}.1") if os.path.exists(path)]
+            return is_over() or sizes and sum(sizes) > self.answered - BEHIND
+        self.comes(is_near, "the recording")
+        self.answered += len(ask(daemon.port, b"n", PATIENCE) or b"")
 
     def kill(self, daemon):
         """Ends a daemon that allows it by a request, and returns its status."""
@@ -483,7 +494,7 @@ class Limit(RecordCase):
 
     def fill(self, daemon):
         while daemon.runs() and not daemon.lines():
-            ask(daemon.port, b"n", PATIENCE)
+            self.list(daemon, lambda: daemon.lines() or not daemon.runs())
 
     def test_the_signal_is_ignored(self):
         daemon = self.daemon("-relaxed_command_check", "-record", self.file, limits={"RLIMIT_FSIZE": self.MOST},
@@ -540,8 +551,9 @@ class FullDisk(RecordCase):
         write(ballast, bytes(900_000))
         daemon = self.daemon("-relaxed_command_check", "-record", file)
         self.hold(daemon, NAMES[:40])
+        self.file = file
         while not daemon.lines():
-            self.assertTrue(answers(daemon.port))
+            self.list(daemon, daemon.lines)
         failed, again = f"{FAILED}{file}: No space left on device", f"{AGAIN}{file}.1"
         self.assertEqual(daemon.lines(), [failed])
         self.assertIs(look_up(daemon.port, NAMES[0], PATIENCE), True)
@@ -564,15 +576,17 @@ class Killed(RecordCase):
     def test_killed_under_load(self):
         random.seed(5)
         for number in range(6):
-            file = self.path(f"killed{number}")
+            self.answered, self.file = 0, self.path(f"killed{number}")
+            file = self.file
             daemon = self.daemon("-workers", "2", "-record", file)
             ended = threading.Event()
 
             def load():
-                while not ended.is_set():
-                    ask(daemon.port, b"n", PATIENCE)
+                while not ended.is_set() and daemon.runs():
+                    self.list(daemon, lambda: ended.is_set() or not daemon.runs())
                     look_up(daemon.port, b"none", PATIENCE)
             self.hold(daemon, NAMES[:60])
+            self.addCleanup(ended.set)
             threads = [threading.Thread(target=load) for _ in range(3)]
             for thread in threads:
                 thread.start()
@@ -598,18 +612,12 @@ class Killed(RecordCase):
 class FilesCase(RecordCase):
     """A recording of more than one file."""
 
-    BEHIND = 4_000_000  # So many bytes may wait to be written: fewer than end a recording.
-
     def grow(self, daemon):
-        """Asks for lists until the second file is there, and no faster than the disk takes them."""
-        asked, further = 0, f"{self.file}.1"
-        while not os.path.exists(further):
-            self.assertTrue(daemon.process.poll() is None)
-            self.comes(lambda: os.path.exists(further) or os.path.exists(self.file) and os.path.getsize(self.file) > asked - self.BEHIND)
-            with connect(self.port, PATIENCE) as s:
-                s.sendall(framed(b"n"))
-                asked += len(read_most(s))
-            self.assertLess(asked, 2 * FILE_FULL)
+        """Asks for lists until the second file is there."""
+        while not os.path.exists(f"{self.file}.1"):
+            self.assertIsNone(daemon.process.poll())
+            self.list(daemon, lambda: os.path.exists(f"{self.file}.1"))
+            self.assertLess(self.answered, 2 * FILE_FULL)
 
     def goes_on(self):
         """Each file is a run, and the second begins where the first ends."""
