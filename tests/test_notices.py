@@ -3,6 +3,7 @@ often it came to it since the line before."""
 import contextlib
 import ctypes
 import os
+import random
 import resource
 import shutil
 import socket
@@ -203,12 +204,16 @@ class ShortMemory(NoticeCase):
             faults.refuse("memory", 1, run=FOR_EVER)
             daemon = self.start("-relaxed_command_check", env=faults.env)
             self.hold(daemon, b"one")
-            faults.on = 1
-            answer = ask(daemon.port, alive(b"two"), 2.0)
-            faults.on = 0
-            self.assertIn(answer, (b"", None))
-            self.comes(daemon.lines, "the line")
-            line, = daemon.lines()
+
+            def short():
+                """A moment without memory, in which a node comes, and then a second with it: the line takes memory too."""
+                faults.on = 1
+                ask(daemon.port, alive(b"two"), 1.0)
+                time.sleep(0.05)
+                faults.on = 0
+                time.sleep(1 + random.random())
+                return daemon.lines()
+            line, = self.comes(short, "the line")
             self.assertRegex(line, r"^epmd: memory is short, [1-9]\d* requests were refused$")
             self.assertIs(look_up(daemon.port, b"one", PATIENCE), True)
             self.comes(lambda: isinstance(register(daemon.port, b"two", seconds=PATIENCE), socket.socket), "a registration")
@@ -255,7 +260,8 @@ class UnreadReplies(NoticeCase):
             line, = daemon.lines()
             self.assertRegex(line, r"^epmd: [1-9]\d* connections that did not read their replies were reset$")
             self.assertLess(int(line.split()[1]), 150 - 32 * 1024 * 1024 // self.LIST + 20)
-            self.assertEqual(len(ask(daemon.port, b"n", PATIENCE)), 4 + self.LIST)
+            peers.close()
+            self.comes(lambda: len(ask(daemon.port, b"n", PATIENCE)) == 4 + self.LIST, "a list")
         self.assertEqual(os.fstat(self.out.fileno()).st_size, 0)
 
     def test_fewer_bytes_may_wait(self):

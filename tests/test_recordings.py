@@ -278,7 +278,7 @@ class Recorded(RecordCase):
         for number in signal.SIGTERM, signal.SIGINT, signal.SIGHUP:
             with self.subTest(signal=number):
                 file = self.path(f"by{number}")
-                daemon = self.daemon("-d", "-record", file)
+                daemon = self.daemon("-d", "-record", file, before=lambda: signal.signal(number, signal.SIG_DFL))
                 self.hold(daemon, [b"a"])
                 self.comes(lambda: os.path.exists(file) and len(content(file)) > 37, "the recording")
                 daemon.process.send_signal(number)
@@ -468,7 +468,7 @@ class BegunAnew(RecordCase):
     """A recording that failed goes on in the next file once it can, with a line; what was missed is said by the status and by `-audit`."""
 
     def test_a_folder_that_comes(self):
-        file = self.path("later/session")
+        file, began = self.path("later/session"), time.monotonic()
         daemon = self.daemon("-relaxed_command_check", "-record", file)
         self.hold(daemon, [b"a", b"b"])
         self.comes(daemon.lines, "the line")
@@ -476,6 +476,7 @@ class BegunAnew(RecordCase):
         self.comes(lambda: daemon.lines()[1:], "the line")
         failed = f"{FAILED}{file}: No such file or directory"
         self.assertEqual(daemon.lines(), [failed, AGAIN + file])
+        self.assertGreater(time.monotonic() - began, 9)  # It is tried every ten seconds.
         self.assertEqual(self.kill(daemon), 3)
         self.assertEqual(daemon.lines(), [failed, AGAIN + file])
         place, active, retired, connections = beginning(content(file))
