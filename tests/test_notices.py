@@ -13,7 +13,7 @@ import time
 import unittest
 
 from case import PATIENCE, Case
-from daemon import CANNOT_ACCEPT, OUT_OF_MEMORY, alive, ask, connect, framed, look_up, read_most, register
+from daemon import CANNOT_ACCEPT, alive, ask, connect, framed, look_up, read_most, register
 from records import local_part, transcript
 
 sys.path.append(os.path.join(os.path.dirname(os.path.abspath(__file__)), "..", "faults"))
@@ -219,28 +219,6 @@ class ShortMemory(NoticeCase):
             self.comes(lambda: isinstance(register(daemon.port, b"two", seconds=PATIENCE), socket.socket), "a registration")
             self.ends(daemon)
             self.assertEqual(os.fstat(self.out.fileno()).st_size, 0)
-
-
-@unittest.skipUnless(shutil.which("gcc"), "no gcc")
-class NoMemory(NoticeCase):
-    """Each request for memory fails from now on: after five seconds the daemon ends."""
-
-    def starved(self, *words):
-        with Faults() as faults:
-            faults.refuse("memory", 1, run=FOR_EVER)
-            daemon = self.start(*words, env=faults.env)
-            self.hold(daemon, b"one")
-            began, faults.on = time.monotonic(), 1
-            until = began + PATIENCE
-            while daemon.runs() and time.monotonic() < until:
-                self.assertIn(ask(daemon.port, alive(b"two", bytes(4000)), 1.0), (b"", None))
-                time.sleep(0.05)
-            return daemon.ended(), time.monotonic() - began
-
-    def test_it_ends(self):
-        ended, seconds = self.starved()
-        self.assertEqual(ended, OUT_OF_MEMORY)
-        self.assertGreater(seconds, 4)
 
 
 @unittest.skipUnless(shutil.which("gcc"), "no gcc")
