@@ -3,6 +3,7 @@ what the variable EPMD names."""
 import os
 import subprocess
 import tempfile
+import time
 import unittest
 
 from daemon import Daemon
@@ -35,3 +36,13 @@ class Case(unittest.TestCase):
             how.setdefault("stdin", subprocess.DEVNULL)
         done = subprocess.run([EPMD, *words], capture_output=True, timeout=PATIENCE, env={**os.environ, **(env or {})}, **how)
         return done.returncode, done.stdout, done.stderr
+
+    def comes(self, wanted, what="what is awaited"):
+        """Waits until `wanted` returns something true, and returns that."""
+        until = time.monotonic() + PATIENCE
+        while True:
+            value = wanted()
+            if value:
+                return value
+            self.assertLess(time.monotonic(), until, f"{what} does not come")
+            time.sleep(0.02)

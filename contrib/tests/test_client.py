@@ -1,12 +1,17 @@
 """The client for C: its header beside the source, and each example beside our port mapper and another one, where they are there."""
+import contextlib
+import ctypes
+import errno
 import glob
 import os
 import re
 import shutil
 import socket
+import struct
 import subprocess
 import sys
 import tempfile
+import threading
 import time
 import unittest
 
@@ -172,6 +177,99 @@ class Examples(unittest.TestCase):
     def test_answers_are_read_as_by_another_reader(self):
         done = programs.run([sys.executable, os.path.join(BY_HAND, "client_answers.py"), "3000"])
         self.assertEqual((done.returncode, done.stderr), (0, ""), done.stdout)
+
+
+OK, NOT_REGISTERED, WRITE, READ = 0, 9, 12, 13
+
+
+class Found(ctypes.Structure):
+    """struct epmd_found, of which the tests read the port alone."""
+    _fields_ = [("texts", ctypes.c_size_t * 4), ("port", ctypes.c_uint16), ("rest", ctypes.c_uint8 * 14)]
+
+
+@unittest.skipIf(not os.path.exists(LIBRARY), "no library")
+class Errors(unittest.TestCase):
+    """A call over a socket goes by the error of its own reads and writes, whatever an earlier call of the thread has left in errno."""
+
+    LEFT = errno.EAGAIN, errno.EINTR, errno.ECONNRESET, errno.EBADF, 0
+    TURN = struct.pack("ll", 0, 10_000)
+    ANSWER = b"w\0" + struct.pack(">HBBHHH", 5000, 77, 0, 6, 5, 4) + b"node\0\0"
+
+    @classmethod
+    def setUpClass(cls):
+        cls.library = ctypes.CDLL(LIBRARY, use_errno=True)
+
+    def look_up(self, peer, left):
+        """The status of a look-up over this socket, and the port that is found, with that error left by an earlier call."""
+        texts, found = ctypes.create_string_buffer(8192), Found()
+        ctypes.set_errno(left)
+        status = self.library.epmd_lookup(peer.fileno(), b"node", ctypes.c_size_t(4), texts, ctypes.c_size_t(len(texts)), ctypes.byref(found))
+        return status, found.port
+
+    def pair(self):
+        """Both ends of a connection, the first of which waits for 10 milliseconds in each read and write."""
+        with socket.create_server(("127.0.0.1", 0)) as listener:
+            ours = socket.create_connection(listener.getsockname())
+            theirs, _ = listener.accept()
+        for end in ours, theirs:
+            self.addCleanup(end.close)
+        ours.setblocking(True)
+        for option in socket.SO_RCVTIMEO, socket.SO_SNDTIMEO:
+            ours.setsockopt(socket.SOL_SOCKET, option, self.TURN)
+        return ours, theirs
+
+    def beside(self, serve, *words):
+        thread = threading.Thread(target=serve, args=words)
+        thread.start()
+        self.addCleanup(thread.join)
+
+    def test_a_read_that_waits(self):
+        def late(theirs):
+            theirs.recv(100)
+            time.sleep(0.1)
+            theirs.sendall(self.ANSWER[:9])
+            time.sleep(0.1)
+            theirs.sendall(self.ANSWER[9:])
+        for left in self.LEFT:
+            with self.subTest(left=left):
+                ours, theirs = self.pair()
+                self.beside(late, theirs)
+                self.assertEqual(self.look_up(ours, left), (OK, 5000))
+
+    def test_a_read_that_fails(self):
+        def reset(theirs):
+            theirs.recv(100)
+            theirs.setsockopt(socket.SOL_SOCKET, socket.SO_LINGER, struct.pack("ii", 1, 0))
+            theirs.close()
+        for left in self.LEFT:
+            with self.subTest(left=left):
+                ours, theirs = self.pair()
+                self.beside(reset, theirs)
+                self.assertEqual(self.look_up(ours, left)[0], READ)
+
+    def test_a_write_that_waits(self):
+        def late(theirs, junk):
+            time.sleep(0.1)
+            while junk > 0:
+                junk -= len(theirs.recv(min(junk, 65536)))
+            theirs.recv(100)
+            theirs.sendall(b"w\1")
+        for left in self.LEFT:
+            with self.subTest(left=left):
+                ours, theirs = self.pair()
+                junk = 0
+                with contextlib.suppress(BlockingIOError):
+                    while True:
+                        junk += ours.send(bytes(65536), socket.MSG_DONTWAIT)
+                self.beside(late, theirs, junk)
+                self.assertEqual(self.look_up(ours, left)[0], NOT_REGISTERED)
+
+    def test_a_write_that_fails(self):
+        for left in self.LEFT:
+            with self.subTest(left=left):
+                ours, theirs = self.pair()
+                ours.shutdown(socket.SHUT_WR)
+                self.assertEqual(self.look_up(ours, left)[0], WRITE)
 
 
 if __name__ == "__main__":
