@@ -25,17 +25,17 @@ use Rattle.portmap_core.proofs.{LocalPeers.active_names_are_taken, Shown.active_
 -- ---- a name that is active stays so
 
 -- what is found first is found still where another element is gone
-find_without : {X : Type 0} (p : X → Bool) (xs : List X) (at : ℕ) (x y : X) → slice_get xs at ≡ Some y → find p xs ≡ Some x → y ≢ x
-    → find p (remove xs at) ≡ Some x
-find_without p [] at x y there found other = absurd cc
-find_without p (z ∷ xs) zero x y there found other = elim (cases_Bool (p z)) [
-  | inl passes ↦ absurd (other (let a : Some z ≡ Some y = there in let b : Some z ≡ Some x = rw passes at found in cc))
-  | inr fails ↦ rw fails at found
-]
-find_without {X} p (z ∷ xs) (suc at) x y there found other = elim (cases_Bool (p z)) [
-  | inl passes ↦ rw passes (rw passes at found)
-  | inr fails ↦ rw fails (find_without p xs at x y there (rw fails at found) other)
-]
+module _ {X : Type 0} (p : X → Bool) (x y : X) where
+  find_without : (xs : List X) (at : ℕ) → slice_get xs at ≡ Some y → find p xs ≡ Some x → y ≢ x → find p (remove xs at) ≡ Some x
+  find_without [] at there found other = absurd cc
+  find_without (z ∷ xs) zero there found other = elim (cases_Bool (p z)) [
+    | inl passes ↦ absurd (other (let a : Some z ≡ Some y = there in let b : Some z ≡ Some x = rw passes at found in cc))
+    | inr fails ↦ rw fails at found
+  ]
+  find_without (z ∷ xs) (suc at) there found other = elim (cases_Bool (p z)) [
+    | inl passes ↦ rw passes (rw passes at found)
+    | inr fails ↦ rw fails (find_without xs at there (rw fails at found) other)
+  ]
 
 -- and where one comes behind
 find_more : {X : Type 0} (p : X → Bool) (xs ys : List X) (x : X) → find p xs ≡ Some x → find p (xs ++ ys) ≡ Some x
@@ -51,7 +51,7 @@ same name row names found = found
 retired_last_stays : (name : List ℕ) (row : Row) (names : Names) (at : ℕ) (o : Option Row) → slice_get names.active at ≡ o
     → ((y : Row) → o ≡ Some y → y ≢ row) → Stays name row names (retired_last at o names)
 retired_last_stays name row names at None e other found = found
-retired_last_stays name row names at (Some y) e other found = find_without (has_name name) names.active at row y e found (other y refl)
+retired_last_stays name row names at (Some y) e other found = find_without (has_name name) row y names.active at e found (other y refl)
 
 has_its : (names : Names) (slot at : ℕ) (y : Row) → position (λ (r : Row). eqb r.slot slot) names.active ≡ Some at
     → slice_get names.active at ≡ Some y → y.slot ≡ slot
@@ -98,19 +98,20 @@ module _ (name : List ℕ) (row : Row) (cfg : Configuration) (names : Names) (lo
   serves_stay Kill creation = search (rules, if_near)
   serves_stay (Stop other) creation = search (rules, if_near, stops_stay)
 
-step_stays : (cfg : Configuration) (s s' : State) (e : Entry) (name : List ℕ) (row : Row) → Step cfg s e s' → (MayEnd row.slot e → ⊥)
-    → Stays name row s.names s'.names
-step_stays cfg s s' (Connected local slot) name row step none found = rw step.moves.after found
-step_stays cfg s s' (Piece slot piece reply fate) name row step none found = search (rules, serves_stay)
-step_stays cfg s s' (Closed slot) name row step none found = rw step.moves.after (retires_stay name row s.names slot none found)
-step_stays cfg s s' (Faulted slot) name row step none found = rw step.moves.after (retires_stay name row s.names slot none found)
-step_stays cfg s s' (Late slot fate) name row step none found = search rules
+module _ (cfg : Configuration) (name : List ℕ) (row : Row) where
+  step_stays : (s s' : State) (e : Entry) → Step cfg s e s' → (MayEnd row.slot e → ⊥)
+      → Stays name row s.names s'.names
+  step_stays s s' (Connected local slot) step none found = rw step.moves.after found
+  step_stays s s' (Piece slot piece reply fate) step none found = search (rules, serves_stay)
+  step_stays s s' (Closed slot) step none found = rw step.moves.after (retires_stay name row s.names slot none found)
+  step_stays s s' (Faulted slot) step none found = rw step.moves.after (retires_stay name row s.names slot none found)
+  step_stays s s' (Late slot fate) step none found = search rules
 
 pub names_stay : NamesStay
 names_stay cfg [] s s' name row run found none = rw run found
 names_stay cfg (e ∷ es) s s' name row run found none =
     names_stay cfg es run.0 s' name row run.2
-    (step_stays cfg s run.0 e name row run.1 (All-head (λ e. MayEnd row.slot e → ⊥) e es none) found)
+    (step_stays cfg name row s run.0 e run.1 (All-head (λ e. MayEnd row.slot e → ⊥) e es none) found)
     (All-tail (λ e. MayEnd row.slot e → ⊥) e es none)
 
 -- ---- a registration that succeeds
