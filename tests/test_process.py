@@ -91,6 +91,28 @@ class Memory(Serves):
         else:
             self.assertEqual(daemon.ended(), OUT_OF_MEMORY)
 
+    def test_none_is_to_be_had_for_seconds(self):
+        with Faults() as faults:
+            daemon = self.daemon(*NEVER, env=faults.env)
+            self.enterContext(register(daemon.port, b"held"))
+            faults.refuse("memory", 1, run=FOR_EVER)
+            faults.on = 1
+            until = time.monotonic() + 8
+            while time.monotonic() < until and daemon.runs():
+                with contextlib.suppress(ConnectionError):
+                    self.assertIn(wire.ending_of(daemon.port, port_please(b"held")), (found(b"held"), b""))
+                time.sleep(0.1)
+            faults.on = 0
+            self.assertGreater(faults.refused, 0)
+            if daemon.runs():
+                rows = listed(daemon.port, (b"held", 5000))
+                eventually(lambda: not daemon.runs() or wire.ending_of(daemon.port, NAMES) == rows, "that all is well")
+            if daemon.runs():
+                self.serves_beside(daemon, rows)
+            else:
+                self.assertEqual(daemon.ended()[0], OUT_OF_MEMORY[0])
+                self.assertIn(OUT_OF_MEMORY[1], daemon.lines())
+
     def serves_beside(self, daemon, rows):
         with register(daemon.port, b"one"):
             self.assertEqual(ask(daemon.port, NAMES), rows + b"name one at port 5000\n")
@@ -121,6 +143,34 @@ class WantOfMemory(Case):
     def test_a_name_among_the_words(self):
         daemon = self.daemon("-relaxed_command_check")
         self.each_refused((1, b"NOEXIST\n", b""), "-port", str(daemon.port), "-stop", "nobody")
+
+
+class LastEntries(Serves):
+    """No memory is to be had from some moment of the end on. What was answered is recorded, or the end says that something is missing."""
+
+    def test_the_end_of_a_recording(self):
+        for nth in range(1, 200):
+            with self.subTest(nth=nth), Faults() as faults:
+                file = self.path(f"session{nth}")
+                daemon = self.daemon("-workers", "1", "-record", file, env=faults.env)
+                self.serves(daemon)
+                faults.refuse("memory", nth, run=FOR_EVER)
+                faults.on = 1
+                answer = wire.ending_of(daemon.port, KILL)
+                if answer != b"OK":  # It was refused, so it is asked again.
+                    self.assertEqual(answer, b"")
+                    faults.on = 0
+                    eventually(lambda: not daemon.runs() or wire.ending_of(daemon.port, KILL) == b"OK", "that it ends")
+                status, text = daemon.ended(PATIENCE)
+                if status == 0:
+                    _, played, _ = self.run_epmd("-play", file)
+                    self.assertRegex(played, rb"(?s) get 00016b say 4f4b \w+\n(\d+ closed? \d+\n)*run of \d+ entries\n$", text)
+                else:
+                    self.assertEqual(status, 3)
+                    self.assertRegex(text, "epmd: recording failed: |epmd: out of memory")
+                if not faults.refused:
+                    return
+        self.fail("memory was refused at each of 199 places")
 
 
 # ---- descriptors
@@ -224,6 +274,16 @@ class Threads(Serves):
                     eventually(lambda: len(os.listdir(f"/proc/{daemon.pid}/task")) == nth)  # The first one, and nth - 1 workers.
                     self.assertEqual(daemon.lines(), [])
                     daemon.stop()
+
+    def test_the_thread_of_a_recording_can_not_be_started(self):
+        with Faults() as faults:
+            faults.refuse("pthread_create", 1, "EAGAIN")
+            faults.on = 1
+            file = self.path("session")
+            daemon = self.daemon("-record", file, env=faults.env)
+            self.serves(daemon)
+            self.assertEqual(ask(daemon.port, KILL), b"OK")
+            self.assertEqual(daemon.ended(PATIENCE), (3, f"epmd: recording failed: {file}: Resource temporarily unavailable"))
 
     @unittest.skipUnless(os.getuid() == 0, "only root can be another user, who has no process")
     def test_a_limit_of_processes(self):

@@ -167,6 +167,14 @@ class Requests:
         (_, one), (_, two) = (self.holds(daemon, name) for name in (b"one", b"two"))
         self.assertEqual(two, one + 1 if one < (1 << 32) - 1 else 4)
 
+    def test_a_daemon_that_starts_again_gives_other_creations(self):
+        creations = set()
+        for _ in range(3):
+            daemon = self.start()
+            creations.add(self.holds(daemon, b"one")[1])
+            daemon.stop()
+        self.assertEqual(len(creations), 3)  # Each begins at the nanoseconds of its start.
+
     # ---- what ends the port mapper, and what stops a name
 
     def test_kill(self):
