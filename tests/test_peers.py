@@ -248,8 +248,8 @@ class Unread(Peers):
             before = daemon.kb("VmRSS")
             unread = [self.dial(daemon, NAMES, room=2048) for _ in range(200)]
             eventually(lambda: daemon.lines(), "a line")
-            # Beside what waits there are the lists that four workers make, and what the C library keeps.
-            self.assertLess(daemon.kb("VmHWM") - before, (UNREAD_MOST + 16 * len(whole)) // 1024)
+            # Beside what waits there are the lists that four workers make, and what the C library keeps. Without a bound it were 80 MB.
+            self.assertLess(daemon.kb("VmHWM") - before, UNREAD_MOST * 3 // 2 // 1024)
             self.honest(daemon, 3, None)
             self.assertEqual(ask(daemon.port, NAMES), whole)
             for line in daemon.lines():
@@ -279,9 +279,10 @@ class Unread(Peers):
             self.honest(daemon, 1, names)  # By then the daemon waits for what they will ask.
             for s in slow:
                 s.sendall(NAMES)
+                self.assertEqual(exactly(s, 4), whole[:4])
             self.honest(daemon, 3, names)
             for s in slow:
-                self.assertEqual(rest(s), whole)
+                self.assertEqual(rest(s), whole[4:])
 
     def test_a_slow_reader_costs_no_calls(self):
         """While a reply waits for its reader, the daemon asks the poll for it once, and not over and over."""

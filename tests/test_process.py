@@ -129,8 +129,15 @@ class Memory(Serves):
                 self.assertIn(OUT_OF_MEMORY[1], daemon.lines())
 
     def serves_beside(self, daemon, rows):
-        with register(daemon.port, b"one"):
-            self.assertEqual(ask(daemon.port, NAMES), rows + b"name one at port 5000\n")
+        """Whether a name registers again, soon, beside those that are there."""
+        def registers():
+            with contextlib.suppress(ConnectionError):
+                s = self.enterContext(dial(daemon.port))
+                s.sendall(alive(b"one"))
+                return wire.result(s) == 0
+
+        eventually(registers, "that a name registers")
+        self.assertEqual(ask(daemon.port, NAMES), rows + b"name one at port 5000\n")
 
 
 class WantOfMemory(Case):
