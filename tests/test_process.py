@@ -112,10 +112,14 @@ class Memory(Serves):
             self.enterContext(register(daemon.port, b"held"))
             faults.refuse("memory", 1, run=FOR_EVER)
             faults.on = 1
-            until = time.monotonic() + 8
-            while time.monotonic() < until and daemon.runs():
+            began = last = time.monotonic()
+            while daemon.runs() and time.monotonic() < began + PATIENCE:
                 with contextlib.suppress(ConnectionError):
-                    self.assertIn(wire.ending_of(daemon.port, port_please(b"held")), (found(b"held"), b""))
+                    answer = wire.ending_of(daemon.port, port_please(b"held"))
+                    self.assertIn(answer, (found(b"held"), b""))
+                    last = time.monotonic() if answer else last
+                # It ends once nothing has succeeded for five seconds.
+                self.assertLess(time.monotonic() - last, PATIENCE / 2, daemon.how())
                 time.sleep(0.1)
             faults.on = 0
             self.assertGreater(faults.refused, 0)
