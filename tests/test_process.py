@@ -59,6 +59,13 @@ class Serves(Case):
 # ---- memory
 
 
+def said(daemon, request):
+    """What a daemon answers that may end: no byte where it does."""
+    with contextlib.suppress(ConnectionError):
+        return wire.ending_of(daemon.port, request)
+    return b""
+
+
 class Memory(Serves):
     def test_a_limit_from_the_start(self):
         for name in "RLIMIT_AS", "RLIMIT_DATA":
@@ -82,7 +89,10 @@ class Memory(Serves):
         daemon.limit("RLIMIT_DATA", daemon.kb("VmData") * 1024)
         flood, refused = [], 0
         for number in range(600):
-            s = dial(daemon.port)
+            try:
+                s = dial(daemon.port)
+            except ConnectionError:
+                break  # It ends.
             with contextlib.suppress(ConnectionResetError, BrokenPipeError):
                 s.sendall(alive(b"flood%d" % number, extra=bytes(8000)))
             answer = self.result_of(s)
@@ -91,20 +101,20 @@ class Memory(Serves):
             flood.append(s)
             if not daemon.runs():
                 break
-        if daemon.runs():
+        if daemon.listens():
             self.assertGreater(refused, 0)
             for number in range(len(held)):  # Who was there is found, or who asks is refused by a close.
-                self.assertIn(wire.ending_of(daemon.port, port_please(b"held%d" % number)), (found(b"held%d" % number), b""))
+                self.assertIn(said(daemon, port_please(b"held%d" % number)), (found(b"held%d" % number), b""))
             for s in flood:
                 s.close()
-            eventually(lambda: not daemon.runs() or wire.ending_of(daemon.port, NAMES) == rows, "that all is well")
+            eventually(lambda: not daemon.runs() or said(daemon, NAMES) == rows, "that all is well")
         if daemon.runs():
             eventually(daemon.lines, "a line")
             for line in daemon.lines():
                 self.assertRegex(line, r"^epmd: (memory is short, \d+ requests were refused|cannot accept connections)$")
             self.serves_beside(daemon, rows)
         else:
-            self.assertEqual(daemon.ended(), OUT_OF_MEMORY)
+            self.assertEqual(daemon.ended(PATIENCE)[0], OUT_OF_MEMORY[0])
 
     def test_none_is_to_be_had_for_seconds(self):
         with Faults() as faults:
@@ -125,7 +135,7 @@ class Memory(Serves):
             self.assertGreater(faults.refused, 0)
             if daemon.runs():
                 rows = listed(daemon.port, (b"held", 5000))
-                eventually(lambda: not daemon.runs() or wire.ending_of(daemon.port, NAMES) == rows, "that all is well")
+                eventually(lambda: not daemon.runs() or said(daemon, NAMES) == rows, "that all is well")
             if daemon.runs():
                 self.serves_beside(daemon, rows)
             else:
@@ -183,11 +193,11 @@ class LastEntries(Serves):
                 self.serves(daemon)
                 faults.refuse("memory", nth, run=FOR_EVER)
                 faults.on = 1
-                answer = wire.ending_of(daemon.port, KILL)
+                answer = said(daemon, KILL)
                 if answer != b"OK":  # It was refused, so it is asked again.
                     self.assertEqual(answer, b"")
                     faults.on = 0
-                    eventually(lambda: not daemon.runs() or wire.ending_of(daemon.port, KILL) == b"OK", "that it ends")
+                    eventually(lambda: not daemon.runs() or said(daemon, KILL) == b"OK", "that it ends")
                 status, text = daemon.ended(PATIENCE)
                 if status == 0:
                     _, played, _ = self.run_epmd("-play", file)
