@@ -1,6 +1,6 @@
 // Registers a name, closes the connection and registers it again at once, over and over: again PORT NAME ROUNDS a|b.
 // In way a it closes and then connects; in way b the next connection is there before the old one is closed.
-// Tells how many answers had a result other than 0, how many rounds had no whole answer within 2 seconds, and how many
+// Tells how many answers had a result other than 0, how many rounds had no whole answer within 30 seconds, and how many
 // microseconds a round took at most. Ten rounds without an answer end it.
 #include <arpa/inet.h>
 #include <netinet/tcp.h>
@@ -16,7 +16,7 @@ static struct sockaddr_in to;
 
 static int connection(void) {
     int s = socket(AF_INET, SOCK_STREAM, 0), on = 1;
-    struct timeval patience = {2, 0};
+    struct timeval patience = {30, 0};
     setsockopt(s, SOL_SOCKET, SO_RCVTIMEO, &patience, sizeof patience);
     setsockopt(s, SOL_SOCKET, SO_SNDTIMEO, &patience, sizeof patience);
     setsockopt(s, IPPROTO_TCP, TCP_NODELAY, &on, sizeof on);

@@ -53,10 +53,10 @@ def preload(name):
 
 class Daemon:
     """A daemon that was started, with what it wrote to standard error. Limits are by the names of `resource`. Without an address it
-    listens on all."""
+    listens on all, and without a port on one that is free."""
 
-    def __init__(self, path, *words, env=None, limits=None, before=None, patience=5.0, address="127.0.0.1"):
-        self.port, self.kept = free_port()
+    def __init__(self, path, *words, env=None, limits=None, before=None, patience=5.0, address="127.0.0.1", port=None):
+        self.port, self.kept = (port, None) if port else free_port()
         self.text_file = tempfile.TemporaryFile()
         limits = limits or {}
 
@@ -134,7 +134,8 @@ class Daemon:
         if self.runs():
             self.process.kill()
         self.process.wait()
-        self.kept.close()
+        if self.kept:
+            self.kept.close()
 
 
 def listens(port):
