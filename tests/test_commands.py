@@ -642,6 +642,10 @@ class WantOfMemory(CommandCase):
                            ("-audit", b"run of 1 entries in 1 files\n")):
             with self.subTest(word=word):
                 self.assertGreater(self.refused((0, told, b""), word, file.name), 5)
+        with self.subTest(word="-local"):
+            status, told, _ = self.run_epmd("-local", file.name)
+            self.assertEqual((status, told[:4]), (0, b"EPMS"))
+            self.assertGreater(self.refused((0, told, b""), "-local", file.name), 5)
 
     def test_once(self):
         self.assertGreater(self.refused((0, b"w\1", b""), "-once", input=framed(b"za")), 1)

@@ -154,33 +154,6 @@ class Memory(Serves):
         self.assertEqual(ask(daemon.port, NAMES), rows + b"name one at port 5000\n")
 
 
-class WantOfMemory(Case):
-    """One request for memory is refused, each in its turn. A command does what it does without that, or says that memory ran out."""
-
-    def each_refused(self, wanted, *words, env=None):
-        told = set()
-        for nth in range(1, 1000):
-            with Faults() as faults:
-                faults.refuse("memory", nth)
-                faults.on = 1
-                ended = self.run_epmd(*words, env={**faults.env, **(env or {})})
-                if not faults.refused:
-                    break
-                told.add(ended)
-        self.assertEqual(ended, wanted)
-        self.assertLessEqual(told, {wanted, (3, b"", b"epmd: out of memory\n")})
-        self.assertIn((3, b"", b"epmd: out of memory\n"), told)
-
-    def test_the_port_of_the_environment(self):
-        daemon = self.daemon()
-        head = f"epmd: up and running on port {daemon.port} with data:\n".encode()
-        self.each_refused((0, head, b""), "-names", env={"ERL_EPMD_PORT": str(daemon.port)})
-
-    def test_a_name_among_the_words(self):
-        daemon = self.daemon("-relaxed_command_check")
-        self.each_refused((1, b"NOEXIST\n", b""), "-port", str(daemon.port), "-stop", "nobody")
-
-
 class LastEntries(Serves):
     """No memory is to be had from some moment of the end on. What was answered is recorded, or the status says that something is
     missing."""
