@@ -2,7 +2,7 @@
 ghost use Rattle.std.specs.Prelude.{◌≡◌, ◌++◌, IfOk, codes};
 ghost use Rattle.std.specs.Fmt.{decimal};
 ghost use Rattle.std.specs.String.{string_bytes};
-ghost use Rattle.portmap_worker.specs.Notices.{file_path, notice_line};
+ghost use Rattle.portmap_worker.specs.Notices.{brief_line, file_path, notice_line};
 
 use crate::refused::Refused;
 use crate::remote::RemoteRefused;
@@ -41,8 +41,26 @@ pub enum Notice<'a> {
     },
 }
 
-/// The line for a connection that can't be accepted, which takes no memory.
-pub(crate) const CANNOT_ACCEPT: &[u8] = b"epmd: cannot accept connections\n";
+/// The line for a connection that can't be accepted.
+const CANNOT_ACCEPT: &[u8] = b"epmd: cannot accept connections\n";
+
+// ---- the lines of which there are no details, where there is no memory for these
+
+const BRIEF_IN_USE: &[u8] = b"epmd: a name is in use\n";
+
+const BRIEF_REMOTE: &[u8] = b"epmd: a peer of another host was refused\n";
+
+const BRIEF_SHORT: &[u8] = b"epmd: memory is short, requests were refused\n";
+
+const BRIEF_UNREAD: &[u8] = b"epmd: connections that did not read their replies were reset\n";
+
+const BRIEF_FAILED: &[u8] = b"epmd: recording failed: there is no memory to say why\n";
+
+const BRIEF_AGAIN: &[u8] = b"epmd: recording again\n";
+
+const BRIEF_PLACES: &[u8] = b"epmd: the limit of descriptors is low\n";
+
+// ---- what lines have behind their details
 
 const SHORT_BEHIND: &[u8] = b" requests were refused\n";
 
@@ -134,6 +152,22 @@ impl Notice<'_> {
                 file_line(alloc, b"epmd: recording again: ", path, *number, b"")
             }
             Notice::FewerPlaces { places, limit } => places_line(alloc, *places, *limit),
+        }
+    }
+
+    /// Returns the line that an operator reads if there is no memory for the whole one.
+    pub fn brief(&self) -> &'static [u8]
+        ensures { result.now ≡ brief_line self.now }
+    {
+        match self {
+            Notice::CannotAccept => CANNOT_ACCEPT,
+            Notice::InUse(_) => BRIEF_IN_USE,
+            Notice::Remote(_) => BRIEF_REMOTE,
+            Notice::ShortOfMemory(_) => BRIEF_SHORT,
+            Notice::Unread(_) => BRIEF_UNREAD,
+            Notice::RecordingFailed { .. } => BRIEF_FAILED,
+            Notice::RecordingAgain { .. } => BRIEF_AGAIN,
+            Notice::FewerPlaces { .. } => BRIEF_PLACES,
         }
     }
 }

@@ -1,7 +1,6 @@
 //! The links that a worker holds, each at its place.
 ghost use Rattle.std.specs.Prelude.{◌≡◌, Some, None};
 
-use crate::limits::RESTS_MOST;
 use crate::link::Link;
 use crate::pending::Waiting;
 use crate::quota::Permit;
@@ -92,9 +91,9 @@ pub(crate) fn report<S: Stream>(links: &mut Links<'_, S>, key: usize, is_closed:
     }
 }
 
-/// A millisecond is over: of the links that have rested longest a few may move again.
-pub(crate) fn end_rests<S: Stream>(links: &mut Links<'_, S>) {
-    for _ in 0..RESTS_MOST {
+/// A millisecond is over: of the links that have rested longest so many may move again.
+pub(crate) fn end_rests<S: Stream>(links: &mut Links<'_, S>, most: u32) {
+    for _ in 0..most {
         let Some(key) = links.end_rest() else {
             return;
         };

@@ -11,6 +11,7 @@ use crate::rounds::poll_timeout;
 use crate::shared::IDLE;
 use crate::socket_source::SocketSource;
 use crate::system::System;
+use crate::unsent::rests_most;
 use std::rt::Clock;
 use std::sync::Wait;
 use std::sync::atomic::Ordering;
@@ -27,7 +28,8 @@ impl<L: Ledger, S: System, R: Host + Wait + Clock> SocketSource<'_, L, S, R> {
         let is_well = self.wait();
         let after = self.time_us();
         if self.rounds.note_answer(after) {
-            end_rests(&mut self.ready);
+            let most = rests_most(self.shared.unsent.is_crowded());
+            end_rests(&mut self.ready, most);
         }
         self.state
             .busy_since

@@ -1,11 +1,12 @@
 //! Bytes of replies that wait to be written since their peers don't read, over all connections of a daemon.
 ghost use Rattle.std.specs.Prelude.{◌≡◌, ◌↔◌, ◌<◌, ◌≤◌, true, false};
 ghost use Rattle.portmap_worker.specs.Unsent.{AreMany, MayReset};
+ghost use Rattle.portmap_worker.specs.declared.limits.TheConstants.{RESTS_MOST};
 
 use crate::Turn;
 use crate::admission::give_way;
 use crate::host::Host;
-use crate::limits::{UNSENT_CROWDED_SHARE, UNSENT_HEAVY_SHARE, UNSENT_SPARED_SHARE};
+use crate::limits::{RESTS_MOST, UNSENT_CROWDED_SHARE, UNSENT_HEAVY_SHARE, UNSENT_SPARED_SHARE};
 use crate::open_link::Links;
 use crate::quota::{Candidate, first_of};
 use crate::socket_source::SocketSource;
@@ -21,6 +22,15 @@ fn are_many(most: u64, bytes: u64) -> bool
     ensures { (result ≡ true) ↔ AreMany most bytes }
 {
     bytes > most / UNSENT_HEAVY_SHARE
+}
+
+/// How many links that rest may move again in a millisecond: where many bytes wait these may be lists, of which each takes
+/// milliseconds, and meanwhile nobody is accepted.
+pub(crate) fn rests_most(is_crowded: bool) -> u32
+    ensures crowded { is_crowded ≡ true → result ≡ 1 }
+    ensures few { is_crowded ≡ false → result ≡ RESTS_MOST }
+{
+    if is_crowded { 1 } else { RESTS_MOST }
 }
 
 /// Whether a connection may be reset where so many bytes may wait, so many do, and so many of these for remote peers
