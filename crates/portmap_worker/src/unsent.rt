@@ -24,8 +24,8 @@ fn are_many(most: u64, bytes: u64) -> bool
     bytes > most / UNSENT_HEAVY_SHARE
 }
 
-/// How many links that rest may move again in a millisecond: where many bytes wait these may be lists, of which each takes
-/// milliseconds, and meanwhile nobody is accepted.
+/// How many links that rest may move again in a millisecond. Where many bytes wait these may be lists, each of which
+/// takes milliseconds, and meanwhile no connection is accepted.
 pub(crate) fn rests_most(is_crowded: bool) -> u32
     ensures crowded { is_crowded ≡ true → result ≡ 1 }
     ensures few { is_crowded ≡ false → result ≡ RESTS_MOST }
