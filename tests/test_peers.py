@@ -3,6 +3,7 @@ request is answered. Where a time-out is the point, it is compared with what sta
 import contextlib
 import errno
 import re
+import select
 import socket
 import subprocess
 import threading
@@ -13,8 +14,9 @@ import wire
 from case import Case
 from daemon import built
 from shim import FOR_EVER, Faults
-from wire import NAMES, alive, ask, dial, ending, eventually, exactly, found, listed, port_please, register, rest
+from wire import DUMP, NAMES, alive, ask, dial, ending, eventually, exactly, found, listed, port_please, register, rest, stopped
 
+CROWD = 400
 PLACES = 1024  # Connections (README.md, Limits).
 UNREAD_MOST = 32 << 20  # Bytes of replies that wait to be read.
 NEVER = "-packet_timeout", "86400"
@@ -307,6 +309,25 @@ class Unread(Peers):
             whole = listed(daemon.port, *((name, 5000) for name in names))
             for s in slow:
                 self.assertEqual(rest(s), whole)
+
+
+class Crowd(Peers):
+    def test_look_ups_do_not_wait_behind_lists(self):
+        """Hundreds of peers ask for long lists and read nothing. Between two look-ups, one behind the other, few of them get one."""
+        daemon = self.daemon(*NEVER, "-workers", "1")
+        for number in range(3000):
+            register(daemon.port, b"%01000d" % number).close()
+        with register(daemon.port, b"one"):
+            with stopped(daemon.pid):
+                peers = [self.dial(daemon, DUMP, room=2048) for _ in range(CROWD)]
+            waiting, most, looked_up = peers, 0, 0
+            while waiting and looked_up < 10_000:
+                self.assertEqual(ask(daemon.port, port_please(b"one")), found(b"one"))
+                begun = select.select(waiting, [], [], 0)[0]
+                waiting = [peer for peer in waiting if peer not in begun]
+                most, looked_up = max(most, len(begun)), looked_up + 1
+        self.assertEqual(waiting, [])
+        self.assertLess(most, CROWD // 3, f"of {CROWD} lists while {looked_up} look-ups were made")
 
 
 class OtherHosts(Peers):
