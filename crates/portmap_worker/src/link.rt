@@ -228,7 +228,8 @@ impl<S: Read + Write> Link<S> {
         let is_timed = self.is_timed();
         self.timer.begin(is_timed, self.is_local, rounds.time);
         if self.may_move() {
-            return true;
+            // One that rests goes on when its rest is over: all of them at once would be hundreds of lists.
+            return !self.is_resting;
         }
         if self.readiness.is_watched() {
             return self.timer.expire(rounds.time, timeout);
