@@ -70,14 +70,15 @@ pub(crate) const SHORT_TIMEOUT_MS: u64 = 1;
 // ---- replies that wait to be read
 
 /// The most bytes of replies that may wait to be written, over all connections of a daemon. Beyond it connections are
-/// reset whose peers read nothing.
-pub const UNSENT_BYTES_MOST: u64 = 33_554_432;
+/// reset whose peers have read nothing for a second.
+pub const UNSENT_BYTES_MOST: u64 = 25_165_824;
 
 /// Only a connection for which more than such a share waits is reset. Of 1,024 connections one has so much if more
 /// waits than may.
 pub(crate) const UNSENT_HEAVY_SHARE: u64 = 1024;
 
-/// While a remote connection has so much, local ones are reset only if this share more waits than may.
+/// If this share more waits than may, any connection is reset for which much waits: also one of this host while one of
+/// another host has much, and one whose peer may yet read.
 pub(crate) const UNSENT_SPARED_SHARE: u64 = 4;
 
 /// If such a share waits, a local peer that asks for a list is served after a rest.
@@ -165,6 +166,6 @@ pub fn numbers_are_the_profiles()
     ensures serving { (PULL_BYTES_MOST ≡ 4096) × (KEPT_SHARE ≡ 8) × (ACCEPT_BACKOFF_MS ≡ 20) }
     ensures recording { (LATERS_MOST ≡ 1000) × (LOG_BYTES_HEAVY ≡ 2 ^ 18) × (QUEUE_BYTES_MOST ≡ 2 ^ 24)
         × (FILE_BYTES_MOST ≡ 240 * 2 ^ 20) }
-    ensures unsent { (UNSENT_BYTES_MOST ≡ 2 ^ 25) × (UNSENT_HEAVY_SHARE ≡ 1024) × (UNSENT_SPARED_SHARE ≡ 4) }
+    ensures unsent { (UNSENT_BYTES_MOST ≡ 24 * 2 ^ 20) × (UNSENT_HEAVY_SHARE ≡ 1024) × (UNSENT_SPARED_SHARE ≡ 4) }
     ensures file { FILE_BYTES_MOST + QUEUE_BYTES_MOST ≡ SESSION_MOST }
 {}

@@ -1,12 +1,14 @@
 //! Bytes of replies that wait to be written since their peers don't read, over all connections of a daemon.
-ghost use Rattle.std.specs.Prelude.{◌≡◌, ◌↔◌, ◌<◌, ◌≤◌, true, false};
+ghost use Rattle.std.specs.Prelude.{◌≡◌, ◌↔◌, ◌-◌, ◌<◌, ◌≤◌, true, false};
 ghost use Rattle.portmap_worker.specs.Unsent.{AreMany, MayReset};
-ghost use Rattle.portmap_worker.specs.declared.limits.TheConstants.{RESTS_MOST};
+ghost use Rattle.portmap_worker.specs.declared.limits.TheConstants.{RESTS_MOST, YOUNG_MS};
 
 use crate::Turn;
 use crate::admission::give_way;
 use crate::host::Host;
-use crate::limits::{RESTS_MOST, UNSENT_CROWDED_SHARE, UNSENT_HEAVY_SHARE, UNSENT_SPARED_SHARE};
+use crate::limits::{
+    RESTS_MOST, UNSENT_CROWDED_SHARE, UNSENT_HEAVY_SHARE, UNSENT_SPARED_SHARE, YOUNG_MS,
+};
 use crate::open_link::Links;
 use crate::quota::{Candidate, first_of};
 use crate::socket_source::SocketSource;
@@ -33,12 +35,22 @@ pub(crate) fn rests_most(is_crowded: bool) -> u32
     if is_crowded { 1 } else { RESTS_MOST }
 }
 
-/// Whether a connection may be reset where so many bytes may wait, so many do, and so many of these for remote peers
-/// with many each.
-fn may_reset(is_local: bool, most: u64, total: u64, remote: u64) -> bool
-    ensures { (result ≡ true) ↔ MayReset is_local most total remote }
+/// Whether a connection may be reset, whose peer has read nothing for a while or is young, where so many bytes may wait,
+/// so many do, and so many of these for remote peers with many each.
+fn may_reset(is_local: bool, is_young: bool, most: u64, total: u64, remote: u64) -> bool
+    ensures { (result ≡ true) ↔ MayReset is_local is_young most total remote }
 {
-    total > most && (!is_local || remote == 0 || total - most > most / UNSENT_SPARED_SHARE)
+    if total <= most {
+        return false;
+    }
+    total - most > most / UNSENT_SPARED_SHARE || (!is_young && (!is_local || remote == 0))
+}
+
+/// Whether a peer that has read nothing since then may yet read.
+fn is_young(since: u64, now: u64) -> bool
+    ensures { (result ≡ true) ↔ (now - since < YOUNG_MS) }
+{
+    now.saturating_sub(since) < YOUNG_MS
 }
 
 /// How many of the bytes that wait for a connection count as those of a remote peer with many.
@@ -100,9 +112,9 @@ impl AllUnsent {
     }
 
     /// Whether such a connection may be reset.
-    fn may_reset(&self, is_local: bool) -> bool {
+    fn may_reset(&self, is_local: bool, is_young: bool) -> bool {
         let remote = self.remote.load(Ordering::SeqCst);
-        may_reset(is_local, self.most, self.total(), remote)
+        may_reset(is_local, is_young, self.most, self.total(), remote)
     }
 
     /// A connection for which so many bytes waited has so many now.
@@ -173,11 +185,11 @@ impl<L: Ledger, S: System, R: Host + Wait + Clock> SocketSource<'_, L, S, R> {
             return None;
         }
         let all = &self.shared.unsent;
-        if !all.may_reset(false) {
+        if !all.may_reset(false, false) {
             all.is_asked.store(false, Ordering::SeqCst);
             return None;
         }
-        let Some(key) = first_unread(&self.ready, all) else {
+        let Some(key) = first_unread(&self.ready, all, self.rounds.time) else {
             if !all.is_asked.swap(true, Ordering::SeqCst) {
                 self.shared.wake_others(self.sockets.worker);
             }
@@ -190,12 +202,13 @@ impl<L: Ledger, S: System, R: Host + Wait + Clock> SocketSource<'_, L, S, R> {
 }
 
 /// The one that goes first of the links for which many bytes wait.
-fn first_unread<S: Stream>(links: &Links<'_, S>, all: &AllUnsent) -> Option<usize> {
+fn first_unread<S: Stream>(links: &Links<'_, S>, all: &AllUnsent, now: u64) -> Option<usize> {
     let mut first: Option<Candidate> = None;
     for key in 0..links.keys() {
         if let Some(held) = links.get(key) {
             let unsent = &held.unsent;
-            if are_many(all.most, unsent.bytes) && all.may_reset(unsent.is_local) {
+            let is_young = is_young(unsent.since, now);
+            if are_many(all.most, unsent.bytes) && all.may_reset(unsent.is_local, is_young) {
                 let candidate = Candidate {
                     is_local: unsent.is_local,
                     has_news: false,
