@@ -18,7 +18,7 @@ from wire import DUMP, NAMES, alive, ask, dial, ending, eventually, exactly, fou
 
 CROWD = 400
 PLACES = 1024  # Connections (README.md, Limits).
-UNREAD_MOST = 32 << 20  # Bytes of replies that wait to be read.
+UNREAD_MOST = 30 << 20  # Bytes of replies that wait to be read, however short.
 NEVER = "-packet_timeout", "86400"
 RESET = re.compile(r"epmd: (\d+) connections that did not read their replies were reset")
 

@@ -35,8 +35,8 @@ pub(crate) fn rests_most(is_crowded: bool) -> u32
     if is_crowded { 1 } else { RESTS_MOST }
 }
 
-/// Whether a connection may be reset, whose peer has read nothing for a while or is young, where so many bytes may wait,
-/// so many do, and so many of these for remote peers with many each.
+/// Whether a connection may be reset, whose peer has read nothing for a while or is young, where so many bytes may
+/// wait, so many do, and so many of these for remote peers with many each.
 fn may_reset(is_local: bool, is_young: bool, most: u64, total: u64, remote: u64) -> bool
     ensures { (result ≡ true) ↔ MayReset is_local is_young most total remote }
 {
