@@ -30,7 +30,7 @@ for word in "$@"; do
     fi
 done
 if [ -n "$TELLS" ]; then echo $$; fi
-if [ -n "$LIMITS" ]; then echo "$0 $(ulimit -S -n) $(ulimit -H -n) $MALLOC_ARENA_MAX"; fi
+if [ -n "$LIMITS" ]; then echo "$0 $(ulimit -S -n) $(ulimit -H -n) $MALLOC_ARENA_MAX $MALLOC_MMAP_THRESHOLD_"; fi
 if [ -n "$FAILS" ]; then echo "epmd: $FAILS" >&2; exit 3; fi
 if [ -n "$STAYS" ]; then
     echo $$ > "$FOLDER/pid.new"
@@ -135,11 +135,12 @@ class Wrapper(unittest.TestCase):
 
     def test_it_raises_its_limit_of_descriptors_as_far_as_it_may(self):
         for soft, hard, becomes in (("1024", "8192", "4096"), ("1024", "4096", "4096"), ("512", "600", "600"), ("700", "700", "700"), ("5000", "8192", "5000")):
-            self.assertEqual(self.limits(soft, hard), [becomes, hard, "1"])
+            self.assertEqual(self.limits(soft, hard), [becomes, hard, "1", "131072"])
 
     def test_all_threads_have_one_heap_unless_it_is_said_otherwise(self):
-        for said, becomes in (("4", ["4"]), ("", [])):
+        for said, becomes in (("4", ["4", "131072"]), ("", ["131072"])):
             self.assertEqual(self.limits("1024", "8192", MALLOC_ARENA_MAX=said)[2:], becomes)
+        self.assertEqual(self.limits("1024", "8192", MALLOC_MMAP_THRESHOLD_="")[2:], ["1"])
 
     def test_the_program_is_called_by_the_path_that_it_has(self):
         place = os.path.join(self.folder, "usr", "lib", "epmd-proved")
