@@ -18,7 +18,7 @@ from wire import DUMP, NAMES, alive, ask, dial, ending, eventually, exactly, fou
 
 CROWD = 400
 PLACES = 1024  # Connections (README.md, Limits).
-UNREAD_MOST = 30 << 20  # Bytes of replies that wait to be read, however short.
+UNREAD_LEFT, UNREAD_MOST = 24 << 20, 30 << 20  # Bytes of replies that wait to be read for long, and at all.
 NEVER = "-packet_timeout", "86400"
 RESET = re.compile(r"epmd: (\d+) connections that did not read their replies were reset")
 
@@ -249,22 +249,33 @@ class Unread(Peers):
             self.assertEqual(ask(daemon.port, NAMES), whole)
             before = daemon.kb("VmRSS")
             unread = [self.dial(daemon, NAMES, room=2048) for _ in range(200)]
+            were_reset = set()
+
+            def resets():
+                for s in set(unread) - were_reset:
+                    error = s.getsockopt(socket.SOL_SOCKET, socket.SO_ERROR)
+                    self.assertIn(error, (0, errno.ECONNRESET))
+                    if error:
+                        were_reset.add(s)
+                return len(were_reset)
+
             eventually(lambda: daemon.lines(), "a line")
+            # Who has read nothing for a second is reset until no more wait than may for long: looks come once a second.
+            before_last, last = -1, 0
+            while before_last != last:
+                time.sleep(5)
+                before_last, last = last, resets()
             # Beside what waits there are the lists that four workers make, and what the C library keeps. Without a bound it were 80 MB.
             self.assertLess(daemon.kb("VmHWM") - before, UNREAD_MOST * 3 // 2 // 1024)
             self.honest(daemon, 3, None)
             self.assertEqual(ask(daemon.port, NAMES), whole)
             for line in daemon.lines():
                 self.assertRegex(line, RESET)
-            errors = [s.getsockopt(socket.SOL_SOCKET, socket.SO_ERROR) for s in unread]
-            self.assertLessEqual(set(errors), {0, errno.ECONNRESET})
-            resets = errors.count(errno.ECONNRESET)
-            self.assertGreaterEqual(resets, len(unread) - UNREAD_MOST // len(whole) - 8)
             counted = sum(int(RESET.fullmatch(line)[1]) for line in daemon.lines())
-            self.assertTrue(1 <= counted <= resets, (counted, resets))
+            self.assertTrue(1 <= counted <= resets(), (counted, resets()))
             # Who was not reset has the whole list.
-            kept = [s for s, error in zip(unread, errors) if not error]
-            self.assertGreater(len(kept), UNREAD_MOST // len(whole) // 2)
+            kept = [s for s in unread if s not in were_reset]
+            self.assertGreater(len(kept), UNREAD_LEFT // len(whole) // 2)
             for s in kept[-2:]:
                 s.setsockopt(socket.SOL_SOCKET, socket.SO_RCVBUF, 1 << 20)
                 self.assertEqual(ending(s), (whole, "end"))
