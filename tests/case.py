@@ -1,5 +1,5 @@
-"""The base of the end-to-end tests: a folder for each test, daemons that end with it, and runs of the program. The program is build/epmd, or
-what the variable EPMD names."""
+"""The base of the end-to-end tests: a folder for each test, daemons that end with it, and runs of the program. The program is build/epmd,
+or what the variable EPMD names."""
 import os
 import subprocess
 import tempfile
@@ -11,6 +11,16 @@ from daemon import Daemon
 TOP = os.path.dirname(os.path.dirname(os.path.abspath(__file__)))
 EPMD = os.path.abspath(os.environ.get("EPMD") or os.path.join(TOP, "build", "epmd"))
 PATIENCE = 60.0  # Seconds until a test gives up, where the time itself is not the point.
+
+
+def eventually(wanted, what="what was waited for"):
+    """Waits until `wanted` returns something true, and returns that."""
+    until = time.monotonic() + PATIENCE
+    while not (got := wanted()):
+        if time.monotonic() > until:
+            raise AssertionError(f"{what} did not come within {PATIENCE:.0f} seconds")
+        time.sleep(0.02)
+    return got
 
 
 class Case(unittest.TestCase):
@@ -36,13 +46,3 @@ class Case(unittest.TestCase):
             how.setdefault("stdin", subprocess.DEVNULL)
         done = subprocess.run([EPMD, *words], capture_output=True, timeout=PATIENCE, env={**os.environ, **(env or {})}, **how)
         return done.returncode, done.stdout, done.stderr
-
-    def comes(self, wanted, what="what is awaited"):
-        """Waits until `wanted` returns something true, and returns that."""
-        until = time.monotonic() + PATIENCE
-        while True:
-            value = wanted()
-            if value:
-                return value
-            self.assertLess(time.monotonic(), until, f"{what} does not come")
-            time.sleep(0.02)

@@ -5,7 +5,7 @@ import signal
 import struct
 import threading
 
-from case import PATIENCE, Case
+from case import PATIENCE, Case, eventually
 from daemon import ask, look_up, register
 from records import CLOSED, FAULTED, Mapper
 
@@ -353,7 +353,7 @@ class Recorded(AuditCase):
         threads = [threading.Thread(target=load, args=(number,)) for number in range(4)]
         for thread in threads:
             thread.start()
-        self.comes(lambda: os.path.exists(self.first) and os.path.getsize(self.first) > 100_000, "the recording")
+        eventually(lambda: os.path.exists(self.first) and os.path.getsize(self.first) > 100_000, "the recording")
         daemon.process.send_signal(signal.SIGKILL)
         self.assertEqual(daemon.ended(PATIENCE), (-signal.SIGKILL, ""))
         ended.set()
@@ -367,4 +367,4 @@ class Recorded(AuditCase):
     def test_a_daemon_that_runs(self):
         daemon = self.daemon("-record", self.first)
         self.assertEqual(ask(daemon.port, b"za", PATIENCE), b"w\1")
-        self.comes(lambda: self.audit() == (0, b"run of 3 entries in 1 files\n", b""), "the recording")
+        eventually(lambda: self.audit() == (0, b"run of 3 entries in 1 files\n", b""), "the recording")

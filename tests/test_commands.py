@@ -12,7 +12,7 @@ import threading
 import time
 import unittest
 
-from case import EPMD, PATIENCE, Case
+from case import EPMD, PATIENCE, Case, eventually
 from daemon import alive, ask, framed, free_port, listens, preload, read_most, register
 
 sys.path.append(os.path.join(os.path.dirname(os.path.abspath(__file__)), "..", "faults"))
@@ -115,7 +115,7 @@ class CommandCase(Case):
     def lists(self, daemon, *names):
         """Waits until exactly these names are listed."""
         wanted = reply(b"".join(b"name %s at port 5000\n" % name for name in names), daemon.port)
-        self.comes(lambda: ask(daemon.port, b"n", PATIENCE) == wanted)
+        eventually(lambda: ask(daemon.port, b"n", PATIENCE) == wanted)
 
     def stand_in(self, serve, **how):
         server = StandIn(serve, **how)
@@ -227,7 +227,7 @@ class Words(CommandCase):
         env = {"ERL_EPMD_PORT": str(port)}
         with kept, subprocess.Popen([EPMD, "-address", "127.0.0.1"], env={**os.environ, **env}, stdin=subprocess.DEVNULL) as daemon:
             self.addCleanup(daemon.kill)
-            self.comes(lambda: listens(port), "the port")
+            eventually(lambda: listens(port), "the port")
             self.assertEqual(self.run_epmd("-names", env=env), (0, head(port), b""))
             self.assertEqual(self.run_epmd("-names", "-port", "1", env=env), NOBODY)
             self.assertEqual(self.run_epmd("-kill", "-port", str(port), env={"ERL_EPMD_PORT": "1"}), (0, b"Killed\n", b""))

@@ -2,7 +2,6 @@
 that they outlast the daemon."""
 import fcntl
 import os
-import shutil
 import socket
 import subprocess
 import sys
@@ -11,10 +10,10 @@ import threading
 import unittest
 
 import wire
-from case import EPMD, Case
+from case import EPMD, Case, eventually
 from daemon import Daemon, free_port
 from shim import CALLS, Faults
-from wire import KILL, LOOPBACKS, NAMES, ask, dial, eventually, listed, listener, register
+from wire import KILL, LOOPBACKS, NAMES, ask, dial, listed, listener, register
 
 # Moves the sockets to descriptor 3 and those behind it, says that they are for its own process, and becomes the daemon.
 LAUNCH = """
@@ -317,51 +316,14 @@ class Outlasts(HandingCase):
         self.outlasts([self.listener("127.0.0.1", port), self.listener("::1", port, only=True)], LOOPBACKS * 2)
 
 
-class Recording(HandingCase):
-    """A recording over handed sockets goes on in a further file at the same size as any other."""
-
-    FULL, READ_MOST = 240 << 20, 268_435_456  # README.md, Limits; epmd.1, FILES.
-    BEHIND = 4 << 20  # Bytes that may wait to be written, far below what a recording bears.
-
-    def setUp(self):
-        super().setUp()
-        if not os.path.isdir("/dev/shm") or shutil.disk_usage("/dev/shm").free < 1 << 30:
-            self.skipTest("there is no gigabyte free in /dev/shm")
-
-    def size(self, file):
-        return sum(os.path.getsize(each) for each in (file, file + ".1") if os.path.exists(each))
-
-    def test_it_goes_on_in_a_further_file(self):
-        s = self.listener("127.0.0.1")
-        with tempfile.TemporaryDirectory(dir="/dev/shm") as folder:
-            file = os.path.join(folder, "session")
-            daemon = self.handed([s], "-record", file)
-            names = [b"%01000d" % number for number in range(400)]
-            for name in names:
-                self.enterContext(register(daemon.port, name))
-            whole = listed(daemon.port, *((name, 5000) for name in names))
-            answered = 0
-            while not os.path.exists(file + ".1") and answered < self.READ_MOST:
-                self.assertEqual(len(ask(daemon.port, NAMES)), len(whole))
-                answered += len(whole)
-                eventually(lambda: self.size(file) > answered - self.BEHIND, f"what was recorded, {self.size(file)} of {answered} bytes")
-            self.assertTrue(os.path.exists(file + ".1"), answered)
-            self.assertTrue(self.FULL <= os.path.getsize(file) < self.READ_MOST, os.path.getsize(file))
-            self.assertEqual(daemon.lines(), [])
-            daemon.stop()
-            self.assertEqual(self.run_epmd("-check", file)[0], 0)
-
-
 class FromAnotherHost(HandingCase):
     """A socket for both families gives peers of IPv4 an address of IPv6: by it the daemon finds which are of another host."""
 
     @classmethod
     def setUpClass(cls):
-        wire.own_network()
+        wire.own_network("10.78.0.1", "10.78.0.2")
         if not wire.has_ipv6():
             raise unittest.SkipTest("the host has no IPv6")
-        for place, address in enumerate(("10.78.0.1", "10.78.0.2"), 1):
-            wire.add_address(address, place)
 
     def test_only_peers_of_this_host_register(self):
         s = self.listener("::")

@@ -4,10 +4,10 @@ import subprocess
 import unittest
 
 import wire
-from case import EPMD, Case
+from case import EPMD, Case, eventually
 from daemon import free_port
 from shim import CALLS, Faults
-from wire import NAMES, ask, dial, eventually, listed, listener, listening_at, loopbacks, register, stopped
+from wire import NAMES, ask, dial, listed, listener, listening_at, loopbacks, register, stopped
 
 BURST = 100
 NOBODYS = "198.51.100.1"  # An address for documentation (RFC 5737), which no host has.
@@ -241,7 +241,7 @@ class OwnNetwork(Listening):
                 self.assertEqual(ask(daemon.port, NAMES, **far), listed(daemon.port, (b"one", 5000)))
                 self.assertEqual(ask(daemon.port, wire.port_please(b"one"), **far), wire.found(b"one"))
                 self.assertEqual(ask(daemon.port, wire.port_please(b"two"), **far), wire.NOT_FOUND)
-                for request in wire.alive(b"two"), wire.DUMP, wire.KILL, wire.frame(b"sone"):
+                for request in wire.alive(b"two"), wire.DUMP, wire.KILL, wire.framed(b"sone"):
                     self.assertEqual(wire.unanswered(daemon.port, request, **far), b"", request)
             self.assertEqual(ask(daemon.port, NAMES), listed(daemon.port, (b"one", 5000)))
             own.setblocking(False)
@@ -250,7 +250,7 @@ class OwnNetwork(Listening):
 
     def test_a_refusal_of_another_host_is_told(self):
         for request, words in ((wire.alive(b"two"), "a registration"), (wire.DUMP, "a DUMP"), (wire.KILL, "a KILL"),
-                               (wire.frame(b"sone"), "a STOP")):
+                               (wire.framed(b"sone"), "a STOP")):
             with self.subTest(words=words):
                 daemon = self.daemon(address=None)
                 self.assertEqual(wire.unanswered(daemon.port, request, self.OWN[0], self.OTHERS[0]), b"")

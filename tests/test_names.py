@@ -8,9 +8,9 @@ import time
 import unittest
 
 import wire
-from case import PATIENCE, Case
+from case import PATIENCE, Case, eventually
 from daemon import built
-from wire import NAMES, TAKEN, TAKEN_SHORT, alive, ask, dial, eventually, found, listed, port_please, register, rest
+from wire import NAMES, TAKEN, TAKEN_SHORT, alive, ask, dial, found, listed, port_please, register, rest
 
 PROGRAMS, ROUNDS = 4, 500  # So many programs come back so often each.
 HELD = 200

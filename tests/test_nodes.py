@@ -6,8 +6,8 @@ import subprocess
 import unittest
 
 import wire
-from case import PATIENCE, Case
-from wire import NAMES, ask, eventually, listed
+from case import PATIENCE, Case, eventually
+from wire import NAMES, ask, listed
 
 ADDRESSES = {"inet_tcp": "127.0.0.1", "inet6_tcp": "::1"}
 ROUNDS = 200

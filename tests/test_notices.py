@@ -1,18 +1,17 @@
 """The lines that an operator reads of a daemon that runs: their text, on standard error, each kind at most once in ten seconds with how
 often it came to it since the line before."""
 import contextlib
-import ctypes
 import os
 import random
 import resource
 import shutil
 import socket
-import subprocess
 import sys
 import time
 import unittest
 
-from case import PATIENCE, Case
+import wire
+from case import PATIENCE, Case, eventually
 from daemon import CANNOT_ACCEPT, alive, ask, connect, framed, look_up, read_most, register
 from records import local_part, transcript
 
@@ -37,7 +36,7 @@ class NoticeCase(Case):
 
     def told(self, daemon, *lines):
         """Waits until the daemon has printed so many lines. They are these, and standard output has none."""
-        self.comes(lambda: len(daemon.lines()) >= len(lines), f"line {len(lines)}")
+        eventually(lambda: len(daemon.lines()) >= len(lines), f"line {len(lines)}")
         self.assertEqual(daemon.lines(), list(lines))
         self.assertEqual(os.fstat(self.out.fileno()).st_size, 0)
 
@@ -114,46 +113,14 @@ class NamesInUseShown(NoticeCase):
         self.told(daemon, "epmd: name one is in use")
 
 
-def own_network():
-    """Has this process see a network of its own with a second host in it, both of which go with it. The process that is the other host, or
-    None where that may not be."""
-    if os.getuid() != 0 or not (shutil.which("ip") and shutil.which("nsenter")) or ctypes.CDLL(None).unshare(0x40000000):
-        return None
-    code = "import ctypes, time; ctypes.CDLL(None).unshare(0x40000000); print(flush=True); time.sleep(600)"
-    other = subprocess.Popen([sys.executable, "-c", code], stdout=subprocess.PIPE)
-    other.stdout.readline()
-    enter = ["nsenter", "-n", "-t", str(other.pid)]
-    for words in (["link", "set", "lo", "up"], ["link", "add", "here", "type", "veth", "peer", "name", "there", "netns", str(other.pid)],
-                  ["addr", "add", f"{HERE}/24", "dev", "here"], ["link", "set", "here", "up"]):
-        if subprocess.run(["ip", *words], stderr=subprocess.DEVNULL).returncode:
-            other.kill()
-            return None
-    for words in ["addr", "add", f"{THERE}/24", "dev", "there"], ["link", "set", "there", "up"], ["link", "set", "lo", "up"]:
-        subprocess.run([*enter, "ip", *words], check=True)
-    return other
-
-
 class PeersOfOtherHosts(NoticeCase):
-    ASK = ("import socket, sys; s = socket.create_connection((sys.argv[1], int(sys.argv[2])), 60); s.sendall(bytes.fromhex(sys.argv[3])); "
-           "got = b''.join(iter(lambda: s.recv(4096), b'')); print(got.hex())")
-
     @classmethod
     def setUpClass(cls):
-        cls.other = own_network()
-        if cls.other is None:
-            raise unittest.SkipTest("no network of its own may be made")
-
-    @classmethod
-    def tearDownClass(cls):
-        cls.other.kill()
-        cls.other.wait()
-        cls.other.stdout.close()
+        wire.own_network(HERE, THERE)
 
     def asked(self, daemon, body):
-        """What the other host is answered."""
-        words = ["nsenter", "-n", "-t", str(self.other.pid), sys.executable, "-c", self.ASK, HERE, str(daemon.port), framed(body).hex()]
-        done = subprocess.run(words, stdout=subprocess.PIPE, timeout=PATIENCE, check=True)
-        return bytes.fromhex(done.stdout.decode())
+        """What a peer of another host is answered."""
+        return wire.ask(daemon.port, framed(body), HERE, THERE)
 
     def test_each_request(self):
         for body, words in ((alive(b"far"), "a registration"), (b"d", "a DUMP"), (b"k", "a KILL"), (b"snear", "a STOP")):
@@ -213,10 +180,10 @@ class ShortMemory(NoticeCase):
                 faults.on = 0
                 time.sleep(1 + random.random())
                 return daemon.lines()
-            line, = self.comes(short, "the line")
+            line, = eventually(short, "the line")
             self.assertRegex(line, r"^epmd: memory is short, ([1-9]\d* )?requests were refused$")
             self.assertIs(look_up(daemon.port, b"one", PATIENCE), True)
-            self.comes(lambda: isinstance(register(daemon.port, b"two", seconds=PATIENCE), socket.socket), "a registration")
+            eventually(lambda: isinstance(register(daemon.port, b"two", seconds=PATIENCE), socket.socket), "a registration")
             self.ends(daemon)
             self.assertEqual(os.fstat(self.out.fileno()).st_size, 0)
 
@@ -234,12 +201,12 @@ class UnreadReplies(NoticeCase):
             self.hold(daemon, *(b"%01000d" % number for number in range(400)))
             for _ in range(150):
                 peers.enter_context(connect(daemon.port, PATIENCE, room=4096)).sendall(framed(b"n"))
-            self.comes(daemon.lines, "the line")
+            eventually(daemon.lines, "the line")
             line, = daemon.lines()
             self.assertRegex(line, r"^epmd: [1-9]\d* connections that did not read their replies were reset$")
             self.assertLess(int(line.split()[1]), 150 - 32 * 1024 * 1024 // self.LIST + 20)
             peers.close()
-            self.comes(lambda: len(ask(daemon.port, b"n", PATIENCE)) == 4 + self.LIST, "a list")
+            eventually(lambda: len(ask(daemon.port, b"n", PATIENCE)) == 4 + self.LIST, "a list")
         self.assertEqual(os.fstat(self.out.fileno()).st_size, 0)
 
     def test_fewer_bytes_may_wait(self):
@@ -260,7 +227,7 @@ class UnreadReplies(NoticeCase):
 class FewPlaces(NoticeCase):
     def test_a_limit_of_descriptors(self):
         daemon = self.start("-workers", "2", limits={"RLIMIT_NOFILE": 100})
-        self.comes(daemon.lines, "the line")
+        eventually(daemon.lines, "the line")
         line, = daemon.lines()
         self.assertRegex(line, r"^epmd: at most \d+ connections, since the limit of descriptors is 100$")
         places = int(line.split()[3])

@@ -11,10 +11,10 @@ import time
 import unittest
 
 import wire
-from case import Case
+from case import Case, eventually
 from daemon import built
 from shim import FOR_EVER, Faults
-from wire import DUMP, NAMES, alive, ask, dial, ending, eventually, exactly, found, listed, port_please, register, rest, stopped
+from wire import DUMP, NAMES, alive, ask, dial, ending, exactly, found, listed, port_please, register, rest, stopped
 
 CROWD = 400
 PLACES = 1024  # Connections (README.md, Limits).
@@ -349,9 +349,7 @@ class OtherHosts(Peers):
     @classmethod
     def setUpClass(cls):
         super().setUpClass()
-        wire.own_network()
-        for place, address in enumerate((cls.HERE, cls.THERE), 1):
-            wire.add_address(address, place)
+        wire.own_network(cls.HERE, cls.THERE)
 
     def far(self, daemon, *data):
         return self.dial(daemon, *data, address=self.HERE, source=self.THERE)

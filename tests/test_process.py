@@ -12,10 +12,10 @@ import time
 import unittest
 
 import wire
-from case import EPMD, PATIENCE, TOP, Case
+from case import EPMD, PATIENCE, TOP, Case, eventually
 from daemon import OUT_OF_MEMORY, free_port
 from shim import FOR_EVER, Faults
-from wire import KILL, NAMES, TAKEN, alive, ask, dial, eventually, found, listed, port_please, register
+from wire import KILL, NAMES, TAKEN, alive, ask, dial, found, listed, port_please, register
 
 FEWER = re.compile(r"epmd: at most (\d+) connections, since the limit of descriptors is (\d+)")
 NEVER = "-packet_timeout", "86400"
@@ -252,9 +252,7 @@ class DescriptorsOfOtherHosts(Places):
     @classmethod
     def setUpClass(cls):
         super().setUpClass()
-        wire.own_network()
-        for place, address in enumerate(("10.78.0.1", "10.78.0.2"), 1):
-            wire.add_address(address, place)
+        wire.own_network("10.78.0.1", "10.78.0.2")
 
     def test_local_peers_keep_their_share(self):
         daemon, places = self.places(64, address=None)

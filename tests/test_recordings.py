@@ -15,7 +15,7 @@ import time
 import types
 import unittest
 
-from case import EPMD, PATIENCE, Case
+from case import EPMD, PATIENCE, Case, eventually
 from daemon import alive, ask, connect, framed, free_port, look_up, read_most, register
 from records import HEADER, Mapper, Session, beginning, entries_of, header_of, local_part, transcript, workers_of
 
@@ -97,7 +97,7 @@ class RecordCase(Case):
         def is_near():
             sizes = [os.path.getsize(path) for path in (file, f"{file}.1") if os.path.exists(path)]
             return is_over() or sizes and sum(sizes) > self.answered - BEHIND
-        self.comes(is_near, "the recording")
+        eventually(is_near, "the recording")
         self.answered += len(ask(daemon.port, b"n", PATIENCE) or b"")
 
     def kill(self, daemon):
@@ -272,7 +272,7 @@ class Recorded(RecordCase):
         for count in 1, 2, 3:
             self.assertEqual(ask(daemon.port, b"za", PATIENCE), b"w\1")
             wanted = 0, b"run of %d entries\n" % (3 * count), b""
-            self.comes(lambda: self.run_epmd("-check", self.file) == wanted, "the recording")
+            eventually(lambda: self.run_epmd("-check", self.file) == wanted, "the recording")
 
     def test_signals(self):
         for number in signal.SIGTERM, signal.SIGINT, signal.SIGHUP:
@@ -280,7 +280,7 @@ class Recorded(RecordCase):
                 file = self.path(f"by{number}")
                 daemon = self.daemon("-d", "-record", file, before=lambda: signal.signal(number, signal.SIG_DFL))
                 self.hold(daemon, [b"a"])
-                self.comes(lambda: os.path.exists(file) and len(content(file)) > 37, "the recording")
+                eventually(lambda: os.path.exists(file) and len(content(file)) > 37, "the recording")
                 daemon.process.send_signal(number)
                 self.assertEqual(daemon.ended(PATIENCE), (-number, ""))
                 self.assertGreaterEqual(self.entries(file), 1)
@@ -289,7 +289,7 @@ class Recorded(RecordCase):
         for number, umask in enumerate((0, 0o777)):
             file = self.path(f"new{number}")
             daemon = self.daemon("-record", file, before=lambda: os.umask(umask))
-            self.comes(lambda: os.path.exists(file) and len(content(file)) >= 37, "the recording")
+            eventually(lambda: os.path.exists(file) and len(content(file)) >= 37, "the recording")
             self.assertEqual(stat.S_IMODE(os.stat(file).st_mode), 0o600)
             self.assertEqual(self.kill(daemon), 0)
 
@@ -330,7 +330,7 @@ class Failed(RecordCase):
         daemon = self.daemon("-record", path)
         line = f"{FAILED}{path}: {reason}"
         self.assertTrue(answers(daemon.port))
-        self.comes(daemon.lines, "the line")
+        eventually(daemon.lines, "the line")
         self.assertEqual(daemon.lines(), [line])
         self.assertTrue(answers(daemon.port))
         self.assertEqual(self.kill(daemon), 3)
@@ -400,7 +400,7 @@ class EndsAtOnce(RecordCase):
         took = []
         for number in range(5):
             daemon = self.daemon("-record", self.path(f"none{number}/session"))
-            self.comes(daemon.lines, "the line")
+            eventually(daemon.lines, "the line")
             began = time.monotonic()
             self.assertEqual(self.kill(daemon), 3)
             took.append(time.monotonic() - began)
@@ -458,7 +458,7 @@ class Stalled(RecordCase):
         os.mkfifo(self.file)
         daemon = self.daemon("-record", self.file)
         self.assertEqual(ask(daemon.port, b"k", PATIENCE), b"OK")
-        self.comes(lambda: not daemon.listens(), "the end of the port")
+        eventually(lambda: not daemon.listens(), "the end of the port")
         was_running = daemon.runs()
         self.assertEqual(daemon.process.wait(PATIENCE), 3)
         self.assertTrue(was_running, "it waits for the last write, and the port is closed before")
@@ -471,9 +471,9 @@ class BegunAnew(RecordCase):
         file, began = self.path("later/session"), time.monotonic()
         daemon = self.daemon("-relaxed_command_check", "-record", file)
         self.hold(daemon, [b"a", b"b"])
-        self.comes(daemon.lines, "the line")
+        eventually(daemon.lines, "the line")
         os.mkdir(self.path("later"))
-        self.comes(lambda: daemon.lines()[1:], "the line")
+        eventually(lambda: daemon.lines()[1:], "the line")
         failed = f"{FAILED}{file}: No such file or directory"
         self.assertEqual(daemon.lines(), [failed, AGAIN + file])
         self.assertGreater(time.monotonic() - began, 9)  # It is tried every ten seconds.
@@ -510,7 +510,7 @@ class Limit(RecordCase):
         self.assertLessEqual(len(cut), self.MOST)
         count = self.entries(self.file)
         self.assertEqual(sum(1 for _ in entries_of(cut)), count)
-        self.comes(lambda: daemon.lines()[1:], "the line")
+        eventually(lambda: daemon.lines()[1:], "the line")
         self.assertEqual(daemon.lines(), [failed, again])
         self.assertEqual(self.kill(daemon), 3)
         self.assertEqual(daemon.lines(), [failed, again])
@@ -560,7 +560,7 @@ class FullDisk(RecordCase):
         self.assertIs(look_up(daemon.port, NAMES[0], PATIENCE), True)
         count = self.entries(file)
         os.remove(ballast)
-        self.comes(lambda: daemon.lines()[1:], "the line")
+        eventually(lambda: daemon.lines()[1:], "the line")
         self.assertEqual(daemon.lines(), [failed, again])
         self.assertIs(look_up(daemon.port, NAMES[0], PATIENCE), True)
         self.assertEqual(self.kill(daemon), 3)
@@ -591,7 +591,7 @@ class Killed(RecordCase):
             threads = [threading.Thread(target=load) for _ in range(3)]
             for thread in threads:
                 thread.start()
-            self.comes(lambda: os.path.exists(file) and os.path.getsize(file) > 500_000, "the recording")
+            eventually(lambda: os.path.exists(file) and os.path.getsize(file) > 500_000, "the recording")
             time.sleep(random.random() / 10)
             daemon.process.send_signal(signal.SIGKILL)
             daemon.process.wait(PATIENCE)

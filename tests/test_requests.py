@@ -6,8 +6,9 @@ import time
 import unittest
 
 import wire
-from case import Case
-from wire import (DUMP, KILL, NAMES, NOT_FOUND, TAKEN, TAKEN_SHORT, alive, dial, ending, eventually, exactly, found, frame, listed, node,
+from case import Case, eventually
+from daemon import framed
+from wire import (DUMP, KILL, NAMES, NOT_FOUND, TAKEN, TAKEN_SHORT, alive, dial, ending, exactly, found, listed, node,
                   port_please, rest)
 
 NEVER = "-packet_timeout", "86400"  # A close can't come of a time-out.
@@ -105,7 +106,7 @@ class Requests:
         daemon = self.start()
         for name in b"", b"x" * (NAME_MOST + 1), b"\0", b"a\nb", b"a\x1f", b"\x7f", b"a\x7fb":
             with self.subTest(name=name[:20]):
-                for request in alive(name), port_please(name), frame(b"s" + name):
+                for request in alive(name), port_please(name), framed(b"s" + name):
                     self.is_dropped(daemon, request)
         self.assertEqual(self.ask(daemon, NAMES), listed(daemon.port))
 
@@ -200,18 +201,18 @@ class Requests:
     def test_stop(self):
         daemon = self.start()
         self.holds(daemon, b"one")
-        self.is_dropped(daemon, frame(b"sone"))
-        self.is_dropped(daemon, frame(b"stwo"))
+        self.is_dropped(daemon, framed(b"sone"))
+        self.is_dropped(daemon, framed(b"stwo"))
         self.assertEqual(self.ask(daemon, NAMES), listed(daemon.port, (b"one", 5000)))
 
     def test_stop_of_a_relaxed_one(self):
         daemon = self.start("-relaxed_command_check")
         owner, first = self.holds(daemon, b"one")
         self.holds(daemon, b"two")
-        self.assertEqual(self.ask(daemon, frame(b"son")), b"NOEXIST")
-        self.assertEqual(self.ask(daemon, frame(b"sone")), b"STOPPED")
+        self.assertEqual(self.ask(daemon, framed(b"son")), b"NOEXIST")
+        self.assertEqual(self.ask(daemon, framed(b"sone")), b"STOPPED")
         self.assertEqual(ending(owner)[0], b"")
-        self.assertEqual(self.ask(daemon, frame(b"sone")), b"NOEXIST")
+        self.assertEqual(self.ask(daemon, framed(b"sone")), b"NOEXIST")
         self.assertEqual(self.dumped(daemon), [(b"two", 5000, True), (b"one", 5000, False)])
         _, again = self.holds(daemon, b"one")
         self.assertNotEqual(again, first)
@@ -230,7 +231,7 @@ class Requests:
         daemon = self.start()
         self.holds(daemon, b"one", extra=b"more")
         for request, wanted in ((NAMES, listed(daemon.port, (b"one", 5000))), (port_please(b"one"), found(b"one", extra=b"more")),
-                                (port_please(b"other"), NOT_FOUND), (KILL, b"NO"), (frame(b"sone"), b"")):
+                                (port_please(b"other"), NOT_FOUND), (KILL, b"NO"), (framed(b"sone"), b"")):
             with self.subTest(request=request):
                 for s in self.in_parts(daemon, [(at, request) for at in range(1, len(request))]):
                     self.assertEqual(rest(s), wanted)
@@ -334,7 +335,7 @@ class Requests:
         bodies += [b"x" + fields + b"\0", b"x" + fields[:-2] + b"\0\1", b"x" + fields[:-2] + b"\xff\xff", b"x" + fields + b"extra"]
         bodies += [b"x" + fields[:8] + struct.pack(">H", length) + b"two" + b"\0\0" for length in (0, 2, 4, 5, 0xFFFF)]
         for body in bodies:
-            self.is_dropped(daemon, frame(body))
+            self.is_dropped(daemon, framed(body))
         self.assertEqual(self.ask(daemon, NAMES), listed(daemon.port, (b"one", 5000)))
 
 

@@ -9,10 +9,10 @@ import resource
 import signal
 import socket
 import struct
-import time
 import unittest
 
-from case import PATIENCE
+from case import PATIENCE, eventually
+from daemon import framed
 
 LOOPBACKS = "127.0.0.1", "::1"
 NOT_FOUND = b"w\1"
@@ -23,10 +23,6 @@ NEW_USER, NEW_NETWORK = 0x10000000, 0x40000000
 # ---- bytes
 
 
-def frame(body):
-    return struct.pack(">H", len(body)) + body
-
-
 def node(name, number=5000, kind=77, protocol=0, highest=6, lowest=5, extra=b""):
     """The fields of a node, from its port to its extra bytes."""
     return struct.pack(">HBBHHH", number, kind, protocol, highest, lowest, len(name)) + name + struct.pack(">H", len(extra)) + extra
@@ -34,11 +30,11 @@ def node(name, number=5000, kind=77, protocol=0, highest=6, lowest=5, extra=b"")
 
 def alive(name, **fields):
     """The whole request that registers a node."""
-    return frame(b"x" + node(name, **fields))
+    return framed(b"x" + node(name, **fields))
 
 
 def port_please(name):
-    return frame(b"z" + name)
+    return framed(b"z" + name)
 
 
 def found(name, **fields):
@@ -50,7 +46,7 @@ def listed(port, *nodes):
     return struct.pack(">I", port) + b"".join(b"name %s at port %d\n" % each for each in nodes)
 
 
-NAMES, DUMP, KILL = frame(b"n"), frame(b"d"), frame(b"k")
+NAMES, DUMP, KILL = framed(b"n"), framed(b"d"), framed(b"k")
 
 
 # ---- connections
@@ -181,16 +177,6 @@ def listener(address, port=0, only=False, listens=True):
 # ---- processes
 
 
-def eventually(wanted, what="what was waited for"):
-    """Waits until that is so, and returns what it then gives."""
-    until = time.monotonic() + PATIENCE
-    while not (got := wanted()):
-        if time.monotonic() > until:
-            raise AssertionError(f"{what} did not come within {PATIENCE:.0f} seconds")
-        time.sleep(0.02)
-    return got
-
-
 def address_in(text):
     """An address of the system's table of sockets."""
     octets = bytes.fromhex(text)
@@ -256,9 +242,9 @@ def many_files(wanted=4096):
 # ---- a network of its own
 
 
-def own_network():
-    """Puts this process into a network of its own, with loopback alone. A class does so before its tests, and is skipped where that is
-    not permitted."""
+def own_network(*addresses):
+    """Puts this process into a network of its own: loopback, which has these addresses too. A class does so before its tests, and is
+    skipped where that is not permitted."""
     libc = ctypes.CDLL(None, use_errno=True)
     if libc.unshare(NEW_NETWORK if os.getuid() == 0 else NEW_USER | NEW_NETWORK):
         raise unittest.SkipTest(f"no network of its own: {os.strerror(ctypes.get_errno())}")
@@ -267,6 +253,8 @@ def own_network():
             fcntl.ioctl(s, 0x8914, struct.pack("16sH22x", b"lo", 0x41))  # SIOCSIFFLAGS: up and running.
     except OSError as error:
         raise unittest.SkipTest(f"no loopback in a network of its own: {error.strerror}")
+    for place, address in enumerate(addresses, 1):
+        add_address(address, place)
 
 
 def add_address(address, place=1):
