@@ -216,8 +216,8 @@ def places(most, number, is_half):
     return [*(counted[number % 2::2] if is_half and most > 1 else counted), most + 1]
 
 
-def swept(pool, case, nths, least):
-    """Has the call fail at each of these places. Whether all went well. So many calls are made at least, so a place up to there is met."""
+def swept(pool, case, nths):
+    """Has the call fail at each of these places. Whether all went well, and at how many places it was refused."""
     began, seen, refused, bad = time.monotonic(), Counter(), 0, []
     for first in range(0, len(nths), PART):
         cases = [case._replace(nth=nth) for nth in nths[first : first + PART]]
@@ -234,8 +234,7 @@ def swept(pool, case, nths, least):
     told = ", ".join(f"{how} {times}" for how, times in seen.items() if times)
     run = f", {case.run} in a row" if case.run > 1 else ""
     what = f"{case.call} {case.error}{run}{case.way and ', ' + case.way}"
-    is_met = refused > 0 or nths[0] > least
-    return judge(not bad and is_met, f"{what}: refused at {refused} places: {told}: {time.monotonic() - began:.1f} s")
+    return judge(not bad, f"{what}: refused at {refused} places: {told}: {time.monotonic() - began:.1f} s"), refused
 
 
 def counted(pool, path, way):
@@ -255,11 +254,17 @@ def all_swept(pool, path, way, calls, is_half):
     """Sweeps these calls in this way. How many of each were made where none failed."""
     most, least = counted(pool, path, way)
     for call in calls:
+        met = 0
         for number, error in enumerate(CALLS[call].split() if most[call] else ()):
             for run in (1, 10) if call == "memory" and way == PLAIN else (1,):
                 case = Case(path, call, error, 0, run, way)
-                if not swept(pool, case, places(most[call], number, is_half), least[call]):
+                ok, refused = swept(pool, case, places(most[call], number, is_half))
+                met += refused
+                if not ok:
                     end()
+        # What is made in each run is refused at some place, by one of its errors at least: by a single one it may be missed.
+        if least[call] and not judge(met > 0, f"{call}{way and ', ' + way}: refused {met} times in all:"):
+            end()
     return most
 
 
