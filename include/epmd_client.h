@@ -94,9 +94,10 @@ struct epmd_found {
     struct epmd_node node;
 };
 
-/* What a port mapper answered to a registration. */
+/* What a port mapper answered to a registration, as its bytes say. */
 struct epmd_alive {
-    uint32_t creation;  /* with EPMD_OK the creation: 1 to 3 for a `highest` below 6, else from 4 on; with EPMD_REFUSED 0 */
+    uint32_t creation;  /* with EPMD_REFUSED 0; with EPMD_OK the creation, which by the protocol is 1 to 3 for a `highest` below 6, and
+                           else from 4 on */
     uint8_t code;       /* with EPMD_OK 0, with EPMD_REFUSED the port mapper's result, above 0 */
 };
 

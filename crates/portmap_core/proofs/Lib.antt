@@ -19,3 +19,4 @@ pub mod Fitting
 pub mod Names
 pub mod Trusting
 pub mod Registered
+pub mod Leaving

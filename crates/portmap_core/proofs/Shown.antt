@@ -8,7 +8,8 @@ use Rattle.portmap_wire.proofs.RequestLaws.{one_request}
 use Rattle.portmap_wire.specs.declared.request.Request.TheVariants as request
 use Rattle.portmap_table.specs.{Rows.{Names, same_name}, declared.row.Row.Row}
 use Rattle.portmap_core.specs.Config.{Configuration}
-use Rattle.portmap_core.specs.Laws.{ActiveNamesAreFound, ActiveNamesAreListed, Completes, OthersAreToldNothing}
+use Rattle.portmap_core.specs.Laws.{ActiveNamesAreFound, ActiveNamesAreListed, Completes, ListsAreExact}
+use Rattle.portmap_core.specs.Laws.{OthersAreToldNothing}
 use Rattle.portmap_core.specs.{Serving.{Served, ServesBody, names_line_of, served}, State.State}
 use Rattle.portmap_core.specs.{Step.{Outcome, outcome_of}, declared.connection.Connection.Connection}
 use Rattle.portmap_core.proofs.Waits.{WaitsAt, said, settles_at}
@@ -36,7 +37,7 @@ completed {cfg} {s} {s'} {slot} {connection} {body} {reply} c request spells =
     let by = spelled cfg s.names connection.local slot body request settles.served spells whole in
     (by.0, settles.outcome ∙ ap (outcome_of s slot connection) by.1)
 
-answered : {cfg : Configuration} {s s' : State} {slot : ℕ} {connection : Connection} {body reply : List ℕ}
+pub answered : {cfg : Configuration} {s s' : State} {slot : ℕ} {connection : Connection} {body reply : List ℕ}
     → Completes cfg s slot connection body reply s' → (request : Request) → Spells body request
     → (creation : ℕ) × (reply ≡ (served cfg s.names connection.local slot request creation).reply)
 answered c request spells = let by = completed c request spells in (by.0, ap (λ (x : Outcome). x.reply) by.1)
@@ -76,6 +77,9 @@ active_names_are_listed cfg s s' slot connection body reply name row c spells ac
     let part = part_behind (be4 cfg.port) lines (names_line (names_line_of row))
     (has_line (λ (x : Row). same_name x.reg.name name) names_line names_line_of s.names.active row active) in
     (part.0, part.1, (answered c request.Names spells).1 ∙ part.2)
+
+pub lists_are_exact : ListsAreExact
+lists_are_exact cfg s s' slot connection body reply c spells = (answered c request.Names spells).1
 
 -- ---- other hosts
 

@@ -38,7 +38,7 @@ retired_last_none : (name : List ℕ) (names : Names) (at : ℕ) (o : Option Row
     → active_row name names ≡ None → active_row name (retired_last at o names) ≡ None
 retired_last_none name names at o e none = search (rules, finds_none, none_found, none_without)
 
-retired_at_none : (name : List ℕ) (names : Names) (o : Option ℕ) → active_row name names ≡ None
+pub retired_at_none : (name : List ℕ) (names : Names) (o : Option ℕ) → active_row name names ≡ None
     → active_row name (retired_at o names) ≡ None
 retired_at_none name names o none = search (rules, retired_last_none)
 

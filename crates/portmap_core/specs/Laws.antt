@@ -2,7 +2,7 @@
 use Rattle.std.specs.Prelude.{◌≡◌, ◌≢◌, ℕ, ◌<◌, ◌≤◌, ◌==◌, true, false, List, [], ◌∷◌, ◌++◌, length, map as list_map}
 use Rattle.std.specs.Prelude.{slice_index_or, ◌⊎◌, Some, None, All, codes, nat_lt, if◌then◌else◌}
 use Rattle.std.specs.FinMap as map
-use Rattle.portmap_wire.specs.{List.names_line, Node.Node, Reply.{alive_reply, port2_reply}}
+use Rattle.portmap_wire.specs.{List.{names_line, names_reply}, Node.Node, Reply.{alive_reply, port2_reply}}
 use Rattle.portmap_wire.specs.Request.{body_of, sent, IsRequest, IsMalformed, Spells}
 use Rattle.portmap_wire.specs.declared.request.Request.{Request}
 use Rattle.portmap_wire.specs.declared.request.Request.TheVariants as request
@@ -123,6 +123,13 @@ ActiveNamesAreListed =
     → Completes cfg s slot connection body reply s' → Spells body request.Names → active_row name s.names ≡ Some row
     → (before : List ℕ) × (after : List ℕ) × (reply ≡ before ++ names_line (names_line_of row) ++ after)
 
+-- and the list has the active names alone, in the order in which they were registered
+abbrev pub ListsAreExact : Type 0
+ListsAreExact =
+    (cfg : Configuration) (s s' : State) (slot : ℕ) (connection : Connection) (body reply : List ℕ)
+    → Completes cfg s slot connection body reply s' → Spells body request.Names
+    → reply ≡ names_reply cfg.port (list_map names_line_of s.names.active)
+
 -- what any host may ask: where a name is, and which there are
 abbrev pub IsLook : Request → Type 0
 IsLook (request.Alive g) = ⊥
@@ -152,7 +159,7 @@ pub record IsTold (cfg : Configuration) (s : State) (request : Request) (reply :
   pub local : connection.local ≡ true
   pub spells : Spells body request
 
--- this is the reply, and a close, and nothing is changed by it
+-- this is the reply, and a close, and neither the names nor whether the port mapper has ended are changed
 pub record IsRefused (s : State) (text reply : List ℕ) (fate : Fate) (s' : State) : Type 0 where
   pub reply_is : reply ≡ text
   pub closes : fate ≡ Close
@@ -228,3 +235,37 @@ RegisteredAreAlone =
     (cfg : Configuration) (es : List Entry) (s first last s' : State) (g other : Node) (reply answer : List ℕ) (fate : Fate)
     (t : IsTold cfg s (request.Alive g) reply Stay first) → Run cfg first es last → NoneEnds t.slot es
     → IsTold cfg last (request.Alive other) answer fate s' → other.name ≡ g.name → IsRefused last (refusal other.high 1) answer fate s'
+
+-- ---- how a name leaves
+
+-- this name is active no more, and each other one as it was
+pub record Retires (name : List ℕ) (names after : Names) : Type 0 where
+  pub gone : active_row name after ≡ None
+  pub others : (other : List ℕ) → same_name name other ≡ false → active_row other after ≡ active_row other names
+
+-- a connection that ends retires its name alone
+abbrev pub EndsRetire : Type 0
+EndsRetire =
+    (cfg : Configuration) (s s' : State) (name : List ℕ) (row : Row) (e : Entry) → IsOwned cfg s → Step cfg s e s'
+    → (e ≡ Closed row.slot) ⊎ (e ≡ Faulted row.slot) → active_row name s.names ≡ Some row → Retires name s.names s'.names
+
+-- where checks are relaxed STOP retires the name that it asks for, and that name alone
+abbrev pub StopsRetire : Type 0
+StopsRetire =
+    (cfg : Configuration) (s s' : State) (name : List ℕ) (row : Row) (reply : List ℕ) (fate : Fate) → IsOwned cfg s → cfg.relaxed ≡ true
+    → IsTold cfg s (request.Stop name) reply fate s' → active_row name s.names ≡ Some row
+    → (reply ≡ codes "STOPPED") × (fate ≡ Close) × Retires name s.names s'.names
+
+-- no step of this run registers the name
+abbrev pub NoneRegisters : (name : List ℕ) (cfg : Configuration) (es : List Entry) (s s' : State) → Run cfg s es s' → Type 0
+NoneRegisters name cfg [] s s' run = Unit {0}
+NoneRegisters name cfg (e ∷ es) s s' run =
+    ((g : Node) (reply : List ℕ) → IsTold cfg s (request.Alive g) reply Stay run.0 → g.name ≢ name)
+    × NoneRegisters name cfg es run.0 s' run.2
+
+-- a name that is not active is found by nobody until it is registered
+abbrev pub AbsentNamesAreNotFound : Type 0
+AbsentNamesAreNotFound =
+    (cfg : Configuration) (es : List Entry) (s last s' : State) (name : List ℕ) (asker : ℕ) (connection : Connection)
+    (body answer : List ℕ) (run : Run cfg s es last) → active_row name s.names ≡ None → NoneRegisters name cfg es s last run
+    → Completes cfg last asker connection body answer s' → Spells body (request.Port name) → answer ≡ port2_reply None

@@ -4,6 +4,7 @@ ghost use Rattle.portmap_core.specs.Laws.{EndsLeaveNoName, EntriesDetermine, Hol
 ghost use Rattle.portmap_core.specs.Laws.{KillsEnd, MalformedChangesNoName, NamesBelongToConnections, NewNamesWantRoom};
 ghost use Rattle.portmap_core.specs.Laws.{OthersAreToldNothing, RunsKeepLimits, StepsKeepOwned, TakenCreationsAreNew};
 ghost use Rattle.portmap_core.specs.Laws.{WrittenIsWhole};
+ghost use Rattle.portmap_core.specs.Laws.{AbsentNamesAreNotFound, EndsRetire, ListsAreExact, StopsRetire};
 ghost use Rattle.portmap_core.specs.Laws.{FreeNamesRegister, NamesStay, RegisteredAreAlone, RegisteredAreFound};
 
 /// The first request of what was written, whatever follows it, is the request written.
@@ -58,10 +59,12 @@ pub fn taken_creations_are_new()
     ensures { TakenCreationsAreNew }
 {}
 
-/// Whoever asks for an active name is told all that it was registered with, and it has its line in the list of names.
+/// Whoever asks for an active name is told all that it was registered with, and it has its line in the list of names,
+/// which has the active names alone, in the order in which they were registered.
 pub fn active_names_are_shown()
     ensures found { ActiveNamesAreFound }
     ensures listed { ActiveNamesAreListed }
+    ensures exact { ListsAreExact }
 {}
 
 /// Peers of other hosts are told where names are and which there are, and nothing else.
@@ -90,4 +93,12 @@ pub fn registered_names_stay()
     ensures stay { NamesStay }
     ensures found { RegisteredAreFound }
     ensures alone { RegisteredAreAlone }
+{}
+
+/// A connection that ends, and a STOP, retire one name and no other; and a name that is not active is found by nobody
+/// until it is registered.
+pub fn names_that_left_are_not_found()
+    ensures ends { EndsRetire }
+    ensures stops { StopsRetire }
+    ensures absent { AbsentNamesAreNotFound }
 {}

@@ -1,0 +1,184 @@
+-- How a name leaves, and that nobody finds it then.
+use Rattle.std.specs.{List.{AllByRecursion, IsDistinct}, Prelude.{find, map as list_map, not, option_map, ◌==◌, ◌⊎◌}}
+use Rattle.std.specs.Cmp.Lexicographic.{same_text}
+use Rattle.std.proofs.Common.{◌≡◌, ◌≢◌, ℕ, Bool, true, false, List, [], ◌∷◌, ◌++◌, Option, Some, None, refl, sym, ap, subst, ◌∙◌}
+use Rattle.std.proofs.Common.{inl, inr, rules}
+use Rattle.std.proofs.lemmas.{Bool.{cases_Bool, cond_both, eq-eqb, false_from_ne_true}, Option.same_Some}
+use Rattle.portmap_wire.specs.{Node.Node, Reply.{alive_reply, port2_reply}, Request.Spells}
+use Rattle.portmap_wire.specs.declared.request.Request.{Request, TheVariants.{Alive, Dump, Kill, Port, Stop}}
+use Rattle.portmap_wire.specs.declared.request.Request.TheVariants as request
+use Rattle.portmap_feed.specs.Stream.{Sight, More, Zero, TooLarge, Whole, first_request}
+use Rattle.portmap_table.specs.{Laws.row_of, Rows.{AreKept, Names, active_row, is_active, is_full_for, registered}}
+use Rattle.portmap_table.specs.{Rows.{retired_of, same_name, slot_of, with_room}, declared.row.Row.Row}
+use Rattle.portmap_table.proofs.{Finding.{find-push_other, is_none}, Kept.has_name}
+use Rattle.portmap_table.proofs.NameLaws.{active_names_stay, names_outlive_connections, others_stay_at_retirement}
+use Rattle.portmap_core.specs.{Config.Configuration, Entry.{Closed, Connected, Entry, Faulted, Late, Piece}}
+use Rattle.portmap_core.specs.Laws.{AbsentNamesAreNotFound, EndsRetire, IsTold, NoneRegisters, Retires, StopsRetire}
+use Rattle.portmap_core.specs.{Run.Run, Serving.{Served, ToldAt, alive_served, closed, registers}}
+use Rattle.portmap_core.specs.{Serving.{replied, served, stops}, State.State}
+use Rattle.portmap_core.specs.Step.{Outcome, Says, Step, Told, outcome_of}
+use Rattle.portmap_core.specs.declared.connection.{Stage.{Stage, TheVariants.{Done, Holding, Waiting}}}
+use Rattle.portmap_core.specs.declared.event.Fate.{Fate, TheVariants.Stay}
+use Rattle.portmap_core.proofs.{LocalPeers.concluded, Shown.answered, Taken.retired_at_none, Waits.said}
+
+-- ---- a slot's name retires
+
+-- what holds of each key holds of that of an element that is found
+key_found : {X K : Type 0} (P : K → Type 0) (key : X → K) (p : X → Bool) (xs : List X) (x : X) → AllByRecursion P (list_map key xs)
+    → find p xs ≡ Some x → P (key x)
+key_found P key p [] x all found = absurd cc
+key_found P key p (y ∷ ys) x all found = elim (cases_Bool (p y)) [
+  | inl passes ↦ subst (λ z. P (key z)) (same_Some y x (rw passes at found)) all.0
+  | inr fails ↦ key_found P key p ys x all.1 (rw fails at found)
+]
+
+-- where no two keys are the same, what is found is found by its key
+found_by_key : {X : Type 0} (key : X → ℕ) (p : X → Bool) (xs : List X) (x : X) → IsDistinct ◌==◌ (list_map key xs) → find p xs ≡ Some x
+    → find (λ y. key y == key x) xs ≡ Some x
+unfolding IsDistinct
+found_by_key key p [] x distinct found = absurd cc
+found_by_key key p (y ∷ ys) x distinct found = elim (cases_Bool (p y)) [
+  | inl passes ↦ let same = same_Some y x (rw passes at found) in rw (ap key same, eq-eqb (key x) (key x) refl) (ap Some same)
+  | inr fails ↦
+      let later = rw fails at found in
+      rw (key_found (λ k. (key y == k) ≡ false) key p ys x distinct.0 later) (found_by_key key p ys x distinct.1 later)
+]
+
+found_passes : {X : Type 0} (p : X → Bool) (xs : List X) (x : X) → find p xs ≡ Some x → p x ≡ true
+found_passes p [] x found = absurd cc
+found_passes p (y ∷ ys) x found = elim (cases_Bool (p y)) [
+  | inl passes ↦ subst (λ z. p z ≡ true) (same_Some y x (rw passes at found)) passes
+  | inr fails ↦ found_passes p ys x (rw fails at found)
+]
+
+name_of_found : (name : List ℕ) (names : Names) (row : Row) → active_row name names ≡ Some row → row.reg.name ≡ name
+name_of_found name names row found = same_text row.reg.name name (sym (found_passes (has_name name) names.active row found))
+
+module _ (known_max : ℕ) (names : Names) (kept : AreKept known_max names) where
+  slot_retires : (name : List ℕ) (row : Row) → active_row name names ≡ Some row → Retires name names (retired_of row.slot names)
+  slot_retires name row found =
+      let owned : row_of row.slot names ≡ Some row = found_by_key slot_of (has_name name) names.active row kept.owners found in
+      let called = name_of_found name names row found in
+      let left = names_outlive_connections known_max names row.slot row kept owned in
+      record {
+        gone = rw called at (is_none (active_row row.reg.name (retired_of row.slot names)) left.0);
+        others = λ other differs. (others_stay_at_retirement names row.slot row other owned (rw (sym called) at differs)).0;
+      }
+
+ends_at : (cfg : Configuration) (s s' : State) (slot : ℕ) (e : Entry) → (e ≡ Closed slot) ⊎ (e ≡ Faulted slot) → Step cfg s e s'
+    → s'.names ≡ retired_of slot s.names
+ends_at cfg s s' slot e (inl is) step =
+    ap (λ (x : State). x.names) (subst (λ (x : Entry). Step cfg s x s') is step).moves.after
+ends_at cfg s s' slot e (inr is) step =
+    ap (λ (x : State). x.names) (subst (λ (x : Entry). Step cfg s x s') is step).moves.after
+
+pub ends_retire : EndsRetire
+ends_retire cfg s s' name row e owned step ends found =
+    subst (λ (n : Names). Retires name s.names n) (sym (ends_at cfg s s' row.slot e ends step))
+    (slot_retires cfg.known_max s.names owned.names name row found)
+
+pub stops_retire : StopsRetire
+stops_retire cfg s s' name row reply fate owned relaxed t found =
+    let o = concluded t (stops s.names (Some row.slot)) (λ creation. rw (relaxed, found) refl) in (
+      ap (λ (x : Outcome). x.reply) o,
+      ap (λ (x : Outcome). x.fate) o,
+      subst (λ (n : Names). Retires name s.names n) (sym (ap (λ (x : Outcome). x.state.names) o))
+          (slot_retires cfg.known_max s.names owned.names name row found),
+    )
+
+-- ---- a name that is not active is so until it is registered
+
+abbrev Absent : List ℕ → Names → Type 0
+Absent name names = active_row name names ≡ None
+
+other_registers : (name : List ℕ) (known_max : ℕ) (names : Names) (slot : ℕ) (g : Node) (creation : ℕ) → g.name ≢ name → Absent name names
+    → Absent name (registered g creation slot (with_room known_max g.name names))
+other_registers name known_max names slot g creation other absent =
+    let differs : same_name g.name name ≡ false = false_from_ne_true (same_name g.name name) (λ e. other (same_text g.name name (sym e))) in
+    find-push_other (has_name name) (with_room known_max g.name names).active (record { reg = g; creation = creation; slot = slot }) differs
+    ∙ rw (active_names_stay known_max names g.name) absent
+
+is_near : (local : Bool) → not local ≡ false → local ≡ true
+is_near local e = search rules
+
+-- what is served keeps it so, but for its registration
+module _ (name : List ℕ) (cfg : Configuration) (names : Names) (local : Bool) (slot : ℕ) where
+  abbrev Spares : Request → Served → Type 0
+  Spares request o = ((g : Node) → request ≡ Alive g → local ≡ true → o.fate ≡ Stay → g.name ≢ name) → Absent name names
+      → Absent name o.names
+
+  served_spares : (request : Request) (creation : ℕ) → Spares request (served cfg names local slot request creation)
+  served_spares (Alive g) creation =
+      cond_both (not local) (closed names) (alive_served cfg names slot g creation) (Spares (Alive g)) (λ _ _ absent. absent) (λ near.
+      cond_both (is_active g.name names) (replied names (alive_reply g.high 1 0)) _ (Spares (Alive g)) (λ _ _ absent. absent) (λ _.
+      cond_both (is_full_for cfg.known_max g.name names) (replied names (alive_reply g.high 2 0))
+      (registers cfg.known_max names slot g creation) (Spares (Alive g)) (λ _ _ absent. absent) (λ _ spared absent.
+      other_registers name cfg.known_max names slot g creation (spared g refl (is_near local near) refl) absent)))
+  served_spares (Port other) creation = λ _ absent. absent
+  served_spares request.Names creation = λ _ absent. absent
+  served_spares Dump creation = λ _ absent. search rules
+  served_spares Kill creation = λ _ absent. search rules
+  served_spares (Stop other) creation = λ _ absent. search (rules, retired_at_none)
+
+-- and so does each step
+module _ (name : List ℕ) (cfg : Configuration) (s s' : State) where
+  abbrev NoneTakes : Type 0
+  NoneTakes = (g : Node) (reply : List ℕ) → IsTold cfg s (Alive g) reply Stay s' → g.name ≢ name
+
+  piece_spares : (slot : ℕ) (piece reply : List ℕ) (fate : Fate) → Says cfg s slot piece reply fate s' → NoneTakes → Absent name s.names
+      → Absent name s'.names
+  piece_spares slot piece reply fate says none absent = by says.connection.stage refl says.told
+    where
+      out : (o : Outcome) → said reply fate s' ≡ o → Absent name o.state.names → Absent name s'.names
+      out o is h = subst (λ (o : Outcome). Absent name o.state.names) (sym is) h
+
+      by : (stage : Stage) → says.connection.stage ≡ stage → Told cfg s slot says.connection piece stage (said reply fate s')
+          → Absent name s'.names
+      by (Waiting received) waits told =
+          out (outcome_of s slot says.connection told.served) told.outcome (sight (first_request (received ++ piece)) refl told.told)
+        where
+          sight : (x : Sight) → first_request (received ++ piece) ≡ x
+              → ToldAt cfg s.names says.connection.local slot (received ++ piece) x told.served → Absent name told.served.names
+          sight More whole is = rw is absent
+          sight Zero whole is = rw is absent
+          sight (TooLarge n) whole is = rw is absent
+          sight (Whole body) whole (inr p) = rw p.is absent
+          sight (Whole body) whole (inl p) =
+              rw p.serves.is (served_spares name cfg s.names says.connection.local slot p.request p.serves.creation
+              (λ g is local stays. none g reply (record {
+                slot = slot;
+                connection = says.connection;
+                body = body;
+                completes = record {
+                  received = received;
+                  piece = piece;
+                  fate = fate;
+                  is_open = says.is_open;
+                  waits = waits;
+                  whole = whole;
+                  says = says;
+                };
+                fate_is = ap (λ (o : Outcome). o.fate) told.outcome ∙ ap (λ (o : Served). o.fate) p.serves.is ∙ stays;
+                local = local;
+                spells = subst (λ (r : Request). Spells body r) is p.spells;
+              })) absent)
+      by Holding waits told = out _ told absent
+      by Done waits told = out _ told absent
+
+  step_spares : (e : Entry) → Step cfg s e s' → NoneTakes → Absent name s.names → Absent name s'.names
+  step_spares (Connected local slot) step none absent = rw step.moves.after absent
+  step_spares (Piece slot piece reply fate) step none absent = piece_spares slot piece reply fate step.moves none absent
+  step_spares (Closed slot) step none absent = rw step.moves.after (retired_at_none name s.names _ absent)
+  step_spares (Faulted slot) step none absent = rw step.moves.after (retired_at_none name s.names _ absent)
+  step_spares (Late slot fate) step none absent = search rules
+
+run_spares : (name : List ℕ) (cfg : Configuration) (es : List Entry) (s s' : State) (run : Run cfg s es s') → Absent name s.names
+    → NoneRegisters name cfg es s s' run → Absent name s'.names
+run_spares name cfg [] s s' run absent none = rw run absent
+run_spares name cfg (e ∷ es) s s' run absent none =
+    run_spares name cfg es run.0 s' run.2 (step_spares name cfg s run.0 e run.1 none.0 absent) none.1
+
+pub absent_names_are_not_found : AbsentNamesAreNotFound
+absent_names_are_not_found cfg es s last s' name asker connection body answer run absent none c spells =
+    (answered c (Port name) spells).1
+    ∙ ap (λ (o : Option Row). port2_reply (option_map (λ (x : Row). x.reg) o)) (run_spares name cfg es s last run absent none)
