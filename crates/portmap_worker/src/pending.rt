@@ -106,9 +106,13 @@ impl<L: Ledger, S: System, R: Host + Wait + Clock> SocketSource<'_, L, S, R> {
         Some(self.desk.is_active(self.rt, name))
     }
 
-    /// Whether no registration is taken, since no memory is left that others may need.
+    /// Whether no registration is taken, since no memory is left that others may need. Where this worker is the first to
+    /// find that, it says so: what it refuses counts.
     fn is_short(&self) -> bool {
-        self.shared.short.load(Ordering::SeqCst) || !self.rt.has_memory(self.alloc)
+        if !self.rt.has_memory(self.alloc) {
+            self.shared.short.store(true, Ordering::SeqCst);
+        }
+        self.shared.short.load(Ordering::SeqCst)
     }
 
     /// What the link that was told last keeps back is told at once, unless its name is active, or no memory is left
