@@ -5,6 +5,7 @@ import itertools
 import os
 import pty
 import re
+import resource
 import select
 import signal
 import subprocess
@@ -229,6 +230,17 @@ class Descriptors(Places):
         daemon = self.daemon(limits={"RLIMIT_NOFILE": 4096})
         self.serves(daemon)
         self.assertEqual(daemon.lines(), [])
+
+    def test_a_limit_that_is_lowered(self):
+        """Where descriptors run out before places do, the oldest silent peers give way as where no place is free."""
+        daemon = self.daemon(*NEVER)
+        hard = resource.prlimit(daemon.pid, resource.RLIMIT_NOFILE)[1]
+        resource.prlimit(daemon.pid, resource.RLIMIT_NOFILE, (len(os.listdir(f"/proc/{daemon.pid}/fd")) + 20, hard))
+        for _ in range(60):
+            self.enterContext(dial(daemon.port))
+        for number in range(5):
+            self.enterContext(register(daemon.port, b"node%d" % number))
+            self.assertEqual(ask(daemon.port, port_please(b"node%d" % number)), found(b"node%d" % number))
 
     def test_so_few_that_it_can_not_begin(self):
         for limit in range(3, 30, 3):
