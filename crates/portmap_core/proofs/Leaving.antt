@@ -91,12 +91,12 @@ stops_retire cfg s s' name row reply fate owned relaxed t found =
 abbrev Absent : List ℕ → Names → Type 0
 Absent name names = active_row name names ≡ None
 
-other_registers : (name : List ℕ) (known_max : ℕ) (names : Names) (slot : ℕ) (g : Node) (creation : ℕ) → g.name ≢ name → Absent name names
-    → Absent name (registered g creation slot (with_room known_max g.name names))
-other_registers name known_max names slot g creation other absent =
-    let differs : same_name g.name name ≡ false = false_from_ne_true (same_name g.name name) (λ e. other (same_text g.name name (sym e))) in
-    find-push_other (has_name name) (with_room known_max g.name names).active (record { reg = g; creation = creation; slot = slot }) differs
-    ∙ rw (active_names_stay known_max names g.name) absent
+other_registers : (known_max : ℕ) (names : Names) (row : Row) {name : List ℕ} → row.reg.name ≢ name → Absent name names
+    → Absent name (registered row.reg row.creation row.slot (with_room known_max row.reg.name names))
+other_registers known_max names row {name} other absent =
+    let given = row.reg.name in
+    let differs : same_name given name ≡ false = false_from_ne_true (same_name given name) (λ e. other (same_text given name (sym e))) in
+    find-push_other (has_name name) (with_room known_max given names).active row differs ∙ rw (active_names_stay known_max names given) absent
 
 is_near : (local : Bool) → not local ≡ false → local ≡ true
 is_near local e = search rules
@@ -113,7 +113,7 @@ module _ (name : List ℕ) (cfg : Configuration) (names : Names) (local : Bool) 
       cond_both (is_active g.name names) (replied names (alive_reply g.high 1 0)) _ (Spares (Alive g)) (λ _ _ absent. absent) (λ _.
       cond_both (is_full_for cfg.known_max g.name names) (replied names (alive_reply g.high 2 0))
       (registers cfg.known_max names slot g creation) (Spares (Alive g)) (λ _ _ absent. absent) (λ _ spared absent.
-      other_registers name cfg.known_max names slot g creation (spared g refl (is_near local near) refl) absent)))
+      other_registers cfg.known_max names (record { reg = g; creation = creation; slot = slot }) (spared g refl (is_near local near) refl) absent)))
   served_spares (Port other) creation = λ _ absent. absent
   served_spares request.Names creation = λ _ absent. absent
   served_spares Dump creation = λ _ absent. search rules
@@ -172,11 +172,12 @@ module _ (name : List ℕ) (cfg : Configuration) (s s' : State) where
   step_spares (Faulted slot) step none absent = rw step.moves.after (retired_at_none name s.names _ absent)
   step_spares (Late slot fate) step none absent = search rules
 
-run_spares : (name : List ℕ) (cfg : Configuration) (es : List Entry) (s s' : State) (run : Run cfg s es s') → Absent name s.names
-    → NoneRegisters name cfg es s s' run → Absent name s'.names
-run_spares name cfg [] s s' run absent none = rw run absent
-run_spares name cfg (e ∷ es) s s' run absent none =
-    run_spares name cfg es run.0 s' run.2 (step_spares name cfg s run.0 e run.1 none.0 absent) none.1
+module _ (name : List ℕ) (cfg : Configuration) where
+  run_spares : (es : List Entry) (s s' : State) (run : Run cfg s es s') → Absent name s.names → NoneRegisters name cfg es s s' run
+      → Absent name s'.names
+  run_spares [] s s' run absent none = rw run absent
+  run_spares (e ∷ es) s s' run absent none =
+      run_spares es run.0 s' run.2 (step_spares name cfg s run.0 e run.1 none.0 absent) none.1
 
 pub absent_names_are_not_found : AbsentNamesAreNotFound
 absent_names_are_not_found cfg es s last s' name asker connection body answer run absent none c spells =

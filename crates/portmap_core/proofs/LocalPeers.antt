@@ -10,8 +10,8 @@ use Rattle.portmap_core.specs.{State.State, Step.{Outcome, outcome_of}, declared
 use Rattle.portmap_core.proofs.{Shown.completed, Waits.said}
 
 -- what comes of a request that is told one thing whatever creation it would have
-pub concluded : {cfg : Configuration} {s s' : State} {request : Request} {reply : List ℕ} {fate : Fate} (t : IsTold cfg s request reply fate s')
-    (o : Served) → ((creation : ℕ) → served cfg s.names true t.slot request creation ≡ o)
+pub concluded : {cfg : Configuration} {s s' : State} {request : Request} {reply : List ℕ} {fate : Fate}
+    (t : IsTold cfg s request reply fate s') (o : Served) → ((creation : ℕ) → served cfg s.names true t.slot request creation ≡ o)
     → said reply fate s' ≡ outcome_of s t.slot t.connection o
 concluded {cfg} {s} {s'} {request} {reply} {fate} t o is =
     let by = completed t.completes request t.spells in
