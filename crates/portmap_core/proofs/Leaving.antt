@@ -96,7 +96,8 @@ other_registers : (known_max : ℕ) (names : Names) (row : Row) {name : List ℕ
 other_registers known_max names row {name} other absent =
     let given = row.reg.name in
     let differs : same_name given name ≡ false = false_from_ne_true (same_name given name) (λ e. other (same_text given name (sym e))) in
-    find-push_other (has_name name) (with_room known_max given names).active row differs ∙ rw (active_names_stay known_max names given) absent
+    find-push_other (has_name name) (with_room known_max given names).active row differs
+    ∙ rw (active_names_stay known_max names given) absent
 
 is_near : (local : Bool) → not local ≡ false → local ≡ true
 is_near local e = search rules
@@ -113,7 +114,8 @@ module _ (name : List ℕ) (cfg : Configuration) (names : Names) (local : Bool) 
       cond_both (is_active g.name names) (replied names (alive_reply g.high 1 0)) _ (Spares (Alive g)) (λ _ _ absent. absent) (λ _.
       cond_both (is_full_for cfg.known_max g.name names) (replied names (alive_reply g.high 2 0))
       (registers cfg.known_max names slot g creation) (Spares (Alive g)) (λ _ _ absent. absent) (λ _ spared absent.
-      other_registers cfg.known_max names (record { reg = g; creation = creation; slot = slot }) (spared g refl (is_near local near) refl) absent)))
+      other_registers cfg.known_max names (record { reg = g; creation = creation; slot = slot })
+      (spared g refl (is_near local near) refl) absent)))
   served_spares (Port other) creation = λ _ absent. absent
   served_spares request.Names creation = λ _ absent. absent
   served_spares Dump creation = λ _ absent. search rules
