@@ -106,7 +106,7 @@ impl<L: Ledger, S: System, R: Host + Wait + Clock> SocketSource<'_, L, S, R> {
         Some(self.desk.is_active(self.rt, name))
     }
 
-    /// Whether no registration is taken, since no memory is left that others may need. Where this worker is the first to
+    /// Whether no registration is taken, since no memory is left that others may need. If this worker is the first to
     /// find that, it says so: what it refuses counts.
     fn is_short(&self) -> bool {
         if !self.rt.has_memory(self.alloc) {
