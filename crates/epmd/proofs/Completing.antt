@@ -7,7 +7,7 @@ use Rattle.epmd.specs.{Numbers.IsWithin, Words.{Asked, Serve, Item, Port, Addres
 use Rattle.epmd.specs.{Words.{last_by, port_of, addresses_of, timeout_of, workers_of}, declared.plan.Plan.Plan}
 use Rattle.epmd.specs.{declared.plan.TheConstants.{TIMEOUT, WORKERS}, declared.words.Command.Command}
 use Rattle.epmd.specs.declared.words.Env.{Env}
-use Rattle.epmd.proofs.Listening.{are_listening}
+use Rattle.epmd.proofs.{Listening.are_listening, Sayings.is_some_map}
 
 -- ---- the command
 
@@ -21,6 +21,9 @@ is_command items plan env command h c = record {
   one = omega (arith, h.actions, at_most_one (is_some plan.action));
   action = c.action ∙ ap (λ (o : Option Asked). unwrap_or o Serve) h.action;
   port = subst (λ (o : Option ℕ). IsPort o (option_map string_bytes env.port) command.port) h.port c.port;
+  says_where =
+      let given = sym (is_some_map (λ addresses. addresses.items) plan.addresses) ∙ ap is_some h.addresses in
+      c.says_where ∙ (λ i. is_some (h.port i) || given i || is_some env.port);
   relaxed = c.relaxed ∙ ap (λ (b : Bool). b || env.relaxed) h.relaxed;
   addresses = c.addresses ∙ ap (λ (o : Option (List (List ℕ))). unwrap_or o (anywhere ∷ [])) h.addresses;
   timeout = c.timeout ∙ ap (λ (o : Option ℕ). unwrap_or o TIMEOUT) h.timeout;

@@ -42,7 +42,7 @@ counted item old new e first =
     let same : ◌≡◌ {A = ℕ} (cond (is_some new) 1 0) (cond (is_some old) 1 0) = ap (λ (o : Option Asked). cond (is_some o) 1 0) e in
     omega (arith, same)
 
-is_some_map : {X Y : Type 0} (f : X → Y) (o : Option X) → is_some (option_map f o) ≡ is_some o
+pub is_some_map : {X Y : Type 0} (f : X → Y) (o : Option X) → is_some (option_map f o) ≡ is_some o
 is_some_map f None = refl
 is_some_map f (Some x) = refl
 

@@ -6,5 +6,6 @@ pub mod Words
 pub mod Values
 pub mod Meaning
 pub mod Daemon
+pub mod Handing
 pub mod Commands
 pub mod Auditing

@@ -51,6 +51,7 @@ pub record IsCommand (items : List Item) (env : Env) (command : Command) : Type 
   pub one : count_by is_action items ≤ 1
   pub action : asked_in command.action ≡ unwrap_or (last_by action_of items) Serve
   pub port : IsPort (last_by port_of items) (option_map string_bytes env.port) command.port
+  pub says_where : command.says_where ≡ (is_some (last_by port_of items) || is_some (last_by addresses_of items) || is_some env.port)
   pub relaxed : command.relaxed ≡ (list_any is_relaxed items || env.relaxed)
   pub addresses : command.addresses.items ≡ unwrap_or (last_by addresses_of items) (anywhere ∷ [])
   pub timeout : command.timeout ≡ unwrap_or (last_by timeout_of items) TIMEOUT
@@ -62,6 +63,7 @@ pub record IsCommand (items : List Item) (env : Env) (command : Command) : Type 
 pub record Completes (plan : Plan) (env : Env) (command : Command) : Type 0 where
   pub action : asked_in command.action ≡ unwrap_or (option_map asked_in plan.action) Serve
   pub port : IsPort plan.port (option_map string_bytes env.port) command.port
+  pub says_where : command.says_where ≡ (is_some plan.port || is_some plan.addresses || is_some env.port)
   pub relaxed : command.relaxed ≡ (plan.relaxed || env.relaxed)
   pub addresses : command.addresses.items ≡ unwrap_or (option_map (λ addresses. addresses.items) plan.addresses) (anywhere ∷ [])
   pub timeout : command.timeout ≡ unwrap_or plan.timeout TIMEOUT

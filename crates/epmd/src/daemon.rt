@@ -6,11 +6,11 @@ ghost use Rattle.epmd.specs.Daemon.{unheard_line, text_of_end};
 ghost use Rattle.epmd.specs.Errors.{IsTaken, IsSpent, IsSaid};
 
 use crate::actions::{CONNECTIONS_MOST, DONE, FAILED, Failure, NAMES_MOST, NOT_DONE, fail};
-use crate::errors::{say_all, say_number};
+use crate::errors::say_all;
 use crate::words::Command;
 use itoa::Buffer;
 use portmap_core::Config;
-use portmap_daemon::{HandedFault, RunEnd, RunFault, Settings};
+use portmap_daemon::{RunEnd, RunFault, Settings};
 use portmap_link::{NoMemory, Writing};
 use std::alloc::Global;
 use std::io::Write;
@@ -21,10 +21,6 @@ const WORKER: &[u8] = b"epmd: worker ";
 const SERVED: &[u8] = b" served ";
 
 const UNHEARD: &[u8] = b"epmd: cannot listen on ";
-
-const DESCRIPTOR: &[u8] = b"epmd: descriptor ";
-
-const NOT_LISTENING: &[u8] = b" is no listening socket\n";
 
 /// Every IPv6 address of the host, and the host itself, in front of a port.
 const EVERYWHERE: &[u8] = b"[::]:";
@@ -129,18 +125,6 @@ fn tell_unheard_beside<E: Write>(errors: &mut Writing<E>, address: [u8; 4], port
     let mut digits = Buffer::new();
     let port = digits.format(port).as_bytes();
     let _ = say_all(errors, &[UNHEARD, beside(address), port, b"\n"]);
-}
-
-/// Tells that what was handed over can't be served, and gives the status that does.
-pub fn refuse_handed<E: Write>(errors: &mut Writing<E>, fault: HandedFault) -> u8 {
-    match fault {
-        HandedFault::NotListening(number) => {
-            let number = u64::from(number.unsigned_abs());
-            let _ = say_number(errors, DESCRIPTOR, number, NOT_LISTENING);
-            NOT_DONE
-        }
-        HandedFault::NoMemory => fail(errors, Failure::Memory),
-    }
 }
 
 /// Tells how the daemon of this command has ended, and gives the status that does: `DONE` where the port mapper was

@@ -1,7 +1,25 @@
-//! Sockets that a service manager hands over, as sd_listen_fds(3) has them.
+//! Sockets that a service manager hands over, as sd_listen_fds(3) has them, and what is told of them.
+ghost use Rattle.std.specs.Prelude.{◌≡◌, ◌≢◌, ◌⊎◌, [], true, false};
+ghost use Rattle.epmd.specs.Errors.{IsSaid};
+ghost use Rattle.epmd.specs.Handing.{line_of_handed, status_of_handed};
+ghost use Rattle.epmd.specs.declared.handing.TheConstants.{WITHOUT_EFFECT};
+
+use crate::actions::{Failure, NOT_DONE, fail};
+use crate::errors::{say, say_all};
+use crate::words::Command;
+use itoa::Buffer;
+use portmap_daemon::HandedFault;
+use portmap_link::Writing;
+use std::io::Write;
 
 /// The first descriptor that is handed over.
 pub const FIRST: i32 = 3;
+
+const DESCRIPTOR: &[u8] = b"epmd: descriptor ";
+
+const NOT_LISTENING: &[u8] = b" is no listening socket\n";
+
+const WITHOUT_EFFECT: &[u8] = b"epmd: sockets were handed over, so port and addresses are theirs\n";
 
 /// How many sockets are handed over to the process of this id, by what the environment says: for which process, and how
 /// many.
@@ -10,5 +28,32 @@ pub fn handed_count(process: Option<&str>, count: Option<&str>, own: u32) -> u32
     match count {
         Some(count) if is_own => count.parse::<u32>().unwrap_or(0),
         _ => 0,
+    }
+}
+
+/// Tells that what was handed over can't be served, and gives the status that does.
+pub fn refuse_handed<E: Write>(errors: &mut Writing<E>, fault: HandedFault) -> u8
+    ensures status { result ≡ status_of_handed fault }
+    ensures line { IsSaid E.contents (line_of_handed fault) errors.old errors.new }
+{
+    match fault {
+        HandedFault::NotListening(number) => {
+            let mut digits = Buffer::new();
+            let digits = digits.format(number).as_bytes();
+            let _ = say_all(errors, &[DESCRIPTOR, digits, NOT_LISTENING]);
+            NOT_DONE
+        }
+        HandedFault::NoMemory => fail(errors, Failure::Memory),
+    }
+}
+
+/// Tells that port and addresses are without effect, where this command has one and there are sockets in their place.
+pub fn report_without_effect<T, E: Write>(errors: &mut Writing<E>, command: &Command, sockets: &[T])
+    ensures said { command.now.says_where ≡ true → sockets.now ≢ []
+        → IsSaid E.contents WITHOUT_EFFECT.now errors.old errors.new }
+    ensures silent { (command.now.says_where ≡ false) ⊎ (sockets.now ≡ []) → errors.new ≡ errors.old }
+{
+    if command.says_where && !sockets.is_empty() {
+        let _ = say(errors, WITHOUT_EFFECT);
     }
 }

@@ -113,6 +113,7 @@ impl Plan {
             debug,
             recording,
         } = self;
+        let says_where = port.is_some() || addresses.is_some() || env.port.is_some();
         let port = match port {
             Some(port) => port,
             None => usual_port(&env.port)?,
@@ -120,6 +121,7 @@ impl Plan {
         Ok(Command {
             action: action.unwrap_or(Action::Serve),
             port,
+            says_where,
             relaxed: relaxed || env.relaxed,
             addresses: usual_addresses(alloc, addresses)?,
             timeout: timeout.unwrap_or(TIMEOUT),

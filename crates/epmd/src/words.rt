@@ -61,6 +61,8 @@ pub struct Command {
     pub action: Action,
     /// 1 to 65,535.
     pub port: u16,
+    /// Whether a word or the environment says the port, or a word the addresses.
+    pub says_where: bool,
     pub relaxed: bool,
     /// What the daemon listens on.
     pub addresses: Vec<[u8; 4]>,

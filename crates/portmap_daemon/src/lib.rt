@@ -6,9 +6,10 @@
 //!   worker. `Listen(i)`: an address of the list. `run_over` is the same over sockets that listen already. Of sockets
 //!   and threads only safety is proved: what the counts are, and that `recorded` tells of a recording that is not
 //!   whole, is tested.
-//! - Exact are: where a socket listens (`address_at`), what a poll reports (`report_of`), whether it may have more to
-//!   report (`is_full`), the address of a peer (`ip_in`), what an end tells of the recording (`has_recorded`), and with
-//!   which fault (`fault_of`). That they are asked: tests.
+//! - Exact are: where a socket listens (`address_at`), at which IPv6 address another one (`beside`, `address_of`), what
+//!   says that there is no IPv6 (`lacks_ipv6`), what a poll reports (`report_of`), whether it may have more to report
+//!   (`is_full`), the address of a peer (`ip_in`), what an end says of the recording (`has_recorded`), and with which
+//!   fault (`fault_of`). That they are asked: tests.
 #![tactic(auto)]
 
 mod daemon;

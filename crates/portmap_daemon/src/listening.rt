@@ -1,7 +1,8 @@
 //! The sockets that a daemon listens on: those that it opens, and those that are handed over to it.
-ghost use Rattle.std.specs.Prelude.{◌≡◌, ◌↔◌, ◌⊎◌, true, length, Some, IfErr};
-ghost use Rattle.std.specs.Net.Addr.{ipv4_octets, IsV4And};
+ghost use Rattle.std.specs.Prelude.{◌≡◌, ◌≢◌, ◌↔◌, ◌⊎◌, ◌+◌, ◌≤◌, ◌∷◌, [], true, length, Some, IfErr, IfNone, IfSome};
+ghost use Rattle.std.specs.Net.Addr.{ipv4_octets, IsLoopbackV6, IsUnspecifiedV6, IsV4And};
 ghost use Rattle.std.specs.Net.Socket.{socket_ip, socket_port};
+ghost use Rattle.mio.specs.SockAddr.{put, sockaddr_in6};
 ghost use Rattle.portmap_daemon.specs.Running.{IsOfAddresses};
 ghost use Rattle.portmap_daemon.specs.declared.listening.TheConstants.{EADDRNOTAVAIL, EAFNOSUPPORT};
 
@@ -13,7 +14,7 @@ use libc::net::{
 use mio::net::TcpListener;
 use os::FromRawFd;
 use std::alloc::{AllocFailed, Global};
-use std::net::{IpAddr, Ipv6Addr, Net, SocketAddr};
+use std::net::{IpAddr, Ipv6Addr, Net, SocketAddr, SocketAddrV6};
 use std::os::fd::AsRawFd;
 use std::{io, net};
 
@@ -83,7 +84,11 @@ fn address_at(address: [u8; 4], port: u16) -> SocketAddr
 
 /// The IPv6 address that a daemon listens on beside this one: every address of the host beside every one, its loopback
 /// beside its loopback.
-pub fn beside(address: [u8; 4]) -> Option<Ipv6Addr> {
+pub fn beside(address: [u8; 4]) -> Option<Ipv6Addr>
+    ensures found { IfSome result (λ ip. ((address ≡ 0 ∷ 0 ∷ 0 ∷ 0 ∷ []) × IsUnspecifiedV6 ip)
+        ⊎ ((address ≡ 127 ∷ 0 ∷ 0 ∷ 1 ∷ []) × IsLoopbackV6 ip)) }
+    ensures none { IfNone result ((address ≢ 0 ∷ 0 ∷ 0 ∷ 0 ∷ []) × (address ≢ 127 ∷ 0 ∷ 0 ∷ 1 ∷ [])) }
+{
     match address {
         [0, 0, 0, 0] => Some(Ipv6Addr::UNSPECIFIED),
         [127, 0, 0, 1] => Some(Ipv6Addr::LOCALHOST),
@@ -109,7 +114,8 @@ fn listen_alone(ip: Ipv6Addr, port: u16) -> io::Result<net::TcpListener> {
     let on = [1, 0, 0, 0, 0, 0, 0, 0, 0, 0, 0, 0, 0, 0, 0, 0];
     done(unsafe { libc::net::setsockopt(number, IPPROTO_IPV6, IPV6_V6ONLY, &on, 4) })?;
     done(unsafe { libc::net::setsockopt(number, SOL_SOCKET, SO_REUSEADDR, &on, 4) })?;
-    done(unsafe { libc::net::bind(number, &address_of(ip, port), ADDRESS_BYTES) })?;
+    let address = address_of(SocketAddrV6::new(ip, port, 0, 0));
+    done(unsafe { libc::net::bind(number, &address, ADDRESS_BYTES) })?;
     done(libc::net::listen(number, BACKLOG))?;
     Ok(listener)
 }
@@ -122,13 +128,25 @@ fn done(status: i32) -> io::Result<()> {
     Err(io::Error::from_raw_os_error(os::errno()))
 }
 
+/// Puts these bytes to this place of an address.
+fn put(address: &mut [u8; _SS_SIZE], at: usize, bytes: &[u8])
+    requires { at + length bytes.now ≤ 128 }
+    ensures { address.new ≡ put address.old at bytes.now }
+{
+    address[at..at + bytes.len()].copy_from_slice(bytes);
+}
+
 /// An IPv6 address and port as the system reads them.
-fn address_of(ip: Ipv6Addr, port: u16) -> [u8; _SS_SIZE] {
-    let mut address = [0; _SS_SIZE];
-    address[..2].copy_from_slice(&(AF_INET6 as u16).to_ne_bytes());
-    address[2..4].copy_from_slice(&port.to_be_bytes());
-    address[8..24].copy_from_slice(&ip.octets());
-    address
+fn address_of(address: SocketAddrV6) -> [u8; _SS_SIZE]
+    ensures { result ≡ sockaddr_in6 address }
+{
+    let mut bytes = [0; _SS_SIZE];
+    put(&mut bytes, 0, &(AF_INET6 as u16).to_ne_bytes());
+    put(&mut bytes, 2, &address.port().to_be_bytes());
+    put(&mut bytes, 4, &address.flowinfo().to_ne_bytes());
+    put(&mut bytes, 8, &address.ip().octets());
+    put(&mut bytes, 24, &address.scope_id().to_ne_bytes());
+    bytes
 }
 
 /// The sockets that are handed over, so many, from this descriptor on. They no longer block, and are closed with what

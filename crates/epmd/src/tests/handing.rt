@@ -1,9 +1,11 @@
-//! Sockets that a service manager hands over: how many are this process's, and what is told of one that is none.
+//! Sockets that a service manager hands over: how many are this process's, and what is told of them.
 use super::ending;
-use crate::daemon::refuse_handed;
-use crate::handing::handed_count;
+use super::typed::command;
+use crate::handing::{handed_count, refuse_handed, report_without_effect};
+use crate::words::Command;
 use portmap_daemon::HandedFault;
 use portmap_link::Writing;
+use portmap_testing::cases::{Trial, all_come};
 use std::alloc::Global;
 use std::test::Fail;
 
@@ -46,4 +48,73 @@ fn what_is_handed_over_and_does_not_listen_is_told(rt: HostRuntime) -> Result<()
     let told = ended(rt.alloc(), HandedFault::NoMemory)?;
     assert_eq!(rt; told.as_str(), "3 err epmd: out of memory|");
     Ok(())
+}
+
+/// What is told of port and addresses, where so many sockets are handed over to the daemon of this command.
+fn told(alloc: Global, command: &Command, sockets: usize) -> Result<String, Fail> {
+    let mut errors = Writing::new(Vec::new(alloc));
+    let sockets = [(); 9].get(..sockets).unwrap_or(&[]);
+    report_without_effect(&mut errors, command, sockets);
+    let errors = errors.into_inner();
+    Ok(match errors.as_slice() {
+        b"" => String::from_str(alloc, "nothing")?,
+        b"epmd: sockets were handed over, so port and addresses are theirs\n" => String::from_str(
+            alloc, "the line",
+        )?,
+        other => String::from_utf8_lossy(alloc, other)?,
+    })
+}
+
+/// How many sockets are handed over, 9 at most, and a line as it is typed.
+struct Over;
+
+impl Trial for Over {
+    fn came(&self, alloc: Global, given: &str) -> Result<String, Fail> {
+        let (sockets, line) = given.split_once(' ').unwrap_or(("9", given));
+        match command(alloc, line) {
+            Ok(command) => told(alloc, &command, sockets.parse::<usize>()?),
+            Err(fault) => Ok(format!(in alloc; "fault {fault:?}")?),
+        }
+    }
+}
+
+#[test]
+fn port_and_addresses_that_are_without_effect_are_told(rt: HostRuntime) -> Result<(), Fail> {
+    let table = "
+        1 epmd -port with 4369 4370 -> the line
+        1 epmd -address with 0.0.0.0 10.0.0.1 -> the line
+        1 epmd -d -port 4370 -workers 2 -address 10.0.0.1 -> the line
+        1 ERL_EPMD_PORT=4369 epmd -> the line
+        1 ERL_EPMD_PORT=4371 epmd -port 4370 -> the line
+        1 ERL_EPMD_PORT=x epmd -address 10.0.0.1 -port 4370 -> the line
+        9 epmd -daemon -address 127.0.0.1 -> the line
+        9 ERL_EPMD_PORT=4371 epmd -d -> the line
+    ";
+    all_come(&rt, &Over, table)
+}
+
+#[test]
+fn of_no_port_and_no_addresses_nothing_is_told(rt: HostRuntime) -> Result<(), Fail> {
+    // The value of another word is no port and no address, whatever it is called. The wrapper reads ERL_EPMD_ADDRESS.
+    let table = "
+        1 epmd -> nothing
+        9 epmd -d -daemon -workers 2 -packet_timeout 30 -relaxed_command_check -> nothing
+        1 epmd -record with x -port -address -> nothing
+        1 epmd -record -port -record with -address -port -> nothing
+        1 epmd -record -port -port 4370 -> the line
+        1 epmd -record -address -address 10.0.0.1 -> the line
+        1 ERL_EPMD_RELAXED_COMMAND_CHECK=1 ERL_EPMD_ADDRESS=10.0.0.1 EPMD_PORT=4371 epmd -> nothing
+    ";
+    all_come(&rt, &Over, table)
+}
+
+#[test]
+fn where_nothing_is_handed_over_they_have_their_effect(rt: HostRuntime) -> Result<(), Fail> {
+    let table = "
+        0 epmd -> nothing
+        0 epmd -port 4370 -> nothing
+        0 epmd -address 10.0.0.1 -> nothing
+        0 ERL_EPMD_PORT=4371 epmd -port 4370 -address 10.0.0.1 -> nothing
+    ";
+    all_come(&rt, &Over, table)
 }
