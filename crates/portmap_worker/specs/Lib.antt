@@ -10,5 +10,6 @@ pub mod Quota
 pub mod Recording
 pub mod Refused
 pub mod Remote
+pub mod Replies
 pub mod Showing
 pub mod Unsent

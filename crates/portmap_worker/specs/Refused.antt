@@ -2,7 +2,7 @@
 use Rattle.std.specs.Fmt.{decimal}
 use Rattle.std.specs.Prelude.{ℕ, ◌≡◌, ◌⊎◌, ◌==◌, List, [], ◌++◌, codes, Option, Some, None, if◌then◌else◌}
 use Rattle.portmap_wire.specs.{Reply.alive_reply, declared.reply_writing.TheConstants.WIDE_VERSION}
-use Rattle.portmap_core.specs.Entry.{Entry, Connected, Piece, Closed, Faulted, Late}
+use Rattle.portmap_core.specs.{Entry.{Entry, Connected, Piece, Closed, Faulted, Late}, Registering.Registers}
 use Rattle.portmap_worker.specs.Showing.{shown}
 
 -- result 1, as a short answer or a wide one
@@ -16,6 +16,14 @@ IsInUse (Piece slot bytes reply fate) = TellsInUse reply
 IsInUse (Closed slot) = ⊥
 IsInUse (Faulted slot) = ⊥
 IsInUse (Late slot fate) = ⊥
+
+-- a piece asked to register this name, which is in use
+abbrev pub Refuses : Entry → List ℕ → Type 0
+Refuses (Connected local slot) name = ⊥
+Refuses (Piece slot bytes reply fate) name = TellsInUse reply × Registers bytes name
+Refuses (Closed slot) name = ⊥
+Refuses (Faulted slot) name = ⊥
+Refuses (Late slot fate) name = ⊥
 
 -- by its name, where that is known
 abbrev pub named : Option (List ℕ) → List ℕ

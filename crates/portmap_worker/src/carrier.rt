@@ -7,6 +7,7 @@ ghost use Rattle.portmap_link.specs.Asking.{devices};
 ghost use Rattle.portmap_link.specs.Flush.{Moves};
 ghost use Rattle.portmap_worker.specs.Carrying.{IsLate, IsRead, FollowsAnswer, FollowsNothing, added, bytes_of};
 ghost use Rattle.portmap_worker.specs.Carrying.{fate_of, is_close, next_after, next_of};
+ghost use Rattle.portmap_worker.specs.Replies.{Does, IsFlushed, carried};
 
 use crate::limits::PULL_BYTES_MOST;
 use crate::{Gate, Point};
@@ -87,6 +88,9 @@ impl<L: Ledger> Carrier<L> {
         ensures quiet { IfNone result.0 (let seen = devices I.left I.held I.pulls I.puts in
             FollowsNothing self.old.due (seen link.old link.old) (seen link.new link.new) self.new.out result.1) }
         ensures conn { self.new.conn ≡ self.old.conn }
+        ensures does { let seen = devices I.left I.held I.pulls I.puts in
+            Does self.old.conn.slot result.0 result.1 (carried self.old.out self.old.due (seen link.old link.old))
+            (carried self.new.out self.new.due (seen link.new link.new)) }
     {
         match self.out.flush(link) {
             Flush::Fault => return (None, Next::Fault),
@@ -153,7 +157,12 @@ impl<L: Ledger> Carrier<L> {
     }
 
     /// Writes what waits, as far as the link takes it. Whether some waits on.
-    pub(crate) fn flush<I: Output>(&mut self, link: &mut I) -> bool {
+    pub(crate) fn flush<I: Output>(&mut self, link: &mut I) -> bool
+        ensures conn { self.new.conn ≡ self.old.conn }
+        ensures flushed { let seen = devices I.left I.held I.pulls I.puts in
+            IsFlushed (carried self.old.out self.old.due (seen link.old link.old))
+            (carried self.new.out self.new.due (seen link.new link.new)) }
+    {
         self.out.flush(link) == Flush::Later
     }
 

@@ -38,6 +38,7 @@ mod epochs;
 mod first_piece;
 mod gate;
 mod host;
+mod laws;
 mod limits;
 mod link;
 mod listener;
@@ -74,6 +75,7 @@ pub use crate::drain::{Drain, Drained, begin_file, drain_log};
 pub use crate::ending::{Ending, Failure};
 pub use crate::gate::{Gate, Open, Point};
 pub use crate::host::{Host, RecordFile};
+pub use crate::laws::only_answers_are_written;
 pub use crate::limits::{
     EVENTS_MOST, FILE_BYTES_MOST, PULL_BYTES_MOST, UNSENT_BYTES_MOST, numbers_are_the_profiles,
 };

@@ -3,7 +3,7 @@
 //! If a name is active when it is asked for, perhaps the connection that owns it has ended, or is ending: then the name
 //! is free soon. What the machine says after that is final.
 ghost use Rattle.std.specs.Prelude.{◌≡◌, ◌↔◌, ◌<◌, ◌≤◌, true, false, Some, None};
-ghost use Rattle.portmap_worker.specs.Pending.{GivesUp, GoesOn, earliest, until};
+ghost use Rattle.portmap_worker.specs.Pending.{Awaits, GivesUp, GoesOn, earliest, until};
 
 use crate::Turn;
 use crate::host::Host;
@@ -43,10 +43,22 @@ impl Waiting {
         }
     }
 
-    /// How one whose name is active goes on waiting, if it does: for its name, and then until every worker has looked
-    /// for connections that have ended.
-    fn next<W: Wake>(self, now: u64, shared: &Shared<W>, worker: usize) -> Option<Waiting>
-        ensures { GoesOn self now result }
+    /// The epoch that it waits for at this time, if it does: one that begins now, or its own until every worker has
+    /// passed that.
+    fn awaited<W: Wake>(self, now: u64, shared: &Shared<W>, worker: usize) -> Option<u64>
+        ensures { Awaits self now result }
+    {
+        match self {
+            Waiting::Name { until } if now >= until => Some(shared.begin_epoch(worker)),
+            Waiting::Epoch { epoch, .. } if !shared.have_passed(epoch) => Some(epoch),
+            _ => None,
+        }
+    }
+
+    /// How one whose name is active goes on waiting, if it does: for its name, and then for this epoch, until every
+    /// worker has looked for connections that have ended.
+    fn next(self, now: u64, epoch: Option<u64>) -> Option<Waiting>
+        ensures { GoesOn self now epoch result }
     {
         match self {
             Waiting::Come => Some(Waiting::Asked),
@@ -56,21 +68,15 @@ impl Waiting {
             Waiting::Name { until } if now < until => Some(self),
             Waiting::Name { until } => Some(Waiting::Epoch {
                 until,
-                epoch: shared.begin_epoch(worker),
+                epoch: epoch?,
                 rounds: 0,
             }),
-            Waiting::Epoch {
+            Waiting::Epoch { until, rounds, .. } if gives_up(rounds, now, until) => None,
+            Waiting::Epoch { until, rounds, .. } => Some(Waiting::Epoch {
                 until,
-                epoch,
-                rounds,
-            } => {
-                let is_over = gives_up(rounds, now, until) || shared.have_passed(epoch);
-                (!is_over).then_some(Waiting::Epoch {
-                    until,
-                    epoch,
-                    rounds: rounds.saturating_add(1),
-                })
-            }
+                epoch: epoch?,
+                rounds: rounds.saturating_add(1),
+            }),
         }
     }
 }
@@ -160,7 +166,8 @@ impl<L: Ledger, S: System, R: Host + Wait + Clock> SocketSource<'_, L, S, R> {
             return None;
         }
         let waiting = self.ready.get(key)?.waiting;
-        waiting.next(self.rounds.time, self.shared, self.sockets.worker)
+        let now = self.rounds.time;
+        waiting.next(now, waiting.awaited(now, self.shared, self.sockets.worker))
     }
 
     /// The other workers are to know how many wait.

@@ -1,5 +1,5 @@
 //! How many connections may be open, from this host and from others, and which is given up for another one.
-ghost use Rattle.std.specs.Prelude.{◌≡◌, ◌↔◌, ◌<◌, true, Some, None};
+ghost use Rattle.std.specs.Prelude.{◌≡◌, ◌↔◌, ◌<◌, true, Some, None, IfSome};
 ghost use Rattle.portmap_worker.specs.Quota.{remote_most, IsFree, GoesBefore};
 ghost use Rattle.portmap_worker.specs.declared.limits.TheConstants.{REMOTE_FIRST_MS};
 ghost use Rattle.portmap_worker.specs.declared.quota.Candidate.{Candidate};
@@ -117,7 +117,9 @@ impl Quota {
     }
 
     /// Takes a place for a peer, if there is one.
-    pub(crate) fn take(&self, is_local: bool) -> Option<Permit<'_>> {
+    pub(crate) fn take(&self, is_local: bool) -> Option<Permit<'_>>
+        ensures { IfSome result (λ permit. permit.is_local ≡ is_local) }
+    {
         let taken = self.taken_by(is_local).fetch_add(1, Ordering::SeqCst);
         let permit = Permit {
             quota: self,

@@ -2,7 +2,7 @@
 ghost use Rattle.std.specs.Prelude.{◌≡◌, ◌↔◌, ◌+◌, ◌-◌, ◌^◌, ◌⊎◌, ◌++◌, min, true, Some, None, IfOk, IfSome};
 ghost use Rattle.std.specs.Prelude.{OnOk};
 ghost use Rattle.portmap_core.specs.Entry.{entry_in};
-ghost use Rattle.portmap_worker.specs.Refused.{IsInUse, TellsInUse, and_more, in_use_line};
+ghost use Rattle.portmap_worker.specs.Refused.{IsInUse, Refuses, TellsInUse, and_more, in_use_line};
 
 use crate::showing::shown;
 use itoa::Buffer;
@@ -53,6 +53,8 @@ impl Refused {
         ensures counted { IsInUse (entry_in entry.now) → self.new.count ≡ min (self.old.count + 1) (2 ^ 64 - 1) }
         ensures passed { (IsInUse (entry_in entry.now) → ⊥) → self.new ≡ self.old }
         ensures first { IfSome self.old.name (λ name. self.new.name ≡ Some name) }
+        ensures named { IfSome self.new.name (λ name.
+            (self.old.name ≡ Some name) ⊎ Refuses (entry_in entry.now) name) }
     {
         let Entry::Piece { bytes, reply, .. } = entry else {
             return;

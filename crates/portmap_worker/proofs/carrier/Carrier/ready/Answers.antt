@@ -3,6 +3,7 @@ use Rattle.portmap_link.specs.{declared.device.Pull.{Pull, TheVariants.Piece}, d
 use Rattle.portmap_worker.specs.Carrying.{FollowsAnswer}
 use Rattle.portmap_worker.proofs.Carrying.{read_between, is_read, moves_more, follows_flush}
 use Rattle.portmap_worker.proofs.carrier.Carrier.ready.Goals as goal
+use Rattle.portmap_worker.proofs.carrier.Carrier.ready.Goals.{in-Empty+else-self, in-Later+else-self-2}
 
 pub returns-in-Ok-clause-told : goal.returns-in-Ok-clause-told
 returns-in-Ok-clause-told g c = (
@@ -24,3 +25,15 @@ returns-in-Ok-clause-next g c =
     (subst (λ (puts : List Put). FollowsAnswer c.in-Ok.answer puts
     (g.I.Device.puts c.reply-next.new.link) c.reply-next.new.self.out c.reply-next.result) c.in-Piece.ensures.puts
     c.reply-next.ensures.next)
+
+pub returns-in-Ok-clause-does : goal.returns-in-Ok-clause-does
+returns-in-Ok-clause-does g c =
+    let told = returns-in-Ok-clause-told g c in
+    record {
+      piece = told.0;
+      read = told.1;
+      says = told.2;
+      not_due = elim c.match-flush.branch [ in-Empty+else-self w ↦ w.if-self | in-Later+else-self-2 w ↦ w.if-self-2 ];
+      due = c.reply-next.ensures.due;
+      writes = returns-in-Ok-clause-written g c;
+    }
