@@ -48,15 +48,15 @@ last call old new short sent = record {
   all = λ kept. absurd (All-head (λ other. other.1 ≢ NoMemory) call [] kept short);
 }
 
-joined : (slot : ℕ) (call : Returned) (calls : List Returned) (old mid new : Carried)
-    → ((call.1 ≡ NoMemory) × Sends [] old mid) ⊎ Sends (reply_of call.0) old mid → (call.1 ≡ NoMemory → calls ≡ [])
-    → Runs slot calls mid new → AreWritten calls mid new → AreWritten (call ∷ calls) old new
-joined slot call calls old mid new (inr sent) ends runs rest = more call calls old mid new sent rest
-joined slot call calls old mid new (inl lost) ends runs rest =
-    let over = ends lost.0 in
-    subst (λ (others : List Returned). AreWritten (call ∷ others) old new) (sym over)
-    (subst (λ (c : Carried). AreWritten (call ∷ []) old c)
-    (sym (subst (λ (others : List Returned). Runs slot others mid new) over runs)) (last call old mid lost.0 lost.1))
+module _ (slot : ℕ) (call : Returned) (calls : List Returned) (old mid new : Carried) where
+  joined : ((call.1 ≡ NoMemory) × Sends [] old mid) ⊎ Sends (reply_of call.0) old mid → (call.1 ≡ NoMemory → calls ≡ [])
+      → Runs slot calls mid new → AreWritten calls mid new → AreWritten (call ∷ calls) old new
+  joined (inr sent) ends runs rest = more call calls old mid new sent rest
+  joined (inl lost) ends runs rest =
+      let over = ends lost.0 in
+      subst (λ (others : List Returned). AreWritten (call ∷ others) old new) (sym over)
+      (subst (λ (c : Carried). AreWritten (call ∷ []) old c)
+      (sym (subst (λ (others : List Returned). Runs slot others mid new) over runs)) (last call old mid lost.0 lost.1))
 
 written : (slot : ℕ) (calls : List Returned) (old new : Carried) → Runs slot calls old new → AreWritten calls old new
 written slot [] old new same = record {
