@@ -63,7 +63,7 @@ ENDS_IN = {PLAIN: ENDS, SLOW: {"epoll_wait": [POLL]}, HANDED: {**ENDS, **{
     call: [NOT_LISTENING, POLL] for call in ("getsockopt", "listen", "fcntl", "ioctl")
 }}}
 # What is called for a socket that is handed over. The other calls are those of the plain way.
-CALLS_IN = {PLAIN: [*CALLS], SLOW: [*CALLS], HANDED: ["getsockopt", "setsockopt", "listen", "fcntl", "ioctl"]}
+CALLS_IN = {PLAIN: [*CALLS], SLOW: [*CALLS], HANDED: ["getsockopt", "listen", "fcntl", "ioctl"]}
 HANDING = os.path.join(HERE, "handed.py")
 MAY_NOT_RECORD = "memory", "open to record", "write to record", "pthread_create", "clock_gettime"
 
@@ -272,12 +272,15 @@ def main(path, *words):
     began, path, made = time.monotonic(), os.path.abspath(path), Counter()
     is_half = "-half" in words
     wanted = [word for word in words if word != "-half"] or [*CALLS]
+    never = []
     with concurrent.futures.ProcessPoolExecutor(AT_ONCE) as pool:
         for way in PLAIN, SLOW, HANDED:
             calls = [call for call in CALLS_IN[way] if call in wanted]
             if calls:
-                made += all_swept(pool, path, way, calls, is_half)
-    never = [call for call in wanted if not made[call]]
+                now = all_swept(pool, path, way, calls, is_half)
+                never += [f"{call} ({way})" for call in calls if way == HANDED and not now[call]]
+                made += now
+    never += [call for call in wanted if not made[call]]
     judge(not never, f"calls that are made in no run: {', '.join(never) or 'none'}:")
     print(f"{time.monotonic() - began:.0f} s")
     end()

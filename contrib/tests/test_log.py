@@ -351,6 +351,13 @@ class Told(unittest.TestCase):
         stamp = calendar.timegm(time.strptime(told.split(" ")[0], "%Y-%m-%dT%H:%M:%SZ"))
         self.assertTrue(began <= stamp <= time.time(), told)
 
+    def test_a_pipe_that_is_followed_ends_too(self):
+        os.mkfifo(self.path)
+        running = self.follower()
+        self.write(start() + visit(b"a"))
+        self.assertRegex(running.stdout.read(), f"^{STAMP}1 lookup a by a local peer: not registered\n$")
+        self.assertEqual((running.wait(SILENCE), running.stderr.read()), (0, ""))
+
     def test_an_event_of_a_pipe_is_told_at_once(self):
         os.mkfifo(self.path)
         running = programs.start([sys.executable, LOG, self.path], stdout=subprocess.PIPE)

@@ -119,9 +119,11 @@ class Metrics(unittest.TestCase):
 
     def test_a_process_of_that_name_ignores_its_options(self):
         for name, ignores in (("/usr/lib/epmd-proved/epmd-all-options-ignored", True), ("/usr/lib/epmd-proved/epmd", False)):
-            process = programs.start([name, "600"], executable="/bin/sleep")
-            self.addCleanup(process.wait)
+            words = [name, "-c", "echo; read line"]
+            process = programs.start(words, executable="/bin/sh", stdin=subprocess.PIPE, stdout=subprocess.PIPE)
+            self.addCleanup(process.communicate)
             self.addCleanup(process.kill)
+            process.stdout.readline()  # Before it runs it has no words yet.
             self.assertEqual(tool().ignores_options(f"/proc/{process.pid}"), ignores)
 
     def test_a_recording_that_is_not_there_is_told(self):

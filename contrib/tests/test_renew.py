@@ -90,12 +90,13 @@ class Renew(unittest.TestCase):
 
     def test_it_ends_each_port_mapper_at_the_port_and_nothing_else(self):
         ended = [self.process("usr/lib/erlang/erts-13/bin/epmd", 101), self.process("usr/local/lib/epmd-proved/epmd", 102, table="tcp6"),
-                 self.process("usr/lib/erlang/erts-14/bin/epmd (deleted)", 103)]
+                 self.process("usr/lib/erlang/erts-14/bin/epmd (deleted)", 103),
+                 self.process("usr/lib/epmd-proved/epmd (deleted)", 104)]
         staying = [self.process("usr/lib/erlang/erts-13/bin/epmd", 201, port="1112"),
                    self.process("usr/lib/erlang/erts-13/bin/epmd", 202, state="01"),
                    self.process("usr/lib/erlang/erts-13/bin/beam.smp", 203), self.process("usr/bin/other", 204)]
         self.assertEqual(self.call(), (0, "", ""))
-        self.assertEqual([process.wait(programs.SILENCE) for process in ended], [-signal.SIGTERM] * 3)
+        self.assertEqual([process.wait(programs.SILENCE) for process in ended], [-signal.SIGTERM] * 4)
         self.assertEqual([process.poll() for process in staying], [None] * 4)
 
     def test_it_asks_once_the_one_before_has_gone(self):

@@ -410,6 +410,30 @@ class Scripts(Checkout):
             way()
             self.is_theirs()
 
+    def test_what_the_first_form_masked_and_diverted_is_given_back(self):
+        """A link of the operator's stays, and without erlang-base's socket there is nothing to enable."""
+        links = [f"etc/systemd/system/{each}" for each in ("epmd.socket", "epmd.service", "multi-user.target.wants/epmd-proved.service")]
+        unit = "/lib/systemd/system/epmd-proved.service"
+        for has_socket, to, kept in (False, "/opt/epmd.service", links[1:2]), (True, unit, []):
+            self.begin()
+            for path in OURS:
+                words = ["--package", "epmd-proved", "--add", "--rename", "--divert", self.at(path + ".erlang"), self.at(path)]
+                self.assertEqual(self.run_in("/", "dpkg-divert", *words, ADMIN=self.admin).returncode, 0)
+            self.unpack()
+            os.makedirs(os.path.dirname(self.at(links[2])))
+            for link, of in zip(links, ("/dev/null", to, unit)):
+                os.symlink(of, self.at(link))
+            if has_socket:
+                write(self.at("lib/systemd/system/epmd.socket"), "")
+            self.well("preinst", "upgrade", "0.9")
+            self.assertEqual([link for link in links if os.path.lexists(self.at(link))], kept)
+            self.assertEqual("systemctl --quiet --no-reload enable epmd.socket epmd.service" in self.noted(), has_socket)
+            self.unpack()
+            self.well("postinst", "configure", "0.9")
+            self.is_ours()
+            self.remove()
+            self.is_theirs()
+
 
 class StateFolder(Checkout):
     """The folder of recordings, which the service makes before a start. Who calls is the service's user here, but for one test."""

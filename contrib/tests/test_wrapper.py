@@ -31,7 +31,7 @@ for word in "$@"; do
 done
 if [ -n "$TELLS" ]; then echo $$; fi
 if [ -n "$LIMITS" ]; then echo "$0 $(ulimit -S -n) $(ulimit -H -n) $MALLOC_ARENA_MAX $MALLOC_MMAP_THRESHOLD_"; fi
-if [ -n "$FAILS" ]; then echo "epmd: $FAILS" >&2; exit 3; fi
+if [ -n "$FAILS" ]; then echo "epmd: $FAILS" >&2; exit "${STATUS:-3}"; fi
 if [ -n "$STAYS" ]; then
     echo $$ > "$FOLDER/pid.new"
     mv "$FOLDER/pid.new" "$FOLDER/pid"
@@ -217,6 +217,8 @@ class Wrapper(unittest.TestCase):
         done = self.call("-daemon", "-port", "1", STAYS="yes", DELAY="0.5", TMPDIR=self.temporary)
         self.assertEqual((done.returncode, done.stdout, done.stderr), (0, "", ""))
         self.assertTrue(os.path.exists(os.path.join(self.folder, "up")))
+        # It is asked at the port that it has.
+        self.assertEqual(set(self.words()), {"-daemon -port 1", "-daemon -port 1 -names"})
         # It runs on, in a session of its own, and holds no input or output of its caller.
         pid = self.staying()
         self.assertEqual(os.getsid(pid), pid)
@@ -243,9 +245,9 @@ class Wrapper(unittest.TestCase):
         self.assertEqual((status, round(seconds)), (3, 5))
 
     def test_a_daemon_that_fails_is_told(self):
-        for folder in (self.temporary, "/none"):
-            done = self.call("-daemon", FAILS="cannot listen on 0.0.0.0:4369", TMPDIR=folder)
-            self.assertEqual((done.returncode, done.stderr), (3, "epmd: cannot listen on 0.0.0.0:4369\n"))
+        for folder, status in (self.temporary, 1), ("/none", 3):
+            done = self.call("-daemon", FAILS="cannot listen on 0.0.0.0:4369", STATUS=str(status), TMPDIR=folder)
+            self.assertEqual((done.returncode, done.stderr), (status, "epmd: cannot listen on 0.0.0.0:4369\n"))
         self.assertEqual(os.listdir(self.temporary), [])
 
     def test_where_nothing_can_be_written_its_status_is_told(self):
