@@ -1,26 +1,38 @@
-# `make epmd`, `make run` and `make test` need `rt`, the command of the Rattle toolchain, on the path, and nothing else. `make install` and
-# `make deb` take what is in build, and need no toolchain; the latter needs `dpkg-deb` and `strip`. `make bench` needs `cc`, and another port
-# mapper; `make client` needs `cc` and binutils too. `make faults` needs `gcc` and `python3`, `make check-contrib` and `make check-program`
-# `python3` alone.
+# `make epmd`, `make run`, `make try` and `make test` need `rt`, the command of the Rattle toolchain, on the path, and nothing else.
+# `make install` and `make deb` take what is in build, and need no toolchain; the latter needs `dpkg-deb` and `strip`. `make bench` needs
+# `cc`, and another port mapper; `make client` needs `cc` and binutils too. `make faults` needs `gcc` and `python3`, `make check-contrib`
+# and `make check-program` `python3` alone.
 
 PREFIX = /usr/local
 
 # The port mapper that `make bench` measures beside ours.
 OTHER = /usr/bin/epmd
 
+# The port at which `make try` serves.
+PORT = 4369
+
 # The crates of tests that refuse memory.
 REFUSING = tests_book tests_daemon
 
-.PHONY: run epmd client install install-program install-client uninstall deb check-contrib check-program quick attack \
+# Ends a target that calls `rt` where there is none.
+toolchain = $(if $(shell command -v rt 2> /dev/null),,$(error there is no rt on the path, the command of the Rattle toolchain: README.md \
+    names its kit under Install))
+
+.PHONY: run try epmd client install install-program install-client uninstall deb check-contrib check-program quick attack \
     test test-long bench faults
 
 # Builds the proved daemon and serves on port 4369.
 run: epmd
 	./build/epmd
 
+# Builds the program with nothing proved, and serves at PORT of this host until it is interrupted, for 1,000 seconds at most.
+try:
+	$(toolchain)@echo 'epmd: this program is NOT proved, and serves on 127.0.0.1:$(PORT) in a minute or two, for 1,000 seconds at most' >&2
+	@cd crates/epmd && rt try --seconds 1000 -- -port $(PORT) -address 127.0.0.1
+
 # Proves the program and all below it, and leaves it at build/epmd. What `rt` says is in build/log.
 epmd:
-	@contrib/build
+	$(toolchain)@contrib/build
 
 # A program that is there is taken as it is; where there is none it is made.
 build/epmd:
@@ -28,7 +40,7 @@ build/epmd:
 
 # Proves the client for C, and leaves the archive, the shared library and the header in build.
 client:
-	@contrib/build-client
+	$(toolchain)@contrib/build-client
 
 # Where things lie below DESTDIR and PREFIX.
 BIN = $(PREFIX)/bin
@@ -40,7 +52,11 @@ INCLUDE = $(PREFIX)/include
 LIBRARIES = $(PREFIX)/lib
 COMMANDS = epmd epmd-log epmd-metrics epmd-prune
 PAGES = $(addsuffix .1,$(COMMANDS))
-SERVICES = epmd-proved.socket epmd-proved.service epmd-proved-away.target epmd-proved-prune.service epmd-proved-prune.timer
+# By default where zsh itself looks below /usr/local; a package has a folder of its own.
+ZSH_COMPLETIONS = $(PREFIX)/share/zsh/site-functions
+BASH_COMPLETIONS = $(PREFIX)/share/bash-completion/completions
+SERVICES = epmd-proved.socket epmd-proved.service epmd-proved-away.target epmd-proved-prune.service epmd-proved-prune.timer \
+    epmd-proved-metrics.service epmd-proved-metrics.timer
 # What is added to units of erlang-base and to ours: an operator's own additions come after it.
 ADDED = $(addsuffix /10-proved.conf,epmd.socket.d epmd.service.d epmd-proved.service.d)
 
@@ -53,11 +69,13 @@ GIT = git --no-optional-locks -c safe.directory='*'
 COMMIT = $(shell test -e .git && $(GIT) describe --always --exclude='*' --abbrev=7 --dirty=', changed' 2> /dev/null)
 
 # Says in files that are in place which version they are of, and where they lie.
-fill = sed -i 's|/usr/local/lib/systemd/system|$(UNITS)|g; s|/usr/local|$(PREFIX)|g; s|@LIBRARIES@|$(LIBRARIES)|; \
-    s|@VERSION@|$(shell cat VERSION)|; s|@COMMIT@|$(if $(COMMIT), (commit $(COMMIT)))|' $(addprefix $(DESTDIR),$(1))
+fill = sed -i 's|/usr/local/lib/systemd/system|$(UNITS)|g; s|/usr/local/share/zsh/site-functions|$(ZSH_COMPLETIONS)|g; \
+    s|/usr/local|$(PREFIX)|g; s|@LIBRARIES@|$(LIBRARIES)|; s|@VERSION@|$(shell cat VERSION)|; \
+    s|@COMMIT@|$(if $(COMMIT), (commit $(COMMIT)))|' $(addprefix $(DESTDIR),$(1))
 
-# Puts the program, the wrapper that is called `epmd`, the tools, the manual pages and the units in their places, and the client for C with
-# its header, its manual page and its file for pkg-config. How to start it is told where this is the machine that it is for.
+# Puts the program, the wrapper that is called `epmd`, the tools, the manual pages, the units and what shells complete in their places, and
+# the client for C with its header, its manual page and its file for pkg-config. How to start it is told where this is the machine that it
+# is for.
 install: install-program $(if $(CLIENT),install-client)
 ifeq ($(DESTDIR),)
 	@echo 'To start it where erlang-base is installed, whose epmd.socket stays open:'
@@ -76,7 +94,11 @@ install-program:
 	install -D -m 644 contrib/units/proved.conf $(DESTDIR)$(UNITS)/epmd.service.d/10-proved.conf
 	install -D -m 644 contrib/units/proved.conf $(DESTDIR)$(UNITS)/epmd-proved.service.d/10-proved.conf
 	install -D -m 644 -t $(DESTDIR)$(MAN)/man1 $(addprefix docs/,$(PAGES))
+	install -D -m 644 -t $(DESTDIR)$(BASH_COMPLETIONS) contrib/completions/epmd
+	for each in $(filter-out epmd,$(COMMANDS)); do ln -sf epmd $(DESTDIR)$(BASH_COMPLETIONS)/$$each || exit 1; done
+	install -D -m 644 -t $(DESTDIR)$(ZSH_COMPLETIONS) contrib/completions/_epmd
 	install -D -m 644 -t $(DESTDIR)$(DOC) README.md
+	install -D -m 644 -t $(DESTDIR)$(DOC)/examples contrib/grafana/epmd.json contrib/prometheus/epmd.rules.yml
 	@$(call fill,$(BIN)/epmd $(LIB)/epmd_recording.py $(addprefix $(MAN)/man1/,$(PAGES)) $(addprefix $(UNITS)/,$(SERVICES) $(ADDED)))
 
 install-client:
@@ -105,6 +127,7 @@ ifneq ($(MANAGED),)
 endif
 	rm -rf $(DESTDIR)$(LIB) $(DESTDIR)$(DOC)
 	rm -f $(addprefix $(DESTDIR),$(addprefix $(BIN)/,$(COMMANDS)) $(addprefix $(MAN)/man1/,$(PAGES)))
+	rm -f $(addprefix $(DESTDIR),$(addprefix $(BASH_COMPLETIONS)/,$(COMMANDS)) $(ZSH_COMPLETIONS)/_epmd)
 	rm -f $(addprefix $(DESTDIR),$(LIBRARIES)/libepmd_client.* $(LIBRARIES)/pkgconfig/epmd_client.pc $(INCLUDE)/epmd_client.h $(MAN)/man3/epmd_client.3)
 ifneq ($(MANAGED),)
 	@if ! systemctl is-active --quiet epmd.socket; then \
@@ -132,18 +155,18 @@ bench: build/epmd
 # A first look, in minutes: compiles and runs the tests and the stories with nothing proved. Not those of the daemon: unproved, a byte
 # costs a hundred times as much, and a client of theirs runs into its timeout.
 quick:
-	@for crate in tests_machine tests_book tests_client epmd; do \
+	$(toolchain)@for crate in tests_machine tests_book tests_client epmd; do \
 	    echo "$$crate, with nothing proved:"; (cd crates/$$crate && rt try --test) || exit 1; done
 	@echo "stories, with nothing proved:"; cd crates/stories && rt try -- $$(grep -v ^large args | sed s,^,data/,)
 
 # Tries the wrong bodies that the gate leaves out, in some twenty minutes once all is proved: before a contract of their crate changes.
 attack:
-	contrib/attack
+	$(toolchain)contrib/attack
 
 # The gate: `rt ci`, which makes every proof from nothing, tries the must-fail edits, and runs the tests, and the program as two compilers
 # build it; then `make check-contrib`, `make check-program` and half of the failing calls. The last line is the sum.
 test:
-	tests/gate
+	$(toolchain)tests/gate
 
 # What takes minutes, or wants root, strace or valgrind: each script of `tests`, one after another.
 test-long: build/epmd

@@ -17,8 +17,9 @@ PARTS = ["Makefile", "VERSION", "README.md", "CHANGELOG.md", "crates.txt", "cont
 # A small program, and a library, as good as any.
 PROGRAM = shutil.which("true")
 COMMANDS = ["epmd", "epmd-log", "epmd-metrics", "epmd-prune"]
-UNITS = ["epmd-proved-away.target", "epmd-proved-prune.service", "epmd-proved-prune.timer", "epmd-proved.service",
-         "epmd-proved.service.d/10-proved.conf", "epmd-proved.socket", "epmd.service.d/10-proved.conf", "epmd.socket.d/10-proved.conf"]
+UNITS = ["epmd-proved-away.target", "epmd-proved-metrics.service", "epmd-proved-metrics.timer", "epmd-proved-prune.service",
+         "epmd-proved-prune.timer", "epmd-proved.service", "epmd-proved.service.d/10-proved.conf", "epmd-proved.socket",
+         "epmd.service.d/10-proved.conf", "epmd.socket.d/10-proved.conf"]
 
 # Notes its words. Of units that are enabled or masked there are links in ETC, as the service manager has them, and $ACTIVE is what is active.
 SYSTEMCTL = """#!/bin/sh
@@ -132,7 +133,10 @@ def program_below(prefix):
             **{f"{prefix}/lib/systemd/system/{name}": 0o644 for name in UNITS}, f"{prefix}/lib/epmd-proved/epmd": 0o755,
             f"{prefix}/lib/epmd-proved/renew": 0o755, f"{prefix}/lib/epmd-proved/state-folder": 0o755,
             f"{prefix}/lib/epmd-proved/epmd-all-options-ignored": "epmd", f"{prefix}/lib/epmd-proved/epmd_recording.py": 0o644,
-            f"{prefix}/share/doc/epmd-proved/README.md": 0o644}
+            f"{prefix}/share/bash-completion/completions/epmd": 0o644, f"{prefix}/share/zsh/site-functions/_epmd": 0o644,
+            **{f"{prefix}/share/bash-completion/completions/{name}": "epmd" for name in COMMANDS[1:]},
+            f"{prefix}/share/doc/epmd-proved/README.md": 0o644,
+            **{f"{prefix}/share/doc/epmd-proved/examples/{name}": 0o644 for name in ("epmd.json", "epmd.rules.yml")}}
 
 
 def client_below(prefix):
@@ -348,13 +352,15 @@ class Package(Checkout):
     def test_it_has_the_files_of_an_installation_and_what_a_package_has(self):
         self.stand_in("rt", RT)
         self.made("deb", KIT=self.folder)
-        wanted = {name.replace("usr/lib/systemd", "lib/systemd") + (".gz" if "/man/" in name else "") for name in program_below("usr")}
+        files = {name.replace("usr/lib/systemd", "lib/systemd").replace("site-functions", "vendor-completions"): mode
+                 for name, mode in program_below("usr").items()}
+        links = {name: to for name, to in files.items() if isinstance(to, str)}
+        wanted = {name + (".gz" if "/man/" in name else "") for name in files}
         doc = "usr/share/doc/epmd-proved/"
         wanted |= {"usr/share/lintian/overrides/epmd-proved", *(doc + name for name in ("changelog.gz", "copyright", "epmd-proved.spdx.json"))}
-        ignored = "usr/lib/epmd-proved/epmd-all-options-ignored"
         listed = {name[2:] for name in self.listed("epmd-proved") if not name.endswith("/")}
-        self.assertEqual(listed, wanted - {ignored} | {ignored + " -> epmd"})
-        wanted -= {ignored}
+        wanted -= set(links)
+        self.assertEqual(listed, wanted | {f"{name} -> {to}" for name, to in links.items()})
         tree = os.path.join(self.folder, "tree")
         package, = glob.glob(os.path.join(self.top, "build", "*.deb"))
         self.run_in("/", "dpkg-deb", "--raw-extract", package, tree)
@@ -497,7 +503,7 @@ class Client(Checkout):
         os.makedirs(os.path.join(self.top, "crates", "portmap_client_c"))
 
     def test_each_crate_is_told(self):
-        self.assertRegex(self.made("client"), r"^portmap_wire: proved, \d+ s after the start\nportmap_client_c: proved, \d+ s after the start\n$")
+        self.assertRegex(self.made("client"), r"^portmap_wire: proved \(1 of 7\), \d+ s\nportmap_client_c: proved \(7 of 7\), \d+ s\n$")
         self.assertEqual(self.noted(), ["rt lib", "rt doc", "ld", "objcopy", "ar", "cc"])
         self.assertIn("\nnoise\n", read(os.path.join(self.top, "build", "log", "portmap_client_c")))
 

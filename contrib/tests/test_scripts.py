@@ -221,7 +221,7 @@ class Scripts(Checkout):
                          ["systemctl stop epmd-proved.socket epmd-proved.service", "deb-systemd-invoke start epmd.socket"])
 
     def test_a_removal_ends_the_units_and_an_update_does_not(self):
-        stop = "deb-systemd-invoke stop epmd-proved-prune.timer epmd-proved.socket epmd-proved.service"
+        stop = "deb-systemd-invoke stop epmd-proved-prune.timer epmd-proved-metrics.timer epmd-proved.socket epmd-proved.service"
         self.assertEqual(self.noted_of("prerm", "remove"), [stop])
         self.assertEqual(self.noted_of("prerm", "upgrade", "2"), [])
         reload, kill = "systemctl daemon-reload", "systemctl kill epmd.service"
@@ -248,7 +248,8 @@ class Scripts(Checkout):
     def test_a_purge_leaves_nothing_and_an_update_leaves_recordings(self):
         wants, stamps = "etc/systemd/system/timers.target.wants/", "var/lib/systemd/timers/stamp-"
         kept = ["var/lib/epmd-proved/session", "var/lib/private/epmd-proved/session", "var/lib/epmd-metrics/state",
-                "etc/default/epmd-proved", wants + "epmd-proved-prune.timer", stamps + "epmd-proved-prune.timer"]
+                "etc/default/epmd-proved", wants + "epmd-proved-prune.timer", wants + "epmd-proved-metrics.timer",
+                stamps + "epmd-proved-prune.timer"]
         others = ["var/lib/other/session", "etc/default/other", wants + "other.timer", stamps + "other.timer"]
         for path in kept + others:
             write(self.at(path), "")
@@ -343,14 +344,25 @@ class Scripts(Checkout):
             self.is_theirs()
         self.stopped("prerm", "remove", prepare=self.install, after=after)
 
-    def test_a_removal_that_fails_opens_the_own_socket_again_and_the_timer(self):
+    def test_a_removal_leaves_no_figures_for_a_node_exporter_and_an_update_does(self):
+        folder = "var/lib/prometheus/node-exporter/"
+        self.install()
+        for name in ("epmd.prom", "other.prom"):
+            write(self.at(folder + name), "")
+        self.well("prerm", "upgrade", "2")
+        self.assertEqual(len(os.listdir(self.at(folder))), 2)
+        self.well("prerm", "remove")
+        self.assertEqual(os.listdir(self.at(folder)), ["other.prom"])
+
+    def test_a_removal_that_fails_opens_the_own_socket_again_and_the_timers(self):
         self.begin(with_erlang=False)
         self.install()
         self.well("prerm", "remove")
         os.remove(self.notes)
         self.well("postinst", "abort-remove", CLOSED="yes")
         self.assertIn("deb-systemd-invoke start epmd-proved.socket", self.noted())
-        self.assertIn("deb-systemd-invoke start epmd-proved-prune.timer", self.noted())
+        for timer in ("epmd-proved-prune.timer", "epmd-proved-metrics.timer"):
+            self.assertIn(f"deb-systemd-invoke start {timer}", self.noted())
         self.assertFalse([line for line in self.noted() if "helper" in line or "renew" in line])
 
     def test_the_end_of_a_removal_that_is_stopped_can_be_done_again(self):

@@ -7,7 +7,8 @@ from programs import CONTRIB
 
 UNITS = os.path.join(CONTRIB, "units")
 
-# What the port mapper, and what removes its files, may not do. Each line is of one of systemd.exec(5), where it says more.
+# What the port mapper, and what removes its files, may not do, and what writes figures but in part. Each line is of one of systemd.exec(5),
+# where it says more.
 HARDENED = """
     LockPersonality=yes MemoryDenyWriteExecute=yes NoNewPrivileges=yes PrivateNetwork=yes PrivateTmp=yes ProcSubset=pid ProtectClock=yes
     ProtectControlGroups=yes ProtectHome=yes ProtectHostname=yes ProtectKernelLogs=yes ProtectKernelModules=yes ProtectKernelTunables=yes
@@ -59,6 +60,35 @@ ROWS = {
         "Unit": ["Requisite=epmd-proved.socket"],  # Started by hand, it fails where its socket is closed, and opens none of its own.
         "Service": ["DynamicUser=yes"],  # No user is made for it, and it is not root.
         "Install": ["Also=epmd-proved.socket"],
+    },
+    "epmd-proved-metrics.timer": {
+        "Unit": [],
+        "Timer": ["OnCalendar=minutely", "AccuracySec=1s"],  # By default it might come a minute late, and then one minute has no figures.
+        "Install": ["WantedBy=timers.target"],
+    },
+    "epmd-proved-metrics.service": {
+        "Unit": [],
+        "Service": [
+            "Type=oneshot",
+            "Environment=EPMD_METRICS= EPMD_TEXTFILES=/var/lib/prometheus/node-exporter",  # The folder of Debian's node exporter.
+            "EnvironmentFile=-/etc/default/epmd-proved",
+            # Each dollar is the shell's, which splits the words and not the folder.
+            """ExecStart=/bin/sh -c 'cd "$$EPMD_TEXTFILES" && /usr/local/bin/epmd-metrics $$EPMD_METRICS > epmd.new && mv epmd.new epmd.prom'""",
+            "ReadWritePaths=-/var/lib/prometheus/node-exporter",
+            "StateDirectory=epmd-metrics",  # Where the counts are kept by default.
+            "StateDirectoryMode=0700",
+            "SyslogLevel=warning",  # What the tool prints stays in the journal, and that it was called each minute does not.
+            "LogLevelMax=notice",
+            # Files of other users, and whose descriptors a socket is among.
+            "CapabilityBoundingSet=CAP_DAC_OVERRIDE CAP_SYS_PTRACE",
+            "IPAddressAllow=localhost",
+            "IPAddressDeny=any",
+            "PrivateDevices=yes",
+            # It asks over the network of the host, and reads /proc/net and the processes of others.
+            "RestrictAddressFamilies=AF_INET",
+            "UMask=0022",
+            *(line for line in HARDENED if not line.startswith(("PrivateNetwork", "ProcSubset", "ProtectProc", "RestrictAddress", "UMask"))),
+        ],
     },
     "epmd-proved-prune.timer": {
         "Unit": [],
@@ -113,10 +143,12 @@ class Units(unittest.TestCase):
                 self.assertEqual(of_key, [line for line in rows.get("Service", []) if line.startswith(key)], name)
 
     def test_there_is_no_restart(self):
-        """A restart by the service manager restarts what requires the service."""
+        """A restart by the service manager restarts what requires the service. And the port is served where no folder can be made."""
         for name in ROWS:
             with open(os.path.join(UNITS, name), encoding="utf-8") as file:
-                self.assertIsNone(re.search(r"(?m)^(Restart|StateDirectory)\w*=", file.read()), name)
+                text = file.read()
+            self.assertIsNone(re.search(r"(?m)^Restart\w*=", text), name)
+            self.assertEqual("\nStateDirectory=" in text, name == "epmd-proved-metrics.service", name)
 
 
 if __name__ == "__main__":

@@ -1,0 +1,154 @@
+"""What bash and zsh complete of the words of epmd and its tools: keys are pressed in a shell that runs in a terminal,
+where stand-ins for the commands print the words that came of it."""
+import fcntl
+import os
+import pty
+import re
+import select
+import shutil
+import struct
+import sys
+import tempfile
+import termios
+import time
+import unittest
+
+import programs
+from programs import CONTRIB
+
+COMPLETIONS = os.path.join(CONTRIB, "completions")
+COMMANDS = "epmd", "epmd-log", "epmd-metrics", "epmd-prune"
+STAND_IN = '#!/bin/sh\nprintf "called"\nfor word in "$@"; do printf " <%s>" "$word"; done\necho\n'
+TAB, LINE_AWAY = "\t", "\x15"
+# What takes a file, and what takes a value that is none, of each command.
+FILES = {"epmd": ["-record", "-check", "-play", "-local", "-audit"], "epmd-metrics": ["-recording", "-state"]}
+VALUES = {"epmd": ["-port", "-address", "-packet_timeout", "-workers", "-stop"], "epmd-log": ["-n"],
+          "epmd-prune": ["-keep"]}
+
+
+def help_of(command):
+    path = os.path.join(CONTRIB, command)
+    words = [path, "-help"] if command == "epmd" else [sys.executable, "-B", path, "--help"]
+    return programs.run(words, env=programs.environment(EPMD=shutil.which("true"))).stdout
+
+
+def told(command):
+    """The words that the help of a command has, in sets of those of one meaning."""
+    if command == "epmd":
+        return [{word} for word in re.findall(r"(?<![\w(-])-\w+", help_of(command))]
+    options = help_of(command).partition("\noptions:\n")[2]
+    return [set(re.findall(r"(?<!\S)--?\w+", line)) for line in re.findall(r"(?m)^  (-.*?)(?:  .*)?$", options)]
+
+
+class Shell:
+    """A shell in a terminal that is wide and high enough for each list."""
+    WORDS = {"bash": ["--norc", "--noprofile", "-i"], "zsh": ["-f", "-i"]}
+    SETUP = {
+        "bash": [f". {COMPLETIONS}/epmd", "bind 'set show-all-if-ambiguous on'", "bind 'set bell-style none'"],
+        "zsh": [f"fpath=({COMPLETIONS} $fpath)", "autoload -Uz compinit", "compinit -u -D", "unsetopt beep"],
+    }
+
+    def __init__(self, name, folder):
+        own, theirs = pty.openpty()
+        fcntl.ioctl(theirs, termios.TIOCSWINSZ, struct.pack("HHHH", 200, 200, 0, 0))
+        env = programs.environment(TERM="dumb", INPUTRC="/dev/null", HOME=folder)
+        env["PATH"] = f"{folder}/bin:{env['PATH']}"
+        self.process = programs.start([shutil.which(name), *self.WORDS[name]], env=env, cwd=f"{folder}/work",
+                                      stdin=theirs, stdout=theirs, stderr=theirs, start_new_session=True)
+        os.close(theirs)
+        self.terminal, self.count = own, 0
+        for line in ["unset HISTFILE; PS1='' PS2=''", *self.SETUP[name]]:
+            self.press(line + "\n")
+
+    def press(self, keys):
+        """What is shown from these keys on until the line that they left has been taken away."""
+        self.count += 1
+        os.write(self.terminal, f"{keys}{LINE_AWAY}echo end-$((0 + {self.count}))\n".encode())
+        shown, until = b"", time.monotonic() + programs.SILENCE
+        while f"end-{self.count}\r\n".encode() not in shown:
+            if not select.select([self.terminal], [], [], max(0, until - time.monotonic()))[0]:
+                raise AssertionError(f"the shell does not come to the end of {keys!r}: {shown!r}")
+            shown += os.read(self.terminal, 65536)
+        return shown.decode()
+
+    def end(self):
+        self.process.kill()
+        self.process.wait()
+        os.close(self.terminal)
+
+
+class Completions:
+    """The tests of each shell."""
+
+    @classmethod
+    def setUpClass(cls):
+        folder = tempfile.TemporaryDirectory()
+        cls.addClassCleanup(folder.cleanup)
+        for name in ("bin", "work", "work/sessions"):
+            os.mkdir(os.path.join(folder.name, name))
+        for name in COMMANDS:
+            with open(os.path.join(folder.name, "bin", name), "w", encoding="utf-8") as file:
+                file.write(STAND_IN)
+            os.chmod(file.name, 0o755)
+        for name in ("recorded", "sessions/other"):
+            open(os.path.join(folder.name, "work", name), "w", encoding="utf-8").close()
+        cls.shell = Shell(cls.NAME, folder.name)
+        cls.addClassCleanup(cls.shell.end)
+
+    def listed(self, typed):
+        """The words that are offered where so much is typed."""
+        shown = re.sub(" -- .*", "", self.shell.press(typed + TAB).partition("\n")[2].rpartition("echo end")[0])
+        return set(re.findall(r"(?<!\S)--?[a-z_]+(?!\S)", shown))
+
+    def called(self, typed):
+        """The words with which the command is called once what is typed was completed."""
+        return re.findall(r"<(.*?)>", re.search(r"(?m)^called(.*?)\r?$", self.shell.press(typed + TAB + "\n"))[1])
+
+    def test_each_word_of_the_help_is_offered_and_no_other(self):
+        for command in COMMANDS:
+            with self.subTest(command=command):
+                wanted, offered = told(command), self.listed(f"{command} -")
+                self.assertGreaterEqual(len(wanted), 3)
+                self.assertEqual([words for words in wanted if not words & offered], [])
+                self.assertEqual(offered - set().union(*wanted), set())
+
+    def test_the_help_of_the_wrapper_has_its_options_and_its_commands(self):
+        some = {"-port", "-packet_timeout", "-d", "-debug", "-names", "-stop", "-audit", "-once", "-version"}
+        self.assertLessEqual(some, set().union(*told("epmd")))
+        self.assertEqual(told("epmd-prune"), [{"-h", "--help"}, {"-keep"}, {"-version", "--version"}])
+
+    def test_a_word_that_has_begun_is_completed_behind_others_too(self):
+        self.assertEqual(self.called("epmd -port 5000 -rel"), ["-port", "5000", "-relaxed_command_check"])
+        self.assertEqual(self.called("epmd-log -f -j"), ["-f", "-json"])
+
+    def test_a_file_is_completed_where_one_is_wanted(self):
+        rows = [(command, [word]) for command, words in FILES.items() for word in words]
+        for command, words in [*rows, ("epmd-log", []), ("epmd-log", ["-f"]), ("epmd-prune", ["-keep", "8"])]:
+            with self.subTest(command=command, words=words):
+                self.assertEqual(self.called(" ".join([command, *words, "rec"])), [*words, "recorded"])
+                self.assertEqual(self.called(" ".join([command, *words, "sessions/o"])), [*words, "sessions/other"])
+
+    def test_neither_a_file_nor_a_word_is_completed_where_another_value_is_wanted(self):
+        for command, words in VALUES.items():
+            for word in words:
+                with self.subTest(command=command, word=word):
+                    self.assertEqual(self.called(f"{command} {word} rec"), [word, "rec"])
+                    self.assertEqual(self.listed(f"{command} {word} -"), set())
+
+    def test_each_word_that_takes_a_value_is_one_of_these(self):
+        for command in COMMANDS:
+            taking = set(re.findall(r"(-\w+) [A-Z]+\b", help_of(command).partition("\n\n")[0]))
+            self.assertEqual(taking, {*FILES.get(command, []), *VALUES.get(command, [])}, command)
+
+
+class Bash(Completions, unittest.TestCase):
+    NAME = "bash"
+
+
+@unittest.skipIf(not shutil.which("zsh"), "no zsh")
+class Zsh(Completions, unittest.TestCase):
+    NAME = "zsh"
+
+
+if __name__ == "__main__":
+    unittest.main()
