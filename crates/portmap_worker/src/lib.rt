@@ -5,7 +5,8 @@
 //! - `Carrier::ready`, over any link and gate: offers what waits, then pulls once, unless a close is due. Where it
 //!   tells a place and an answer, these are the desk's for the bytes of that pull, and what it wrote, followed by what
 //!   waits, is what waited and the answer. What is next is exact. Where it tells nothing, nothing is lost, the seat is
-//!   as it was, and what is next says why.
+//!   as it was, and what is next says why. Over all its calls what was written is a prefix of the answers, in order
+//!   (`only_answers_are_written`).
 //! - `serve`: the seat back, with a count higher by what it says it served. That it goes on through `ready` alone,
 //!   answers every connection and ends: tests and the simulation.
 //! - `Recorder::begin`, `add`: true: all text was written; false: a front of it, or nothing, and nothing from then on.
