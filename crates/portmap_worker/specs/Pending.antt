@@ -1,6 +1,5 @@
 -- Registrations that wait for their names: profile. Times are in milliseconds.
-use Rattle.std.specs.Prelude.{◌≡◌, ℕ, ◌+◌, ◌-◌, ◌<◌, ◌≤◌, ◌^◌, ◌⊎◌, min, Option, Some, None}
-use Rattle.core.specs.Option.{option_map}
+use Rattle.std.specs.Prelude.{◌≡◌, ℕ, ◌+◌, ◌-◌, ◌<◌, ◌≤◌, ◌^◌, ◌⊎◌, min, Option, Some, None, option_map}
 use Rattle.portmap_worker.specs.declared.limits.TheConstants.{EPOCH_ROUNDS_MOST, EPOCH_TIMEOUT_MS, NAME_TIMEOUT_MS}
 use Rattle.portmap_worker.specs.declared.pending.Waiting.{Waiting, TheVariants.{Asked, Come, Epoch, Name}}
 

@@ -33,7 +33,7 @@ returns-in-Ok-clause-does g c =
       piece = told.0;
       read = told.1;
       says = told.2;
-      not_due = elim c.match-flush.branch [ in-Empty+else-self w ↦ w.if-self | in-Later+else-self-2 w ↦ w.if-self-2 ];
+      not_due = elim c.match-flush.branch [ in-Empty+else-self w ↦ w.if-self.false | in-Later+else-self-2 w ↦ w.if-self-2.false ];
       due = c.reply-next.ensures.due;
       writes = returns-in-Ok-clause-written g c;
     }
