@@ -115,10 +115,11 @@ impl<L: Ledger, S: System, R: Host + Wait + Clock> SocketSource<'_, L, S, R> {
     /// Whether no registration is taken, since no memory is left that others may need. If this worker is the first to
     /// find that, it says so: what it refuses counts.
     fn is_short(&self) -> bool {
-        if !self.rt.has_memory(self.alloc) {
+        let is_short = self.shared.short.load(Ordering::SeqCst) || !self.rt.has_memory(self.alloc);
+        if is_short {
             self.shared.short.store(true, Ordering::SeqCst);
         }
-        self.shared.short.load(Ordering::SeqCst)
+        is_short
     }
 
     /// What the link that was told last keeps back is told at once, unless its name is active, or no memory is left
