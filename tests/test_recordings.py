@@ -428,7 +428,7 @@ class Stalled(RecordCase):
         def read():
             with open(self.file, "rb", buffering=0) as pipe:
                 got.extend(pipe.read(1000))
-                go_on.wait(PATIENCE)
+                go_on.wait()
                 while piece := pipe.read(65536):
                     got.extend(piece)
         reader = threading.Thread(target=read)
