@@ -1,5 +1,5 @@
 """Helpers of tests and scripts: a daemon on a port of loopback, requests in bytes, looks at its memory, and one line a case."""
-import contextlib, os, random, resource, selectors, socket, struct, subprocess, sys, tempfile, time
+import contextlib, errno, os, random, resource, selectors, socket, struct, subprocess, sys, tempfile, time
 
 HERE = os.path.dirname(os.path.abspath(__file__))
 PRODUCTS = os.path.join(tempfile.gettempdir(), f"epmd-tests-{os.getuid()}")  # What gcc makes.
@@ -10,15 +10,26 @@ bad = 0
 sys.path.append(os.path.join(HERE, "..", "faults"))  # Where the shim is that has calls fail.
 
 
+def is_free(family, address, port):
+    """Whether nobody has this port there. Where there is no IPv6 nobody has one."""
+    try:
+        with socket.socket(family) as tried:
+            tried.setsockopt(socket.SOL_SOCKET, socket.SO_REUSEADDR, 1)
+            tried.bind((address, port))
+    except OSError as error:
+        return error.errno in (errno.EAFNOSUPPORT, errno.EADDRNOTAVAIL)
+    return True
+
+
 def free_port():
-    """A port of 15000 to 15999 at which nobody listens, and what keeps other scripts from taking it: a name of the system's."""
+    """A port of 15000 to 15999 that nobody has at 127.0.0.1 and ::1, and what keeps other scripts from taking it: a name of the
+    system's."""
     for port in random.SystemRandom().sample(range(15000, 16000), 1000):
-        kept, tried = socket.socket(socket.AF_UNIX), socket.socket()
-        tried.setsockopt(socket.SOL_SOCKET, socket.SO_REUSEADDR, 1)
-        with tried, contextlib.suppress(OSError):
+        kept = socket.socket(socket.AF_UNIX)
+        with contextlib.suppress(OSError):
             kept.bind(f"\0epmd-scripts-{port}")
-            tried.bind(("127.0.0.1", port))
-            return port, kept
+            if is_free(socket.AF_INET, "127.0.0.1", port) and is_free(socket.AF_INET6, "::1", port):
+                return port, kept
         kept.close()
     sys.exit("no port is free")
 
