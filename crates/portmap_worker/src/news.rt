@@ -14,7 +14,8 @@ pub(crate) struct News {
     pub(crate) unanswered: bool,
     /// One waits that can't be accepted, for want of descriptors or of memory.
     pub(crate) exhausted: bool,
-    /// So many have ended unanswered while the reserve of memory was given back.
+    /// So many have ended unanswered while the reserve of memory was given back, or were refused by a worker that found
+    /// no memory.
     pub(crate) refused: u64,
     /// So many were reset, since too many bytes waited for peers that do not read.
     pub(crate) resets: u64,
@@ -44,6 +45,11 @@ impl Noted {
     /// Whether a connection has ended unanswered since that was last taken.
     pub fn is_unanswered(&self) -> bool {
         self.unanswered.load(Ordering::SeqCst)
+    }
+
+    /// Whether a connection is counted already that memory was wanted for.
+    pub(crate) fn has_refused(&self) -> bool {
+        self.refused.load(Ordering::SeqCst) > 0
     }
 
     /// What was noted since this was last asked.
@@ -90,6 +96,11 @@ impl Tally {
             self.news.refused = self.news.refused.saturating_add(1);
         }
         self.publish(shared);
+    }
+
+    /// A registration is not taken, since the worker has found no memory.
+    pub(crate) fn note_refused(&mut self) {
+        self.news.refused = self.news.refused.saturating_add(1);
     }
 
     /// A connection was reset, since too many bytes waited for peers that do not read.

@@ -112,12 +112,17 @@ impl<L: Ledger, S: System, R: Host + Wait + Clock> SocketSource<'_, L, S, R> {
         Some(self.desk.is_active(self.rt, name))
     }
 
-    /// Whether no registration is taken, since no memory is left that others may need. If this worker is the first to
-    /// find that, it says so: what it refuses counts.
-    fn is_short(&self) -> bool {
-        let is_short = self.shared.short.load(Ordering::SeqCst) || !self.rt.has_memory(self.alloc);
+    /// Whether a registration is not taken, since no memory is left that others may need. One that this worker alone
+    /// finds so is counted here.
+    fn refuses(&mut self) -> bool
+        ensures { self.new.ready ≡ self.old.ready }
+    {
+        if self.shared.short.load(Ordering::SeqCst) {
+            return true;
+        }
+        let is_short = !self.rt.has_memory(self.alloc);
         if is_short {
-            self.shared.short.store(true, Ordering::SeqCst);
+            self.tally.note_refused();
         }
         is_short
     }
@@ -127,7 +132,7 @@ impl<L: Ledger, S: System, R: Host + Wait + Clock> SocketSource<'_, L, S, R> {
     pub(crate) fn hold_back(&mut self) -> Option<Turn> {
         let key = self.ready.told()?;
         let is_active = self.is_name_active(key)?;
-        let told = told_at_once(key as u64, self.is_short(), is_active);
+        let told = told_at_once(key as u64, self.refuses(), is_active);
         if told.is_some() {
             return told;
         }
@@ -153,7 +158,7 @@ impl<L: Ledger, S: System, R: Host + Wait + Clock> SocketSource<'_, L, S, R> {
             match self.goes_on(key) {
                 Some(waiting) => wait_on(&mut self.ready, &mut self.rounds, key, waiting),
                 None => {
-                    let is_short = self.is_short();
+                    let is_short = self.refuses();
                     resume(&mut self.ready, key, is_short);
                 }
             }
