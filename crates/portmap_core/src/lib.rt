@@ -45,8 +45,9 @@ pub use held::Held;
 pub use laws::{
     active_names_are_shown, ends_are_final, ends_leave_no_name, entries_determine,
     holders_outlast_their_time, kills_end_where_they_may, malformed_changes_no_name,
-    names_belong_to_connections, others_are_told_nothing, refused_names_are_told_why,
-    runs_keep_limits, steps_keep_owned, taken_creations_are_new, written_is_whole,
+    names_belong_to_connections, names_that_left_are_not_found, others_are_told_nothing,
+    refused_names_are_told_why, registered_names_stay, runs_keep_limits, steps_keep_owned,
+    taken_creations_are_new, written_is_whole,
 };
 pub use locality::{Ip, is_local};
 pub use machine::Core;
