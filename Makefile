@@ -50,7 +50,7 @@ MAN = $(PREFIX)/share/man
 DOC = $(PREFIX)/share/doc/epmd-proved
 INCLUDE = $(PREFIX)/include
 LIBRARIES = $(PREFIX)/lib
-COMMANDS = epmd epmd-log epmd-metrics epmd-prune
+COMMANDS = epmd epmd-log epmd-metrics epmd-prune epmd-report
 PAGES = $(addsuffix .1,$(COMMANDS))
 # By default where zsh itself looks below /usr/local; a package has a folder of its own.
 ZSH_COMPLETIONS = $(PREFIX)/share/zsh/site-functions
@@ -87,7 +87,7 @@ endif
 install-program:
 	$(built)install -D -m 755 -t $(DESTDIR)$(LIB) build/epmd contrib/renew contrib/state-folder
 	ln -sf epmd $(DESTDIR)$(LIB)/epmd-all-options-ignored
-	install -m 644 contrib/epmd_recording.py $(DESTDIR)$(LIB)
+	install -m 644 contrib/epmd_recording.py contrib/epmd_report.html $(DESTDIR)$(LIB)
 	install -D -m 755 -t $(DESTDIR)$(BIN) $(addprefix contrib/,$(COMMANDS))
 	install -D -m 644 -t $(DESTDIR)$(UNITS) $(addprefix contrib/units/,$(SERVICES))
 	install -D -m 644 contrib/units/socket.conf $(DESTDIR)$(UNITS)/epmd.socket.d/10-proved.conf

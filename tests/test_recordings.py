@@ -323,6 +323,69 @@ class Recorded(RecordCase):
         self.assertTrue(stat.S_ISCHR(os.stat("/dev/null").st_mode))
 
 
+class Times(RecordCase):
+    """FILE.times beside a file of a recording says by when its entries happened."""
+
+    def rows(self, path):
+        """The rows of the times of a file: a place of the log, and microseconds."""
+        data = content(path + ".times")
+        self.assertEqual(data[:16], b"EPMT\1" + bytes(11))
+        return list(struct.iter_unpack(">QQ", data[16:len(data) - len(data) % 16]))
+
+    def asked_until(self, daemon, entries):
+        """Asks until so many entries have a time. The file comes once the daemon serves, and its first bytes with it."""
+        def has_come():
+            ask(daemon.port, b"n", PATIENCE)
+            path = self.file + ".times"
+            return os.path.exists(path) and os.path.getsize(path) >= 32 and self.rows(self.file)[-1][0] >= entries
+        eventually(has_come, "a row")
+
+    def is_in_order(self, rows, began):
+        self.assertEqual(rows[0][0], 0)
+        places, times = zip(*rows)
+        self.assertEqual(sorted(set(places)), sorted(places))
+        self.assertTrue(began <= times[0] and list(times) == sorted(times) and times[-1] <= time.time_ns() // 1000, (began, times))
+
+    def test_each_entry_has_one_and_so_has_the_end(self):
+        began = time.time_ns() // 1000
+        daemon = self.daemon("-record", self.file)
+        self.asked_until(daemon, 10)
+        self.assertEqual(self.kill(daemon), 0)
+        rows = self.rows(self.file)
+        self.assertEqual(rows[-2][0], rows[-1][0])
+        self.assertEqual(rows[-1][0], self.entries(self.file))
+        self.assertLess(2, len(rows))
+        self.is_in_order(rows[:-1], began)
+        self.assertLessEqual(rows[-2][1], rows[-1][1])
+        self.assertEqual(stat.S_IMODE(os.stat(self.file + ".times").st_mode), 0o600)
+
+    def test_a_daemon_that_is_killed_leaves_no_end(self):
+        began = time.time_ns() // 1000
+        daemon = self.daemon("-record", self.file)
+        self.asked_until(daemon, 10)
+        daemon.process.kill()
+        daemon.process.wait(PATIENCE)
+        self.is_in_order(self.rows(self.file), began)
+
+    def test_times_that_can_not_be_written(self):
+        os.mkdir(self.file + ".times")
+        daemon = self.daemon("-record", self.file)
+        ask(daemon.port, b"n", PATIENCE)
+        self.assertEqual(self.kill(daemon), 0)
+        self.assertGreater(self.entries(self.file), 0)
+        self.assertEqual(os.listdir(self.file + ".times"), [])
+
+    def test_a_pipe_has_none(self):
+        os.mkfifo(self.file)
+        reader = subprocess.Popen(["cat", self.file], stdout=subprocess.DEVNULL)
+        self.addCleanup(reader.kill)
+        daemon = self.daemon("-record", self.file)
+        ask(daemon.port, b"n", PATIENCE)
+        self.assertEqual(self.kill(daemon), 0)
+        reader.wait(PATIENCE)
+        self.assertEqual(os.listdir(self.folder), ["session"])
+
+
 class Failed(RecordCase):
     """A file that can't be made or written: a line names it with the system's reason, the daemon serves on, and its status is 3."""
 

@@ -17,12 +17,12 @@ import programs
 from programs import CONTRIB
 
 COMPLETIONS = os.path.join(CONTRIB, "completions")
-COMMANDS = "epmd", "epmd-log", "epmd-metrics", "epmd-prune"
+COMMANDS = "epmd", "epmd-log", "epmd-metrics", "epmd-prune", "epmd-report"
 STAND_IN = '#!/bin/sh\nprintf "called"\nfor word in "$@"; do printf " <%s>" "$word"; done\necho\n'
 TAB, LINE_AWAY = "\t", "\x15"
 # What takes a file, and what takes a value that is none, of each command.
-FILES = {"epmd": ["-record", "-check", "-play", "-local", "-audit"], "epmd-metrics": ["-recording", "-state"]}
-VALUES = {"epmd": ["-port", "-address", "-packet_timeout", "-workers", "-stop"], "epmd-log": ["-n"],
+FILES = {"epmd": ["-record", "-check", "-play", "-local", "-audit"], "epmd-metrics": ["-recording", "-state"], "epmd-report": ["-epmd"]}
+VALUES = {"epmd": ["-port", "-address", "-packet_timeout", "-workers", "-stop"], "epmd-log": ["-n", "-since", "-until"],
           "epmd-prune": ["-keep"]}
 
 
@@ -123,7 +123,8 @@ class Completions:
 
     def test_a_file_is_completed_where_one_is_wanted(self):
         rows = [(command, [word]) for command, words in FILES.items() for word in words]
-        for command, words in [*rows, ("epmd-log", []), ("epmd-log", ["-f"]), ("epmd-prune", ["-keep", "8"])]:
+        for command, words in [*rows, ("epmd-log", []), ("epmd-log", ["-f"]), ("epmd-prune", ["-keep", "8"]), ("epmd-report", []),
+                               ("epmd-report", ["recorded"])]:
             with self.subTest(command=command, words=words):
                 self.assertEqual(self.called(" ".join([command, *words, "rec"])), [*words, "recorded"])
                 self.assertEqual(self.called(" ".join([command, *words, "sessions/o"])), [*words, "sessions/other"])

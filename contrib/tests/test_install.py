@@ -16,7 +16,7 @@ TOP = os.path.join(os.path.dirname(os.path.abspath(__file__)), "..", "..")
 PARTS = ["Makefile", "VERSION", "README.md", "CHANGELOG.md", "crates.txt", "contrib", "docs", "include"]
 # A small program, and a library, as good as any.
 PROGRAM = shutil.which("true")
-COMMANDS = ["epmd", "epmd-log", "epmd-metrics", "epmd-prune"]
+COMMANDS = ["epmd", "epmd-log", "epmd-metrics", "epmd-prune", "epmd-report"]
 UNITS = ["epmd-proved-away.target", "epmd-proved-metrics.service", "epmd-proved-metrics.timer", "epmd-proved-prune.service",
          "epmd-proved-prune.timer", "epmd-proved.service", "epmd-proved.service.d/10-proved.conf", "epmd-proved.socket",
          "epmd.service.d/10-proved.conf", "epmd.socket.d/10-proved.conf"]
@@ -133,6 +133,7 @@ def program_below(prefix):
             **{f"{prefix}/lib/systemd/system/{name}": 0o644 for name in UNITS}, f"{prefix}/lib/epmd-proved/epmd": 0o755,
             f"{prefix}/lib/epmd-proved/renew": 0o755, f"{prefix}/lib/epmd-proved/state-folder": 0o755,
             f"{prefix}/lib/epmd-proved/epmd-all-options-ignored": "epmd", f"{prefix}/lib/epmd-proved/epmd_recording.py": 0o644,
+            f"{prefix}/lib/epmd-proved/epmd_report.html": 0o644,
             f"{prefix}/share/bash-completion/completions/epmd": 0o644, f"{prefix}/share/zsh/site-functions/_epmd": 0o644,
             **{f"{prefix}/share/bash-completion/completions/{name}": "epmd" for name in COMMANDS[1:]},
             f"{prefix}/share/doc/epmd-proved/README.md": 0o644,

@@ -17,7 +17,7 @@ from programs import CONTRIB, SILENCE
 from epmd_recording import BODY_MOST, NAME_MOST, Recording
 
 LOG = os.path.join(CONTRIB, "epmd-log")
-STAMP = r"\d{4}-\d\d-\d\dT\d\d:\d\d:\d\dZ "
+STAMP = r"\d{4}-\d\d-\d\dT\d\d:\d\d:\d\d\.\d{6}Z "
 # Seconds within which the clock of the file system surely advances, so that a later file has a later time.
 LATER = 0.05
 
@@ -97,9 +97,9 @@ class Told(unittest.TestCase):
     def run_log(self, *words):
         return programs.run([sys.executable, LOG, *words, self.path])
 
-    def follower(self):
+    def follower(self, *words):
         """One that follows the recording, and is ended where it says nothing for long."""
-        running = programs.start([sys.executable, LOG, "-f", self.path], stdout=subprocess.PIPE, stderr=subprocess.PIPE)
+        running = programs.start([sys.executable, LOG, "-f", *words, self.path], stdout=subprocess.PIPE, stderr=subprocess.PIPE)
         patience = threading.Timer(SILENCE, running.kill)
         patience.start()
         for each in (running.stdout.close, running.stderr.close, running.wait, running.kill, patience.cancel):
@@ -107,10 +107,14 @@ class Told(unittest.TestCase):
         return running
 
     def told(self, data, *words):
+        """Its lines. One that begins at place 0 begins with the start of the run, which is left out."""
         self.write(data)
         done = self.run_log(*words)
         self.assertEqual((done.stderr, done.returncode), ("", 0))
-        return done.stdout.splitlines()
+        begins = data[4] == 1 or not any(data[16:24])
+        lines = done.stdout.splitlines()
+        self.assertEqual(lines[:1] == ["0 start"] or lines[:1] == ['{"place": 0, "event": "start"}'], begins)
+        return lines[begins:]
 
     def test_a_node_registers_is_looked_up_and_leaves(self):
         entries = connect(0) + piece(0, alive(b"a", 5000), 0, GRANTED) + connect(1, 0) + piece(1, sized(b"za"), 1, FOUND) + close(1)
@@ -208,10 +212,11 @@ class Told(unittest.TestCase):
         self.write(start(12) + visit(b"b"), self.path + ".2")
         for time, behind in enumerate(("", ".1", ".2")):
             os.utime(self.path + behind, (time, time))
-        lines = ["1 gap: 8 entries are missing", "9 leave a port 5000", "10 gap: 2 entries are missing", "13 lookup b by a local peer: not registered"]
+        lines = ["0 start", "1 gap: 8 entries are missing", "9 leave a port 5000", "10 gap: 2 entries are missing",
+                 "13 lookup b by a local peer: not registered"]
         self.assertEqual(self.run_log().stdout.splitlines(), lines)
-        self.assertEqual(self.run_log("-n", "a").stdout.splitlines(), lines[:3])
-        self.assertEqual(json.loads(self.run_log("-json").stdout.splitlines()[0]), {"place": 1, "event": "gap", "missing": 8})
+        self.assertEqual(self.run_log("-n", "a").stdout.splitlines(), lines[:4])
+        self.assertEqual(json.loads(self.run_log("-json").stdout.splitlines()[1]), {"place": 1, "event": "gap", "missing": 8})
 
     def test_what_is_cut_or_strange_is_told(self):
         for cut, where in ((start()[:20], "its start"), (start() + connect(0)[:-1], "place 0")):
@@ -264,7 +269,7 @@ class Told(unittest.TestCase):
     def test_a_name_that_is_no_text_can_be_asked_for(self):
         self.write(start() + visit(b"a\xff") + visit(b"a"))
         done = programs.run([sys.executable, LOG, "-n", b"a\xff", self.path])
-        self.assertEqual(done.stdout, "1 lookup a\\xff by a local peer: not registered\n")
+        self.assertEqual(done.stdout, "0 start\n1 lookup a\\xff by a local peer: not registered\n")
 
     def test_it_begins_with_the_oldest_file_that_is_there(self):
         self.write(start(70) + visit(b"a"), self.path + ".9")
@@ -277,7 +282,8 @@ class Told(unittest.TestCase):
         self.write(start() + visit("aé\u4e00".encode()))
         for encoding, shown in (("ascii", "a\\xe9\\u4e00"), ("latin-1", "a\xe9\\u4e00"), ("utf-8", "aé\u4e00")):
             done = programs.run([sys.executable, LOG, self.path], env=programs.environment(PYTHONIOENCODING=encoding), text=False)
-            self.assertEqual((done.returncode, done.stderr, done.stdout), (0, b"", f"1 lookup {shown} by a local peer: not registered\n".encode(encoding)))
+            self.assertEqual((done.returncode, done.stderr), (0, b""))
+            self.assertEqual(done.stdout, f"0 start\n1 lookup {shown} by a local peer: not registered\n".encode(encoding))
 
     def test_one_that_is_not_there_is_told(self):
         done = self.run_log()
@@ -292,7 +298,7 @@ class Told(unittest.TestCase):
         with open(os.path.join(CONTRIB, "..", "VERSION")) as file:
             version = file.read().strip()
         lacking = "import sys, runpy; sys.modules['argparse'] = None; sys.argv = sys.argv[1:]; runpy.run_path(sys.argv[0], run_name='__main__')"
-        for name in ("epmd-log", "epmd-metrics", "epmd-prune"):
+        for name in ("epmd-log", "epmd-metrics", "epmd-prune", "epmd-report"):
             tool = os.path.join(CONTRIB, name)
             for word in ("-version", "--version"):
                 done = programs.run([sys.executable, tool, word])
@@ -306,7 +312,7 @@ class Told(unittest.TestCase):
         for place in places:
             os.makedirs(place)
         shutil.copy(os.path.join(CONTRIB, "epmd_recording.py"), places[1])
-        for name in ("epmd-log", "epmd-metrics", "epmd-prune"):
+        for name in ("epmd-log", "epmd-metrics", "epmd-prune", "epmd-report"):
             shutil.copy(os.path.join(CONTRIB, name), places[0])
             os.symlink(os.path.join(places[0], name), os.path.join(places[2], name))
             for place in (places[0], places[2]):
@@ -319,24 +325,25 @@ class Told(unittest.TestCase):
         self.assertEqual(running.stderr.readline(), f"epmd-log: {self.path} is not there yet\n")
         time.sleep(0.5)
         self.write(start() + visit(b"a"))
-        self.assertRegex(running.stdout.readline(), f"^{STAMP}1 lookup a ")
+        self.assertEqual([running.stdout.readline() for _ in range(2)], ["0 start\n", "1 lookup a by a local peer: not registered\n"])
         os.rename(self.path, self.path + "-20261128T040632Z")
         time.sleep(LATER)
         self.write(start() + visit(b"b"))
-        self.assertRegex(running.stdout.readline(), f"^{STAMP}1 lookup b ")
+        self.assertEqual([running.stdout.readline() for _ in range(2)], ["0 start\n", "1 lookup b by a local peer: not registered\n"])
         running.send_signal(signal.SIGINT)
         self.assertEqual((running.wait(SILENCE), running.stderr.read()), (0, ""))
 
     def test_a_live_recording_is_followed_into_the_next_file(self):
         self.write(start())
-        running = self.follower()
+        running = self.follower("-all")
+        self.assertEqual(running.stdout.readline(), "0 start\n")
         with open(self.path, "ab", buffering=0) as file:
             file.write(connect(0))
             time.sleep(0.5)
             file.write(piece(0, alive(b"a", 5000), 0, GRANTED))
-        self.assertRegex(running.stdout.readline(), f"^{STAMP}1 register a port 5000 creation 4$")
+        self.assertEqual(running.stdout.readline(), "1 register a port 5000 creation 4\n")
         self.write(start(2, [(b"a", 5000, 4, 0)], (), [(0, 1, 1, b"")]) + close(0), self.path + ".1")
-        self.assertRegex(running.stdout.readline(), f"^{STAMP}2 leave a port 5000$")
+        self.assertEqual(running.stdout.readline(), "2 leave a port 5000\n")
         running.send_signal(signal.SIGINT)
         self.assertEqual(running.wait(SILENCE), 0)
 
@@ -347,15 +354,15 @@ class Told(unittest.TestCase):
         with open(self.path, "wb") as pipe:
             pipe.write(start() + connect(0) + piece(0, alive(b"a", 5000), 0, GRANTED))
         told, _ = running.communicate(timeout=SILENCE)
-        self.assertTrue(re.fullmatch(f"{STAMP}1 register a port 5000 creation 4\n", told))
-        stamp = calendar.timegm(time.strptime(told.split(" ")[0], "%Y-%m-%dT%H:%M:%SZ"))
+        self.assertTrue(re.fullmatch(f"{STAMP}0 start\n{STAMP}1 register a port 5000 creation 4\n", told), told)
+        stamp = calendar.timegm(time.strptime(told.split(".")[0], "%Y-%m-%dT%H:%M:%S"))
         self.assertTrue(began <= stamp <= time.time(), told)
 
     def test_a_pipe_that_is_followed_ends_too(self):
         os.mkfifo(self.path)
         running = self.follower()
         self.write(start() + visit(b"a"))
-        self.assertRegex(running.stdout.read(), f"^{STAMP}1 lookup a by a local peer: not registered\n$")
+        self.assertRegex(running.stdout.read(), f"^{STAMP}0 start\n{STAMP}1 lookup a by a local peer: not registered\n$")
         self.assertEqual((running.wait(SILENCE), running.stderr.read()), (0, ""))
 
     def test_an_event_of_a_pipe_is_told_at_once(self):
@@ -367,6 +374,7 @@ class Told(unittest.TestCase):
             self.addCleanup(each)
         with open(self.path, "wb", buffering=0) as pipe:
             pipe.write(start() + visit(b"a"))
+            self.assertRegex(running.stdout.readline(), f"^{STAMP}0 start")
             self.assertRegex(running.stdout.readline(), f"^{STAMP}1 lookup a ")
 
     def test_where_the_reader_of_its_lines_has_gone_it_ends_well(self):
@@ -422,7 +430,9 @@ class Followed(Written, unittest.TestCase):
         self.recording.following = following
 
     def seen(self):
-        return [f"{event.place} {event.name.decode() if event.missing is None else f'gap {event.missing}'}" for event in self.recording.events()]
+        """What happened to names, and gaps."""
+        return [f"{event.place} {event.name.decode() if event.name else f'gap {event.missing}'}"
+                for event in self.recording.events() if event.name or event.missing]
 
     def test_what_is_not_whole_is_waited_for(self):
         whole = start(0, [(b"n", 1, 4, 3)], [(b"o", 2, 5)], [(2, 1, 0, b"\0"), (3, 1, 1, b"")]) + visit(b"a") + late(2) + close(3)
@@ -431,7 +441,7 @@ class Followed(Written, unittest.TestCase):
             recording = Recording(self.path, True)
             first = [event.event for event in recording.events()]
             self.add(whole[size:])
-            self.assertEqual(first + [event.event for event in recording.events()], ["lookup", "timeout", "leave"], size)
+            self.assertEqual(first + [event.event for event in recording.events()], ["start", "lookup", "timeout", "leave"], size)
             self.assertFalse(recording.is_cut())
             recording.close()
 
@@ -582,7 +592,7 @@ class Followed(Written, unittest.TestCase):
         self.addCleanup(recording.close)
         self.write(start() + visit(b"a"))
         self.write(start(7) + visit(b"b"), ".1")
-        self.assertEqual([event.event for event in recording.events()], ["lookup"])
+        self.assertEqual([event.event for event in recording.events()], ["start", "lookup"])
         self.assertTrue(recording.is_spent())
         following = Recording(self.path, True, kept=recording.kept())
         self.addCleanup(following.close)

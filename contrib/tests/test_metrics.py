@@ -351,7 +351,7 @@ class Counted(Written, unittest.TestCase):
         self.add(piece(0, b"\xfe", 1, b"w\1") + close(0) + close(1))
         self.assertEqual(self.lookups(), 1)
         source = self.tool.Recording(self.path, True)
-        self.assertEqual([event.event for event in source.events()], ["register", "lookup", "leave"])
+        self.assertEqual([event.event for event in source.events()], ["start", "register", "lookup", "leave"])
         with open(self.state) as file:
             self.assertEqual(json.load(file)["at"]["session"], source.session.kept())
         source.close()

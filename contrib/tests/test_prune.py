@@ -28,6 +28,23 @@ class Prune(unittest.TestCase):
     def test_the_newest_stay(self):
         self.assertEqual(self.left(["s", "s.1", "s.2", "s.9", "s.10"], 2), ["s.10", "s.9"])
 
+    def test_times_go_with_their_files_and_count_with_them(self):
+        names = [f"s{number}{times}" for number in ("", ".1", ".2", ".10") for times in ("", ".times")]
+        self.assertEqual(self.left(names, 2), ["s.10", "s.10.times", "s.2", "s.2.times"])
+        self.assertEqual(self.left(names, 4), sorted(names))
+        runs = [f"{DAY}{run}{times}" for run in ("000000Z", "000000Z.1", "000000Za") for times in ("", ".times")]
+        self.assertEqual(self.left([*runs, "s", "s.times"], 2), sorted([*runs[4:], "s", "s.times"]))
+
+    def test_times_are_no_files_of_the_recording(self):
+        self.assertEqual(self.left(["s", "s.1", "s.1.times", "s.times"], 1, written=["s.times"]), ["s.1", "s.1.times"])
+        self.assertEqual(self.left(["s.times", "s.1.times"], 1), [])
+
+    def test_times_without_their_file_go(self):
+        lonely = ["s.times", "s.3.times", DAY + "000000Z.times", DAY + "000000Z.12.times"]
+        self.assertEqual(self.left(["s.1", *lonely], 8), ["s.1"])
+        others = ["s.01.times", "s.last.times", "s-.times", "t.times", "s.1.times.copy", "s.0.times"]
+        self.assertEqual(self.left(["s", *others], 1), sorted(["s", *others]))
+
     def test_few_all_stay(self):
         self.assertEqual(self.left(["s", "s.1"], 2), ["s", "s.1"])
         self.assertEqual(self.left([], 2), [])

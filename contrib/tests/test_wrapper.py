@@ -176,6 +176,24 @@ class Wrapper(unittest.TestCase):
         self.call("-systemd", *words)
         self.assertEqual(self.files(), first + ["session-20010909T014640Za.3", "session.3.copy"])
 
+    def test_the_times_beside_a_recording_are_kept_with_it(self):
+        words = ["-record", os.path.join(self.folder, "session")]
+        for name in ("session", "session.1", "session.1.times", "session.2", "session.2.times", "session.3.times", "session.times"):
+            self.left(name, written=1000000000 + len(name), count=100 + len(name))
+        self.handed(*words)
+        first = "session-20010909T014649Z"
+        kept = [first, f"{first}.1", f"{first}.1.times", f"{first}.2", f"{first}.2.times", f"{first}.times"]
+        self.assertEqual(self.files(), [*kept, "session.3.times"])
+        self.assertEqual([os.path.getsize(os.path.join(self.folder, name)) for name in kept], [107, 109, 115, 109, 115, 113])
+
+    def test_times_are_no_recording(self):
+        words = ["-record", os.path.join(self.folder, "session")]
+        self.left("session", count=37)
+        for name in ("session.times", "session.1.times"):
+            self.left(name, count=64)
+        self.handed(*words)
+        self.assertEqual(self.files(), ["session", "session.1.times", "session.times"])
+
     def test_a_pipe_beside_files_stays_where_it_is(self):
         self.left("session")
         os.mkfifo(os.path.join(self.folder, "session.1"))
@@ -281,9 +299,9 @@ class Wrapper(unittest.TestCase):
     def test_it_knows_each_command_of_the_program(self):
         with open(os.path.join(os.path.dirname(WRAPPER), "..", "crates", "epmd", "src", "items.rt")) as source:
             text = source.read()
-        said = dict(re.findall(r'"(-\w+)" => (?:Word::Act\(Action|Valued)::(\w+)', text))
-        acts = [word for word, name in said.items() if f"Action::{name}" in text]
-        self.assertIn("-audit", acts)
+        arms = re.findall(r'(.*) => (?:Word::Act\(|Some\(Use::Action\))', text)
+        acts = re.findall(r'"(-\w+)"', " ".join(arms))
+        self.assertLessEqual({"-names", "-audit"}, set(acts))
         for word in acts:
             self.assertIn(word, self.call("-help").stdout)
             self.assertEqual(self.call(word, "x", ERL_EPMD_ADDRESS="fe80::1").stderr, "", word)

@@ -3,6 +3,5 @@ pub mod Lists
 pub mod Listening
 pub mod Sayings
 pub mod Completing
-pub mod Findings
 pub mod Pieces
 pub mod Recordings

@@ -1,12 +1,12 @@
 -- What words have said so far, one item more at a time.
-use Rattle.std.specs.{List.list_any, Option.option_or, Prelude.{option_map, is_some}}
+use Rattle.std.specs.{List.list_any, Option.option_or, Prelude.is_some}
 use Rattle.std.proofs.Common.{◌≡◌, ℕ, ◌+◌, ◌<◌, ◌≤◌, Bool, true, false, cond, List, [], ◌∷◌, ◌++◌, Option, Some, None}
 use Rattle.std.proofs.Common.{refl, sym, ap, subst, ◌∙◌, ◌||◌, append_assoc, arith, length, map, take, drop, get_or}
 use Rattle.std.proofs.{Common.◌-◌, lemmas.List.{append-nil, take_all}, lemmas.List.Folds.list_any-append}
 use Rattle.std.proofs.lemmas.List.Sums.{sum_by_push}
-use Rattle.epmd.specs.{Meaning.{Holds, Adds}, Words.{Asked, asked_in, Item, Act, Begins, Spells, last_by, is_action}}
+use Rattle.epmd.specs.{Meaning.{Holds, Adds}, Words.{Begins, Spells, last_by, is_action}, declared.items.Word.{Word, TheVariants.Act}}
 use Rattle.epmd.specs.Words.{action_of, port_of, addresses_of, timeout_of, workers_of, recording_of, is_relaxed}
-use Rattle.epmd.specs.{Words.is_debug, declared.plan.Plan.Plan}
+use Rattle.epmd.specs.{Words.is_debug, declared.plan.Plan.Plan, declared.words.Action.Action}
 
 -- ---- one item more
 
@@ -18,7 +18,7 @@ or_or : {X : Type 0} (a b c : Option X) → option_or (option_or a b) c ≡ opti
 or_or None b c = refl
 or_or (Some x) b c = refl
 
-last_by_push : {X : Type 0} (sets : Item → Option X) (items : List Item) (item : Item)
+last_by_push : {X : Type 0} (sets : Word → Option X) (items : List Word) (item : Word)
     → last_by sets (items ++ item ∷ []) ≡ option_or (sets item) (last_by sets items)
 last_by_push sets [] item = or_none (sets item)
 last_by_push sets (x ∷ xs) item = ap (λ (o : _). option_or o (sets x)) (last_by_push sets xs item)
@@ -28,54 +28,48 @@ or_false : (b : Bool) → (b || false) ≡ b
 or_false true = refl
 or_false false = refl
 
-any_push : (test : Item → Bool) (items : List Item) (item : Item) → list_any test (items ++ item ∷ []) ≡ (list_any test items || test item)
+any_push : (test : Word → Bool) (items : List Word) (item : Word) → list_any test (items ++ item ∷ []) ≡ (list_any test items || test item)
 any_push test items item = list_any-append test items (item ∷ []) ∙ ap (λ (b : Bool). list_any test items || b) (or_false (test item))
 
 -- an action comes where none was, and stays
-counted : (item : Item) (old new : Option Asked) → new ≡ option_or (action_of item) old → (is_action item ≡ true → is_some old ≡ false)
+counted : (item : Word) (old new : Option Action) → new ≡ option_or (action_of item) old → (is_action item ≡ true → is_some old ≡ false)
     → cond (is_some new) 1 0 ≡ cond (is_some old) 1 0 + cond (is_action item) 1 0
-counted (Act asked) old new e first =
+counted (Act action) old new e first =
     let none : is_some old ≡ false = first refl in
     let some : is_some new ≡ true = ap is_some e in
     rw (none, some) refl
 counted item old new e first =
-    let same : ◌≡◌ {A = ℕ} (cond (is_some new) 1 0) (cond (is_some old) 1 0) = ap (λ (o : Option Asked). cond (is_some o) 1 0) e in
+    let same : ◌≡◌ {A = ℕ} (cond (is_some new) 1 0) (cond (is_some old) 1 0) = ap (λ (o : Option Action). cond (is_some o) 1 0) e in
     omega (arith, same)
 
-pub is_some_map : {X Y : Type 0} (f : X → Y) (o : Option X) → is_some (option_map f o) ≡ is_some o
-is_some_map f None = refl
-is_some_map f (Some x) = refl
+-- what an item sets is set anew
+set_anew : {X : Type 0} (sets : Word → Option X) (items : List Word) (item : Word) (old new : Option X)
+    → new ≡ option_or (sets item) old → old ≡ last_by sets items → new ≡ last_by sets (items ++ item ∷ [])
+set_anew sets items item old new a h = a ∙ ap (option_or (sets item)) h ∙ sym (last_by_push sets items item)
 
-pub holds_more : (items : List Item) (item : Item) (old new : Plan) → Holds items old → Adds item old new
+pub holds_more : (items : List Word) (item : Word) (old new : Plan) → Holds items old → Adds item old new
     → (is_action item ≡ true → is_some old.action ≡ false) → Holds (items ++ item ∷ []) new
-holds_more items item old new h a first =
-    let k = counted item (option_map asked_in old.action) (option_map asked_in new.action) a.action
-    (λ is. is_some_map asked_in old.action ∙ first is) in
-    let was : ◌≡◌ {A = ℕ} (cond (is_some (option_map asked_in old.action)) 1 0) (cond (is_some old.action) 1 0) =
-    ap (λ (b : Bool). cond b 1 0) (is_some_map asked_in old.action) in
-    let is : ◌≡◌ {A = ℕ} (cond (is_some (option_map asked_in new.action)) 1 0) (cond (is_some new.action) 1 0) =
-    ap (λ (b : Bool). cond b 1 0) (is_some_map asked_in new.action) in
-    record {
-      action = a.action ∙ ap (λ (o : Option Asked). option_or (action_of item) o) h.action ∙ sym (last_by_push action_of items item);
-      actions = omega (arith, sum_by_push (λ (x : Item). cond (is_action x) 1 0) items item, h.actions, k, was, is);
-      port = a.port ∙ ap (λ (o : Option ℕ). option_or (port_of item) o) h.port ∙ sym (last_by_push port_of items item);
-      addresses = a.addresses ∙ ap (λ (o : Option (List (List ℕ))). option_or (addresses_of item) o) h.addresses
-          ∙ sym (last_by_push addresses_of items item);
-      timeout = a.timeout ∙ ap (λ (o : Option ℕ). option_or (timeout_of item) o) h.timeout ∙ sym (last_by_push timeout_of items item);
-      workers = a.workers ∙ ap (λ (o : Option ℕ). option_or (workers_of item) o) h.workers ∙ sym (last_by_push workers_of items item);
-      relaxed = a.relaxed ∙ ap (λ (b : Bool). b || is_relaxed item) h.relaxed ∙ sym (any_push is_relaxed items item);
-      debug = a.debug ∙ ap (λ (b : Bool). b || is_debug item) h.debug ∙ sym (any_push is_debug items item);
-      recording = a.recording ∙ ap (λ (o : Option (List ℕ)). option_or (recording_of item) o) h.recording
-          ∙ sym (last_by_push recording_of items item);
-    }
+holds_more items item old new h a first = record {
+  action = set_anew action_of items item old.action new.action a.action h.action;
+  actions =
+      let k = counted item old.action new.action a.action first in
+      omega (arith, sum_by_push (λ (x : Word). cond (is_action x) 1 0) items item, h.actions, k);
+  port = set_anew port_of items item old.port new.port a.port h.port;
+  addresses = set_anew addresses_of items item old.addresses new.addresses a.addresses h.addresses;
+  timeout = set_anew timeout_of items item old.timeout new.timeout a.timeout h.timeout;
+  workers = set_anew workers_of items item old.workers new.workers a.workers h.workers;
+  relaxed = a.relaxed ∙ ap (λ (b : Bool). b || is_relaxed item) h.relaxed ∙ sym (any_push is_relaxed items item);
+  debug = a.debug ∙ ap (λ (b : Bool). b || is_debug item) h.debug ∙ sym (any_push is_debug items item);
+  recording = set_anew recording_of items item old.recording new.recording a.recording h.recording;
+}
 
 -- these words are said, and this rest is left
 pub record Says (words rest : List (List ℕ)) (plan : Plan) : Type 0 where
-  pub items : List Item
-  pub with_more : (more : List Item) → Spells rest more → Spells words (items ++ more)
+  pub items : List Word
+  pub with_more : (more : List Word) → Spells rest more → Spells words (items ++ more)
   pub holds : Holds items plan
 
-pub says_more : (words rest after : List (List ℕ)) (item : Item) (old new : Plan) → Says words rest old → Begins item rest after
+pub says_more : (words rest after : List (List ℕ)) (item : Word) (old new : Plan) → Says words rest old → Begins item rest after
     → Adds item old new → (is_action item ≡ true → is_some old.action ≡ false) → Says words after new
 says_more words rest after item old new s begins a first = record {
   items = s.items ++ item ∷ [];
@@ -85,7 +79,7 @@ says_more words rest after item old new s begins a first = record {
 }
 
 pub says_all : {X : Type 0} (f : X → List ℕ) (words : List (List ℕ)) (rest : List X) (plan : Plan) → length rest < 1
-    → Says words (map f rest) plan → (items : List Item) × Spells words items × Holds items plan
+    → Says words (map f rest) plan → (items : List Word) × Spells words items × Holds items plan
 says_all f words [] plan none s = (s.items, subst (Spells words) (append-nil s.items) (s.with_more [] refl), s.holds)
 says_all f words (x ∷ xs) plan none s = absurd (omega arith)
 

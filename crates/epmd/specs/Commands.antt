@@ -19,26 +19,12 @@ use Rattle.portmap_client.specs.declared.outcome.Stop.TheVariants as stop
 use Rattle.epmd.specs.{Actions.{status_of, EndsWith, failure_of_once}, declared.actions.Failure.Failure}
 use Rattle.epmd.specs.declared.actions.Failure.TheVariants.{KillRefused, Memory, NoConnection, StopRefused}
 use Rattle.epmd.specs.declared.actions.Failure.TheVariants.{StrangeAnswer}
-use Rattle.epmd.specs.{declared.commands.Answer.Answer, declared.commands.Page.Page, declared.words.Action.Action}
-use Rattle.epmd.specs.declared.words.Action.TheVariants.{Audit, Check, Dump, Kill as AskKill, Local, Names, Once, Play}
-use Rattle.epmd.specs.declared.words.Action.TheVariants.{Serve, Stop as AskStop}
+use Rattle.epmd.specs.{declared.commands.Answer.Answer, declared.commands.Page.Page, declared.words.Ask.Ask}
+use Rattle.epmd.specs.declared.words.Ask.TheVariants.{Dump, Kill as AskKill, Names, Stop as AskStop}
 use Rattle.epmd.specs.declared.actions.TheConstants as the
 use Rattle.epmd.specs.declared.commands.Answer.TheVariants as answer
 
 -- ---- what is asked
-
--- an action of a client
-abbrev pub IsOfClient : Action → Type 0
-IsOfClient Serve = ⊥
-IsOfClient Names = Unit {0}
-IsOfClient AskKill = Unit {0}
-IsOfClient (AskStop name) = Unit {0}
-IsOfClient Dump = Unit {0}
-IsOfClient Once = ⊥
-IsOfClient (Check path) = ⊥
-IsOfClient (Play path) = ⊥
-IsOfClient (Local path) = ⊥
-IsOfClient (Audit path) = ⊥
 
 -- the result of a call, as that of an action
 abbrev pub answered : {X : Type 0} → (X → Answer) → Result X ClientFault → Result Answer ClientFault
@@ -46,7 +32,7 @@ answered make (Ok x) = Ok (make x)
 answered make (Err fault) = Err fault
 
 -- the action's request out and its answer in, by the stream before and after
-abbrev pub Asks : Action → StreamView → StreamView → Result Answer ClientFault → Type 0
+abbrev pub Asks : Ask → StreamView → StreamView → Result Answer ClientFault → Type 0
 Asks Names old new ended = (called : Result (ℕ × Vec Line Global) ClientFault) × Calls request.Names SaysNames old new called
     × (ended ≡ answered answer.Names called)
 Asks AskKill old new ended = (called : Result Kill ClientFault) × Calls request.Kill SaysKill old new called
@@ -55,7 +41,6 @@ Asks (AskStop name) old new ended = (called : Result Stop ClientFault) × Calls 
     × (ended ≡ answered answer.Stop called)
 Asks Dump old new ended = (called : Result (ℕ × Vec ℕ Global) ClientFault) × Calls request.Dump SaysDump old new called
     × (ended ≡ answered answer.Dump called)
-Asks action old new ended = ⊥
 
 -- ---- what is told
 

@@ -1,12 +1,12 @@
 -- The command that items and the environment make. Profile; epmd(1) has the environment's variables.
-use Rattle.std.specs.{Fmt.decimal, List.list_any, Option.option_or, Prelude.{◌≡◌, ℕ, ◌+◌, Bool, true, ◌<◌, ◌≤◌, List}}
+use Rattle.std.specs.{Fmt.decimal, List.list_any, Option.option_or, Prelude.{◌≡◌, ℕ, ◌+◌, Bool, true, ◌<◌, List}}
 use Rattle.std.specs.Prelude.{[], ◌∷◌, ◌++◌, if◌then◌else◌, ◌||◌, string_bytes, Option, Some, None, option_map, is_some}
 use Rattle.std.specs.{Prelude.{count_by, unwrap_or}, declared.io.ErrorKind.{ErrorKind, TheVariants.OutOfMemory}}
-use Rattle.epmd.specs.{Addresses.{anywhere, AreListening}, Numbers.{IsWithin, WritesWithin}, Words.{Serve, Item}}
-use Rattle.epmd.specs.Words.{asked_in, action_of, port_of, addresses_of, timeout_of, workers_of, recording_of}
+use Rattle.epmd.specs.{Addresses.{anywhere, AreListening}, Numbers.{IsWithin, WritesWithin}, declared.items.Word.Word}
+use Rattle.epmd.specs.Words.{action_of, port_of, addresses_of, timeout_of, workers_of, recording_of}
 use Rattle.epmd.specs.{Words.{is_relaxed, is_debug, is_action, last_by, Spells}, declared.plan.Plan.Plan}
 use Rattle.epmd.specs.{declared.plan.TheConstants.{TIMEOUT, WORKERS}, declared.words.Command.Command}
-use Rattle.epmd.specs.{declared.words.Env.Env, declared.words.WordFault.WordFault}
+use Rattle.epmd.specs.{declared.words.Action.TheVariants.Serve, declared.words.Env.Env, declared.words.WordFault.WordFault}
 use Rattle.epmd.specs.declared.words.WordFault.TheVariants.{BadEnvPort, BadValue, MissingValue, NoMemory, TwoCommands}
 use Rattle.epmd.specs.declared.words.WordFault.TheVariants.{Unknown}
 use Rattle.epmd.specs.declared.actions.TheConstants as actions
@@ -14,29 +14,28 @@ use Rattle.epmd.specs.declared.words.TheConstants as words
 
 -- ---- what words have said so far
 
--- these items have said all this
-pub record Holds (items : List Item) (plan : Plan) : Type 0 where
-  pub action : option_map asked_in plan.action ≡ last_by action_of items
+-- these items have said all this: of each kind the last one counts, and one asks for an action at most
+pub record Holds (items : List Word) (plan : Plan) : Type 0 where
+  pub action : plan.action ≡ last_by action_of items
   pub actions : count_by is_action items ≡ (if is_some plan.action then 1 else 0)
   pub port : plan.port ≡ last_by port_of items
-  pub addresses : option_map (λ addresses. addresses.items) plan.addresses ≡ last_by addresses_of items
+  pub addresses : plan.addresses ≡ last_by addresses_of items
   pub timeout : plan.timeout ≡ last_by timeout_of items
   pub workers : plan.workers ≡ last_by workers_of items
   pub relaxed : plan.relaxed ≡ list_any is_relaxed items
   pub debug : plan.debug ≡ list_any is_debug items
-  pub recording : option_map string_bytes plan.recording ≡ last_by recording_of items
+  pub recording : plan.recording ≡ last_by recording_of items
 
 -- one item more says this
-pub record Adds (item : Item) (old new : Plan) : Type 0 where
-  pub action : option_map asked_in new.action ≡ option_or (action_of item) (option_map asked_in old.action)
+pub record Adds (item : Word) (old new : Plan) : Type 0 where
+  pub action : new.action ≡ option_or (action_of item) old.action
   pub port : new.port ≡ option_or (port_of item) old.port
-  pub addresses : option_map (λ addresses. addresses.items) new.addresses
-      ≡ option_or (addresses_of item) (option_map (λ addresses. addresses.items) old.addresses)
+  pub addresses : new.addresses ≡ option_or (addresses_of item) old.addresses
   pub timeout : new.timeout ≡ option_or (timeout_of item) old.timeout
   pub workers : new.workers ≡ option_or (workers_of item) old.workers
   pub relaxed : new.relaxed ≡ (old.relaxed || is_relaxed item)
   pub debug : new.debug ≡ (old.debug || is_debug item)
-  pub recording : option_map string_bytes new.recording ≡ option_or (recording_of item) (option_map string_bytes old.recording)
+  pub recording : new.recording ≡ option_or (recording_of item) old.recording
 
 -- ---- the command
 
@@ -46,22 +45,9 @@ IsPort (Some number) text port = port ≡ number
 IsPort None (Some text) port = WritesWithin 1 65535 text port
 IsPort None None port = port ≡ actions.PORT
 
--- the command that these items make in this environment
-pub record IsCommand (items : List Item) (env : Env) (command : Command) : Type 0 where
-  pub one : count_by is_action items ≤ 1
-  pub action : asked_in command.action ≡ unwrap_or (last_by action_of items) Serve
-  pub port : IsPort (last_by port_of items) (option_map string_bytes env.port) command.port
-  pub says_where : command.says_where ≡ (is_some (last_by port_of items) || is_some (last_by addresses_of items) || is_some env.port)
-  pub relaxed : command.relaxed ≡ (list_any is_relaxed items || env.relaxed)
-  pub addresses : command.addresses.items ≡ unwrap_or (last_by addresses_of items) (anywhere ∷ [])
-  pub timeout : command.timeout ≡ unwrap_or (last_by timeout_of items) TIMEOUT
-  pub workers : command.workers ≡ unwrap_or (last_by workers_of items) WORKERS
-  pub debug : command.debug ≡ list_any is_debug items
-  pub recording : option_map string_bytes command.recording ≡ last_by recording_of items
-
 -- the command of what words have said, in this environment
 pub record Completes (plan : Plan) (env : Env) (command : Command) : Type 0 where
-  pub action : asked_in command.action ≡ unwrap_or (option_map asked_in plan.action) Serve
+  pub action : command.action ≡ unwrap_or plan.action Serve
   pub port : IsPort plan.port (option_map string_bytes env.port) command.port
   pub says_where : command.says_where ≡ (is_some plan.port || is_some plan.addresses || is_some env.port)
   pub relaxed : command.relaxed ≡ (plan.relaxed || env.relaxed)
@@ -71,9 +57,9 @@ pub record Completes (plan : Plan) (env : Env) (command : Command) : Type 0 wher
   pub debug : command.debug ≡ plan.debug
   pub recording : command.recording ≡ plan.recording
 
--- words say this command in this environment
+-- words say this command in this environment: it is that of the plan that holds what their items have said
 abbrev pub SaysCommand : List (List ℕ) → Env → Command → Type 0
-SaysCommand words env command = (items : List Item) × Spells words items × IsCommand items env command
+SaysCommand words env command = (items : List Word) × (plan : Plan) × Spells words items × Holds items plan × Completes plan env command
 
 -- a daemon can serve by this command
 pub record CanServe (command : Command) : Type 0 where

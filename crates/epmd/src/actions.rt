@@ -1,23 +1,21 @@
 //! What the command does, with what it writes and the status that it ends with.
-ghost use Rattle.std.specs.Prelude.{◌≡◌, ◌⊎◌, false, Result, Err, Bool};
+ghost use Rattle.std.specs.Prelude.{◌≡◌, false, Result, Err};
 ghost use Rattle.std.specs.Io.KnownBytes.{Keeps};
 ghost use Rattle.portmap_core.specs.declared.event.Fate.{Fate};
 ghost use Rattle.portmap_link.specs.Adapters.{writing_inner, writing_puts, writing_broken, streams};
 ghost use Rattle.portmap_link.specs.Asking.{MakesTurns};
 ghost use Rattle.portmap_link.specs.Once.{Did};
 ghost use Rattle.portmap_link.specs.declared.single.OnceFault.{OnceFault};
-ghost use Rattle.portmap_record.specs.Playing.{local_record, IsRemoteRun, Plays, TellsFound};
+ghost use Rattle.portmap_record.specs.Playing.{IsRefused, TellsFound, text_of};
 ghost use Rattle.portmap_record.specs.declared.verdict.Verdict.{Verdict};
 ghost use Rattle.portmap_record.specs.declared.playing.PlayFault.{PlayFault};
-ghost use Rattle.epmd.specs.Actions.{once_config, status_of, line_of, Fails, TellsVerdict, TellsErrors, Passes};
-ghost use Rattle.epmd.specs.Actions.{EndsWith, failure_of_once, failure_of_play, status_of_fate, status_of_found};
-ghost use Rattle.epmd.specs.Actions.{status_of_verdict, IsOfFile, IsSilent, IsToShow, Refuses, tells};
+ghost use Rattle.epmd.specs.Actions.{once_config, status_of, line_of, Fails, TellsErrors, Passes};
+ghost use Rattle.epmd.specs.Actions.{EndsWith, failure_of_once, failure_of_play, status_of_found, IsSilent};
 
 use crate::errors::{say, say_number};
-use crate::words::Action;
 use portmap_core::{Config, Fate};
 use portmap_link::{OnceFault, Reading, Writing, once};
-use portmap_record::{PlayFault, Verdict, play, write_local, write_verdict};
+use portmap_record::{PlayFault, Text, Verdict, show};
 use std::alloc::Global;
 use std::io::{Read, Write};
 
@@ -217,7 +215,7 @@ pub fn do_once<R: Read, W: Write, E: Write>(
         Did once_config (seen input.old output.old) (seen input.new output.new) ended
         × MakesTurns TURNS (seen input.old output.old) (seen input.new output.new) ended
         (λ sent. Err (OnceFault.TooManyTurns sent)))
-        × EndsWith status_of_fate failure_of_once result ended (writing_broken output.new)
+        × EndsWith (λ _. DONE) failure_of_once result ended (writing_broken output.new)
         (λ _. errors.new ≡ errors.old)
         (Fails E.contents errors.old errors.new) }
 {
@@ -227,135 +225,59 @@ pub fn do_once<R: Read, W: Write, E: Write>(
     }
 }
 
-/// The status that tells whether a session is a run.
-fn status_of_verdict(is_run: bool) -> u8
-    ensures { result ≡ status_of_verdict is_run }
-{
-    if is_run { DONE } else { NOT_DONE }
-}
-
-/// Judges a recorded session and tells of it as the action asks.
-fn show<R: Read, W: Write>(
-    alloc: Global,
-    action: &Action,
-    input: &mut Reading<R>,
-    output: &mut Writing<W>,
-) -> Result<bool, PlayFault>
-    requires { IsToShow action.now }
-    ensures did { let seen = streams R.remaining W.contents in
-        Plays (tells action.now) (Refuses action.now) (seen input.old output.old) (seen input.new output.new) result }
-    ensures turns { let seen = streams R.remaining W.contents in
-        MakesTurns FILE_TURNS (seen input.old output.old) (seen input.new output.new) result
-        (λ sent. Err (PlayFault.TooManyTurns sent)) }
-{
-    match action {
-        Action::Check(_) => write_verdict(alloc, input, output, FILE_TURNS),
-        Action::Play(_) => play(alloc, input, output, FILE_TURNS),
-        _ => unreachable!(),
-    }
-}
-
-/// The same, to the end.
-fn do_shown<R: Read, W: Write, E: Write>(
-    alloc: Global,
-    action: &Action,
-    input: &mut Reading<R>,
-    output: &mut Writing<W>,
-    errors: &mut Writing<E>,
-) -> u8
-    requires { IsToShow action.now }
-    ensures silent { (result ≡ DONE) ⊎ (result ≡ NOT_DONE) → errors.new ≡ errors.old }
-    ensures shown { (ended : Result Bool PlayFault)
-        × (let seen = streams R.remaining W.contents in
-        Plays (tells action.now) (Refuses action.now) (seen input.old output.old) (seen input.new output.new) ended
-        × MakesTurns FILE_TURNS (seen input.old output.old) (seen input.new output.new) ended
-        (λ sent. Err (PlayFault.TooManyTurns sent)))
-        × EndsWith status_of_verdict failure_of_play result ended (writing_broken output.new)
-        (λ _. errors.new ≡ errors.old)
-        (Fails E.contents errors.old errors.new) }
-{
-    match show(alloc, action, input, output) {
-        Ok(is_run) => end(output, errors, status_of_verdict(is_run)),
-        Err(fault) => fail(errors, Failure::from(fault)),
-    }
-}
-
-/// Ends with what is found of a session: where it is no run, `errors` is told where it is broken.
+/// Ends with what is found of a session, of which this text was written. If the session is no run and the text does not
+/// say so, `errors` gets the entry at which it is broken.
 fn end_found<W: Write, E: Write>(
     output: &mut Writing<W>,
     errors: &mut Writing<E>,
+    text: Text,
     found: Verdict,
 ) -> u8
     ensures passes { Passes (status_of_found found) result (writing_broken output.new)
-        (TellsVerdict E.contents errors.old errors.new found) (Fails E.contents errors.old errors.new) }
-    ensures silent { result ≡ DONE → errors.new ≡ errors.old }
+        (TellsErrors text E.contents errors.old errors.new found) (Fails E.contents errors.old errors.new) }
+    ensures silent { IsSilent text result → errors.new ≡ errors.old }
     ensures held { Keeps (W.contents (writing_inner output.old)) (W.contents (writing_inner output.new)) }
     ensures puts { writing_puts output.new ≡ writing_puts output.old }
 {
-    match found {
-        Verdict::Run => end(output, errors, DONE),
-        Verdict::Broken(at) => {
+    match (text, found) {
+        (_, Verdict::Run) => end(output, errors, DONE),
+        (Text::LocalRecord, Verdict::Broken(at)) => {
             if !output.finish() {
                 return fail(errors, Failure::Device);
             }
             let _ = say_number(errors, BROKEN_AT, at as u64, b"\n");
             NOT_DONE
         }
+        (Text::Transcript | Text::Verdict, Verdict::Broken(_)) => end(output, errors, NOT_DONE),
     }
 }
 
-/// Judges a recorded session, and writes it without its remote peers where it is a run.
-fn do_local<R: Read, W: Write, E: Write>(
-    alloc: Global,
-    input: &mut Reading<R>,
-    output: &mut Writing<W>,
-    errors: &mut Writing<E>,
-) -> u8
-    ensures silent { result ≡ DONE → errors.new ≡ errors.old }
-    ensures written { (ended : Result Verdict PlayFault)
-        × (let seen = streams R.remaining W.contents in
-        TellsFound local_record IsRemoteRun (seen input.old output.old) (seen input.new output.new) ended
-        × MakesTurns FILE_TURNS (seen input.old output.old) (seen input.new output.new) ended
-        (λ sent. Err (PlayFault.TooManyTurns sent)))
-        × EndsWith status_of_found failure_of_play result ended (writing_broken output.new)
-        (TellsVerdict E.contents errors.old errors.new)
-        (Fails E.contents errors.old errors.new) }
-{
-    match write_local(alloc, input, output, FILE_TURNS) {
-        Ok(found) => end_found(output, errors, found),
-        Err(fault) => fail(errors, Failure::from(fault)),
-    }
-}
-
-/// Reads a recorded session from `input`, to its end, and writes to `output` what is found of it: for `Check` whether
-/// it is a run of the port mapper's machine, for `Play` every entry before that. For `Local` it writes the session
-/// without its remote peers where it is a run; where it is none, nothing, and `errors` gets the line that tells so.
-/// Status 0 for a run, 1 for none. Status 2 where the bytes are no record, or for `Local` one that begins with an open
-/// connection of a remote peer, status 3 where a device failed, `FILE_TURNS` pulls and puts were made and one more was
-/// due, the input has more bytes than a session may have, or memory ran out: `errors` then gets one line.
+/// Reads a recorded session from `input` to its end, judges it, and writes this text of it to `output`. If the session
+/// is no run and the text does not say so, `errors` gets the line that does. Status 0 for a run, 1 for none. Status 2
+/// if the bytes are no record, or begin with an open connection of a remote peer that the text would have to leave
+/// out. Status 3 if a device failed, `FILE_TURNS` pulls and puts were made and one more was due, the input has more
+/// bytes than a session may have, or memory ran out: `errors` then gets one line.
 ///
 /// The output is flushed at the end, as by `do_once`.
 pub fn do_file<R: Read, W: Write, E: Write>(
     alloc: Global,
-    action: &Action,
+    text: Text,
     input: &mut Reading<R>,
     output: &mut Writing<W>,
     errors: &mut Writing<E>,
 ) -> u8
-    requires { IsOfFile action.now }
-    ensures silent { IsSilent action.now result → errors.new ≡ errors.old }
+    ensures silent { IsSilent text result → errors.new ≡ errors.old }
     // What was read and written, in how many turns, why the status is so, and what errors are told.
     ensures shown { (ended : Result Verdict PlayFault)
         × (let seen = streams R.remaining W.contents in
-        TellsFound (tells action.now) (Refuses action.now) (seen input.old output.old) (seen input.new output.new) ended
+        TellsFound (text_of text) (IsRefused text) (seen input.old output.old) (seen input.new output.new) ended
         × MakesTurns FILE_TURNS (seen input.old output.old) (seen input.new output.new) ended
         (λ sent. Err (PlayFault.TooManyTurns sent)))
         × EndsWith status_of_found failure_of_play result ended (writing_broken output.new)
-        (TellsErrors action.now E.contents errors.old errors.new) (Fails E.contents errors.old errors.new) }
+        (TellsErrors text E.contents errors.old errors.new) (Fails E.contents errors.old errors.new) }
 {
-    match action {
-        Action::Check(_) | Action::Play(_) => do_shown(alloc, action, input, output, errors),
-        Action::Local(_) => do_local(alloc, input, output, errors),
-        _ => unreachable!(),
+    match show(alloc, input, output, FILE_TURNS, text) {
+        Ok(found) => end_found(output, errors, text, found),
+        Err(fault) => fail(errors, Failure::from(fault)),
     }
 }

@@ -4,14 +4,14 @@ ghost use Rattle.portmap_link.specs.Adapters.{writing_inner, writing_broken};
 ghost use Rattle.portmap_client.specs.Exchange.{view};
 ghost use Rattle.portmap_client.specs.declared.fault.ClientFault.{ClientFault};
 ghost use Rattle.epmd.specs.Actions.{Fails};
-ghost use Rattle.epmd.specs.Commands.{IsOfClient, Asks, head_line, names_text, dump_text, kill_told, stop_told};
+ghost use Rattle.epmd.specs.Commands.{Asks, head_line, names_text, dump_text, kill_told, stop_told};
 ghost use Rattle.epmd.specs.Commands.{answer_told, IsTold, IsToldOf, Prints, Tells};
 ghost use Rattle.epmd.specs.declared.actions.Failure.{Failure};
 ghost use Rattle.epmd.specs.declared.commands.Answer.{Answer};
 ghost use Rattle.epmd.specs.declared.commands.Page.{Page};
 
 use crate::actions::{DONE, FAILED, Failure, NOT_DONE, end, fail};
-use crate::words::Action;
+use crate::words::Ask;
 use itoa::Buffer;
 use portmap_client::{ClientFault, Kill, Stop, dump, kill, names, stop};
 use portmap_daemon::shown;
@@ -74,22 +74,16 @@ impl From<NoMemory> for Failure {
     }
 }
 
-/// Asks the port mapper for what the action wants.
-fn ask<S: Input + Output>(
-    alloc: Global,
-    action: &Action,
-    stream: &mut S,
-) -> Result<Answer, ClientFault>
-    requires { IsOfClient action.now }
+/// Asks the port mapper for this.
+fn ask<S: Input + Output>(alloc: Global, asked: &Ask, stream: &mut S) -> Result<Answer, ClientFault>
     ensures { let seen = view S.left S.held S.pulls S.puts S.broken in
-        Asks action.now (seen stream.old) (seen stream.new) result }
+        Asks asked.now (seen stream.old) (seen stream.new) result }
 {
-    match action {
-        Action::Names => Ok(Answer::Names(names(alloc, stream)?)),
-        Action::Kill => Ok(Answer::Kill(kill(alloc, stream)?)),
-        Action::Stop(name) => Ok(Answer::Stop(stop(alloc, stream, name)?)),
-        Action::Dump => Ok(Answer::Dump(dump(alloc, stream)?)),
-        _ => unreachable!(),
+    match asked {
+        Ask::Names => Ok(Answer::Names(names(alloc, stream)?)),
+        Ask::Kill => Ok(Answer::Kill(kill(alloc, stream)?)),
+        Ask::Stop(name) => Ok(Answer::Stop(stop(alloc, stream, name)?)),
+        Ask::Dump => Ok(Answer::Dump(dump(alloc, stream)?)),
     }
 }
 
@@ -168,15 +162,14 @@ fn page_of(alloc: Global, answer: &Answer) -> Result<Page, Failure>
     }
 }
 
-/// Asks the port mapper for what the action wants, and makes what is printed of the answer.
-fn learn<S: Input + Output>(alloc: Global, action: &Action, stream: &mut S) -> Result<Page, Failure>
-    requires { IsOfClient action.now }
+/// Asks the port mapper for this, and makes what is printed of the answer.
+fn learn<S: Input + Output>(alloc: Global, asked: &Ask, stream: &mut S) -> Result<Page, Failure>
     ensures { (ended : Result Answer ClientFault)
         × (let seen = view S.left S.held S.pulls S.puts S.broken in
-        Asks action.now (seen stream.old) (seen stream.new) ended)
+        Asks asked.now (seen stream.old) (seen stream.new) ended)
         × IsToldOf ended result }
 {
-    let answer = ask(alloc, action, stream)?;
+    let answer = ask(alloc, asked, stream)?;
     page_of(alloc, &answer)
 }
 
@@ -198,33 +191,31 @@ pub fn print<W: Write, E: Write>(
     }
 }
 
-/// Asks the port mapper at the other end of `stream` for what the action wants, and writes to `output` what it
-/// answered: the registered names for `Names`, all that it knows for `Dump`, a word for `Kill` and `Stop`. The text is
-/// made whole before its first byte is written. Status 0 where the port mapper did as it was asked. Status 1 where it
-/// did not: `output` gets `NOEXIST` where a name to be forgotten was not active, else `errors` gets one line, that it
-/// is not allowed, or that the answer can't be had or is none. Status 3 where the output failed or memory ran out:
-/// `errors` then gets one line.
+/// Asks the port mapper at the other end of `stream` for this, and writes to `output` what it answered: the registered
+/// names for `Names`, all that it knows for `Dump`, a word for `Kill` and `Stop`. The text is made whole before its
+/// first byte is written. Status 0 where the port mapper did as it was asked. Status 1 where it did not: `output` gets
+/// `NOEXIST` where a name to be forgotten was not active, else `errors` gets one line, that it is not allowed, or that
+/// the answer can't be had or is none. Status 3 where the output failed or memory ran out: `errors` then gets one line.
 ///
 /// The output is flushed at the end, as by `do_once`.
 pub fn do_client<S: Input + Output, W: Write, E: Write>(
     alloc: Global,
-    action: &Action,
+    asked: &Ask,
     stream: &mut S,
     output: &mut Writing<W>,
     errors: &mut Writing<E>,
 ) -> u8
-    requires { IsOfClient action.now }
     ensures silent { result ≡ DONE → errors.new ≡ errors.old }
     // What was asked and answered, what is to be told of it, and that it is told so.
     ensures told { (ended : Result Answer ClientFault) × (told : Result Page Failure)
         × (let seen = view S.left S.held S.pulls S.puts S.broken in
-        Asks action.now (seen stream.old) (seen stream.new) ended)
+        Asks asked.now (seen stream.old) (seen stream.new) ended)
         × IsToldOf ended told
         × Tells told result (W.contents (writing_inner output.old)) (W.contents (writing_inner output.new))
         (writing_broken output.new)
         (output.new ≡ output.old) (errors.new ≡ errors.old) (Fails E.contents errors.old errors.new) }
 {
-    match learn(alloc, action, stream) {
+    match learn(alloc, asked, stream) {
         Ok(page) => print(output, errors, &page.text, page.status),
         Err(failure) => fail(errors, failure),
     }

@@ -2,16 +2,16 @@
 ghost use Rattle.std.specs.Prelude.{◌≡◌, ◌∷◌, ◌<◌, ◌≤◌, ◌^◌, ℕ, List, true, false, length, map, string_bytes, IfOk};
 ghost use Rattle.std.specs.Prelude.{IfErr, IfSome};
 ghost use Rattle.portmap_wire.specs.Name.{IsName};
-ghost use Rattle.epmd.specs.Words.{Begins, item_in, is_action};
+ghost use Rattle.epmd.specs.Words.{Begins, is_action};
 ghost use Rattle.epmd.specs.Meaning.{IsFaultAt};
-ghost use Rattle.epmd.specs.Values.{name_of, asks_action};
 
 use crate::addresses::read_listening;
 use crate::numbers::read_within;
-use crate::words::{Action, WordFault};
+use crate::words::{Action, Ask, WordFault};
 use portmap_book::SEATS_MOST;
 use portmap_daemon::TIMEOUT_SECONDS_MOST;
 use portmap_link::NoMemory;
+use portmap_record::Text;
 use portmap_wire::{Name, NameFault};
 use std::alloc::Global;
 
@@ -32,56 +32,37 @@ pub enum Word {
     Act(Action),
 }
 
-/// A word that a value follows.
+/// What a word that a value follows is for.
 #[derive(Clone, Copy)]
-enum Valued {
-    Port,
-    Address,
-    Timeout,
-    Workers,
-    Record,
-    Stop,
-    Check,
-    Play,
-    Local,
-    Audit,
+enum Use {
+    Setting,
+    Action,
 }
 
 /// What this word says by itself.
 fn read_plain(word: &str) -> Option<Word>
-    ensures { IfSome result (λ said. (rest : List (List ℕ)) → Begins (item_in said) (word.now ∷ rest) rest) }
+    ensures { IfSome result (λ said. (rest : List (List ℕ)) → Begins said (word.now ∷ rest) rest) }
 {
     let said = match word {
         "-relaxed_command_check" => Word::Relaxed,
         "-d" | "-debug" => Word::Debug,
         "-daemon" => Word::Daemon,
-        "-names" => Word::Act(Action::Names),
-        "-kill" => Word::Act(Action::Kill),
-        "-dump" => Word::Act(Action::Dump),
+        "-names" => Word::Act(Action::Ask(Ask::Names)),
+        "-kill" => Word::Act(Action::Ask(Ask::Kill)),
+        "-dump" => Word::Act(Action::Ask(Ask::Dump)),
         "-once" => Word::Act(Action::Once),
         _ => return None,
     };
     Some(said)
 }
 
-/// Which word this is that a value follows.
-fn asks_value(word: &str) -> Option<Valued>
-    ensures { IfSome result (λ asks. word.now ≡ name_of asks) }
-{
-    let asks = match word {
-        "-port" => Valued::Port,
-        "-address" => Valued::Address,
-        "-packet_timeout" => Valued::Timeout,
-        "-workers" => Valued::Workers,
-        "-record" => Valued::Record,
-        "-stop" => Valued::Stop,
-        "-check" => Valued::Check,
-        "-play" => Valued::Play,
-        "-local" => Valued::Local,
-        "-audit" => Valued::Audit,
-        _ => return None,
-    };
-    Some(asks)
+/// What this word is for, if a value follows it.
+fn use_of(word: &str) -> Option<Use> {
+    match word {
+        "-port" | "-address" | "-packet_timeout" | "-workers" | "-record" => Some(Use::Setting),
+        "-stop" | "-check" | "-play" | "-local" | "-audit" => Some(Use::Action),
+        _ => None,
+    }
 }
 
 /// The name that this value is.
@@ -95,47 +76,39 @@ fn read_name(alloc: Global, value: &str) -> Result<Option<Name>, NoMemory>
     }
 }
 
-/// What a word says with this value; none where it takes no such value.
-fn with_value(alloc: Global, asks: Valued, value: &str) -> Result<Option<Word>, NoMemory>
+/// What this word sets with this value; none where it takes no such value.
+fn read_setting(alloc: Global, word: &str, value: &str) -> Result<Option<Word>, NoMemory>
     ensures spelled { IfOk result (λ read. IfSome read
-        (λ said. (rest : List (List ℕ)) → Begins (item_in said) (name_of asks ∷ value.now ∷ rest) rest)) }
-    ensures action { IfOk result (λ read. IfSome read (λ said. is_action (item_in said) ≡ asks_action asks)) }
+        (λ said. (rest : List (List ℕ)) → Begins said (word.now ∷ value.now ∷ rest) rest)) }
+    ensures setting { IfOk result (λ read. IfSome read (λ said. is_action said ≡ false)) }
 {
     let text = value.as_bytes();
-    let said = match asks {
-        Valued::Port => read_within(text, 1, 65_535).map(|number| Word::Port(number as u16)),
-        Valued::Address => read_listening(alloc, text)?.map(|addresses| Word::Addresses(addresses)),
-        Valued::Timeout => read_within(text, 1, TIMEOUT_SECONDS_MOST).map(|seconds| Word::Timeout(
-            seconds,
-        )),
-        Valued::Workers => read_within(text, 1, SEATS_MOST as u32).map(|number| Word::Workers(
-            number,
-        )),
-        Valued::Record => Some(Word::Recording(String::from_str(alloc, value)?)),
-        Valued::Stop => read_name(alloc, value)?.map(|name| Word::Act(Action::Stop(name))),
-        Valued::Check => Some(Word::Act(Action::Check(String::from_str(alloc, value)?))),
-        Valued::Play => Some(Word::Act(Action::Play(String::from_str(alloc, value)?))),
-        Valued::Local => Some(Word::Act(Action::Local(String::from_str(alloc, value)?))),
-        Valued::Audit => Some(Word::Act(Action::Audit(String::from_str(alloc, value)?))),
+    Ok(match word {
+        "-port" => read_within(text, 1, 65_535).map(|number| Word::Port(number as u16)),
+        "-address" => read_listening(alloc, text)?.map(|addresses| Word::Addresses(addresses)),
+        "-packet_timeout" => {
+            read_within(text, 1, TIMEOUT_SECONDS_MOST).map(|seconds| Word::Timeout(seconds))
+        }
+        "-workers" => read_within(text, 1, SEATS_MOST as u32).map(|number| Word::Workers(number)),
+        "-record" => Some(Word::Recording(String::from_str(alloc, value)?)),
+        _ => None,
+    })
+}
+
+/// What this word asks for with this value; none where it takes no such value.
+fn read_action(alloc: Global, word: &str, value: &str) -> Result<Option<Action>, NoMemory>
+    ensures { IfOk result (λ read. IfSome read
+        (λ action. (rest : List (List ℕ)) → Begins (Word.Act action) (word.now ∷ value.now ∷ rest) rest)) }
+{
+    let text = match word {
+        "-stop" => return Ok(read_name(alloc, value)?.map(|name| Action::Ask(Ask::Stop(name)))),
+        "-audit" => return Ok(Some(Action::Audit(String::from_str(alloc, value)?))),
+        "-check" => Text::Verdict,
+        "-play" => Text::Transcript,
+        "-local" => Text::LocalRecord,
+        _ => return Ok(None),
     };
-    Ok(said)
-}
-
-/// Whether an action is asked for.
-fn is_action(said: &Word) -> bool
-    ensures { result ≡ is_action (item_in said.now) }
-{
-    matches!(said, Word::Act(_))
-}
-
-/// Whether an action is asked for, whatever the value.
-fn asks_action(asks: Valued) -> bool
-    ensures { result ≡ asks_action asks }
-{
-    matches!(
-        asks,
-        Valued::Stop | Valued::Check | Valued::Play | Valued::Local | Valued::Audit
-    )
+    Ok(Some(Action::Inspect(text, String::from_str(alloc, value)?)))
 }
 
 /// What is said by this word and, where it takes a value, by the one behind it; and the words that are left. `place` is
@@ -148,29 +121,35 @@ pub fn read_word<'a>(
     has_action: bool,
 ) -> Result<(Word, &'a [String]), WordFault>
     requires { place < 2 ^ 63 }
-    ensures spelled { IfOk result (λ read. Begins (item_in read.0)
+    ensures spelled { IfOk result (λ read. Begins read.0
         (string_bytes first.now ∷ map string_bytes behind.now)
         (map string_bytes read.1.now)) }
     ensures fewer { IfOk result (λ read. length read.1.now ≤ length behind.now) }
-    ensures one { IfOk result (λ read. is_action (item_in read.0) ≡ true → has_action ≡ false) }
+    ensures one { IfOk result (λ read. is_action read.0 ≡ true → has_action ≡ false) }
     ensures fault { IfErr result (λ fault. IsFaultAt place (length behind.now) has_action fault) }
 {
     if let Some(said) = read_plain(first.as_str()) {
-        if has_action && is_action(&said) {
+        if has_action && matches!(said, Word::Act(_)) {
             return Err(WordFault::TwoCommands(place));
         }
         return Ok((said, behind));
     }
-    let Some(asks) = asks_value(first.as_str()) else {
+    let Some(for_what) = use_of(first.as_str()) else {
         return Err(WordFault::Unknown(place));
     };
-    if has_action && asks_action(asks) {
+    if has_action && matches!(for_what, Use::Action) {
         return Err(WordFault::TwoCommands(place));
     }
     let [value, rest @ ..] = behind else {
         return Err(WordFault::MissingValue(place));
     };
-    match with_value(alloc, asks, value.as_str())? {
+    let said = match for_what {
+        Use::Setting => read_setting(alloc, first.as_str(), value.as_str())?,
+        Use::Action => read_action(alloc, first.as_str(), value.as_str())?.map(|action| Word::Act(
+            action,
+        )),
+    };
+    match said {
         Some(said) => Ok((said, rest)),
         None => Err(WordFault::BadValue(place + 1)),
     }

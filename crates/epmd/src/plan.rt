@@ -2,7 +2,6 @@
 ghost use Rattle.std.specs.Prelude.{◌≡◌, [], ◌∷◌, None, is_some, option_map, unwrap_or, string_bytes, ℕ, IfOk, IfErr};
 ghost use Rattle.epmd.specs.Addresses.{anywhere};
 ghost use Rattle.epmd.specs.Meaning.{Holds, Adds, Completes, NamesWord, IsPort};
-ghost use Rattle.epmd.specs.Words.{item_in};
 
 use crate::actions::PORT;
 use crate::addresses::everywhere;
@@ -83,7 +82,7 @@ impl Plan {
 
     /// One word more. What it sets is set anew.
     pub fn add(&mut self, said: Word)
-        ensures { Adds (item_in said) self.old self.new }
+        ensures { Adds said self.old self.new }
     {
         match said {
             Word::Port(number) => self.port = Some(number),

@@ -1,16 +1,17 @@
 //! The words of the command.
 ghost use Rattle.std.specs.Prelude.{◌≡◌, ◌≤◌, List, [], length, map, string_bytes, IfOk, IfErr};
 ghost use Rattle.epmd.specs.Numbers.{IsWithin};
-ghost use Rattle.epmd.specs.Addresses.{AreListening};
 ghost use Rattle.epmd.specs.Errors.{IsSaid};
-ghost use Rattle.epmd.specs.Meaning.{SaysCommand, Holds, NamesWord, status_of_fault, line_of_fault};
-ghost use Rattle.epmd.specs.Words.{Spells, Item};
+ghost use Rattle.epmd.specs.Meaning.{CanServe, SaysCommand, Holds, NamesWord, status_of_fault, line_of_fault};
+ghost use Rattle.epmd.specs.Words.{Spells};
+ghost use Rattle.epmd.specs.declared.items.Word.{Word};
 
 use crate::actions::{FAILED, MEMORY_RAN_OUT, REFUSED};
 use crate::errors::{say, say_number};
 use crate::items::read_word;
 use crate::plan::Plan;
 use portmap_link::{NoMemory, Writing};
+use portmap_record::Text;
 use portmap_wire::Name;
 use std::alloc::Global;
 use std::io;
@@ -21,27 +22,30 @@ const BAD_WORD: &[u8] = b"epmd: bad word ";
 
 const BAD_PORT: &[u8] = b"epmd: bad port in environment\n";
 
+/// What the daemon on this host is asked.
+#[derive(Drop)]
+pub enum Ask {
+    /// The names that it knows.
+    Names,
+    /// To end.
+    Kill,
+    /// To forget that a name is active.
+    Stop(Name),
+    /// All that it knows.
+    Dump,
+}
+
 /// What the command is asked to do.
 #[derive(Drop)]
 pub enum Action {
     /// To serve as the daemon.
     Serve,
-    /// To print the names that the daemon on this host knows.
-    Names,
-    /// To have it end.
-    Kill,
-    /// To have it forget that a name is active.
-    Stop(Name),
-    /// To print all that it knows.
-    Dump,
+    /// To ask the daemon on this host.
+    Ask(Ask),
     /// To answer one request from standard input, on standard output.
     Once,
-    /// To judge the recorded session in the file of this path.
-    Check(String),
-    /// The same, and to show it.
-    Play(String),
-    /// To judge it, and to write it without its remote peers.
-    Local(String),
+    /// To judge the recorded session in the file of this path, and to write this of it.
+    Inspect(Text, String),
     /// To judge the files of the recording whose first one has this path, as one session.
     Audit(String),
 }
@@ -152,7 +156,7 @@ pub fn refuse<E: Write>(errors: &mut Writing<E>, fault: WordFault) -> u8
 
 /// What these words say, one behind the other.
 fn read_all(alloc: Global, words: &[String]) -> Result<Plan, WordFault>
-    ensures said { IfOk result (λ plan. (items : List Item) × Spells (map string_bytes words.now) items
+    ensures said { IfOk result (λ plan. (items : List Word) × Spells (map string_bytes words.now) items
         × Holds items plan) }
     ensures fault { IfErr result (λ fault. NamesWord (length words.now) fault) }
 {
@@ -172,12 +176,11 @@ fn read_all(alloc: Global, words: &[String]) -> Result<Plan, WordFault>
 /// `BadValue`. The environment's port is looked at last, where no word says one. Want of memory can come at any value.
 pub fn read_words(alloc: Global, words: &[String], env: &Env) -> Result<Command, WordFault>
     ensures port { IfOk result (λ command. IsWithin 1 65535 command.port) }
-    ensures timeout { IfOk result (λ command. IsWithin 1 86400 command.timeout) }
-    ensures workers { IfOk result (λ command. IsWithin 1 64 command.workers) }
-    ensures addresses { IfOk result (λ command. AreListening command.addresses.items) }
+    ensures ranges { IfOk result CanServe }
     ensures said { IfOk result (λ command. SaysCommand (map string_bytes words.now) env.now command) }
     ensures fault { IfErr result (λ fault. NamesWord (length words.now) fault) }
 {
     let plan = read_all(alloc, words)?;
-    plan.complete(alloc, env)
+    let command = plan.complete(alloc, env)?;
+    Ok(command)
 }

@@ -1,4 +1,5 @@
 pub mod Carrying
+pub mod Files
 pub mod Link
 pub mod Listening
 pub mod Notices

@@ -244,6 +244,8 @@ fn judge_sizes(world: &World, most: u64) -> Option<Wrong> {
         Some("a file follows what is no file")
     } else if unfilled > world.notices.failures as usize {
         Some("a file ends that is not full")
+    } else if world.times.is_missing {
+        Some("entries are written that have no time")
     } else if world.is_misnumbered {
         Some("a file is made anew that has a start, or a number is left out")
     } else if world.scenario.is_plain && files.any(|file| file.len() as u64 > room) {
@@ -294,6 +296,7 @@ pub fn judge(
     if wrong.is_some() {
         return Some(wrong);
     }
+    let world: &World = world;
     let has_failed = world.notices.failures > 0;
     let mut next = Next::new(world);
     let mut replies = Replies {
@@ -303,7 +306,7 @@ pub fn judge(
         in_use: 0,
         remote: Vec::new(alloc),
     };
-    for file in &world.files {
+    for (number, file) in world.files.iter().enumerate() {
         if has_failed && file.is_empty() {
             continue;
         }
@@ -312,6 +315,12 @@ pub fn judge(
             Ok(None) => {}
             Ok(Some(_)) if has_failed => {}
             Ok(Some(record)) => {
+                let entries = record.entries.len() as u64;
+                let first = next.place.saturating_sub(entries);
+                let wrong = world.times.judge(number, first, entries);
+                if wrong.is_some() {
+                    return Some(wrong);
+                }
                 for entry in &record.entries {
                     replies.note(alloc, world, opened, entry)?;
                 }

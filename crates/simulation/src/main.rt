@@ -21,6 +21,7 @@ mod scenarios;
 mod scene;
 mod steps;
 mod system;
+mod times;
 mod unread;
 mod weather;
 mod wire;

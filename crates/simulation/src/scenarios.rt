@@ -83,6 +83,7 @@ pub const TIMES: &[Scenario] = scenarios! {
     "stuck" (260, 105, 7398, 212) [Local NODE 6, Local RIVAL 6, Local SEEKER 40]
         [Stuck 1] conn_max: 512, burst_us: 100_000, hold_us: 5_000_000, is_strict: false, limit_ms: 10_000;
     "jumps" (123, 83, 2284, 0) [] [Jump 2];
+    "timeless" (123, 83, 2284, 0) [] [Jump 2, Timeless 300] file_bytes_most: 20_000;
     "stopped" (267, 232, 3474, 0) [Local NODE 6, Local SEEKER 10, Local LISTER 10]
         [Stopped 5, Late 200, Lost 200] limit_ms: 30_000;
     "frozen" (1940, 1876, 1940, 0) [Local NODE 12] [Stopped 100, Late 200] limit_ms: 1_000_000;

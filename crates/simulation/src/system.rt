@@ -1,4 +1,5 @@
 //! The world as a daemon's system: its streams, its polls, its clock and its disk.
+use crate::times::file_of;
 use crate::world::{LISTENERS, World};
 use portmap_worker::{Host, Interest, Notice, RecordFile, Report, Stream, System, Wake};
 use std::alloc::Global;
@@ -178,11 +179,19 @@ impl System for SimThread {
 pub struct SimFile {
     world: SharedWorld,
     number: usize,
+    /// It has the times of a file of the recording.
+    is_of_times: bool,
 }
 
 impl Write for SimFile {
     fn write(&mut self, bytes: &[u8]) -> io::Result<usize> {
-        Ok(borrow(&self.world)?.store(self.number, bytes)?)
+        let mut world = borrow(&self.world)?;
+        let stored = if self.is_of_times {
+            world.store_times(self.number, bytes)
+        } else {
+            world.store(self.number, bytes)
+        };
+        Ok(stored?)
     }
 
     fn flush(&mut self) -> io::Result<()> {
@@ -193,7 +202,12 @@ impl Write for SimFile {
 impl RecordFile for SimFile {
     fn cut(&mut self, size: u64) {
         if let Ok(mut world) = self.world.try_borrow_mut() {
-            world.cut(self.number, size as usize);
+            let size = size as usize;
+            if self.is_of_times {
+                world.times.cut(self.number, size);
+            } else {
+                world.cut(self.number, size);
+            }
         }
     }
 
@@ -218,7 +232,8 @@ impl<R: Wait + Drop> Clock for SimHost<R> {
     }
 
     fn since_1970(&self) -> io::Result<Duration> {
-        self.monotonic()
+        let time = borrow(&self.world)?.date().ok_or(ErrorKind::Other)?;
+        Ok(Duration::from_micros(time))
     }
 
     fn sleep(&self, _duration: Duration) {}
@@ -229,8 +244,16 @@ impl<R: Wait + Drop> Host for SimHost<R> {
 
     fn make(&self, path: &str) -> io::Result<SimFile> {
         let world = self.world.clone()?;
-        let number = borrow(&self.world)?.make(path)?;
-        Ok(SimFile { world, number })
+        let times = file_of(path);
+        let number = match times {
+            Some(path) => borrow(&self.world)?.make_times(path)?,
+            None => borrow(&self.world)?.make(path)?,
+        };
+        Ok(SimFile {
+            world,
+            number,
+            is_of_times: times.is_some(),
+        })
     }
 
     fn notify(&self, _alloc: Global, notice: &Notice<'_>) {

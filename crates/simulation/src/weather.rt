@@ -67,19 +67,21 @@ pub enum Fault {
     Taken,
     /// The polls of a thread begin at the other end of its streams from now on: they report no more than so many.
     Reversed,
+    /// The times of a recording can't be written.
+    Timeless,
 }
 
 /// How each is told, in the order in which they are declared.
 pub const FAULTS: &str = "\
     interrupted short aborted exhausted unable unwatched unleft late lost stopped spurious held \
     stuck hung delayed behind slow jumps unread starved famine stalled full reset broken shut dripped \
-    deaf unreported taken reversed";
+    deaf unreported taken reversed timeless";
 
 /// How often faults happen, in a thousand times.
 pub type Chances = &'static [(Fault, u32)];
 
 /// How often each has happened.
-pub type FaultCounts = [u32; 31];
+pub type FaultCounts = [u32; 32];
 
 /// The weather: what may happen, and how often each has.
 #[derive(Drop)]
@@ -92,7 +94,7 @@ impl Weather {
     pub fn new(chances: Chances) -> Weather {
         Weather {
             chances,
-            happened: [0; 31],
+            happened: [0; 32],
         }
     }
 

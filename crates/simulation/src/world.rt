@@ -5,6 +5,7 @@ use crate::notices::{Notices, Refusals};
 use crate::polls::Thread;
 use crate::random::Random;
 use crate::scenario::Scenario;
+use crate::times::Times;
 use crate::weather::{Fault, Weather};
 use crate::wire::Wire;
 use portmap_worker::Notice;
@@ -85,6 +86,7 @@ pub struct World {
     /// How many connections came as there was no place for them.
     pub wanting: u32,
     pub files: Vec<Vec<u8>>,
+    pub times: Times,
     /// What was in them when the process was killed, if it had been.
     pub killed: Vec<Vec<u8>>,
     /// The file that was cut last, as it was before.
@@ -153,6 +155,7 @@ impl World {
             stopped: [(0, 0); NODES_MOST],
             wanting: 0,
             files: Vec::new(alloc),
+            times: Times::new(alloc),
             killed: Vec::new(alloc),
             uncut: None,
             is_misnumbered: false,
@@ -234,8 +237,41 @@ impl World {
         Ok(number)
     }
 
+    /// Makes the file with the times of the file at this path, with nothing in it. The number of that one.
+    pub fn make_times(&mut self, path: &str) -> Result<usize, ErrorKind> {
+        let number = number_of(path).ok_or(ErrorKind::InvalidInput)?;
+        self.times.make(self.alloc, number)?;
+        if self.is_disk_full() || self.happens(Fault::Timeless) {
+            self.times.has_failed = true;
+            return Err(ErrorKind::StorageFull);
+        }
+        Ok(number)
+    }
+
+    /// Writes times, if the disk takes them.
+    pub fn store_times(&mut self, number: usize, bytes: &[u8]) -> Result<usize, ErrorKind>
+        ensures { IfOk result (λ n. n ≤ length bytes.now) }
+    {
+        if self.is_disk_full() || self.happens(Fault::Timeless) {
+            self.times.has_failed = true;
+            return Err(ErrorKind::StorageFull);
+        }
+        self.times.store(number, bytes)?;
+        Ok(bytes.len())
+    }
+
+    /// The time as a calendar says it; none if the clock can't be read. Nothing happens meanwhile.
+    pub fn date(&mut self) -> Option<u64> {
+        if self.now < self.unread_until {
+            self.times.has_failed = true;
+            return None;
+        }
+        Some(self.now.saturating_add(self.jumped))
+    }
+
     /// Who writes has written what was handed on, or failed to.
     pub fn note_written(&mut self, has_failed: bool) {
+        self.times.end_turn(has_failed || !self.scenario.is_plain);
         self.notices.note_written(self.now, has_failed);
     }
 
@@ -472,6 +508,7 @@ impl World {
             return Err(ErrorKind::StorageFull);
         }
         let count = self.taken(bytes.len());
+        self.times.note_grown();
         let file = self.files.get_mut(number).ok_or(ErrorKind::Other)?;
         for byte in bytes.iter().take(count) {
             if file.push(*byte).is_err() {

@@ -36,6 +36,8 @@ enum Turn {
     Full,
     /// Before any of it is written.
     AtOnce,
+    /// Not at all, nor is a first one.
+    Never,
 }
 
 /// Takes the log out and has it recorded, as the daemon does.
@@ -54,6 +56,9 @@ fn turn_over<L: Ledger, R: Wait + Clock>(
     queue: &RecordQueue,
     turn: Turn,
 ) -> bool {
+    if turn == Turn::Never {
+        return true;
+    }
     for _ in 0..PATIENCE {
         if turn == Turn::AtOnce || queue.is_full(rt) {
             return begin_file(rt, alloc, queue, desk);
@@ -97,7 +102,7 @@ fn is_handed_on<L: Ledger, R: Wait + Clock>(
     requires enough { blank.parts ≡ PARTS }
 {
     let desk: Desk<L> = Desk::new(blank, small_book(alloc)?);
-    let begins = begin_file(rt, alloc, queue, &desk);
+    let begins = turn == Turn::Never || begin_file(rt, alloc, queue, &desk);
     let turns = comes_and_leaves(rt, alloc, &desk, queue, turn);
     queue.close(rt);
     Some(begins && turns?)
@@ -200,6 +205,43 @@ fn who_waits_for_the_end_of_a_recording_is_told_at_once(rt: HostRuntime) -> Resu
     );
     let waited = rt.monotonic()?.saturating_sub(before);
     assert!(rt; is_written && waited < Duration::from_secs(5));
+    Ok(())
+}
+
+/// Whether two logs, each from its beginning on, are handed on one behind the other, and the recording ends between
+/// them.
+fn ends_between<R: Files<File = File> + Wait + Clock>(
+    rt: &R,
+    alloc: Global,
+    second: Turn,
+    path: &str,
+) -> Option<bool> {
+    let queue = queue_at(alloc, path)?;
+    let first = hand_on(rt, alloc, &queue, Turn::Full)?;
+    let second = hand_on(rt, alloc, &queue, second)?;
+    write_recording(rt, alloc, &queue, u64::MAX);
+    Some(first && second && !queue.is_written(rt, Duration::ZERO))
+}
+
+/// The second file begins at place 0 again, and the first one ends at place 3.
+#[test]
+fn a_file_that_does_not_follow_is_not_begun(rt: HostRuntime) -> Result<(), Fail> {
+    assert_eq!(rt;
+        ends_between(&rt, rt.alloc(), Turn::Full, "apart"),
+        Some(true)
+    );
+    assert!(rt; is_one_record(&rt, "apart")? && !fs::exists(&rt, "apart.1")?);
+    Ok(())
+}
+
+/// The name gets the creation again that it had.
+#[test]
+fn entries_that_are_no_run_are_not_recorded(rt: HostRuntime) -> Result<(), Fail> {
+    assert_eq!(rt;
+        ends_between(&rt, rt.alloc(), Turn::Never, "again"),
+        Some(true)
+    );
+    assert!(rt; is_one_record(&rt, "again")?);
     Ok(())
 }
 

@@ -95,6 +95,8 @@ const AGAIN_FOLDER: &str = "recording-14424";
 
 const AGAIN: &str = "recording-14424/session";
 
+const AGAIN_TIMES: &str = "recording-14424/session.times";
+
 /// So many seconds are more than pass until a recording is begun anew.
 const AGAIN_SECONDS: u32 = 30;
 
@@ -140,6 +142,7 @@ fn a_recording_that_failed_begins_anew_once_it_can(rt: HostRuntime) -> Result<()
     assert_eq!(rt; told, Some(true));
     assert!(rt; is_told_once(&host, &ended));
     assert!(rt; begins_held(&rt, AGAIN)?.is_some_and(|count| count > 3));
+    fs::remove_file(&rt, AGAIN_TIMES)?;
     fs::remove_dir(&rt, AGAIN_FOLDER)?;
     Ok(())
 }

@@ -1,10 +1,9 @@
 //! Whole actions of the program, over memory.
-ghost use Rattle.epmd.specs.Actions.{IsOfFile};
 
 use super::{bytes_of, ending};
 use crate::actions::{Failure, do_file, do_once, fail};
-use crate::words::Action;
 use portmap_link::{Reading, Writing};
+use portmap_record::Text;
 use portmap_testing::bytes::{
     ALIVE_A, Bytes, DUMP, FOURTH, KILL, NAMES, NONE_LISTED, NOT_FOUND, PORT_A, STOP_A,
 };
@@ -89,14 +88,11 @@ fn input_of(alloc: Global, word: &str) -> Result<Vec<u8>, Fail> {
     Ok(bytes)
 }
 
-fn action_of(alloc: Global, word: &str) -> Action
-    ensures { IsOfFile result }
-{
-    let path = String::new(alloc);
+fn text_of(word: &str) -> Text {
     match word {
-        "play" => Action::Play(path),
-        "check" => Action::Check(path),
-        _ => Action::Local(path),
+        "play" => Text::Transcript,
+        "check" => Text::Verdict,
+        _ => Text::LocalRecord,
     }
 }
 
@@ -112,7 +108,7 @@ fn status_of<R: Read + Drop, W: Write>(
     if word == "once" {
         return do_once(alloc, &mut input, output, errors);
     }
-    do_file(alloc, &action_of(alloc, word), &mut input, output, errors)
+    do_file(alloc, text_of(word), &mut input, output, errors)
 }
 
 /// The status that an action on an input ends with, and what is told of errors. `broken` is an input that fails, and

@@ -1,10 +1,8 @@
 //! The actions of a client, over memory.
-ghost use Rattle.std.specs.Prelude.{IfOk};
-ghost use Rattle.epmd.specs.Commands.{IsOfClient};
 
 use super::{bytes_of, ending};
 use crate::commands::do_client;
-use crate::words::Action;
+use crate::words::Ask;
 use portmap_link::Writing;
 use portmap_testing::bytes::{A_LISTED, Bytes, DUMP, KILL, NAMES, STOP_A};
 use portmap_testing::cases::{Trial, all_come};
@@ -16,14 +14,12 @@ use std::io::{ErrorKind, Write};
 use std::test::Fail;
 
 /// What a word asks for, and its request; the name to be forgotten is `a`.
-fn asked(alloc: Global, word: &str) -> Result<(Action, Bytes), Fail>
-    ensures { IfOk result (λ asked. IsOfClient asked.0) }
-{
+fn asked(alloc: Global, word: &str) -> Result<(Ask, Bytes), Fail> {
     Ok(match word {
-        "names" => (Action::Names, NAMES),
-        "dump" => (Action::Dump, DUMP),
-        "kill" => (Action::Kill, KILL),
-        _ => (Action::Stop(name_a(alloc)?), STOP_A),
+        "names" => (Ask::Names, NAMES),
+        "dump" => (Ask::Dump, DUMP),
+        "kill" => (Ask::Kill, KILL),
+        _ => (Ask::Stop(name_a(alloc)?), STOP_A),
     })
 }
 

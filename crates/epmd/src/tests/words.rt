@@ -2,7 +2,8 @@
 mod faults;
 
 use super::typed::command;
-use crate::words::{Action, Command};
+use crate::words::{Action, Ask, Command};
+use portmap_record::Text;
 use portmap_testing::cases::{Trial, all_come};
 use std::alloc::Global;
 use std::fmt;
@@ -15,17 +16,17 @@ struct Shown<'a>(&'a Command);
 fn show_action<W: fmt::Write>(action: &Action, f: &mut fmt::Formatter<W>) -> fmt::Result {
     match action {
         Action::Serve => f.write_str("serve"),
-        Action::Names => f.write_str("names"),
-        Action::Kill => f.write_str("kill"),
-        Action::Stop(name) => {
+        Action::Ask(Ask::Names) => f.write_str("names"),
+        Action::Ask(Ask::Kill) => f.write_str("kill"),
+        Action::Ask(Ask::Stop(name)) => {
             let text = str::from_utf8(name.bytes()).unwrap_or("?");
             write!(f, "stop <{text}>")
         }
-        Action::Dump => f.write_str("dump"),
+        Action::Ask(Ask::Dump) => f.write_str("dump"),
         Action::Once => f.write_str("once"),
-        Action::Check(path) => write!(f, "check <{path}>"),
-        Action::Play(path) => write!(f, "play <{path}>"),
-        Action::Local(path) => write!(f, "local <{path}>"),
+        Action::Inspect(Text::Verdict, path) => write!(f, "check <{path}>"),
+        Action::Inspect(Text::Transcript, path) => write!(f, "play <{path}>"),
+        Action::Inspect(Text::LocalRecord, path) => write!(f, "local <{path}>"),
         Action::Audit(path) => write!(f, "audit <{path}>"),
     }
 }

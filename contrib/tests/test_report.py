@@ -1,0 +1,399 @@
+"""What epmd-report shows of recordings with known events: the values in the page, and the page itself in a browser without a window."""
+import contextlib
+import fcntl
+import io
+import json
+import os
+import re
+import select
+import shutil
+import subprocess
+import sys
+import tempfile
+import unittest
+import unittest.mock
+
+import programs
+from programs import CONTRIB, PATIENCE
+from test_log import FOUND, GRANTED, IN_USE, NO_ROOM, Written, alive, close, connect, late, piece, sized, start, visit
+from test_times import BEGAN, SECOND, times
+
+REPORT = os.path.join(CONTRIB, "epmd-report")
+MINUTE = 60 * SECOND
+HOSTILE = ["</script><script>document.title = 'taken'</script>", "<img src=x onerror=\"document.title = 'taken'\">",
+           "a\u202eb\u2066c\u200d", "\x85\x9b31m", "\u2028\ufeff&lt;b&gt;", "THE-DATA", "'\"><svg onload=alert(1)>"]
+
+
+def register(slot, name, port=5000):
+    return connect(slot) + piece(slot, alive(name, port), 0, GRANTED)
+
+
+def refused(name, answer=IN_USE):
+    return connect(9) + piece(9, alive(name, 6000), 1, answer) + close(9)
+
+
+def looked_up(name):
+    return connect(9) + piece(9, sized(b"z" + name), 1, FOUND) + close(9)
+
+
+class Reported(Written):
+    """Recordings, and the pages that are made of them."""
+    limits = {}
+
+    def report(self, *words, status=0, err=""):
+        """The page of a call in this process, in which no epmd is found."""
+        out, told = io.TextIOWrapper(io.BytesIO(), encoding="utf-8"), io.StringIO()
+        words = ["epmd-report", *(words or [self.path])]
+        tool = programs.tool("epmd-report")
+        with contextlib.redirect_stdout(out), contextlib.redirect_stderr(told), unittest.mock.patch.object(sys, "argv", words), \
+                unittest.mock.patch.object(tool.shutil, "which", lambda *_, **__: None), \
+                unittest.mock.patch.multiple(tool, WORST=10, **self.limits):
+            self.assertEqual(tool.main(), status)
+            out.flush()
+        self.assertEqual(told.getvalue(), err)
+        return out.buffer.getvalue().decode()
+
+    def values(self, *words, **more):
+        return json.loads(re.search('<script type="application/json" id="data">(.*?)</script>', self.report(*words, **more), re.S)[1])
+
+    def lane(self, data, name):
+        row, = (row for row in data["lanes"]["rows"] if row[0] == name)
+        return dict(zip(("spells", "refused", "absent", "found", "registered"), row[1:]))
+
+    def day(self):
+        """A run of ten minutes: a is registered from minute 1 to 5 and once more from 6 on, is refused three times in minute 3, and looked
+        up twice while absent in minute 5; b is registered from minute 2 on. The daemon ends at minute 10."""
+        rows, data = [(0, 0)], b""
+        for at_minute, entries, count in (
+            (1, register(0, b"a"), 2), (2, register(1, b"b", 5001), 2), (3, refused(b"a") * 3, 9), (4, looked_up(b"a") + visit(b"c"), 6),
+            (5, close(0) + visit(b"a") * 2, 7), (6, register(0, b"a", 5002), 2),
+            (7, connect(2) + connect(3) + late(2) + close(2) + close(3), 5),
+        ):
+            data += entries
+            rows.append((rows[-1][0] + count, at_minute * MINUTE))
+        self.write(start() + data)
+        self.write(times(*rows, (rows[-1][0], 10 * MINUTE)), ".times")
+
+
+class Shown(Reported, unittest.TestCase):
+    """The values in the page."""
+
+    def test_known_events_are_known_facts(self):
+        self.day()
+        data = self.values()
+        self.assertEqual((data["isTimed"], data["first"], data["span"]), (True, BEGAN // 1000, 600_000))
+        self.assertEqual(self.lane(data, "a"), {
+            "spells": [[60_000, 300_000, 5000, 4, "close"], [360_000, 600_000, 5002, 4, "end"]], "refused": [[143, 3]],
+            "absent": [[239, 2]], "found": 1, "registered": 2})
+        self.assertEqual(self.lane(data, "b")["spells"], [[120_000, 600_000, 5001, 4, "end"]])
+        self.assertEqual(self.lane(data, "c"), {"spells": [], "refused": [], "absent": [[191, 1]], "found": 0, "registered": 0})
+        self.assertEqual([row[0] for row in data["lanes"]["rows"]], ["a", "b", "c"])
+        self.assertEqual(data["refusals"], [[180_000, 180_000, 3, "a", 6000, "in_use", 5000, 60_000]])
+        self.assertEqual(data["marks"], [[0, "start", None], [600_000, "end", None]])
+        self.assertEqual(data["columns"]["per"], 60_000)
+        self.assertEqual(data["columns"]["rows"], [  # Registered, refused, found, absent, most connections.
+            [0, 0, 0, 0, 0], [1, 0, 0, 0, 1], [1, 0, 0, 0, 2], [0, 3, 0, 0, 3], [0, 0, 1, 1, 3], [0, 0, 0, 2, 2], [1, 0, 0, 0, 2],
+            [0, 0, 0, 0, 4], [0, 0, 0, 0, 2], [0, 0, 0, 0, 2], [0, 0, 0, 0, 2]])
+        self.assertEqual(data["worst"][:3], [[180_000, 0, 3, 0, 0, 3], [300_000, 0, 0, 0, 2, 2], [240_000, 0, 0, 1, 1, 3]])
+        wanted = {"names": 3, "registrations": 3, "refusals": 3, "look-ups": 4, "of these while absent": 3, "timeouts": 1}
+        self.assertEqual({what: data["counts"][what] for what in wanted}, wanted)
+        self.assertEqual(data["verdicts"], [])
+        self.assertEqual(data["notes"], ["A mark stands for all refusals, or all look-ups while absent, in 1/480 of the time line."])
+
+    def test_without_times_the_axis_is_the_number_of_the_entry(self):
+        self.write(start() + register(0, b"a") + refused(b"a", NO_ROOM) + close(0))
+        data = self.values()
+        self.assertEqual((data["isTimed"], data["first"], data["span"]), (False, 0, 5))
+        self.assertEqual(self.lane(data, "a")["spells"], [[1, 5, 5000, 4, "close"]])
+        self.assertEqual(data["refusals"], [[3, 3, 1, "a", 6000, "no_room", 5000, 1]])
+        self.assertIn("has no times: the axis is the number of the entry", data["notes"][0])
+
+    def test_what_has_no_time_stands_at_the_last_one_known_and_is_counted(self):
+        self.write(start() + register(0, b"a") + visit(b"x") + register(1, b"b"))
+        self.write(times((0, 0), (2, MINUTE)), ".times")
+        data = self.values()
+        self.assertEqual(self.lane(data, "b")["spells"], [[60_000, None, 5000, 4, None]])
+        self.assertIn("2 events have no time. They stand at the last time that is known before them.", data["notes"])
+
+    def test_a_crash_and_a_restart(self):
+        earlier = self.path + "-20261128T000100Z"
+        self.write(start() + register(0, b"a") + register(1, b"b"), "-20261128T000100Z")
+        self.write(times((0, 0), (4, SECOND)), "-20261128T000100Z.times")
+        self.write(start() + register(0, b"a", 7000))
+        self.write(times((0, MINUTE), (2, 2 * MINUTE)), ".times")
+        data = self.values(earlier, self.path)
+        self.assertEqual(self.lane(data, "a")["spells"], [[1000, 60_000, 5000, 4, "restart"], [120_000, None, 7000, 4, None]])
+        self.assertEqual(self.lane(data, "b")["spells"], [[1000, 60_000, 5000, 4, "restart"]])
+        self.assertEqual(data["marks"], [[0, "start", None], [60_000, "start", None]])
+
+    def test_a_recording_that_begins_in_a_state_and_one_with_a_gap(self):
+        state = [(b"a", 5000, 4, 0), (b"b", 5001, 4, 1)], (), [(0, 1, 1, b""), (1, 1, 1, b"")]
+        self.write(start(70, *state) + close(0), ".3")
+        self.write(times((70, 0), (71, MINUTE)), ".3.times")
+        self.write(start(90, [(b"c", 5002, 4, 0)], (), [(0, 1, 1, b"")]) + visit(b"x"), ".4")
+        self.write(times((90, 5 * MINUTE), (93, 6 * MINUTE)), ".4.times")
+        data = self.values()
+        self.assertEqual(self.lane(data, "a")["spells"], [[0, 60_000, 5000, None, "close"]])
+        self.assertEqual(self.lane(data, "b")["spells"], [[0, 300_000, 5001, None, "gap"]])
+        self.assertEqual(self.lane(data, "c")["spells"], [[300_000, None, 5002, None, None]])
+        self.assertEqual(data["marks"], [[300_000, "gap", 19]])
+
+    def test_names_are_text_and_nothing_else(self):
+        names = [name.encode() for name in HOSTILE] + [b"\xff\xfe"]
+        self.write(start() + b"".join(register(slot, name) for slot, name in enumerate(names)))
+        page = self.report()
+        self.assertEqual((page.count("<script"), page.count("</script>")), (2, 2))
+        self.assertIsNone(re.search("<img|<svg|taken'<", page))
+        self.assertTrue(all(each.isprintable() or each == "\n" for each in page))
+        shown = {row[0] for row in self.values()["lanes"]["rows"]}
+        self.assertEqual(shown, {HOSTILE[0], HOSTILE[1], "a\\u202eb\\u2066c\\u200d", "\\x85\\x9b31m", "\\u2028\\ufeff&lt;b&gt;",
+                                 "THE-DATA", HOSTILE[6], "\\xff\\xfe"})
+
+    def test_of_much_a_part_is_shown_and_that_is_said(self):
+        self.limits = {"NAMES_MOST": 2, "SPELLS_MOST": 3, "REFUSALS_MOST": 1, "LETTERS_MOST": 5, "STRANGERS_MOST": 4,
+                       "COLUMNS": 4, "MARKS_MOST": 2}
+        rows, data = [(0, 0)], b""
+        for number in range(8):
+            data += register(0, b"a" * 9) + refused(b"a" * 9) + refused(b"b") + visit(b"%d" % number) + close(0)
+            rows.append((rows[-1][0] + 12, (number + 1) * MINUTE))
+        self.write(start() + data)
+        self.write(times(*rows), ".times")
+        data = self.values()
+        self.assertEqual([row[0] for row in data["lanes"]["rows"]], ["aaaaa… (9 bytes)", "b"])
+        self.assertEqual(self.lane(data, "b")["refused"], [[0, 8]])
+        spells = self.lane(data, "aaaaa… (9 bytes)")["spells"]
+        self.assertEqual([spell[:2] for spell in spells], [[minute * 60_000] * 2 for minute in (6, 7, 8)])
+        self.assertEqual(len(data["refusals"]), 1)
+        self.assertEqual((data["columns"]["per"], [row[:4] for row in data["columns"]["rows"]]), (180_000, [[1, 2, 0, 1]] * 3))
+        self.assertEqual(data["notes"], [
+            "Each column of a chart is the busiest of 3 minutes.", "2 of 4 names have a lane, those of refusals first.",
+            "The last 3 registrations of a name are shown, at most.",
+            "A mark stands for all refusals, or all look-ups while absent, in 1/1 of the time line.",
+            "The table has the last 1 of 16 rows of refusals.",
+            "6 look-ups of further names that were never there have no lane."])
+
+    def test_words_that_name_no_recording_of_their_own(self):
+        self.day()
+        self.write(start(33) + visit(b"x"), ".1")
+        words = [self.path + behind for behind in ("", ".1", ".1.times", ".times")]
+        self.write(times((33, 11 * MINUTE)), ".1.times")
+        data = self.values(*words)
+        self.assertEqual((data["files"], data["counts"]["registrations"], data["counts"]["look-ups"]), ([self.path], 3, 5))
+
+    def test_what_can_not_be_read(self):
+        self.assertEqual(self.report(status=2, err=f"epmd-report: {self.path}: no such file\n"), "")
+        cut = f"{self.path} ends in the middle of an entry: it is being written, or its end was lost"
+        for data, fault in (
+            (start() + register(0, b"a") + connect(1)[:-1], cut),
+            (start() + register(0, b"a") + b"\0\0\0\1\x09", f"{self.path}: entry 2 is of kind 9: what is behind that is left out"),
+        ):
+            self.write(data)
+            data = self.values(status=1, err=f"epmd-report: {fault}\n")
+            self.assertIn(fault, data["notes"])
+            self.assertEqual(data["counts"]["registrations"], 1)
+
+    def test_the_verdict_is_that_of_the_program(self):
+        self.day()
+        program = os.path.join(self.folder.name, "program")
+        for text, wanted in (("echo run of 5 entries in 1 files", [0, ["run of 5 entries in 1 files"]]),
+                             ("echo \"$1 ${2##*/} is <b>\" >&2; exit 1", [1, ["-audit session is <b>"]])):
+            with open(program, "w", encoding="utf-8") as file:
+                file.write(f"#!/bin/sh\n{text}\n")
+            os.chmod(program, 0o755)
+            self.assertEqual(self.values("-epmd", program, self.path)["verdicts"], [[self.path, *wanted]])
+        verdict, = self.values("-epmd", program + ".not", self.path)["verdicts"]
+        self.assertEqual(verdict[:2], [self.path, None])
+
+    def test_wrong_words_and_help(self):
+        for words in ([], ["-x"], ["-epmd"]):
+            self.assertEqual(programs.run([sys.executable, REPORT, *words]).returncode, 2)
+        told = programs.run([sys.executable, REPORT, "--help"]).stdout
+        for word in ("usage: epmd-report", "-epmd PROGRAM", "The status is 0"):
+            self.assertIn(word, told)
+
+
+class Browser:
+    """A browser that is driven over a pipe, in messages of JSON that a byte 0 ends."""
+
+    def __init__(self, folder):
+        (self.own_in, out), (into, self.own_out) = os.pipe(), os.pipe()
+        theirs = [fcntl.fcntl(each, fcntl.F_DUPFD, 10) for each in (into, out)]
+        words = ["chromium", "--headless", "--no-sandbox", "--disable-gpu", "--disable-dev-shm-usage", "--no-first-run",
+                 "--remote-debugging-pipe", f"--user-data-dir={folder}/profile", "about:blank"]
+        with open(os.path.join(folder, "log"), "wb") as log:
+            words = ["bash", "-c", f'exec "$@" 3<&{theirs[0]} 4>&{theirs[1]}', "bash", *words]
+            self.process = programs.start(words, stdin=subprocess.DEVNULL, stdout=log, stderr=log, pass_fds=theirs,
+                                          env=programs.environment(HOME=folder))
+        for each in (into, out, *theirs):
+            os.close(each)
+        self.data, self.number, self.session, self.events = b"", 0, None, []
+        target = self.ask("Target.createTarget", url="about:blank")["targetId"]
+        self.session = self.ask("Target.attachToTarget", targetId=target, flatten=True)["sessionId"]
+        for domain in ("Page", "Runtime", "Log", "Network"):
+            self.ask(f"{domain}.enable")
+
+    def message(self):
+        while b"\0" not in self.data:
+            more = os.read(self.own_in, 1 << 16) if select.select([self.own_in], [], [], PATIENCE)[0] else b""
+            if not more:
+                raise AssertionError("the browser has ended, or is silent")
+            self.data += more
+        message, _, self.data = self.data.partition(b"\0")
+        return json.loads(message)
+
+    def ask(self, method, **parameters):
+        self.number += 1
+        asked = {"id": self.number, "method": method, "params": parameters}
+        os.write(self.own_out, json.dumps({**asked, "sessionId": self.session} if self.session else asked).encode() + b"\0")
+        while True:
+            message = self.message()
+            if message.get("id") == self.number:
+                if "error" in message:
+                    raise AssertionError(message["error"])
+                return message["result"]
+            self.events.append(message)
+
+    def load(self, path, width=1000, scheme="light"):
+        """Loads a page, and gives what went wrong in it and what it fetched beside itself."""
+        self.ask("Emulation.setDeviceMetricsOverride", width=width, height=800, deviceScaleFactor=1, mobile=width < 500)
+        self.ask("Emulation.setEmulatedMedia", features=[{"name": "prefers-color-scheme", "value": scheme}])
+        self.events = []
+        self.ask("Page.navigate", url=f"file://{path}")
+        while not any(event.get("method") == "Page.loadEventFired" for event in self.events):
+            self.events.append(self.message())
+        faulty = "Runtime.exceptionThrown", "Log.entryAdded", "Runtime.consoleAPICalled"
+        faults = [event for event in self.events if event.get("method") in faulty]
+        urls = [event["params"]["request"]["url"] for event in self.events if event.get("method") == "Network.requestWillBeSent"]
+        return faults + [url for url in urls if url != f"file://{path}"]
+
+    def value(self, expression):
+        done = self.ask("Runtime.evaluate", expression=expression, returnByValue=True)
+        if "exceptionDetails" in done:
+            raise AssertionError(done["exceptionDetails"])
+        return done["result"].get("value")
+
+    def press(self, key, text=None):
+        code = {"Tab": 9, "Enter": 13, "ArrowRight": 39}.get(key, 0)
+        letters = {"text": text} if text else {}
+        self.ask("Input.dispatchKeyEvent", type="keyDown", key=key, code=key, windowsVirtualKeyCode=code, **letters)
+        self.ask("Input.dispatchKeyEvent", type="keyUp", key=key, code=key)
+
+    def end(self):
+        self.process.kill()
+        self.process.wait()
+        os.close(self.own_in)
+        os.close(self.own_out)
+
+
+def text_of(selector):
+    return f"document.querySelector({json.dumps(selector)}).textContent"
+
+
+@unittest.skipIf(not shutil.which("chromium"), "no chromium")
+class InABrowser(Reported, unittest.TestCase):
+    """The page itself."""
+
+    @classmethod
+    def setUpClass(cls):
+        folder = tempfile.TemporaryDirectory(ignore_cleanup_errors=True)
+        cls.addClassCleanup(folder.cleanup)
+        cls.browser = Browser(folder.name)
+        cls.addClassCleanup(cls.browser.end)
+
+    def loaded(self, *words, **more):
+        path = os.path.join(self.folder.name, "report.html")
+        with open(path, "w", encoding="utf-8") as file:
+            file.write(self.report(*words))
+        self.assertEqual(self.browser.load(path, **more), [])
+        self.assertEqual(self.browser.value("document.documentElement.dataset.state"), "shown")
+        self.assertIsNone(self.browser.value("document.documentElement.dataset.fault"))
+        return self.browser.value
+
+    def test_it_shows_what_happened(self):
+        self.day()
+        value = self.loaded()
+        self.assertEqual(value("[...document.querySelectorAll('.lane > button')].map(each => each.textContent)"), ["a", "b", "c"])
+        self.assertEqual(value("[...document.querySelectorAll('#lanes li:nth-child(2) .held')].map(each => each.title)"), [
+            "registered at port 5000 from 2024-11-28 00:01:00Z to 2024-11-28 00:05:00Z",
+            "registered at port 5002 from 2024-11-28 00:06:00Z to 2024-11-28 00:10:00Z"])
+        left, width, whole = value("""(() => {
+            const bar = document.querySelector('#lanes li:nth-child(2) .bar').getBoundingClientRect();
+            const held = document.querySelector('#lanes li:nth-child(2) .held').getBoundingClientRect();
+            return [held.left - bar.left, held.width, bar.width];
+        })()""")
+        self.assertAlmostEqual(left / whole, 0.1, 2)
+        self.assertAlmostEqual(width / whole, 0.4, 2)
+        self.assertEqual(value("document.querySelector('#lanes li:nth-child(2) .bar').getAttribute('aria-label')"),
+                         "registered: 2 times; refused: 3 times; looked up while absent: 2 times")
+        self.assertEqual(value(text_of("#refusals-table tbody tr")), "2024-11-28 00:03:00Za"
+                         "port 6000: the name was in use, held at port 5000 since 2024-11-28 00:01:00Z, 3 times until 2024-11-28 00:03:00Z")
+        self.assertEqual(value(text_of("#worst-table tbody tr")), "2024-11-28 00:03:00Z30003")
+        self.assertIn("No program was asked", value(text_of("#verdicts")))
+        self.assertEqual(value("[...document.querySelectorAll('#runs-table tbody tr')].map(each => each.textContent)"),
+                         ["2024-11-28 00:00:00ZThe port mapper began.", "2024-11-28 00:10:00ZThe port mapper ended in order."])
+        self.assertEqual(value("document.querySelectorAll('.chart .pin.start, .chart .pin.end').length"), 6)
+        self.assertEqual(value("document.querySelector('#mapper .run').title"), "served from 2024-11-28 00:00:00Z to 2024-11-28 00:10:00Z")
+
+    def test_a_name_is_searched_for(self):
+        self.write(start() + b"".join(register(slot, b"node%d" % slot) for slot in range(250)) + refused(b"node7") + refused(b"other"))
+        value = self.loaded()
+        self.assertEqual(value("document.querySelectorAll('.lane > button').length"), 100)
+        self.assertEqual(value(text_of("#found")), "100 of 251 names shown")
+        value("document.getElementById('more').click()")
+        self.assertEqual(value("document.querySelectorAll('.lane > button').length"), 251)
+        value("document.getElementById('search').focus()")
+        for letter in "NODE7":
+            self.browser.press(letter, letter)
+        self.assertEqual(value(text_of("#found")), "11 of 11 names shown")
+        self.assertEqual(value(text_of("#refusals-found")), "1 of 1 row shown")
+        self.assertEqual(value("document.querySelector('#lanes button').textContent"), "node7")
+
+    def test_all_is_reached_by_the_keyboard(self):
+        self.day()
+        value = self.loaded()
+        found = []
+        for _ in range(40):
+            self.browser.press("Tab")
+            here = value("(e => e.id || e.className || e.textContent)(document.activeElement)")
+            if here in ("a", "chart") and here not in found:
+                self.browser.press(*{"a": ("Enter", "\r"), "chart": ("ArrowRight",)}[here])
+            found.append(here)
+        for wanted in ("Load", "Refusals", "chart", "search", "order", "a", "b", "refusals-table", "worst-table"):
+            self.assertIn(wanted, found)
+        self.assertEqual(value("document.querySelector('#lanes li:nth-child(2) > button').getAttribute('aria-expanded')"), "true")
+        self.assertIn("2024-11-28 00:05:00Z5000" + "4" + "its connection was closed", value(text_of("#lanes .detail tbody tr")))
+        self.assertEqual(value(text_of("#readout")), "2024-11-28 00:00:00Z: 0 look-ups, of these 0 while absent, 0 registrations, "
+                         "0 refusals, 0 connections")
+
+    def test_hostile_names_are_text(self):
+        names = [name.encode() for name in HOSTILE]
+        self.write(start() + b"".join(register(slot, name) for slot, name in enumerate(names)) + b"".join(map(refused, names)))
+        value = self.loaded()
+        self.assertEqual(value("document.title"), "Port mapper report")
+        self.assertEqual(value("document.querySelectorAll('img, main svg[onload], main script').length"), 0)
+        shown = value("[...document.querySelectorAll('.lane > button bdi')].map(each => each.textContent)")
+        self.assertEqual(sorted(shown), sorted(row[0] for row in self.values()["lanes"]["rows"]))
+        value("for (const each of document.querySelectorAll('.lane > button')) each.click()")
+        self.assertEqual(value("document.querySelectorAll('.detail').length"), len(HOSTILE))
+        self.assertTrue(all(each.isprintable() or each in "\n " for each in value("document.body.innerText") if each != "\t"))
+
+    def test_it_fits_a_phone_in_light_and_dark(self):
+        self.day()
+        long = b"a-name-that-is-as-long-as-no-name-should-be-" * 4
+        self.add(register(4, long) + refused(long))
+        grounds = []
+        for scheme in ("light", "dark"):
+            value = self.loaded(width=360, scheme=scheme)
+            self.assertEqual(value("[innerWidth, document.documentElement.scrollWidth]"), [360, 360])
+            grounds.append(value("[getComputedStyle(document.body).backgroundColor, getComputedStyle(document.body).color]"))
+        self.assertEqual(grounds, [["rgb(255, 255, 255)", "rgb(28, 35, 41)"], ["rgb(20, 24, 28)", "rgb(230, 234, 237)"]])
+
+    def test_a_recording_without_times_says_so(self):
+        self.write(start() + register(0, b"a") + close(0))
+        value = self.loaded()
+        self.assertIn("the axis is the number of the entry", value(text_of("#notes")))
+        self.assertEqual(value("document.querySelector('#lanes .held:not(.run)').title"), "registered at port 5000 from entry 1 to entry 2")
+
+
+if __name__ == "__main__":
+    unittest.main()
