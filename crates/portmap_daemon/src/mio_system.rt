@@ -1,6 +1,8 @@
 //! The system as `mio` and the kernel give it.
 ghost use Rattle.std.specs.Prelude.{◌≡◌, ◌≢◌, ◌↔◌, ◌-◌, ◌<◌, ◌≤◌, ◌∷◌, [], ◌&&◌, not, true, take, drop, IfSome, IfNone};
-ghost use Rattle.std.specs.Prelude.{IfErr};
+ghost use Rattle.std.specs.Prelude.{IfErr, option_copied, slice_get};
+ghost use Rattle.mio.specs.Events.{items};
+ghost use Rattle.portmap_daemon.specs.Events.{report_of};
 ghost use Rattle.std.specs.Net.Addr.{ipv4_octets, ipv6_segments, segments_of, IsV4And, IsV6And};
 ghost use Rattle.portmap_daemon.specs.Running.{IsOfAddresses};
 ghost use Rattle.portmap_worker.specs.declared.limits.TheConstants.{EVENTS_MOST};
@@ -8,6 +10,7 @@ ghost use Rattle.portmap_daemon.specs.declared.mio_system.TheConstants.{FIRST_LI
 
 use crate::daemon::RunFault;
 use libc::net::{_SS_SIZE, AF_INET, AF_INET6, SOCK_CLOEXEC, SOCK_NONBLOCK, accept4};
+use mio::event::Event;
 use mio::net::{TcpListener, TcpStream};
 use mio::{Events, Poll, Token, Waker};
 use os::FromRawFd;
@@ -33,9 +36,7 @@ const ADDRESS_BYTES: u32 = 16;
 
 /// What the poll reports of what has this token, by whether its peer sends no more and whether it has failed.
 fn report_of(token: usize, is_read_closed: bool, is_error: bool) -> Report
-    ensures woken { WAKE ≤ token → result ≡ Report.Woken }
-    ensures listener { FIRST_LISTENER ≤ token → token < WAKE → result ≡ Report.Listener (token - FIRST_LISTENER) }
-    ensures stream { token < FIRST_LISTENER → result ≡ Report.Stream token (is_read_closed && not is_error) }
+    ensures { result ≡ report_of token is_read_closed is_error }
 {
     if token >= WAKE {
         Report::Woken
@@ -141,6 +142,13 @@ impl MioSystem {
         };
         Ok((system, MioWaker { inner }))
     }
+
+    /// What the poll has found at this place.
+    fn event(&self, place: usize) -> Option<&Event>
+        ensures { option_copied result ≡ slice_get (items self.now.events) place }
+    {
+        self.events.iter().nth(place)
+    }
 }
 
 impl System for MioSystem {
@@ -148,13 +156,17 @@ impl System for MioSystem {
 
     type Waker = MioWaker;
 
+    ghost use Rattle.portmap_daemon.specs.Events.{all_reported};
+
+    ghost reports = { all_reported };
+
     fn poll(&mut self, timeout_ms: u64) -> bool {
         let timeout = Duration::from_millis(timeout_ms);
         self.poll.poll(&mut self.events, Some(timeout)).is_ok()
     }
 
     fn report(&self, place: usize) -> Option<Report> {
-        let event = self.events.iter().nth(place)?;
+        let event = self.event(place)?;
         let Token(token) = event.token();
         Some(report_of(token, event.is_read_closed(), event.is_error()))
     }

@@ -1,3 +1,4 @@
 pub mod Carrying
 pub mod Escaping
 pub mod Files
+pub mod Idle

@@ -1,5 +1,6 @@
 pub mod Carrying
 pub mod Files
+pub mod IdleLinks
 pub mod Link
 pub mod Listening
 pub mod Notices
@@ -7,6 +8,7 @@ pub mod Parts
 pub mod Peers
 pub mod Pending
 pub mod Queue
+pub mod Quiet
 pub mod Quota
 pub mod Recording
 pub mod Refused

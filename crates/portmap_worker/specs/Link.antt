@@ -4,6 +4,7 @@ use Rattle.portmap_link.specs.declared.device.Put.TheVariants as put
 use Rattle.std.specs.IoError.{error_kind}
 use Rattle.std.specs.Prelude.{ℕ, ◌-◌, ◌≤◌, Bool, true, false, not, ◌||◌, Option, Some, None, Result, Ok, Err, ◌≡◌}
 use Rattle.std.specs.declared.io.Error.{Error}
+use Rattle.std.specs.declared.io.ErrorKind.{ErrorKind}
 use Rattle.std.specs.declared.io.ErrorKind.TheVariants as kind
 use Rattle.portmap_worker.specs.declared.link.Progress.{Progress, TheVariants.{Answered, Asked, Left}}
 use Rattle.portmap_worker.specs.declared.readiness.Reading.{Reading, TheVariants.{Dry, Open}}
@@ -64,3 +65,12 @@ IsOf key Stop = ⊥
 abbrev pub IsBroken : Result ℕ Error → Type 0
 IsBroken (Ok n) = ⊥
 IsBroken (Err e) = error_kind e ≡ kind.BrokenPipe
+
+abbrev pub is_would_block : ErrorKind → Bool
+is_would_block kind.WouldBlock = true
+is_would_block _ = false
+
+-- whether a call would have waited
+abbrev pub would_block : Result ℕ Error → Bool
+would_block (Ok n) = false
+would_block (Err e) = is_would_block (error_kind e)

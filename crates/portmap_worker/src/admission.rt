@@ -3,6 +3,7 @@ ghost use Rattle.std.specs.Prelude.{◌≡◌, ◌↔◌, ◌⊎◌, ◌+◌, �
 ghost use Rattle.portmap_worker.specs.declared.limits.TheConstants.{ROOM_BACKOFF_MS};
 ghost use Rattle.portmap_worker.specs.Listening.{IsFreshFrom};
 ghost use Rattle.portmap_worker.specs.Peers.{is_local_by};
+ghost use Rattle.portmap_worker.specs.IdleLinks.{Keeps};
 
 use crate::Turn;
 use crate::host::Host;
@@ -152,7 +153,8 @@ impl<S: System> Sockets<S> {
 impl<'a, L: Ledger, S: System, R: Host + Wait + Clock> SocketSource<'a, L, S, R> {
     /// The next connection: the one that waits for a place, or one that waits at a listener.
     pub(crate) fn admit(&mut self) -> Option<Turn>
-        ensures { self.new.ready.told ≡ self.old.ready.told }
+        ensures told { self.new.ready.told ≡ self.old.ready.told }
+        ensures quiet { Keeps self.old.ready self.new.ready }
     {
         let waiting = self.door.newcomer.take();
         let has_waited = waiting.is_some();
@@ -179,6 +181,7 @@ impl<'a, L: Ledger, S: System, R: Host + Wait + Clock> SocketSource<'a, L, S, R>
     fn take(&mut self, newcomer: Newcomer<S::Stream>, permit: Permit<'a>) -> Option<Turn>
         ensures fresh { IfSome result (λ turn. IsFreshFrom newcomer.is_local turn) }
         ensures told { self.new.ready.told ≡ self.old.ready.told }
+        ensures quiet { Keeps self.old.ready self.new.ready }
     {
         if self.ready.is_empty() {
             self.state.take_first(self.shared);
@@ -196,6 +199,7 @@ impl<'a, L: Ledger, S: System, R: Host + Wait + Clock> SocketSource<'a, L, S, R>
     fn hold(&mut self, newcomer: Newcomer<S::Stream>, permit: Permit<'a>) -> Option<Turn>
         ensures fresh { IfSome result (λ turn. IsFreshFrom newcomer.is_local turn) }
         ensures told { self.new.ready.told ≡ self.old.ready.told }
+        ensures quiet { Keeps self.old.ready self.new.ready }
     {
         let local = newcomer.is_local;
         if !self.ready.has_room() && !self.rt.has_memory(self.alloc) {
@@ -214,7 +218,8 @@ impl<'a, L: Ledger, S: System, R: Host + Wait + Clock> SocketSource<'a, L, S, R>
     /// There is no place for a new connection: one is given up for it, here or, for a local peer, by another worker
     /// soon. A connection is closed for which none can be.
     fn make_room(&mut self, newcomer: Newcomer<S::Stream>) -> Option<Turn>
-        ensures { self.new.ready.told ≡ self.old.ready.told }
+        ensures told { self.new.ready.told ≡ self.old.ready.told }
+        ensures quiet { Keeps self.old.ready self.new.ready }
     {
         let waited = self.rounds.time.saturating_sub(newcomer.came);
         let remote_first = spares_local(waited, self.shared.quota.remote());
@@ -240,7 +245,8 @@ impl<'a, L: Ledger, S: System, R: Host + Wait + Clock> SocketSource<'a, L, S, R>
     /// None could be accepted: if that is for want of descriptors or of memory a connection is given up for it, as if
     /// there were no place, here or by another worker soon. From which host it comes isn't known: remote ones go first.
     fn free_descriptor(&mut self) -> Option<Turn>
-        ensures { self.new.ready.told ≡ self.old.ready.told }
+        ensures told { self.new.ready.told ≡ self.old.ready.told }
+        ensures quiet { Keeps self.old.ready self.new.ready }
     {
         if !self.sockets.listeners.take_lack() {
             self.end_lack();
@@ -260,7 +266,7 @@ impl<'a, L: Ledger, S: System, R: Host + Wait + Clock> SocketSource<'a, L, S, R>
 
     /// Connections can be accepted, or none waits: none is to be given up for one.
     fn end_lack(&mut self)
-        ensures { self.new.ready.told ≡ self.old.ready.told }
+        ensures { self.new.ready ≡ self.old.ready }
     {
         if self.door.lacking.take().is_some() {
             self.shared.quota.want_none();
@@ -268,7 +274,9 @@ impl<'a, L: Ledger, S: System, R: Host + Wait + Clock> SocketSource<'a, L, S, R>
     }
 
     /// Gives up a connection, if a local peer waits for a place at another worker and one may be.
-    pub(crate) fn make_way(&mut self) -> Option<Turn> {
+    pub(crate) fn make_way(&mut self) -> Option<Turn>
+        ensures { Keeps self.old.ready self.new.ready }
+    {
         let (is_wanted, is_any) = self.shared.quota.wanted();
         if !is_wanted || !self.door.accepts() {
             return None;
@@ -282,6 +290,7 @@ impl<'a, L: Ledger, S: System, R: Host + Wait + Clock> SocketSource<'a, L, S, R>
 /// The link with this key is given up.
 pub(crate) fn give_way<S: Stream>(links: &mut Links<'_, S>, key: usize, now: u64) -> Turn
     ensures told { links.new.told ≡ links.old.told }
+    ensures quiet { Keeps links.old links.new }
     ensures late { result ≡ Turn.Late key }
 {
     if let Some(held) = links.get_mut(key) {

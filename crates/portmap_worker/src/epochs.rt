@@ -4,6 +4,7 @@
 //! yet. A worker has passed it once it has gone through all that its poll reported after the epoch began: then it knows
 //! of each end that was there when it began.
 ghost use Rattle.std.specs.Prelude.{◌≡◌, ◌↔◌, ◌-◌, ◌<◌, [], true, cond, IfSome};
+ghost use Rattle.portmap_worker.specs.IdleLinks.{Keeps};
 
 use crate::host::Host;
 use crate::shared::{Shared, WorkerState};
@@ -136,7 +137,8 @@ impl<L: Ledger, S: System, R: Host + Wait + Clock> SocketSource<'_, L, S, R> {
     /// Asks the poll, now that this epoch has begun. None if it has failed.
     pub(crate) fn ask_behind(&mut self, begun: Begun, timeout: u64) -> Option<Polled>
         requires { 0 < timeout → self.old.ready.queue ≡ [] }
-        ensures { IfSome result (λ polled. polled.epoch ≡ begun.epoch) }
+        ensures epoch { IfSome result (λ polled. polled.epoch ≡ begun.epoch) }
+        ensures quiet { Keeps self.old.ready self.new.ready }
     {
         let is_well = self.sockets.ask(&mut self.ready, timeout);
         is_well.then_some(Polled { epoch: begun.epoch })

@@ -1,6 +1,10 @@
 //! A connection that a worker holds: its stream as a device, and what the worker's source has to know of it.
-ghost use Rattle.std.specs.Prelude.{◌≡◌, ◌↔◌, ◌+◌, ◌-◌, ◌^◌, ◌<◌, [], min, Some, None, true, false};
-ghost use Rattle.portmap_worker.specs.Link.{IsBroken, IsOf, is_answered, is_timed, may_move, unsent_after};
+ghost use Rattle.std.specs.Prelude.{◌≡◌, ◌↔◌, ◌+◌, ◌-◌, ◌^◌, ◌<◌, [], ◌∷◌, ◌++◌, min, Some, None, true, false};
+ghost use Rattle.portmap_link.specs.Adapters.{pull_of, put_of};
+ghost use Rattle.portmap_link.specs.Device.{pull_is_fault, put_is_fault};
+ghost use Rattle.portmap_worker.specs.Link.{IsBroken, IsOf, is_answered, is_timed, may_move, unsent_after, would_block};
+ghost use Rattle.portmap_worker.specs.Quiet.{is_quiet};
+ghost use Rattle.portmap_worker.specs.declared.readiness.Note.TheVariants.{Read, Reported, Wrote};
 ghost use Rattle.portmap_worker.specs.declared.limits.TheConstants.{YOUNG_MS};
 
 use crate::Turn;
@@ -60,7 +64,9 @@ pub struct Link<S: Read + Write> {
 }
 
 /// Whether a call would have blocked: then there will be a report.
-fn would_block(told: &io::Result<usize>) -> bool {
+fn would_block(told: &io::Result<usize>) -> bool
+    ensures { result ≡ would_block told.now }
+{
     matches!(told, Err(error) if error.kind() == ErrorKind::WouldBlock)
 }
 
@@ -137,7 +143,9 @@ impl<S: Read + Write> Link<S> {
     }
 
     /// How many bytes have moved since this was last asked.
-    pub(crate) fn take_moved_bytes(&mut self) -> usize {
+    pub(crate) fn take_moved_bytes(&mut self) -> usize
+        ensures { self.new.readiness ≡ self.old.readiness }
+    {
         mem::replace(&mut self.moved_bytes, 0)
     }
 
@@ -170,6 +178,8 @@ impl<S: Read + Write> Link<S> {
     pub(crate) fn give_way(&mut self, now: u64)
         ensures came { self.new.came ≡ now }
         ensures told { self.new.timer.is_late ≡ false }
+        ensures rests { self.new.is_resting ≡ self.old.is_resting }
+        ensures notes { self.new.readiness ≡ self.old.readiness }
     {
         self.came = now;
         self.timer.is_late = false;
@@ -181,7 +191,11 @@ impl<S: Read + Write> Link<S> {
     }
 
     /// The poll has reported it, and perhaps that its peer sends no more: what is reported goes before what is late.
-    pub(crate) fn note_event(&mut self, is_closed: bool) {
+    pub(crate) fn note_event(&mut self, is_closed: bool)
+        ensures told { self.new.timer.is_late ≡ false }
+        ensures moves { may_move self.new.readiness.reading self.new.readiness.writing ≡ true }
+        ensures noted { self.new.readiness.notes ≡ self.old.readiness.notes ++ Reported ∷ [] }
+    {
         self.timer.is_late = false;
         self.readiness.note_report();
         self.progress = match self.progress {
@@ -202,7 +216,10 @@ impl<S: Read + Write> Link<S> {
     }
 
     /// It has rested. Whether there is something to tell of it.
-    pub(crate) fn end_rest(&mut self) -> bool {
+    pub(crate) fn end_rest(&mut self) -> bool
+        ensures rests { self.new.is_resting ≡ false }
+        ensures quiet { result ≡ false → is_quiet self.new.readiness.notes ≡ true }
+    {
         self.is_resting = false;
         if !self.readiness.is_watched() {
             self.readiness.note_report();
@@ -215,6 +232,7 @@ impl<S: Read + Write> Link<S> {
         ensures link { IsOf (Some key) result }
         ensures anew { result ≡ Turn.Late key → self.new.timer.since ≡ None }
         ensures told { self.new.timer.is_late ≡ false }
+        ensures notes { self.new.readiness ≡ self.old.readiness }
     {
         if self.timer.take_late() {
             Turn::Late(key as u64)
@@ -224,7 +242,10 @@ impl<S: Read + Write> Link<S> {
     }
 
     /// Looks at it, now that the poll has reported all up to this time. Whether there is something to tell of it.
-    pub(crate) fn look(&mut self, rounds: &Rounds, timeout: u64) -> bool {
+    pub(crate) fn look(&mut self, rounds: &Rounds, timeout: u64) -> bool
+        ensures rests { self.new.is_resting ≡ self.old.is_resting }
+        ensures quiet { result ≡ false → self.old.is_resting ≡ false → is_quiet self.new.readiness.notes ≡ true }
+    {
         let is_timed = self.is_timed();
         self.timer.begin(is_timed, self.is_local, rounds.time);
         if self.may_move() {
@@ -258,6 +279,7 @@ impl<S: Read + Write> Link<S> {
         ensures moved { self.new.timer.has_moved ≡ true }
         ensures rests { self.new.is_resting ≡ is_answered self.old.progress }
         ensures history { self.new.history ≡ self.old.history }
+        ensures readiness { self.new.readiness ≡ self.old.readiness }
     {
         self.note_moved(count);
         self.is_resting = self.is_answered();
@@ -268,25 +290,70 @@ impl<S: Read + Write> Link<S> {
         ensures moved { self.new.timer.has_moved ≡ true }
         ensures answered { is_answered self.new.progress ≡ true }
         ensures history { self.new.history ≡ self.old.history }
+        ensures readiness { self.new.readiness ≡ self.old.readiness }
     {
         self.note_moved(count);
         if self.progress == Progress::Asked {
             self.progress = Progress::Answered;
         }
     }
+
+    /// A read with so much room has told this. What the pull answers.
+    fn note_pull(&mut self, told: io::Result<usize>, room: usize) -> Pull
+        ensures answer { result ≡ pull_of told }
+        ensures failed { self.new.history.failed ≡ pull_is_fault result }
+        ensures pulls { self.new.history.pulls ≡ self.old.history.pulls ++ result ∷ [] }
+        ensures puts { self.new.history.puts ≡ self.old.history.puts }
+        ensures noted { self.new.readiness.notes ≡ self.old.readiness.notes ++ Read (would_block told) ∷ [] }
+    {
+        let is_blocked = would_block(&told);
+        let answer = pull_from(told);
+        self.history.failed = answer == Pull::Fault;
+        self.history.pulls.note(&answer);
+        self.readiness.note_pull(&answer, room, is_blocked);
+        if let Pull::Piece(count) = answer {
+            self.note_read(count);
+        }
+        answer
+    }
+
+    /// A write of so many bytes has told this. What the put answers.
+    fn note_put(&mut self, told: io::Result<usize>, offered: usize) -> Put
+        ensures answer { result ≡ put_of told }
+        ensures failed { self.new.history.failed ≡ put_is_fault result }
+        ensures puts { self.new.history.puts ≡ self.old.history.puts ++ result ∷ [] }
+        ensures pulls { self.new.history.pulls ≡ self.old.history.pulls }
+        ensures noted { self.new.readiness.notes ≡ self.old.readiness.notes ++ Wrote result (would_block told) ∷ [] }
+    {
+        let is_blocked = would_block(&told);
+        let answer = put_from(told);
+        self.history.failed = answer == Put::Fault;
+        self.history.puts.note(&answer);
+        self.readiness.note_put(&answer, is_blocked);
+        self.unsent_bytes = unsent_after(&answer, offered);
+        if let Put::Wrote(count) = answer {
+            self.note_written(count);
+        }
+        answer
+    }
 }
 
 impl<S: Stream> Link<S> {
     /// Where it goes, now that it was told. If no call on it is to be made the poll is asked to report it, and if that
     /// refuses, it is asked again once the link has rested.
-    pub(crate) fn fate<P: System<Stream = S>>(&mut self, system: &mut P, key: usize) -> Fate {
+    pub(crate) fn fate<P: System<Stream = S>>(&mut self, system: &mut P, key: usize) -> Fate
+        ensures again { result ≡ Fate.Again → may_move self.new.readiness.reading self.new.readiness.writing ≡ true }
+        ensures rests { result ≡ Fate.Rests → self.new.is_resting ≡ true }
+        ensures waits { result ≡ Fate.Waits
+            → (self.new.is_resting ≡ false) × (is_quiet self.new.readiness.notes ≡ true) }
+    {
         let is_asked = !self.is_resting && self.may_move();
         if !is_asked && !self.readiness.is_watched() {
             let interest = self.readiness.wanted();
             let was_watched = self.readiness.is_known();
-            match system.watch(&mut self.stream, key, interest, was_watched) {
-                Ok(()) => self.readiness.note_watched(),
-                Err(_) => self.is_resting = true,
+            let told = system.watch(&mut self.stream, key, interest, was_watched);
+            if !self.readiness.note_watch(told) {
+                self.is_resting = true;
             }
         }
         if self.is_resting {
@@ -348,15 +415,7 @@ impl<S: Read + Write> Input for Link<S> {
             self.first.read(&mut self.stream, buffer, self.is_crowded)
         };
         self.is_resting = self.is_resting || self.first.asks_list();
-        let is_blocked = would_block(&told);
-        let answer = pull_from(told);
-        self.history.failed = answer == Pull::Fault;
-        self.history.pulls.note(&answer);
-        self.readiness.note_pull(&answer, buffer.len(), is_blocked);
-        if let Pull::Piece(count) = answer {
-            self.note_read(count);
-        }
-        answer
+        self.note_pull(told, buffer.len())
     }
 
     fn failed(&self) -> bool {
@@ -371,16 +430,7 @@ impl<S: Read + Write> Output for Link<S> {
         } else {
             self.stream.write(bytes)
         };
-        let is_blocked = would_block(&told);
-        let answer = put_from(told);
-        self.history.failed = answer == Put::Fault;
-        self.history.puts.note(&answer);
-        self.readiness.note_put(&answer, is_blocked);
-        self.unsent_bytes = unsent_after(&answer, bytes.len());
-        if let Put::Wrote(count) = answer {
-            self.note_written(count);
-        }
-        answer
+        self.note_put(told, bytes.len())
     }
 
     fn failed(&self) -> bool {

@@ -1,9 +1,13 @@
 //! The links that a worker holds, each at its place.
-ghost use Rattle.std.specs.Prelude.{◌≡◌, Some, None};
+ghost use Rattle.std.specs.Prelude.{◌≡◌, ◌≢◌, ℕ, [], drop, false, Some, None};
+ghost use Rattle.portmap_ready.specs.Links.{link_at, place_at};
+ghost use Rattle.portmap_ready.specs.declared.Place.TheVariants.{Idle};
+ghost use Rattle.portmap_worker.specs.IdleLinks.{IsReported, Keeps};
 
 use crate::link::Link;
 use crate::pending::Waiting;
 use crate::quota::Permit;
+use crate::rounds::Rounds;
 use crate::system::{Stream, System};
 use crate::unsent::Unsent;
 use portmap_ready::{Place, Ready};
@@ -60,7 +64,8 @@ pub(crate) fn put_in_place<S: System>(
     now: u64,
 ) -> Moved
     requires { links.old.told ≡ Some key }
-    ensures { links.new.told ≡ None }
+    ensures told { links.new.told ≡ None }
+    ensures quiet { Keeps links.old links.new }
 {
     let Some(held) = links.get_mut(key) else {
         links.leave(key);
@@ -81,26 +86,68 @@ pub(crate) fn put_in_place<S: System>(
 
 /// The poll has reported a link, and perhaps that its peer sends no more. There is something to tell of it, unless it
 /// rests and goes on sending.
-pub(crate) fn report<S: Stream>(links: &mut Links<'_, S>, key: usize, is_closed: bool) {
+pub(crate) fn report<S: Stream>(links: &mut Links<'_, S>, key: usize, is_closed: bool)
+    ensures told { IsReported is_closed (link_at links.old key) (link_at links.new key) }
+    ensures others { (k : ℕ) → k ≢ key → link_at links.new k ≡ link_at links.old k }
+    ensures quiet { Keeps links.old links.new }
+{
     let rests = links.place(key) == Some(Place::Resting);
-    if let Some(held) = links.get_mut(key) {
-        held.link.note_event(is_closed);
-    }
+    let Some(held) = links.get_mut(key) else {
+        return;
+    };
+    held.link.note_event(is_closed);
     if is_closed || !rests {
         links.report(key);
     }
 }
 
 /// A millisecond is over: of the links that have rested longest so many may move again.
-pub(crate) fn end_rests<S: Stream>(links: &mut Links<'_, S>, most: u32) {
+pub(crate) fn end_rests<S: Stream>(links: &mut Links<'_, S>, most: u32)
+    ensures ended { links.new.resting ≡ drop most links.old.resting }
+    ensures quiet { Keeps links.old links.new }
+{
     for _ in 0..most {
-        let Some(key) = links.end_rest() else {
+        if !end_rest(links) {
             return;
-        };
-        if let Some(held) = links.get_mut(key) {
-            if held.link.end_rest() {
-                links.report(key);
-            }
         }
     }
+}
+
+/// The link that has rested longest may move again. False if none rests.
+fn end_rest<S: Stream>(links: &mut Links<'_, S>) -> bool
+    ensures ended { links.new.resting ≡ drop 1 links.old.resting }
+    ensures none { result ≡ false → links.old.resting ≡ [] }
+    ensures quiet { Keeps links.old links.new }
+{
+    links.none_is_forgotten();
+    let Some(key) = links.end_rest() else {
+        return false;
+    };
+    if let Some(held) = links.get_mut(key) {
+        if held.link.end_rest() {
+            links.report(key);
+        }
+    }
+    true
+}
+
+/// Looks at a link, now that the poll has reported all up to this time.
+pub(crate) fn look<S: Stream>(links: &mut Links<'_, S>, key: usize, rounds: &Rounds, timeout: u64)
+    ensures { Keeps links.old links.new }
+{
+    if let Some(held) = links.get_mut(key) {
+        if held.link.look(rounds, timeout) {
+            links.report(key);
+        }
+    }
+}
+
+/// Lends a link that isn't idle. Calls on an idle one could take away what the poll is still to report.
+pub(crate) fn lend<'b, S: Stream>(
+    links: &'b mut Links<'_, S>,
+    key: usize,
+) -> Option<&'b mut Link<S>>
+    requires { place_at links.old key ≢ Some Idle }
+{
+    Some(&mut links.get_mut(key)?.link)
 }

@@ -4,6 +4,7 @@
 //! is free soon. What the machine says after that is final.
 ghost use Rattle.std.specs.Prelude.{◌≡◌, ◌↔◌, ◌<◌, ◌≤◌, true, false, Some, None};
 ghost use Rattle.portmap_worker.specs.Pending.{Awaits, GivesUp, GoesOn, earliest, until};
+ghost use Rattle.portmap_worker.specs.IdleLinks.{Keeps};
 
 use crate::Turn;
 use crate::host::Host;
@@ -129,7 +130,9 @@ impl<L: Ledger, S: System, R: Host + Wait + Clock> SocketSource<'_, L, S, R> {
 
     /// What the link that was told last keeps back is told at once, unless its name is active, or no memory is left
     /// that others may need.
-    pub(crate) fn hold_back(&mut self) -> Option<Turn> {
+    pub(crate) fn hold_back(&mut self) -> Option<Turn>
+        ensures { Keeps self.old.ready self.new.ready }
+    {
         let key = self.ready.told()?;
         let is_active = self.is_name_active(key)?;
         let told = told_at_once(key as u64, self.refuses(), is_active);
@@ -146,6 +149,7 @@ impl<L: Ledger, S: System, R: Host + Wait + Clock> SocketSource<'_, L, S, R> {
     /// next.
     pub(crate) fn retry_pending(&mut self)
         requires { self.old.ready.told ≡ None }
+        ensures { Keeps self.old.ready self.new.ready }
     {
         self.rounds.pending_until = None;
         if self.ready.pending() == 0 {
@@ -187,6 +191,7 @@ impl<L: Ledger, S: System, R: Host + Wait + Clock> SocketSource<'_, L, S, R> {
 fn wait_on<S: Stream>(links: &mut Links<'_, S>, rounds: &mut Rounds, key: usize, waiting: Waiting)
     requires { links.old.told ≡ Some key }
     ensures told { links.new.told ≡ None }
+    ensures quiet { Keeps links.old links.new }
     ensures until { rounds.new ≡ record rounds.old
         { pending_until = Some (earliest rounds.old.pending_until (until waiting rounds.old.time)) } }
 {
@@ -200,7 +205,8 @@ fn wait_on<S: Stream>(links: &mut Links<'_, S>, rounds: &mut Rounds, key: usize,
 /// What the link that was told last keeps back is to be told, or that no registration is taken.
 fn resume<S: Stream>(links: &mut Links<'_, S>, key: usize, is_short: bool)
     requires { links.old.told ≡ Some key }
-    ensures { links.new.told ≡ None }
+    ensures told { links.new.told ≡ None }
+    ensures quiet { Keeps links.old links.new }
 {
     if let Some(held) = links.get_mut(key) {
         held.link.set_late(is_short);

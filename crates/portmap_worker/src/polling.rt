@@ -1,12 +1,13 @@
 //! What a worker asks of its poll, and what it makes of the answers.
 ghost use Rattle.std.specs.Prelude.{◌≡◌, ◌<◌, [], None};
+ghost use Rattle.portmap_worker.specs.IdleLinks.{Keeps};
 
 use crate::Turn;
 use crate::ending::Failure;
 use crate::epochs::Begun;
 use crate::host::Host;
 use crate::limits::BACKLOG_MOST;
-use crate::open_link::end_rests;
+use crate::open_link::{end_rests, look};
 use crate::rounds::poll_timeout;
 use crate::shared::IDLE;
 use crate::socket_source::SocketSource;
@@ -21,16 +22,14 @@ impl<L: Ledger, S: System, R: Host + Wait + Clock> SocketSource<'_, L, S, R> {
     /// Polls. What is to be told by the time alone, or if the poll has failed.
     pub(crate) fn poll(&mut self) -> Option<Turn>
         requires { self.old.ready.told ≡ None }
+        ensures { Keeps self.old.ready self.new.ready }
     {
         self.retry_pending();
         let before = self.time_us();
         self.state.busy_since.store(IDLE, Ordering::SeqCst);
         let is_well = self.wait();
         let after = self.time_us();
-        if self.rounds.note_answer(after) {
-            let most = rests_most(self.shared.unsent.is_crowded());
-            end_rests(&mut self.ready, most);
-        }
+        self.note_answer(after);
         self.state
             .busy_since
             .store(self.rounds.time, Ordering::SeqCst);
@@ -41,13 +40,10 @@ impl<L: Ledger, S: System, R: Host + Wait + Clock> SocketSource<'_, L, S, R> {
         if self.shared.ending.is_stopping() {
             return Some(Turn::Stop);
         }
-        let worker = self.sockets.worker;
-        if self.rounds.load.note_poll(before, after) && self.shared.may_add_acceptor(worker) {
-            self.door.backlog = BACKLOG_MOST;
-        }
+        self.note_load(before, after);
         self.pass_listeners();
         let is_due = self.rounds.is_look_due();
-        if is_due && !self.look_round() {
+        if !self.look_round(is_due) {
             return Some(self.fail());
         }
         match self.make_way() {
@@ -56,8 +52,31 @@ impl<L: Ledger, S: System, R: Host + Wait + Clock> SocketSource<'_, L, S, R> {
         }
     }
 
+    /// The poll has answered at this time, in microseconds: with each millisecond a few of the links that rest go on.
+    fn note_answer(&mut self, after: u64)
+        ensures { Keeps self.old.ready self.new.ready }
+    {
+        if self.rounds.note_answer(after) {
+            let most = rests_most(self.shared.unsent.is_crowded());
+            end_rests(&mut self.ready, most);
+        }
+    }
+
+    /// The poll was asked and has answered at these times. Another worker is to accept too, if this one has too much to
+    /// do.
+    fn note_load(&mut self, before: u64, after: u64)
+        ensures { self.new.ready ≡ self.old.ready }
+    {
+        let worker = self.sockets.worker;
+        if self.rounds.load.note_poll(before, after) && self.shared.may_add_acceptor(worker) {
+            self.door.backlog = BACKLOG_MOST;
+        }
+    }
+
     /// Watches the listeners or leaves them, as the worker accepts or not.
-    fn pass_listeners(&mut self) {
+    fn pass_listeners(&mut self)
+        ensures { self.new.ready ≡ self.old.ready }
+    {
         let is_on = self.shared.accepts(self.sockets.worker);
         let listeners = &mut self.sockets.listeners;
         listeners.pass(&mut self.sockets.system, self.rounds.time, is_on);
@@ -95,7 +114,9 @@ impl<L: Ledger, S: System, R: Host + Wait + Clock> SocketSource<'_, L, S, R> {
     }
 
     /// Polls, and waits if there is nothing else to do. False if the poll has failed.
-    fn wait(&mut self) -> bool {
+    fn wait(&mut self) -> bool
+        ensures { Keeps self.old.ready self.new.ready }
+    {
         self.rounds.end_turns();
         if !self.rounds.pass.is_over() {
             let timeout = self.timeout(self.rounds.pass.begun());
@@ -112,19 +133,20 @@ impl<L: Ledger, S: System, R: Host + Wait + Clock> SocketSource<'_, L, S, R> {
         is_all
     }
 
-    /// Looks at every link: whether its time is over, and whether the poll has refused to report it. The time was read
-    /// before, and however long this thread was stopped since, all that came meanwhile is noted first. False if the
-    /// poll has failed.
-    fn look_round(&mut self) -> bool {
+    /// Looks at every link, if that is due: whether its time is over, and whether the poll has refused to report it.
+    /// The time was read before, and however long this thread was stopped since, all that came meanwhile is noted
+    /// first. False if the poll has failed.
+    fn look_round(&mut self, is_due: bool) -> bool
+        ensures { Keeps self.old.ready self.new.ready }
+    {
+        if !is_due {
+            return true;
+        }
         if !self.sockets.ask_for_all(&mut self.ready) {
             return false;
         }
         for key in 0..self.ready.keys() {
-            if let Some(held) = self.ready.get_mut(key) {
-                if held.link.look(&self.rounds, self.sockets.timeout) {
-                    self.ready.report(key);
-                }
-            }
+            look(&mut self.ready, key, &self.rounds, self.sockets.timeout);
         }
         self.rounds.note_look();
         self.tally.publish(self.shared);

@@ -1,9 +1,14 @@
 //! Which calls of a link may move bytes, and what of that its poll reports.
-ghost use Rattle.std.specs.Prelude.{◌≡◌, true, Some, is_some};
+ghost use Rattle.std.specs.Prelude.{◌≡◌, [], ◌∷◌, ◌++◌, true, Some, is_ok, is_some};
 ghost use Rattle.portmap_worker.specs.Link.{is_unsent, may_move, wanted};
+ghost use Rattle.portmap_worker.specs.Quiet.{asked, covers, is_left, is_read_due, is_room_due, watches};
+ghost use Rattle.portmap_worker.specs.declared.readiness.Note.TheVariants.{Read, Reported, Wrote};
+ghost use Rattle.portmap_worker.specs.declared.readiness.Reading.TheVariants.{Dry};
+ghost use Rattle.portmap_worker.specs.declared.readiness.Writing.TheVariants.{Waits};
 
 use crate::system::Interest;
-use portmap_link::{Pull, Put};
+use portmap_link::{Past, Pull, Put};
+use std::io;
 
 /// Whether a stream may have bytes. Its news are reported once.
 #[derive(Clone, Copy, Debug, PartialEq, Eq)]
@@ -24,27 +29,48 @@ pub(crate) enum Writing {
     Waits,
 }
 
-/// Which calls may move bytes, and what of that the poll reports.
-#[derive(Clone, Copy)]
+/// What was done at a stream, or told of it.
+#[derive(Drop)]
+pub(crate) enum Note {
+    /// A read, which would have waited or not.
+    Read { would_wait: bool },
+    /// A write with this answer.
+    Wrote { answer: Put, would_wait: bool },
+    /// The poll was asked to report it.
+    Watched(Interest),
+    /// The poll has reported it, or it is to be asked without that.
+    Reported,
+}
+
+/// Which calls may move bytes, and what of that the poll reports. Only proofs read the notes.
+#[derive(Drop)]
 pub(crate) struct Readiness {
     pub(crate) reading: Reading,
     pub(crate) writing: Writing,
     watched: Option<Interest>,
+    notes: Past<Note>,
+    ghost watched_as_asked: { watched ≡ asked notes },
+    ghost unsent_as_left: { is_unsent writing ≡ is_left notes },
+    ghost dry: { reading ≡ Dry → is_some watched ≡ true → is_read_due notes ≡ true },
+    ghost waits: { writing ≡ Waits → is_room_due notes ≡ true },
 }
 
 impl Readiness {
     /// That of a stream which has just come: it may have bytes.
-    pub(crate) fn new() -> Readiness {
+    pub(crate) fn new() -> Readiness
+        ensures { result.notes ≡ [] }
+    {
         Readiness {
             reading: Reading::Open,
             writing: Writing::Free,
             watched: None,
+            notes: Past::new(),
         }
     }
 
     /// Whether a call may do more than answer Later.
-    pub(crate) fn may_move(self) -> bool
-        ensures { result ≡ may_move self.reading self.writing }
+    pub(crate) fn may_move(&self) -> bool
+        ensures { result ≡ may_move self.now.reading self.now.writing }
     {
         match self.writing {
             Writing::Free => self.reading == Reading::Open,
@@ -54,15 +80,15 @@ impl Readiness {
     }
 
     /// Whether bytes wait to be written.
-    pub(crate) fn is_unsent(self) -> bool
-        ensures { result ≡ is_unsent self.writing }
+    pub(crate) fn is_unsent(&self) -> bool
+        ensures { result ≡ is_unsent self.now.writing }
     {
         self.writing != Writing::Free
     }
 
     /// What the poll is to report: that it may be read, and written too if bytes wait.
-    pub(crate) fn wanted(self) -> Interest
-        ensures { result ≡ wanted self.writing }
+    pub(crate) fn wanted(&self) -> Interest
+        ensures { result ≡ wanted self.now.writing }
     {
         if self.is_unsent() {
             Interest::Both
@@ -72,28 +98,42 @@ impl Readiness {
     }
 
     /// Whether the poll reports something of it.
-    pub(crate) fn is_known(self) -> bool
-        ensures { result ≡ is_some self.watched }
+    pub(crate) fn is_known(&self) -> bool
+        ensures { result ≡ is_some self.now.watched }
     {
         self.watched.is_some()
     }
 
     /// Whether the poll reports all that is wanted.
-    pub(crate) fn is_watched(self) -> bool {
+    pub(crate) fn is_watched(&self) -> bool
+        ensures { result ≡ covers (is_unsent self.now.writing) self.now.watched }
+    {
         self.watched == Some(Interest::Both) || self.watched == Some(self.wanted())
     }
 
-    /// From now on it does.
-    pub(crate) fn note_watched(&mut self)
-        ensures { self.new ≡ record self.old { watched = Some (wanted self.old.writing) } }
+    /// The poll was asked to report all that is wanted, and has answered so. Whether it does from now on.
+    pub(crate) fn note_watch(&mut self, told: io::Result<()>) -> bool
+        ensures answer { result ≡ is_ok told }
+        ensures reading { self.new.reading ≡ self.old.reading }
+        ensures writing { self.new.writing ≡ self.old.writing }
+        ensures noted { self.new.notes ≡ self.old.notes ++ watches told (wanted self.old.writing) }
+        ensures watched { result ≡ true → self.new.watched ≡ Some (wanted self.old.writing) }
     {
-        self.watched = Some(self.wanted());
+        if told.is_err() {
+            return false;
+        }
+        let interest = self.wanted();
+        self.watched = Some(interest);
+        self.notes.note(&Note::Watched(interest));
+        true
     }
 
     /// The poll has reported it, or it is to be asked without that.
     pub(crate) fn note_report(&mut self)
-        ensures { may_move self.new.reading self.new.writing ≡ true }
+        ensures moves { may_move self.new.reading self.new.writing ≡ true }
+        ensures noted { self.new.notes ≡ self.old.notes ++ Reported ∷ [] }
     {
+        self.notes.note(&Note::Reported);
         self.reading = Reading::Open;
         if self.writing == Writing::Waits {
             self.writing = Writing::CutShort;
@@ -103,17 +143,28 @@ impl Readiness {
     /// A pull with so much room has answered so, and would have waited or not. If fewer bytes came than there was room
     /// for no more were there. A stream that no poll reports yet is reported, once it is to be, with all that has come
     /// by then: so it needn't be asked whether it is dry.
-    pub(crate) fn note_pull(&mut self, answer: &Pull, room: usize, is_blocked: bool) {
+    pub(crate) fn note_pull(&mut self, answer: &Pull, room: usize, is_blocked: bool)
+        ensures { self.new.notes ≡ self.old.notes ++ Read is_blocked ∷ [] }
+    {
         let is_dry = match answer {
             Pull::Piece(count) => *count < room && !self.is_known(),
             Pull::Later => is_blocked,
             Pull::End | Pull::Fault => false,
         };
         self.reading = if is_dry { Reading::Dry } else { Reading::Open };
+        self.notes.note(&Note::Read {
+            would_wait: is_blocked,
+        });
     }
 
     /// A put has answered so, and would have waited or not.
-    pub(crate) fn note_put(&mut self, answer: &Put, is_blocked: bool) {
+    pub(crate) fn note_put(&mut self, answer: &Put, is_blocked: bool)
+        ensures { self.new.notes ≡ self.old.notes ++ Wrote answer.now is_blocked ∷ [] }
+    {
+        self.notes.note(&Note::Wrote {
+            answer: *answer,
+            would_wait: is_blocked,
+        });
         self.writing = match answer {
             Put::Later if is_blocked => Writing::Waits,
             Put::Later => Writing::CutShort,

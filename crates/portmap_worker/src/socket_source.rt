@@ -1,6 +1,7 @@
 //! The source of a worker over sockets.
 ghost use Rattle.std.specs.Prelude.{◌≡◌, ◌<◌, [], None, slice_get, IfNone, IfSome};
 ghost use Rattle.portmap_worker.specs.Link.{IsOf};
+ghost use Rattle.portmap_worker.specs.IdleLinks.{AllQuiet, Keeps};
 ghost use Rattle.portmap_worker.specs.declared.limits.TheConstants.{TURNS_MOST};
 
 use crate::admission::Door;
@@ -8,7 +9,7 @@ use crate::host::Host;
 use crate::limits::{LOG_BYTES_HEAVY, POLLS_MOST};
 use crate::link::Link;
 use crate::news::Tally;
-use crate::open_link::{Links, put_in_place};
+use crate::open_link::{Links, lend, put_in_place};
 use crate::rounds::Rounds;
 use crate::shared::{Shared, WorkerState};
 use crate::sockets::Sockets;
@@ -51,7 +52,9 @@ impl<'a, L: Ledger, S: System, R: Host + Wait + Clock> SocketSource<'a, L, S, R>
         desk: &'a Desk<L>,
         shared: &'a Shared<S::Waker>,
         sockets: Sockets<S>,
-    ) -> Option<SocketSource<'a, L, S, R>> {
+    ) -> Option<SocketSource<'a, L, S, R>>
+        ensures { IfSome result (λ source. AllQuiet source.ready) }
+    {
         let state = shared.workers.get(sockets.worker)?;
         Some(SocketSource {
             rt,
@@ -86,7 +89,8 @@ impl<'a, L: Ledger, S: System, R: Host + Wait + Clock> SocketSource<'a, L, S, R>
 
     /// What was told last goes where there is more to tell of it, where it rests, or where the poll is to report it.
     fn put_back(&mut self)
-        ensures { self.new.ready.told ≡ None }
+        ensures told { self.new.ready.told ≡ None }
+        ensures quiet { Keeps self.old.ready self.new.ready }
     {
         let Some(key) = self.ready.told() else {
             return;
@@ -102,6 +106,7 @@ impl<'a, L: Ledger, S: System, R: Host + Wait + Clock> SocketSource<'a, L, S, R>
         requires { self.old.ready.told ≡ None }
         ensures none { IfNone result (self.new.ready.told ≡ None) }
         ensures most { IfSome result (λ _. self.old.rounds.turns < TURNS_MOST) }
+        ensures quiet { Keeps self.old.ready self.new.ready }
     {
         if !self.rounds.take_turn() {
             return None;
@@ -118,8 +123,15 @@ impl<'a, L: Ledger, S: System, R: Host + Wait + Clock> SocketSource<'a, L, S, R>
         self.pop()
     }
 
+    /// The link with this key, if there is one, to look at.
+    pub fn held(&self, key: u64) -> Option<&Link<S::Stream>> {
+        Some(&self.ready.get(key as usize)?.link)
+    }
+
     /// The next thing to do, if there is one without a poll or by the next one.
-    pub fn step(&mut self) -> Option<Turn> {
+    pub fn step(&mut self) -> Option<Turn>
+        ensures { Keeps self.old.ready self.new.ready }
+    {
         let held_back = self.hold_back();
         if held_back.is_some() {
             return held_back;
@@ -140,6 +152,7 @@ impl<'a, L: Ledger, S: System, R: Host + Wait + Clock> SocketSource<'a, L, S, R>
         requires { self.old.ready.told ≡ None }
         ensures first { IfSome result (λ turn. IsOf (slice_get self.old.ready.queue 0) turn) }
         ensures none { IfNone result ((self.old.ready.queue ≡ []) × (self.new.ready.told ≡ None)) }
+        ensures quiet { Keeps self.old.ready self.new.ready }
     {
         let is_short = self.shared.short.load(Ordering::SeqCst);
         let is_crowded = self.shared.unsent.is_crowded();
@@ -160,7 +173,9 @@ impl<'a, L: Ledger, S: System, R: Host + Wait + Clock> SocketSource<'a, L, S, R>
 impl<L: Ledger, S: System, R: Host + Wait + Clock> Source for SocketSource<'_, L, S, R> {
     type Link = Link<S::Stream>;
 
-    fn turn(&mut self) -> Turn {
+    fn turn(&mut self) -> Turn
+        ensures { Keeps self.old.ready self.new.ready }
+    {
         for _ in 0..POLLS_MOST {
             if let Some(turn) = self.step() {
                 return turn;
@@ -170,10 +185,14 @@ impl<L: Ledger, S: System, R: Host + Wait + Clock> Source for SocketSource<'_, L
     }
 
     fn link(&mut self, key: u64) -> Option<&mut Link<S::Stream>> {
-        Some(&mut self.ready.get_mut(key as usize)?.link)
+        let key = key as usize;
+        self.ready.report(key);
+        lend(&mut self.ready, key)
     }
 
-    fn end(&mut self, key: u64) {
+    fn end(&mut self, key: u64)
+        ensures { Keeps self.old.ready self.new.ready }
+    {
         let Some(mut held) = self.ready.remove(key as usize) else {
             return;
         };

@@ -1,5 +1,7 @@
 //! The sockets of one worker, and what its poll reports of them.
-ghost use Rattle.std.specs.Prelude.{◌≡◌, ◌<◌, ◌+◌, ◌-◌, ◌^◌, ◌==◌, [], min, IfOk};
+ghost use Rattle.std.specs.Prelude.{◌≡◌, ◌<◌, ◌+◌, ◌-◌, ◌^◌, ◌==◌, ℕ, [], true, min, take, IfOk, IfSome};
+ghost use Rattle.portmap_worker.specs.IdleLinks.{AreNoted, Keeps, hears, noted_at};
+ghost use Rattle.portmap_worker.specs.declared.limits.TheConstants.{EVENTS_MOST};
 
 use crate::limits::EVENTS_MOST;
 use crate::listener::Listeners;
@@ -51,29 +53,50 @@ impl<S: System> Sockets<S> {
     /// False if it has failed.
     pub(crate) fn ask(&mut self, links: &mut Links<'_, S::Stream>, timeout: u64) -> bool
         requires { 0 < timeout → links.old.queue ≡ [] }
+        ensures noted { result ≡ true → IfSome (S.reports self.new.system)
+            (λ reports. AreNoted (take EVENTS_MOST reports) links.old links.new) }
+        ensures quiet { Keeps links.old links.new }
     {
-        let is_well = self.system.poll(timeout);
-        if is_well {
-            self.take_events(links);
+        if !self.system.poll(timeout) {
+            return false;
         }
-        is_well
+        self.take_events(links);
+        true
     }
 
     /// Notes what the poll has reported.
-    fn take_events(&mut self, links: &mut Links<'_, S::Stream>) {
+    fn take_events(&mut self, links: &mut Links<'_, S::Stream>)
+        ensures system { self.new.system ≡ self.old.system }
+        ensures noted { IfSome (S.reports self.old.system)
+            (λ reports. AreNoted (take EVENTS_MOST reports) links.old links.new) }
+        ensures quiet { Keeps links.old links.new }
+    {
         for place in 0..EVENTS_MOST {
-            match self.system.report(place) {
-                None => return,
-                Some(Report::Woken) => {}
-                Some(Report::Listener(place)) => self.listeners.report(place),
-                Some(Report::Stream { key, is_closed }) => report(links, key, is_closed),
-            }
+            let Some(event) = self.system.report(place) else {
+                return;
+            };
+            self.take_event(links, event);
+        }
+    }
+
+    /// Notes one of the reports.
+    fn take_event(&mut self, links: &mut Links<'_, S::Stream>, event: Report)
+        ensures system { self.new.system ≡ self.old.system }
+        ensures noted { (key : ℕ) → noted_at links.new key ≡ hears key (noted_at links.old key) event }
+        ensures quiet { Keeps links.old links.new }
+    {
+        match event {
+            Report::Woken => {}
+            Report::Listener(place) => self.listeners.report(place),
+            Report::Stream { key, is_closed } => report(links, key, is_closed),
         }
     }
 
     /// Has the poll report all that there is, without waiting. It tells what came first before what came later, so as
     /// many answers as hold one report of each that is watched are enough. False if it has failed.
-    pub(crate) fn ask_for_all(&mut self, links: &mut Links<'_, S::Stream>) -> bool {
+    pub(crate) fn ask_for_all(&mut self, links: &mut Links<'_, S::Stream>) -> bool
+        ensures { Keeps links.old links.new }
+    {
         let watched = links.len().saturating_add(self.listeners.len());
         for _ in 0..watched / EVENTS_MOST + 1 {
             if !self.ask(links, 0) {

@@ -1,5 +1,8 @@
 //! What workers ask of the system: readiness, connections and each other's attention. The daemon has it of `mio` and
 //! the kernel; a simulation has a world of its own.
+ghost use Rattle.std.specs.Prelude.{◌≡◌, List, Option, None, IfSome, slice_get};
+ghost use Rattle.portmap_worker.specs.declared.system.Report.{Report};
+
 use std::io;
 use std::io::{Read, Write};
 use std::net::IpAddr;
@@ -46,11 +49,15 @@ pub trait System: Drop {
 
     type Waker: Wake;
 
+    /// What the last poll has reported. `None`: the system doesn't tell.
+    ghost reports: { Self → Option (List Report) } = { λ _. None };
+
     /// Polls, and waits for news for so many milliseconds at most. False if the poll has failed.
     fn poll(&mut self, timeout_ms: u64) -> bool;
 
     /// What the last poll has reported at this place: places go from 0 on without a gap.
-    fn report(&self, place: usize) -> Option<Report>;
+    fn report(&self, place: usize) -> Option<Report>
+        ensures { IfSome (Self.reports self.now) (λ reports. result ≡ slice_get reports place) };
 
     /// Whether the last poll has reported as much as it can at once, so that there may be more.
     fn is_full(&self) -> bool;

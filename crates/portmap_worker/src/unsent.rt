@@ -1,5 +1,6 @@
 //! Bytes of replies that wait to be written since their peers don't read, over all connections of a daemon.
 ghost use Rattle.std.specs.Prelude.{◌≡◌, ◌↔◌, ◌-◌, ◌<◌, ◌≤◌, true, false};
+ghost use Rattle.portmap_worker.specs.IdleLinks.{Keeps};
 ghost use Rattle.portmap_worker.specs.Unsent.{AreMany, MayReset};
 ghost use Rattle.portmap_worker.specs.declared.limits.TheConstants.{RESTS_MOST, YOUNG_MS};
 
@@ -179,7 +180,8 @@ impl<L: Ledger, S: System, R: Host + Wait + Clock> SocketSource<'_, L, S, R> {
     /// Gives up the connection whose peer has read nothing for longest, if more bytes wait than may. If none of this
     /// worker's may go, the other workers are to look.
     pub(crate) fn give_up_unread(&mut self) -> Option<Turn>
-        ensures { self.new.ready.told ≡ self.old.ready.told }
+        ensures told { self.new.ready.told ≡ self.old.ready.told }
+        ensures quiet { Keeps self.old.ready self.new.ready }
     {
         if !mem::replace(&mut self.looks_for_unread, false) {
             return None;

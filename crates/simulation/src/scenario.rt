@@ -64,6 +64,8 @@ pub struct Scenario {
     pub file_bytes_most: u64,
     /// What is recorded to is a plain file, and no pipe.
     pub is_plain: bool,
+    /// Polls report of streams no more than they have to.
+    pub is_sparing: bool,
     /// So long the disk is full once it is.
     pub full_us: u64,
     /// Once the log has so many bytes it is told to end, in the midst of the storm.
@@ -147,6 +149,7 @@ pub const USUAL: Scenario = Scenario {
     unsent_bytes_most: u64::MAX,
     file_bytes_most: 100_000_000,
     is_plain: true,
+    is_sparing: false,
     full_us: u64::MAX,
     end_bytes: u64::MAX,
     patience_us: u64::MAX,

@@ -23,6 +23,8 @@ pub const CALLS: &[Scenario] = scenarios! {
     "calm" (128, 89, 2416, 0) [] [];
     "signals" (120, 80, 2336, 0) [] [Interrupted 100, Short 200];
     "edges" (107, 67, 1852, 0) [] [Late 300, Spurious 50];
+    "sparing" (128, 88, 1500, 0) []
+        [Late 300, Short 200, Interrupted 50, Unwatched 20] is_sparing: true, limit_ms: 3000;
     "accepts" (153, 119, 1676, 0) []
         [Unleft 100, Aborted 30, Exhausted 20, Unable 10, Interrupted 20] backlog_most: 3, limit_ms: 3000;
     "exhausted" (980, 846, 2619, 0) [Local NODE 20, Local SEEKER 2] [Exhausted 20, Unable 10] limit_ms: 3000;

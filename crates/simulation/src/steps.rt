@@ -25,8 +25,8 @@ pub struct Stepped<'a, L: Ledger, R: Wait + Drop> {
 
 impl<L: Ledger, R: Wait + Drop> Stepped<'_, L, R> {
     /// The connection of a link, and whether there is news of it.
-    fn connection(&mut self, key: u64) -> Option<(usize, bool)> {
-        let stream = self.source.link(key)?.stream();
+    fn connection(&self, key: u64) -> Option<(usize, bool)> {
+        let stream = self.source.held(key)?.stream();
         Some((stream.number(), stream.has_news()))
     }
 }

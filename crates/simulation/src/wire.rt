@@ -57,6 +57,12 @@ pub struct Wire {
     pub watch: Option<Watch>,
     /// From when on the poll of who watches reports it; none if there is nothing that was not reported.
     pub news_at: Option<u64>,
+    /// The poll reports no more than it has to: what was there as it was asked, and what came behind a call that would
+    /// have waited, for bytes or for room, if nothing was reported since.
+    is_sparing: bool,
+    /// So it has to report bytes that come, and room that does.
+    pub is_read_due: bool,
+    pub is_room_due: bool,
     /// A poll has reported it, and it was not read since.
     pub is_reported: bool,
     /// There is news for the peer.
@@ -64,8 +70,9 @@ pub struct Wire {
 }
 
 impl Wire {
-    /// One that has come, with room for so many bytes to the peer.
-    pub fn new(alloc: Global, is_local: bool, room: usize) -> Wire {
+    /// One that has come, with room for so many bytes to the peer, of which a poll reports no more than it has to, or
+    /// more.
+    pub fn new(alloc: Global, is_local: bool, room: usize, is_sparing: bool) -> Wire {
         Wire {
             is_local,
             up: VecDeque::new(alloc),
@@ -84,6 +91,9 @@ impl Wire {
             late_at: None,
             watch: None,
             news_at: None,
+            is_sparing,
+            is_read_due: false,
+            is_room_due: false,
             is_reported: false,
             has_peer_news: false,
         }
@@ -118,6 +128,8 @@ impl Wire {
             return None;
         }
         self.news_at = None;
+        self.is_read_due = false;
+        self.is_room_due = false;
         self.is_reported = true;
         let is_closed = self.is_up_ended && !self.is_reset;
         Some(Report::Stream { key, is_closed })
@@ -145,9 +157,10 @@ impl Wire {
         }
     }
 
-    /// There is news for who watches it.
-    fn note_news(&mut self, now: u64) {
-        if self.watch.is_some() && self.news_at.is_none() {
+    /// There is news for who watches it, which the poll has to report or doesn't.
+    fn note_news(&mut self, now: u64, is_due: bool) {
+        let is_told = is_due || !self.is_sparing;
+        if is_told && self.watch.is_some() && self.news_at.is_none() {
             self.news_at = Some(now);
         }
     }
@@ -160,11 +173,13 @@ impl Wire {
         }
         self.is_up_ended = self.is_up_ended || end.is_some();
         self.is_gone = self.is_gone || end == Some(Ending::Gone);
+        let mut is_due = self.is_read_due;
         if end == Some(Ending::Reset) {
             self.is_reset = true;
             self.down.clear();
+            is_due = is_due || self.is_room_due;
         }
-        self.note_news(now);
+        self.note_news(now, is_due);
         is_kept
     }
 
@@ -212,6 +227,8 @@ impl Wire {
     pub fn begin_watch(&mut self, watch: Watch, now: u64) -> bool {
         let is_new = self.watch.is_none();
         self.watch = Some(watch);
+        self.is_read_due = true;
+        self.is_room_due = true;
         if self.is_ready() {
             self.news_at = Some(now);
         }
@@ -229,7 +246,7 @@ impl Wire {
             }
         }
         if was_full {
-            self.note_news(now);
+            self.note_news(now, self.is_room_due);
         }
         is_kept
     }

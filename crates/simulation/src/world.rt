@@ -317,7 +317,7 @@ impl World {
             return None;
         }
         let room = if self.random.happens(200) { 64 } else { 65_536 };
-        let wire = Wire::new(self.alloc, is_local, room);
+        let wire = Wire::new(self.alloc, is_local, room, self.scenario.is_sparing);
         let number = self.wires.len();
         if self.wires.push(wire).is_err() || waiting.push_back(number).is_err() {
             self.is_lost = true;
@@ -446,10 +446,11 @@ impl World {
         }
         let wire = self.wires.get_mut(number).ok_or(ErrorKind::Other)?;
         wire.is_reported = false;
+        wire.is_read_due = !wire.is_readable();
         if wire.is_reset && wire.up.is_empty() {
             return Err(self.reset_error());
         }
-        if wire.up.is_empty() && !wire.is_up_ended {
+        if wire.is_read_due {
             return Err(ErrorKind::WouldBlock);
         }
         let count = wire.take(buffer);
@@ -473,6 +474,7 @@ impl World {
         let room = wire.room.saturating_sub(wire.down.len());
         let count = bytes.len().min(if is_short { room.min(1) } else { room });
         wire.note_unsent(self.now, bytes.len(), count);
+        wire.is_room_due = room == 0;
         if room == 0 {
             return Err(ErrorKind::WouldBlock);
         }

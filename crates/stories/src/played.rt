@@ -5,7 +5,7 @@ use crate::words::{Digits, number, shown, text, wanted, wrong};
 use anyhow::Result;
 use portmap_core::Config;
 use portmap_link::once;
-use portmap_record::{play, write_local, write_verdict};
+use portmap_record::{Text, Verdict, play, show};
 use portmap_testing::marks::begin;
 use portmap_testing::tape::Tape;
 use std::alloc::Global;
@@ -47,11 +47,12 @@ fn ended(
     match act {
         "tell" => shown(
             alloc,
-            marked(alloc, write_verdict(alloc, input, output, turns)),
+            marked(alloc, show(alloc, input, output, turns, Text::Verdict)).map(|found| found
+                == Verdict::Run),
         ),
         "leave" => shown(
             alloc,
-            marked(alloc, write_local(alloc, input, output, turns)),
+            marked(alloc, show(alloc, input, output, turns, Text::LocalRecord)),
         ),
         "play" => shown(alloc, marked(alloc, play(alloc, input, output, turns))),
         _ => {

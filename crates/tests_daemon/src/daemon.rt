@@ -7,7 +7,7 @@ use crate::gates::Meet;
 use portmap_core::Config;
 use portmap_daemon::{RunEnd, RunFault, Settings, run, run_gated};
 use portmap_link::{Reading, Writing};
-use portmap_record::write_verdict;
+use portmap_record::{Text, Verdict, show};
 use portmap_testing::bytes::{ALIVE_A, DUMP, FOUND_A, KILL, NAMES, NOT_FOUND, PORT_A};
 use portmap_testing::cases::is_so;
 use portmap_testing::peers::{connect, sent};
@@ -335,9 +335,9 @@ pub fn acts_of(ended: &Result<RunEnd, RunFault>) -> u64 {
 fn is_run_of<F: Read + Drop>(alloc: Global, file: F, entries: u64) -> Result<bool, Fail> {
     let mut input = Reading::new(file);
     let mut output = Writing::new(Vec::new(alloc));
-    let told = write_verdict(alloc, &mut input, &mut output, u64::MAX);
+    let told = show(alloc, &mut input, &mut output, u64::MAX, Text::Verdict);
     let verdict = format!(in alloc; "run of {entries} entries\n")?;
-    Ok(told == Ok(true) && output.into_inner().as_slice() == verdict.as_bytes())
+    Ok(told == Ok(Verdict::Run) && output.into_inner().as_slice() == verdict.as_bytes())
 }
 
 /// A file of this test alone, in the folder that tests run in.

@@ -1,0 +1,49 @@
+use Rattle.std.proofs.Common.{◌≡◌, ◌⊎◌, inl, inr, true, Some, refl, sym, ap, ◌∙◌, rules}
+use Rattle.std.specs.Option.{option_copied_mut}
+use Rattle.portmap_ready.specs.Links.{link_at, place_at, written}
+use Rattle.portmap_ready.specs.declared.Place.TheVariants.{Resting}
+use Rattle.portmap_worker.proofs.Idle.{reported_so, rests_on, rests_so, then_reported, then_written, wakes}
+use Rattle.portmap_worker.proofs.open_link.report.Goals as goal
+
+pub returns-then-is_closed-clause-told : goal.returns-then-is_closed-clause-told
+returns-then-is_closed-clause-told g c =
+    let k = c.args.key in
+    let r = c.args.links.now in
+    let unless : (c.args.is_closed ≡ true) ⊎ (place_at r k ≡ Some Resting → ⊥) =
+    elim c.then-is_closed.either [
+      | inl closed ↦ inl closed
+      | inr other ↦ inr (λ resting. let is : c.eq-rests.result ≡ true = search rules in absurd (cc))
+    ] in
+    let v = record c.in-Some.held.now { link = c.note_event.new.self } in
+    reported_so c.args.is_closed k r _ c.in-Some.held.now v (sym (ap option_copied_mut c.in-Some.is) ∙ c.get_mut.ensures.value)
+    c.note_event.ensures.noted unless c.report.ensures
+
+pub returns-then-is_closed-clause-others : goal.returns-then-is_closed-clause-others
+returns-then-is_closed-clause-others g c = λ q d.
+    let k = c.args.key in
+    let r = c.args.links.now in
+    let v = record c.in-Some.held.now { link = c.note_event.new.self } in
+    ap (λ r. link_at r q) c.report.ensures ∙ then_reported k r (written k r v) (then_written k v r r (λ q d. refl)) q d
+
+pub returns-then-is_closed-clause-quiet : goal.returns-then-is_closed-clause-quiet
+returns-then-is_closed-clause-quiet g c = wakes c.args.key _ c.args.links.now c.args.links.now _ (λ q d. refl) c.report.ensures
+
+pub returns-else-not-rests-clause-told : goal.returns-else-not-rests-clause-told
+returns-else-not-rests-clause-told g c =
+    let k = c.args.key in
+    let r = c.args.links.now in
+    let v = record c.in-Some.held.now { link = c.note_event.new.self } in
+    let resting : place_at r k ≡ Some Resting = search rules in
+    rw c.if-is_closed.false (rests_so k r c.in-Some.held.now v (sym (ap option_copied_mut c.in-Some.is) ∙ c.get_mut.ensures.value)
+    c.note_event.ensures.noted resting)
+
+pub returns-else-not-rests-clause-others : goal.returns-else-not-rests-clause-others
+returns-else-not-rests-clause-others g c =
+    let r = c.args.links.now in
+    let v = record c.in-Some.held.now { link = c.note_event.new.self } in
+    then_written c.args.key v r r (λ q d. refl)
+
+pub returns-else-not-rests-clause-quiet : goal.returns-else-not-rests-clause-quiet
+returns-else-not-rests-clause-quiet g c =
+    let resting : place_at c.args.links.now c.args.key ≡ Some Resting = search rules in
+    rests_on c.args.key _ c.args.links.now resting

@@ -1,0 +1,26 @@
+use Rattle.std.proofs.Common.{◌≡◌, sym, ◌∙◌, ◌≤◌, arith}
+use Rattle.portmap_worker.proofs.Idle.{all_noted_if, more_noted_if}
+use Rattle.portmap_worker.specs.declared.limits.TheConstants.{EVENTS_MOST}
+use Rattle.portmap_worker.proofs.sockets.Sockets.take_events.Goals as goal
+
+pub loop-place-preserved : goal.loop-place-preserved
+loop-place-preserved g c = record {
+  system = c.take_event.ensures.system ∙ c.loop-place.invariant.system;
+  noted = rw c.take_event.ensures.system
+      (more_noted_if c.loop-place.place c.in-Some.event c.args.links.now c.loop-place.links c.take_event.new.links
+      (g.S.System.reports c.loop-place.self.system) (rw c.in-Some.is at c.report.ensures) c.loop-place.invariant.noted
+      c.take_event.ensures.noted);
+  quiet = λ all. c.take_event.ensures.quiet (c.loop-place.invariant.quiet all);
+}
+
+pub returns-in_default-clause-noted : goal.returns-in_default-clause-noted
+returns-in_default-clause-noted g c =
+    let below : c.loop-place.place ≤ EVENTS_MOST = omega (arith, c.loop-place.auto.place-end) in
+    rw (sym c.loop-place.invariant.system)
+    (all_noted_if c.loop-place.place EVENTS_MOST c.args.links.now c.loop-place.links (g.S.System.reports c.loop-place.self.system)
+    (rw c.in_default.is at c.report.ensures) below c.loop-place.invariant.noted)
+
+pub returns-clause-noted : goal.returns-clause-noted
+returns-clause-noted g c =
+    let end : c.loop-place.place ≡ EVENTS_MOST = omega (arith, c.loop-place.auto.place-end, c.loop-place-test.false) in
+    rw (sym c.loop-place.invariant.system) (rw end at c.loop-place.invariant.noted)

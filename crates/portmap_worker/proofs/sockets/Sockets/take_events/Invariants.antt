@@ -1,0 +1,12 @@
+use Rattle.std.proofs.Common.{◌≡◌, take}
+use Rattle.std.specs.Prelude.{IfSome}
+use Rattle.portmap_worker.specs.IdleLinks.{AreNoted, Keeps}
+use Rattle.portmap_worker.proofs.sockets.Sockets.take_events.Given as goal
+
+-- the reports before this place are noted
+abbrev pub invariant-loop-place : goal.invariant-loop-place
+invariant-loop-place g l = record {
+  system : l.self.system ≡ l.fn.self.system;
+  noted : IfSome (g.S.System.reports l.self.system) (λ reports. AreNoted (take l.place reports) l.fn.links l.links);
+  quiet : Keeps l.fn.links l.links;
+}
