@@ -317,10 +317,12 @@ class Threads(Serves):
 
     @unittest.skipUnless(os.getuid() == 0, "only root can be another user, who has no process")
     def test_a_limit_of_processes(self):
+        # Numbers from 60,000 to 64,999 are nobody's on Debian. Two tests at a time have two of them.
+        user = 60_000 + os.getpid() % 5_000
         for most in range(1, 7):
             with self.subTest(most=most):
                 try:
-                    daemon = self.daemon(limits={"RLIMIT_NPROC": most}, before=lambda: os.setuid(65534))
+                    daemon = self.daemon(limits={"RLIMIT_NPROC": most}, before=lambda: os.setuid(user))
                 except (PermissionError, subprocess.SubprocessError) as error:
                     self.skipTest(f"another user can't call the program: {error}")
                 self.serves_or_ends(daemon)

@@ -22,17 +22,11 @@ pub fn small_book(alloc: Global) -> Option<Book> {
 }
 
 pub fn is_said(answer: &Answer, reply: &[u8], wanted: Fate) -> bool {
-    match answer {
-        Answer::Said { bytes, fate } => bytes.as_slice() == reply && *fate == wanted,
-        Answer::Connected(_) | Answer::Gone => false,
-    }
+    matches!(answer, Answer::Said { bytes, fate } if bytes.as_slice() == reply && *fate == wanted)
 }
 
 pub fn is_gone(answer: &Answer) -> bool {
-    match answer {
-        Answer::Gone => true,
-        Answer::Connected(_) | Answer::Said { .. } => false,
-    }
+    matches!(answer, Answer::Gone)
 }
 
 /// Whether a port mapper has ended once it is killed, and not before.

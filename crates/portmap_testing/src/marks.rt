@@ -18,6 +18,17 @@ pub fn end(alloc: Global) {
     drop(Vec::<u8>::with_capacity(alloc, END));
 }
 
+/// What a call gives, each of whose requests may be refused.
+#[macro_export]
+macro_rules! marked {
+    ($alloc:expr, $call:expr) => {{
+        $crate::marks::begin($alloc);
+        let given = $call;
+        $crate::marks::end($alloc);
+        given
+    }};
+}
+
 /// Whether memory was refused to a request since this was asked last.
 pub fn was_refused(alloc: Global) -> bool {
     Vec::<u8>::with_capacity(alloc, ASK).is_err()

@@ -74,43 +74,21 @@ impl Write for Broken {
     }
 }
 
-/// A reader that is interrupted so often, and then gives the request for the list of names.
-#[derive(Drop)]
-pub struct Interrupted {
-    pub times: u32,
-}
-
-impl Read for Interrupted {
-    fn read(&mut self, buffer: &mut [u8]) -> io::Result<usize> {
-        if self.times > 0 {
-            self.times -= 1;
-            return Err(io::Error::from(ErrorKind::Interrupted));
-        }
-        match buffer {
-            [length, one, tag, ..] => {
-                *length = 0;
-                *one = 1;
-                *tag = 0x6E;
-                Ok(3)
-            }
-            _ => Ok(0),
-        }
-    }
-}
-
-/// A stream that gives these bytes, as many as there is room for, and takes all. Perhaps it fails in this way first.
+/// A stream that gives these bytes, as many as there is room for, and takes all. So many reads fail in this way first.
 #[derive(Drop)]
 pub struct Giving<'a> {
-    pub first: Option<ErrorKind>,
+    pub failing: u32,
+    pub kind: ErrorKind,
     pub bytes: &'a [u8],
 }
 
 impl Read for Giving<'_> {
     fn read(&mut self, buffer: &mut [u8]) -> io::Result<usize> {
-        match self.first.take() {
-            Some(kind) => Err(io::Error::from(kind)),
-            None => self.bytes.read(buffer),
+        if self.failing > 0 {
+            self.failing -= 1;
+            return Err(io::Error::from(self.kind));
         }
+        self.bytes.read(buffer)
     }
 }
 

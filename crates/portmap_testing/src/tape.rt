@@ -33,12 +33,8 @@ enum Turn {
 
 impl DevicePlan {
     fn is_later(&self, call: usize) -> bool {
-        for (from, until) in self.later {
-            if *from <= call && call < *until {
-                return true;
-            }
-        }
-        false
+        let mut later = self.later.iter();
+        later.any(|(from, until)| *from <= call && call < *until)
     }
 
     fn turn(&self, calls: &mut usize, failed: bool) -> Turn
@@ -66,6 +62,8 @@ pub struct Tape<'a> {
     failed: bool,
     pulls: Past<Pull>,
     puts: Past<Put>,
+    /// Where others see how many bytes were written.
+    pub written: Option<&'a AtomicU64>,
 }
 
 impl<'a> Tape<'a> {
@@ -78,6 +76,7 @@ impl<'a> Tape<'a> {
             failed: false,
             pulls: Past::new(),
             puts: Past::new(),
+            written: None,
         }
     }
 }
@@ -136,120 +135,13 @@ impl<'a> Output for Tape<'a> {
         };
         self.failed = answer == Put::Fault;
         self.puts.note(&answer);
+        if let Some(written) = self.written {
+            written.store(self.sink.len() as u64, Ordering::SeqCst);
+        }
         answer
     }
 
     fn failed(&self) -> bool {
         self.failed
-    }
-}
-
-/// A device that takes all bytes and gives the letter `a` without end. It doesn't tell its bytes.
-#[derive(Drop)]
-pub struct Fountain {
-    /// How many bytes it has given.
-    pub given: usize,
-    pulls: Past<Pull>,
-    puts: Past<Put>,
-}
-
-impl Fountain {
-    pub fn new() -> Fountain {
-        Fountain {
-            given: 0,
-            pulls: Past::new(),
-            puts: Past::new(),
-        }
-    }
-}
-
-impl Device for Fountain {
-    ghost use Rattle.std.specs.Prelude.{None, false};
-
-    ghost left = { λ _. None };
-
-    ghost held = { λ _. None };
-
-    ghost pulls = { λ t. t.pulls };
-
-    ghost puts = { λ t. t.puts };
-
-    ghost broken = { λ _. false };
-}
-
-impl Input for Fountain {
-    fn pull(&mut self, buffer: &mut [u8]) -> Pull {
-        buffer.fill(b'a');
-        self.given = self.given.saturating_add(buffer.len());
-        let answer = Pull::Piece(buffer.len());
-        self.pulls.note(&answer);
-        answer
-    }
-
-    fn failed(&self) -> bool {
-        false
-    }
-}
-
-impl Output for Fountain {
-    fn put(&mut self, bytes: &[u8]) -> Put {
-        let answer = Put::Wrote(bytes.len());
-        self.puts.note(&answer);
-        answer
-    }
-
-    fn failed(&self) -> bool {
-        false
-    }
-}
-
-/// A tape that counts the bytes that are written to it where others see it.
-#[derive(Drop)]
-pub struct Watched<'a> {
-    tape: Tape<'static>,
-    written: &'a AtomicU64,
-}
-
-impl<'a> Watched<'a> {
-    pub fn new(tape: Tape<'static>, written: &'a AtomicU64) -> Watched<'a> {
-        Watched { tape, written }
-    }
-}
-
-impl<'a> Device for Watched<'a> {
-    ghost use Rattle.std.specs.Prelude.{Some};
-
-    ghost left = { λ t. Some t.tape.source.now };
-
-    ghost held = { λ t. Some t.tape.sink.items };
-
-    ghost pulls = { λ t. t.tape.pulls };
-
-    ghost puts = { λ t. t.tape.puts };
-
-    ghost broken = { λ t. t.tape.failed };
-}
-
-impl<'a> Input for Watched<'a> {
-    fn pull(&mut self, buffer: &mut [u8]) -> Pull {
-        self.tape.pull(buffer)
-    }
-
-    fn failed(&self) -> bool {
-        self.tape.failed
-    }
-}
-
-impl<'a> Output for Watched<'a> {
-    fn put(&mut self, bytes: &[u8]) -> Put {
-        let answer = self.tape.put(bytes);
-        if let Put::Wrote(count) = answer {
-            self.written.fetch_add(count as u64, Ordering::SeqCst);
-        }
-        answer
-    }
-
-    fn failed(&self) -> bool {
-        self.tape.failed
     }
 }

@@ -1,10 +1,12 @@
 //! What is checked at each step, at rest and at the end, with what is said where it is wrong.
+use crate::network::Ending;
+use crate::notices::Subject;
 use crate::people::{Person, Stage};
 use crate::roles::{GivenUp, Owed, Reading};
 use crate::scene::Scene;
 use crate::weather::{Fault, Weather};
 use crate::wire::{Heard, Wire};
-use crate::world::{Ending, World};
+use crate::world::World;
 use portmap_wire::{Line, read_names};
 use portmap_worker::Failure;
 
@@ -92,7 +94,7 @@ impl Person {
         if !self.holds() {
             return None;
         }
-        let stopped = world.stopped_after(self.node, self.held_since)?;
+        let stopped = world.network.stopped_after(self.node, self.held_since)?;
         Some(stopped.saturating_add(STOPPED_US))
     }
 
@@ -175,20 +177,18 @@ impl<'a> Scene<'a> {
         let is_unread = world.was_unread(late)?;
         if is_early && is_unread {
             let now = world.now;
-            world.notices.note_unread(now);
+            world.notices.note(Subject::Unread, now);
         }
         let is_early = is_early && !is_unread;
         let given_up = self.given_up.saturating_add(u32::from(is_early));
-        let is_wanted = given_up <= world.wanting;
+        let is_wanted = given_up <= world.network.wanting;
         let is_first = !is_early || world.goes_first(late, has_news)?;
-        let is_anew = world.note_late(late, timeout)? || world.wanting > 0 || is_unread;
+        let is_anew = world.note_late(late, timeout)? || world.network.wanting > 0 || is_unread;
         drop(world);
         self.given_up = given_up;
         if self.scenario.is_strict {
-            self.check(
-                is_early || is_unread || !has_news,
-                "one was told late of whom there was news",
-            );
+            let is_idle = is_early || is_unread || !has_news;
+            self.check(is_idle, "one was told late of whom there was news");
             self.check(is_wanted, "a connection was given up for no one");
             self.check(is_first, "one was given up before who goes first");
             self.check(is_anew, "one was told late twice within its time");
@@ -196,11 +196,14 @@ impl<'a> Scene<'a> {
         Some(())
     }
 
-    /// Who takes the log out waits for so many milliseconds; memory was owed to somebody, or it was not.
-    pub(crate) fn judge_wait(&mut self, timeout: u64, is_owed: bool) {
+    /// Who takes the log out waits for so many milliseconds; memory was owed to somebody, or it was not, and the log is
+    /// empty, or it is not.
+    pub(crate) fn judge_wait(&mut self, timeout: u64, is_owed: bool, is_out: bool) -> Option<()> {
         let is_soon = !is_owed || timeout <= SHORT_OF_MEMORY_MS;
         self.check(timeout > 0, "who takes the log out does not sleep");
         self.check(is_soon, "no memory is given back for who goes unanswered");
+        self.world()?.wait_out(self.workers, timeout, is_out);
+        Some(())
     }
 
     /// What is wrong about how long somebody waits, or is kept.
@@ -220,26 +223,28 @@ impl<'a> Scene<'a> {
     fn fault(&self, world: &World, weight: u64) -> Option<Wrong> {
         let workers = self.workers as u64;
         let heavy = LOG_BYTES_HEAVY.saturating_add(WEIGH_BYTES.saturating_mul(workers));
-        let is_unread = world.read_bytes > heavy && !world.is_due(self.workers);
-        if is_unread || weight / LOG_BYTES_MOST > workers {
-            return Some("the log is not taken out");
-        }
-        if world.is_overdrawn {
-            return Some("a connection is held without memory");
-        }
-        if world.has_made(STEPS_MOST) {
-            return Some("a worker does not poll");
-        }
+        let is_unread = world.network.read_bytes > heavy && !world.is_due(self.workers);
         let unsent_most = self.scenario.unsent_bytes_most;
-        if world.unsent() > unsent_most.saturating_add(unsent_most / 2) {
-            return Some("too many bytes wait to be read");
-        }
         // One that waits for a place may be at each worker beside those that have one.
         let conn_max = self.scenario.conn_max;
         let most = conn_max.saturating_sub(conn_max / KEPT_SHARE) as usize;
-        let are_many = world.remote as usize > most.saturating_add(self.workers);
-        self.complaint(world, self.scenario.limit_ms.saturating_mul(1000))
-            .or(are_many.then_some("other hosts have more places than they may"))
+        let are_many = world.network.remote as usize > most.saturating_add(self.workers);
+        if is_unread || weight / LOG_BYTES_MOST > workers {
+            Some("the log is not taken out")
+        } else if world.memory.is_overdrawn {
+            Some("a connection is held without memory")
+        } else if world
+            .workers()
+            .iter()
+            .any(|thread| thread.steps > STEPS_MOST)
+        {
+            Some("a worker does not poll")
+        } else if world.unsent() > unsent_most.saturating_add(unsent_most / 2) {
+            Some("too many bytes wait to be read")
+        } else {
+            self.complaint(world, self.scenario.limit_ms.saturating_mul(1000))
+                .or(are_many.then_some("other hosts have more places than they may"))
+        }
     }
 
     /// Looks for what is wrong, where the log weighs so much. Whether the storm goes on.
@@ -252,34 +257,32 @@ impl<'a> Scene<'a> {
     // ---- at rest
 
     /// Threads have slept for so long since workers had polled so often, and the log was looked at so often.
-    pub(crate) fn judge_sleep(&mut self, time: u64, polls: u64, drains: u64) -> bool {
-        let polls = self.polls().saturating_sub(polls).saturating_mul(HOUR_US);
+    pub(crate) fn judge_sleep(&mut self, time: u64, polls: u64, drains: u64) -> Option<()> {
+        let polls = self.polls()?.saturating_sub(polls).saturating_mul(HOUR_US);
         let most = POLLS_MOST.saturating_mul(self.workers as u64);
         let drains = self.drains.saturating_sub(drains);
         let are_few = drains <= (time / SECOND_US).saturating_add(1);
         let sleep = polls <= most.saturating_mul(time);
         self.check(sleep, "a worker does not sleep");
         self.check(are_few, "who takes the log out does not sleep");
-        true
-    }
-
-    /// The recording goes on, unless its disk is full, or it has failed, and it has rested for long.
-    pub(crate) fn judge_recording(&mut self, records: bool) -> Option<()> {
-        let mut world = self.world()?;
-        let may_fail = world.is_disk_full();
-        world.has_rested = true;
-        drop(world);
-        self.check(
-            records || may_fail,
-            "a recording that failed never begins anew",
-        );
         Some(())
     }
 
-    /// The log is out or is not, who went unanswered was looked into or was not, and each connection that is open is
-    /// watched.
-    pub(crate) fn judge_rest(&mut self, is_out: bool, is_looked_into: bool) -> Option<()> {
-        let are_watched = self.world()?.watched() == self.holding();
+    /// It has rested for long: the recording goes on, unless its disk is full, or it has failed; the log is out or is
+    /// not, who went unanswered was looked into or was not, and each connection that is open is watched.
+    pub(crate) fn judge_rest(
+        &mut self,
+        records: bool,
+        is_out: bool,
+        is_looked_into: bool,
+    ) -> Option<()> {
+        let mut world = self.world()?;
+        world.clock.has_rested = true;
+        let may_fail = world.is_disk_full();
+        let watched = world.threads.iter().map(|thread| thread.watched.len());
+        let are_watched = watched.fold(0, usize::saturating_add) == self.holding();
+        let goes_on = records || may_fail;
+        self.check(goes_on, "a recording that failed never begins anew");
         self.check(is_out, "the log at rest is not taken out");
         self.check(is_looked_into, "who went unanswered is never looked into");
         self.check(are_watched, "what is watched at rest is not what is open");
@@ -288,7 +291,9 @@ impl<'a> Scene<'a> {
 
     /// Connections that came one by one were accepted, or were not.
     pub(crate) fn judge_trickle(&mut self, are_accepted: bool) -> Option<()> {
-        let are_few = self.world()?.listening() <= LISTENING_MOST;
+        let world = self.world()?;
+        let told = world.threads.iter().filter(|thread| thread.listens());
+        let are_few = told.count() <= LISTENING_MOST;
         self.check(are_accepted, "a listener at rest gives no connection");
         self.check(are_few, "more workers are told of connections than needed");
         Some(())
@@ -297,26 +302,19 @@ impl<'a> Scene<'a> {
     /// The node with this connection was let in. Then it leaves.
     pub(crate) fn judge_let_in(&mut self, number: usize) -> Option<()> {
         let mut world = self.world()?;
-        let is_in = world.wires.get(number)?.received.get(1) == Some(&0);
+        let is_in = world.network.wires.get(number)?.received.get(1) == Some(&0);
         world.end(number, Ending::Gone);
-        drop(world);
         self.check(is_in, "a node at rest is not let in");
         Some(())
     }
 
     /// This connection was told the names of those who hold one.
     pub(crate) fn judge_names(&mut self, number: usize) -> Option<()> {
-        let is_told = self.lists_holders(&self.world()?.wires.get(number)?.received);
+        let world = self.world()?;
+        let told = &world.network.wires.get(number)?.received;
+        let is_told = read_names(self.alloc, told).is_ok_and(|(_, lines)| self.are_holders(&lines));
         self.check(is_told, "the names at rest are not those of who holds them");
         Some(())
-    }
-
-    /// Whether these bytes are the names of those who hold one.
-    fn lists_holders(&self, bytes: &[u8]) -> bool {
-        match read_names(self.alloc, bytes) {
-            Ok((_, lines)) => self.are_holders(&lines),
-            Err(_) => false,
-        }
     }
 
     /// Whether these are the names of those who hold one.
@@ -327,23 +325,18 @@ impl<'a> Scene<'a> {
 
     /// Each of these connections, which have asked at rest, was answered.
     pub(crate) fn judge_places(&mut self, numbers: &[usize]) -> Option<()> {
-        let are_answered = are_answered(&*self.world()?, numbers);
+        let world = self.world()?;
+        let mut wires = numbers
+            .iter()
+            .map(|number| world.network.wires.get(*number));
+        let are_answered = wires.all(is_answered);
         self.check(are_answered, "a place at rest can't be had");
-        Some(())
-    }
-
-    // ---- at the end
-
-    /// It is to end, and tells this fault, or none.
-    pub(crate) fn judge_failure(&mut self, failure: Option<Failure>) -> Option<()> {
-        let is_right = is_right(&self.world()?.weather, failure, self.scenario.may_end);
-        self.check(is_right, "it tells another reason than why it ends");
         Some(())
     }
 }
 
 /// Whether the fault that a daemon tells, if it does, is what has happened.
-fn is_right(weather: &Weather, failure: Option<Failure>, may_end: bool) -> bool {
+pub(crate) fn is_right(weather: &Weather, failure: Option<Failure>, may_end: bool) -> bool {
     let is_deaf = weather.has_happened(Fault::Deaf);
     let is_starved = may_end && weather.has_happened(Fault::Famine);
     match failure {
@@ -361,10 +354,4 @@ fn has_name(lines: &[Line], name: &[u8]) -> bool {
 /// Whether a connection has its answer.
 fn is_answered(wire: Option<&Wire>) -> bool {
     wire.is_some_and(|wire| wire.is_down_ended && !wire.received.is_empty())
-}
-
-/// Whether each of these connections has its answer.
-fn are_answered(world: &World, numbers: &[usize]) -> bool {
-    let mut wires = numbers.iter().map(|number| world.wires.get(*number));
-    wires.all(is_answered)
 }

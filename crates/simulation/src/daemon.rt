@@ -42,29 +42,26 @@ fn turn<L: Ledger, S: Source + Drop, R: Wait + Drop>(
 }
 
 impl<'a, L: Ledger, S: Source + Drop, R: Wait + Drop> Daemon<'a, L, S, R> {
-    /// One step of somebody who has something to do, or time passes until somebody has, up to this time. Whether there
-    /// was memory for it.
-    pub(crate) fn step(&mut self, until: u64) -> bool {
+    /// One step of somebody who has something to do, or time passes until somebody has, up to this time. None for want
+    /// of memory.
+    pub(crate) fn step(&mut self, until: u64) -> Option<()> {
         let has_parts = self.is_writing && !self.around.queue.is_idle(self.around.host);
-        let Some(chosen) = self.scene.choose(has_parts, until) else {
-            return false;
+        let Some((actor, is_kept)) = self.scene.choose(has_parts, until)? else {
+            return Some(());
         };
-        let Some(actor) = chosen else {
-            return true;
-        };
-        self.act(actor).is_some() && self.scene.note_done(actor).is_some()
+        if !is_kept {
+            self.act(actor)?;
+        }
+        self.scene.note_step(actor)
     }
 
     /// Somebody does something: a worker, who takes the log out, who writes it, or one of the people.
     fn act(&mut self, actor: usize) -> Option<()> {
-        let workers = self.scene.workers;
-        if actor < workers {
-            return self.work(actor);
-        }
-        match actor.saturating_sub(workers) {
-            0 => self.take_out(),
-            1 => self.write(),
-            place => self.scene.act(place.saturating_sub(2)),
+        match actor.checked_sub(self.scene.workers) {
+            None => self.work(actor),
+            Some(0) => self.take_out(),
+            Some(1) => self.write(),
+            Some(place) => self.scene.act(place.saturating_sub(2)),
         }
     }
 
@@ -91,26 +88,19 @@ impl<'a, L: Ledger, S: Source + Drop, R: Wait + Drop> Daemon<'a, L, S, R> {
         self.seats.push(seat).ok()
     }
 
-    /// A turn of who takes the log out.
+    /// A turn of who takes the log out: it waits, and owed memory to somebody or did not, or has ended.
     fn take_out(&mut self) -> Option<()> {
         let around = self.around;
-        let is_owed = self.scene.is_starved()? && around.shared.noted.is_unanswered();
-        let alloc = self.scene.alloc;
-        let drained = self
-            .drain
-            .turn(around.host, alloc, around.desk, around.shared);
+        let is_owed = self.scene.world()?.is_starved() && around.shared.noted.is_unanswered();
+        let (drain, alloc) = (&mut self.drain, self.scene.alloc);
+        let drained = drain.turn(around.host, alloc, around.desk, around.shared);
         self.scene.drains = self.scene.drains.saturating_add(1);
-        self.note_drained(drained, is_owed)
-    }
-
-    /// Who takes the log out waits, and owed memory to somebody or did not; or has ended.
-    fn note_drained(&mut self, drained: Drained, is_owed: bool) -> Option<()> {
         if let Drained::Wait(timeout) = drained {
             let is_out = self.weight() == 0;
-            return self.scene.wait(timeout, is_owed, is_out);
+            return self.scene.judge_wait(timeout, is_owed, is_out);
         }
         self.scene.is_drained = true;
-        self.around.queue.close(self.around.host);
+        around.queue.close(around.host);
         Some(())
     }
 

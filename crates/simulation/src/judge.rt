@@ -16,6 +16,7 @@ const IN_USE: &[u8] = b"v\x01";
 /// What each connection was told, by the log.
 #[derive(Drop)]
 struct Replies {
+    alloc: Global,
     /// By slots: which connection has it.
     slots: Vec<Option<usize>>,
     /// By connections.
@@ -45,48 +46,53 @@ fn local_request(bytes: &[u8]) -> Option<LocalRequest> {
 }
 
 impl Replies {
+    fn new(alloc: Global) -> Replies {
+        Replies {
+            alloc,
+            slots: Vec::new(alloc),
+            by_connection: Vec::new(alloc),
+            opened: 0,
+            in_use: 0,
+            remote: Vec::new(alloc),
+        }
+    }
+
     /// A connection has this slot, or none has.
-    fn assign(&mut self, slot: usize, number: Option<usize>) -> Option<()> {
-        for _ in self.slots.len()..slot.saturating_add(1) {
+    fn assign(&mut self, slot: u64, number: Option<usize>) -> Option<()> {
+        for _ in self.slots.len()..(slot as usize).saturating_add(1) {
             self.slots.push(None).ok()?;
         }
-        *self.slots.get_mut(slot)? = number;
+        *self.slots.get_mut(slot as usize)? = number;
         Some(())
     }
 
     /// A connection was told these bytes.
-    fn add(&mut self, alloc: Global, number: usize, reply: &[u8]) -> Option<()> {
+    fn add(&mut self, number: usize, reply: &[u8]) -> Option<()> {
         for _ in self.by_connection.len()..number.saturating_add(1) {
-            self.by_connection.push(Vec::new(alloc)).ok()?;
+            self.by_connection.push(Vec::new(self.alloc)).ok()?;
         }
-        self.by_connection
-            .get_mut(number)?
-            .extend_from_slice(reply)
-            .ok()
+        let told = self.by_connection.get_mut(number)?;
+        told.extend_from_slice(reply).ok()
     }
 
-    /// Notes that a connection in this slot was closed without a reply, if it asked for what only this host may.
-    fn note_refused(&mut self, world: &World, slot: u64, bytes: &[u8]) -> Option<()> {
-        let number = self.slots.get(slot as usize).copied()??;
+    /// Notes that a connection was closed without a reply, if it asked for what only this host may.
+    fn note_refused(&mut self, world: &World, number: usize, bytes: &[u8]) -> Option<()> {
         match local_request(bytes) {
-            Some(asked) if !world.wires.get(number)?.is_local => self.remote.push(asked).ok(),
+            Some(asked) if !world.network.wires.get(number)?.is_local => self
+                .remote
+                .push(asked)
+                .ok(),
             _ => Some(()),
         }
     }
 
     /// Notes an entry, where the connections were opened in this order.
-    fn note(
-        &mut self,
-        alloc: Global,
-        world: &World,
-        opened: &[usize],
-        entry: &Entry,
-    ) -> Option<()> {
+    fn note(&mut self, world: &World, opened: &[usize], entry: &Entry) -> Option<()> {
         match entry {
             Entry::Connected { local: _, slot } => {
                 let number = opened.get(self.opened).copied();
                 self.opened = self.opened.saturating_add(1);
-                self.assign(*slot as usize, number)
+                self.assign(*slot, number)
             }
             Entry::Piece {
                 slot,
@@ -94,59 +100,56 @@ impl Replies {
                 reply,
                 fate,
             } => {
-                if reply.is_empty() && *fate == Fate::Close {
-                    self.note_refused(world, *slot, bytes)?;
-                }
                 if reply.starts_with(IN_USE) {
                     self.in_use = self.in_use.saturating_add(1);
                 }
-                match self.slots.get(*slot as usize).copied() {
-                    Some(Some(number)) => self.add(alloc, number, reply),
-                    _ => Some(()),
+                let Some(Some(number)) = self.slots.get(*slot as usize).copied() else {
+                    return Some(());
+                };
+                if reply.is_empty() && *fate == Fate::Close {
+                    self.note_refused(world, number, bytes)?;
                 }
+                self.add(number, reply)
             }
-            Entry::Closed { slot } | Entry::Faulted { slot } => {
-                *self.slots.get_mut(*slot as usize)? = None;
-                Some(())
-            }
+            Entry::Closed { slot } | Entry::Faulted { slot } => self.assign(*slot, None),
             Entry::Late { .. } => Some(()),
         }
     }
 
-    /// What is wrong about what the operator has read of requests of other hosts: each line names the first of those
-    /// that it counts.
-    fn find_remote(&self, world: &World) -> Option<Wrong> {
+    /// Fails unless the operator has read of the requests of other hosts that were refused: each line names the first
+    /// of those that it counts.
+    fn judge_remote(&self, world: &World) -> Result<(), Wrong> {
         let mut place = 0usize;
         for seen in &world.refusals {
             if seen.first != self.remote.get(place).copied() {
-                return Some("the operator is told of another request of another host");
+                return Err("the operator is told of another request of another host");
             }
             place = place.saturating_add(seen.count as usize);
         }
-        let are_all = place == self.remote.len() || !world.has_rested;
-        let are_few = place <= self.remote.len();
-        (!are_all || !are_few).then_some("the operator is told of other requests of other hosts")
+        let are_all = place == self.remote.len() || !world.clock.has_rested;
+        if !are_all || place > self.remote.len() {
+            return Err("the operator is told of other requests of other hosts");
+        }
+        Ok(())
     }
 
-    /// What is wrong about what peers were told.
-    fn find(&self, world: &World, opened: &[usize]) -> Option<Wrong> {
+    /// Fails unless peers have what they were told.
+    fn judge_peers(&self, world: &World, opened: &[usize]) -> Result<(), Wrong> {
         if self.opened != opened.len() {
-            return Some("connections are missing in the recording");
+            return Err("connections are missing in the recording");
         }
-        for (number, wire) in world.wires.iter().enumerate() {
-            let told: &[u8] = match self.by_connection.get(number) {
-                Some(told) => told,
-                None => &[],
-            };
+        for (number, wire) in world.network.wires.iter().enumerate() {
+            let told = self.by_connection.get(number);
+            let told: &[u8] = told.map_or(&[], |told| told.as_slice());
             if !told.starts_with(&wire.received) {
-                return Some("a peer has what it was not told");
+                return Err("a peer has what it was not told");
             }
             let has = wire.received.len().saturating_add(wire.down.len());
             if has < told.len() && wire.is_ended_well {
-                return Some("a peer lacks what it was told");
+                return Err("a peer lacks what it was told");
             }
         }
-        None
+        Ok(())
     }
 }
 
@@ -166,8 +169,8 @@ impl Next {
     }
 }
 
-/// What is wrong with what a file has, which is to be a run that begins with this entry, or, where entries may be
-/// missing, with a later one; and with which one the next file begins.
+/// Fails unless what a file has is a run that begins with this entry, or, where entries may be missing, with a later
+/// one. The next file begins where it ends.
 fn judge_record(alloc: Global, record: &Record, next: &mut Next) -> Result<(), Wrong> {
     if check(alloc, record).is_err() {
         return Err("a file is no run");
@@ -200,7 +203,7 @@ fn read_file(
     let read = match read_record(alloc, file) {
         Err(RecordFault::Truncated(0)) if is_cut => return Ok(None),
         Err(RecordFault::Truncated(place)) if is_cut => {
-            read_record(alloc, file.get(..place).unwrap_or(&[]))
+            read_record(alloc, file.get(..place).unwrap_or_default())
         }
         read => read,
     };
@@ -211,136 +214,119 @@ fn read_file(
     Ok(Some(record))
 }
 
-/// What is wrong with the files as a kill has left them: the last one is cut anywhere, since what was written last may
-/// be lost.
+/// Fails unless the files are as a kill may have left them: the last one is cut anywhere, since what was written last
+/// may be lost.
 fn judge_killed(alloc: Global, world: &mut World) -> Result<(), Wrong> {
     let mut next = Next::new(world);
-    let count = world.killed.len();
-    for (number, file) in world.killed.iter().enumerate() {
+    let count = world.disk.killed.len();
+    for (number, file) in world.disk.killed.iter().enumerate() {
         let is_last = number.saturating_add(1) == count;
         if file.is_empty() {
             continue;
         }
         let size = if is_last {
-            world.random.below((file.len() as u64).saturating_add(1)) as usize
+            let most = (file.len() as u64).saturating_add(1);
+            world.weather.random.below(most) as usize
         } else {
             file.len()
         };
-        read_file(alloc, file.get(..size).unwrap_or(&[]), &mut next, is_last)?;
+        read_file(
+            alloc,
+            file.get(..size).unwrap_or_default(),
+            &mut next,
+            is_last,
+        )?;
     }
     Ok(())
 }
 
-/// What is wrong with the sizes of the files, where each is full that has so many bytes and is a plain one.
-fn judge_sizes(world: &World, most: u64) -> Option<Wrong> {
-    let (_, ended) = world.files.split_last()?;
+/// Fails unless the sizes of the files are right, where each is full that has so many bytes and is a plain one.
+fn judge_sizes(world: &World, most: u64) -> Result<(), Wrong> {
+    let Some((_, ended)) = world.disk.files.split_last() else {
+        return Ok(());
+    };
     let room = most.saturating_add(BEHIND_BYTES);
-    let mut files = world.files.iter();
-    let unfilled = ended
-        .iter()
-        .filter(|file| (file.len() as u64) < most)
-        .count();
+    let mut files = world.disk.files.iter();
+    let unfilled = ended.iter().filter(|file| (file.len() as u64) < most);
     if !world.scenario.is_plain && !ended.is_empty() {
-        Some("a file follows what is no file")
-    } else if unfilled > world.notices.failures as usize {
-        Some("a file ends that is not full")
-    } else if world.times.is_missing {
-        Some("entries are written that have no time")
-    } else if world.is_misnumbered {
-        Some("a file is made anew that has a start, or a number is left out")
+        Err("a file follows what is no file")
+    } else if unfilled.count() > world.notices.failures as usize {
+        Err("a file ends that is not full")
+    } else if world.disk.times.is_missing {
+        Err("entries are written that have no time")
+    } else if world.disk.is_misnumbered {
+        Err("a file is made anew that has a start, or a number is left out")
     } else if world.scenario.is_plain && files.any(|file| file.len() as u64 > room) {
-        Some("a file goes on that is full")
+        Err("a file goes on that is full")
     } else {
-        None
+        Ok(())
     }
 }
 
-/// What is wrong with the file that was cut: it has each whole entry that the disk took, and nothing behind it.
-fn judge_cut(alloc: Global, world: &World) -> Option<Wrong> {
-    let (number, uncut) = world.uncut.as_ref()?;
+/// Fails unless the file that was cut has each whole entry that the disk took, and nothing behind it.
+fn judge_cut(alloc: Global, world: &World) -> Result<(), Wrong> {
+    let Some((number, uncut)) = &world.disk.uncut else {
+        return Ok(());
+    };
     let whole = match read_record(alloc, uncut) {
         Err(RecordFault::Truncated(place)) => place,
         _ => uncut.len(),
     };
-    let left = world.files.get(*number)?.len();
-    if left == whole {
-        None
-    } else {
-        Some("a file is not cut behind what the disk took whole")
+    let left = world.disk.files.get(*number);
+    if left.is_some_and(|left| left.len() != whole) {
+        return Err("a file is not cut behind what the disk took whole");
     }
+    Ok(())
 }
 
-/// What is wrong with what the operator was told, and with the files whatever is in them.
-fn judge_kept(alloc: Global, world: &mut World, most: u64) -> Option<Wrong> {
-    world
-        .notices
-        .judge(world.now)
-        .or(judge_killed(alloc, world).err())
-        .or(judge_sizes(world, most))
-        .or(judge_cut(alloc, world))
+/// Fails unless the files have the log of a daemon that opened these connections in this order and made so many acts,
+/// and peers and the operator were told what is in it.
+fn judge_log(alloc: Global, world: &World, opened: &[usize], acts: u64) -> Result<(), Wrong> {
+    let has_failed = world.notices.failures > 0;
+    let mut next = Next::new(world);
+    let mut replies = Replies::new(alloc);
+    for (number, file) in world.disk.files.iter().enumerate() {
+        if has_failed && file.is_empty() {
+            continue;
+        }
+        let record = read_file(alloc, file, &mut next, false)?;
+        let Some(record) = record.filter(|_| !has_failed) else {
+            continue;
+        };
+        let (end, entries) = (next.place, record.entries.len() as u64);
+        let first = end.saturating_sub(entries);
+        world.disk.times.judge(number, first, end)?;
+        for entry in &record.entries {
+            let noted = replies.note(world, opened, entry);
+            noted.ok_or("there is no memory to judge it")?;
+        }
+    }
+    let may_lack = has_failed && (world.is_disk_full() || !world.clock.has_rested);
+    if next.place > acts || (next.place < acts && !may_lack) {
+        return Err("acts are missing in the recording");
+    }
+    if has_failed {
+        return Ok(());
+    }
+    if world.notices.in_use() > replies.in_use {
+        return Err("the operator is told of names that were not refused");
+    }
+    replies.judge_remote(world)?;
+    replies.judge_peers(world, opened)
 }
 
-/// What is wrong with a daemon that opened these connections in this order and made so many acts, with a recording of
-/// which a file that has so many bytes is full; the outer none is want of memory.
+/// Fails unless all is right with a daemon that has ended, of which a file of the recording that has so many bytes is
+/// full.
 pub fn judge(
     alloc: Global,
     world: &mut World,
     opened: &[usize],
     acts: u64,
     most: u64,
-) -> Option<Option<Wrong>> {
-    if world.is_lost {
-        return None;
-    }
-    let wrong = judge_kept(alloc, world, most);
-    if wrong.is_some() {
-        return Some(wrong);
-    }
-    let world: &World = world;
-    let has_failed = world.notices.failures > 0;
-    let mut next = Next::new(world);
-    let mut replies = Replies {
-        slots: Vec::new(alloc),
-        by_connection: Vec::new(alloc),
-        opened: 0,
-        in_use: 0,
-        remote: Vec::new(alloc),
-    };
-    for (number, file) in world.files.iter().enumerate() {
-        if has_failed && file.is_empty() {
-            continue;
-        }
-        match read_file(alloc, file, &mut next, false) {
-            Err(wrong) => return Some(Some(wrong)),
-            Ok(None) => {}
-            Ok(Some(_)) if has_failed => {}
-            Ok(Some(record)) => {
-                let entries = record.entries.len() as u64;
-                let first = next.place.saturating_sub(entries);
-                let wrong = world.times.judge(number, first, entries);
-                if wrong.is_some() {
-                    return Some(wrong);
-                }
-                for entry in &record.entries {
-                    replies.note(alloc, world, opened, entry)?;
-                }
-            }
-        }
-    }
-    let is_whole = if has_failed && (world.is_disk_full() || !world.has_rested) {
-        next.place <= acts
-    } else {
-        next.place == acts
-    };
-    if !is_whole {
-        return Some(Some("acts are missing in the recording"));
-    }
-    if has_failed {
-        return Some(None);
-    }
-    if world.notices.in_use_notified > replies.in_use {
-        return Some(Some("the operator is told of names that were not refused"));
-    }
-    let wrong = replies.find_remote(world);
-    Some(wrong.or(replies.find(world, opened)))
+) -> Result<(), Wrong> {
+    world.notices.judge(world.now)?;
+    judge_killed(alloc, world)?;
+    judge_sizes(world, most)?;
+    judge_cut(alloc, world)?;
+    judge_log(alloc, world, opened, acts)
 }

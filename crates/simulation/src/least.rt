@@ -19,9 +19,14 @@ struct Total {
 impl Total {
     /// Prints what people have done, if that is too little.
     fn print_lack(&self, rt: &HostRuntime) -> io::Result<()> {
-        let Deeds(registrations, restarts, answers, refused) = self.deeds;
+        let [registrations, restarts, answers, refused] = self.deeds;
         let Scenario { name, least, .. } = self.scenario;
-        if self.deeds.reach(least) {
+        if self
+            .deeds
+            .iter()
+            .zip(least)
+            .all(|(done, least)| done >= least)
+        {
             return Ok(());
         }
         print!(rt;
@@ -40,25 +45,17 @@ pub struct Totals {
 impl Totals {
     /// Nobody has done anything in any scenario.
     pub fn new(alloc: Global) -> io::Result<Totals> {
-        let mut totals = Totals {
-            totals: Vec::new(alloc),
-        };
-        totals.add(CALLS)?;
-        totals.add(PEOPLE)?;
-        totals.add(TIMES)?;
-        totals.add(ENDS)?;
-        Ok(totals)
-    }
-
-    fn add(&mut self, scenarios: &'static [Scenario]) -> io::Result<()> {
-        for scenario in scenarios {
-            self.totals.push(Total {
-                scenario,
-                cases: 0,
-                deeds: Deeds(0, 0, 0, 0),
-            })?;
+        let mut totals = Vec::new(alloc);
+        for scenarios in [CALLS, PEOPLE, TIMES, ENDS] {
+            for scenario in scenarios {
+                totals.push(Total {
+                    scenario,
+                    cases: 0,
+                    deeds: [0; 4],
+                })?;
+            }
         }
-        Ok(())
+        Ok(Totals { totals })
     }
 
     /// The place of the scenario that one of these words names, and the scenario.
@@ -72,18 +69,18 @@ impl Totals {
     pub fn note(&mut self, place: usize, tally: &Tally) {
         if let Some(total) = self.totals.get_mut(place) {
             total.cases = total.cases.saturating_add(1);
-            total.deeds.add(tally);
+            for (sum, count) in total.deeds.iter_mut().zip(tally.deeds()) {
+                *sum = sum.saturating_add(count);
+            }
         }
     }
 
     /// Prints which scenarios had too little of something, and how many had their cases.
     pub fn print(&self, rt: &HostRuntime) -> io::Result<()> {
         let mut held = 0u32;
-        for total in &self.totals {
-            if total.cases >= CASES {
-                held = held.saturating_add(1);
-                total.print_lack(rt)?;
-            }
+        for total in self.totals.iter().filter(|total| total.cases >= CASES) {
+            held = held.saturating_add(1);
+            total.print_lack(rt)?;
         }
         let count = self.totals.len();
         println!(rt; "{held} of {count} scenarios had {CASES} cases or more")

@@ -6,12 +6,16 @@
 #![tactic(auto)]
 
 mod checks;
+mod clock;
 mod daemon;
+mod disk;
 mod judge;
 mod least;
+mod network;
 mod notices;
 mod people;
 mod polls;
+mod priority;
 mod random;
 mod rest;
 mod roles;
@@ -22,13 +26,11 @@ mod scene;
 mod steps;
 mod system;
 mod times;
-mod unread;
 mod weather;
 mod wire;
 mod world;
 
 use crate::least::Totals;
-use crate::people::Tally;
 use crate::run::{Case, Outcome, run_case};
 use crate::steps::Step;
 use crate::weather::FAULTS;
@@ -110,35 +112,26 @@ fn run_line<R: Wait + Clone + Drop>(
 
 /// Prints that a case went well, and as one number what else is counted.
 fn print_in_brief(rt: &HostRuntime, line: &str, outcome: &Outcome) -> io::Result<()> {
-    let Tally {
-        connections,
-        registrations,
-        restarts,
-        ..
-    } = outcome.tally;
-    let others = outcome.checksum();
+    let (tally, others) = (&outcome.tally, outcome.checksum());
     println!(rt;
-        "ok {line}: {connections} connections, {registrations} registrations, {restarts} restarts, {others:016x}"
+        "ok {line}: {} connections, {} registrations, {} restarts, {others:016x}",
+        tally.connections, tally.registrations, tally.restarts
     )
 }
 
 /// Prints all that is counted of a case.
 fn print_counts(rt: &HostRuntime, outcome: &Outcome) -> io::Result<()> {
-    let Tally {
-        connections,
-        registrations,
-        refused,
-        restarts,
-        answers,
-        unanswered,
-        ..
-    } = outcome.tally;
-    let (longest, acts, seconds) = (outcome.longest_ms(), outcome.acts, outcome.seconds);
-    print!(rt; " {connections} connections, {registrations} registrations, {refused} refused,")?;
+    let (tally, longest) = (&outcome.tally, outcome.longest_ms());
     print!(rt;
-        " {restarts} restarts, {answers} answers within {longest} ms, {unanswered} without,"
+        " {} connections, {} registrations,",
+        tally.connections, tally.registrations
     )?;
-    print!(rt; " {acts} acts in {seconds} s")?;
+    print!(rt; " {} refused, {} restarts,", tally.refused, tally.restarts)?;
+    print!(rt;
+        " {} answers within {longest} ms, {} without,",
+        tally.answers, tally.unanswered
+    )?;
+    print!(rt; " {} acts in {} s", outcome.acts, outcome.seconds)?;
     for (fault, count) in FAULTS.split_whitespace().zip(outcome.happened) {
         if count > 0 {
             print!(rt; ", {fault} {count}")?;

@@ -1,11 +1,13 @@
 //! Nodes, tools and strangers: the peers of a daemon.
 use crate::checks::Wrong;
+use crate::network::Ending;
+use crate::notices::Subject;
 use crate::random::Random;
 use crate::roles::{Comes, Naming, Next, Pauses, Pieces, Reading, Role};
-use crate::scenario::{Crowd, Scenario};
+use crate::scenario::{Crowd, Deeds, Scenario};
 use crate::weather::Fault;
 use crate::wire::{Heard, Wire};
-use crate::world::{Ending, LISTENERS, World};
+use crate::world::{LISTENERS, World};
 use std::alloc::Global;
 
 /// What somebody is about.
@@ -34,6 +36,18 @@ pub struct Tally {
     pub unanswered: u32,
     /// The longest that an answer took, in microseconds.
     pub longest: u64,
+}
+
+impl Tally {
+    /// What was done.
+    pub fn deeds(&self) -> Deeds {
+        [
+            self.registrations,
+            self.restarts,
+            self.answers,
+            self.refused,
+        ]
+    }
 }
 
 /// Somebody. Times are in microseconds.
@@ -79,7 +93,7 @@ pub fn people_of(alloc: Global, world: &mut World) -> Option<Vec<Person>> {
                 nodes = nodes.saturating_add(1);
                 nodes
             } else {
-                world.random.below(6) as u8
+                world.weather.random.below(6) as u8
             };
             let person = Person::new(alloc, world, *crowd, node, next_at);
             people.push(person).ok()?;
@@ -124,7 +138,7 @@ impl Person {
 
     /// Its connection.
     pub(crate) fn own<'a>(&self, world: &'a World) -> Option<&'a Wire> {
-        world.wires.get(self.wire?)
+        world.network.wires.get(self.wire?)
     }
 
     fn is_slow(&self) -> bool {
@@ -175,28 +189,25 @@ impl Person {
         Some(())
     }
 
-    /// Connects. Whether it could.
-    fn connect(&mut self, world: &mut World) -> bool {
+    /// Connects, if it can.
+    fn connect(&mut self, world: &mut World) -> Option<()> {
         let place = if self.is_local {
-            world.random.below(LISTENERS as u64) as usize
+            world.weather.random.below(LISTENERS as u64) as usize
         } else {
             0
         };
         self.wire = world.connect(place, self.is_local);
-        if self.wire.is_none() || self.ask(&mut world.random).is_none() {
-            return false;
-        }
+        let number = self.wire?;
+        self.ask(&mut world.weather.random)?;
         if self.role.reading == Reading::Nothing {
-            if let Some(wire) = world.wires.last_mut() {
-                wire.room = 1;
-            }
+            world.network.wires.get_mut(number)?.room = 1;
         }
-        true
+        Some(())
     }
 
     /// Comes.
     fn come(&mut self, world: &mut World, tally: &mut Tally) {
-        if !self.connect(world) {
+        if self.connect(world).is_none() {
             // Too many wait: it tries again after a second, as TCP does.
             self.next_at = world.now.saturating_add(1_000_000);
             return;
@@ -208,16 +219,6 @@ impl Person {
         self.has_come = true;
         self.stage = Stage::Sending;
         self.next_at = world.now;
-    }
-
-    /// How many of so many bytes it sends at once.
-    fn piece(&self, world: &mut World, left: usize) -> usize {
-        let most = match self.role.pieces {
-            Pieces::UpTo(most) => most,
-            Pieces::Any if world.happens(Fault::Dripped) => 1,
-            Pieces::Any => world.random.between(1, 64) as usize,
-        };
-        left.min(most)
     }
 
     /// When it sends the next part of its request.
@@ -236,14 +237,18 @@ impl Person {
 
     /// Sends a part of its request.
     fn say(&mut self, world: &mut World, wire: usize) {
-        let left = self.request.len().saturating_sub(self.sent);
-        let end = self.sent.saturating_add(self.piece(world, left));
+        let most = match self.role.pieces {
+            Pieces::UpTo(most) => most,
+            Pieces::Any if world.happens(Fault::Dripped) => 1,
+            Pieces::Any => world.weather.random.between(1, 64) as usize,
+        };
+        let end = self.sent.saturating_add(most).min(self.request.len());
         if let Some(piece) = self.request.get(self.sent..end) {
             world.send(wire, piece);
         }
         self.sent = end;
         if end < self.request.len() {
-            self.next_at = self.goes_on_at(world.now, &mut world.random);
+            self.next_at = self.goes_on_at(world.now, &mut world.weather.random);
             return;
         }
         self.next_at = u64::MAX;
@@ -259,7 +264,7 @@ impl Person {
     fn go_on(&mut self, world: &mut World) {
         match self.role.next {
             Next::Waits if self.is_slow() => {
-                let is_late = world.random.happens(100);
+                let is_late = world.weather.random.happens(100);
                 self.next_at = world.after(if is_late { 3_000_000 } else { 50_000 });
             }
             Next::Waits => {}
@@ -276,7 +281,7 @@ impl Person {
     /// Stays as it is for a while.
     fn hold(&mut self, world: &mut World) {
         self.stage = Stage::Holding;
-        let is_long = world.random.happens(100);
+        let is_long = world.weather.random.happens(100);
         let hold_us = self.scenario.hold_us;
         let next_at = world.after(if is_long { 1_800_000_000 } else { hold_us });
         self.next_at = self.scenario.burst_after(next_at);
@@ -309,7 +314,11 @@ impl Person {
         let heard = self.own(world)?.heard();
         match self.stage {
             Stage::Waiting => self.hear_answer(world, heard, tally),
-            _ if heard.is_over || heard.is_reset => self.lose(world, heard),
+            _ if heard.is_over || heard.is_reset => {
+                let wrong = self.judge_lost(heard);
+                self.leave(world, 50_000);
+                wrong
+            }
             _ => {
                 self.next_at = self.next_at.max(world.now.saturating_add(1));
                 None
@@ -337,13 +346,6 @@ impl Person {
         None
     }
 
-    /// Its connection has ended while it waited for nothing.
-    fn lose(&mut self, world: &mut World, heard: Heard) -> Option<Wrong> {
-        let wrong = self.judge_lost(heard);
-        self.leave(world, 50_000);
-        wrong
-    }
-
     /// Has its answer.
     fn take(&mut self, world: &mut World, tally: &mut Tally) -> Option<Wrong> {
         tally.answers = tally.answers.saturating_add(1);
@@ -354,7 +356,8 @@ impl Person {
             return self.take_result(world, tally);
         }
         if self.own(world)?.received.starts_with(b"STOPPED") {
-            world.note_stopped(self.node, self.asked_at);
+            let now = world.now;
+            world.network.note_stopped(self.node, self.asked_at, now);
         }
         self.leave(world, 200_000);
         None
@@ -368,7 +371,7 @@ impl Person {
             return self.be_let_in(world);
         }
         if result == Some(1) {
-            world.notices.note_in_use(world.now);
+            world.notices.note(Subject::InUse, world.now);
         }
         tally.refused = tally.refused.saturating_add(1);
         let wrong = self.judge_refused(world.now);
@@ -397,7 +400,7 @@ impl Person {
         let most = self.scenario.talk_bytes;
         world.send(wire, TALK.get(..most).unwrap_or(TALK));
         self.next_at = world.after(200);
-        if world.random.happens(2) {
+        if world.weather.random.happens(2) {
             self.leave(world, self.role.away_us);
         }
     }

@@ -2,30 +2,35 @@
 use crate::random::Random;
 use crate::weather::Fault;
 use crate::wire::{Watch, Wire};
-use crate::world::{HELD_US, LISTENERS, World};
+use crate::world::{LISTENERS, World};
 use portmap_worker::{Interest, Report, Turn};
 use std::alloc::Global;
 use std::io::ErrorKind;
+use std::mem;
+
+/// A thread that is held stands still for so long at most.
+pub(crate) const HELD_US: u64 = 500_000;
 
 /// For so long a thread hangs.
 const HUNG_US: u64 = 30_000_000;
 
 /// The most events that one poll reports.
-const EVENTS_MOST: usize = 256;
+pub(crate) const EVENTS_MOST: usize = 256;
+
+/// Why no connection can be accepted: descriptors have run out, or memory.
+const EXHAUSTIONS: [(Fault, ErrorKind); 2] = [
+    (Fault::Exhausted, ErrorKind::Other),
+    (Fault::Unable, ErrorKind::OutOfMemory),
+];
 
 /// What a thread's poll knows of a listener.
-#[derive(Clone, Copy)]
+#[derive(Clone, Copy, Default)]
 struct Listening {
     /// It reports it.
     is_on: bool,
     /// From when on it does so; none if there is nothing that was not reported.
     news_at: Option<u64>,
 }
-
-const UNHEARD: Listening = Listening {
-    is_on: false,
-    news_at: None,
-};
 
 /// What the system knows of a thread.
 #[derive(Drop)]
@@ -50,14 +55,14 @@ pub struct Thread {
     met: Option<(usize, bool)>,
     /// How often it has polled, and how many steps of its source were made since.
     pub polls: u64,
-    steps: u32,
+    pub steps: u32,
 }
 
 impl Thread {
     /// One that watches nothing.
-    fn new(alloc: Global) -> Thread {
+    pub fn new(alloc: Global) -> Thread {
         Thread {
-            listeners: [UNHEARD; LISTENERS],
+            listeners: [Listening::default(); LISTENERS],
             watched: Vec::new(alloc),
             is_woken: false,
             reports: Vec::new(alloc),
@@ -72,17 +77,8 @@ impl Thread {
         }
     }
 
-    /// So many, which watch nothing.
-    pub fn many(alloc: Global, count: usize) -> Option<Vec<Thread>> {
-        let mut threads = Vec::new(alloc);
-        for _ in 0..count {
-            threads.push(Thread::new(alloc)).ok()?;
-        }
-        Some(threads)
-    }
-
     /// Whether its poll reports a listener.
-    fn listens(&self) -> bool {
+    pub fn listens(&self) -> bool {
         self.listeners.iter().any(|listener| listener.is_on)
     }
 
@@ -95,42 +91,28 @@ impl Thread {
         }
     }
 
-    /// No connection waits at the listener at this place.
-    fn forget_comers(&mut self, place: usize) {
-        if let Some(listener) = self.listeners.get_mut(place) {
-            listener.news_at = None;
-        }
-    }
-
-    /// Reports that it was woken, and what there is at listeners. Whether there is memory for that.
-    fn report_calls(&mut self, now: u64) -> bool {
-        let mut is_well = true;
+    /// Reports that it was woken, what there is at listeners, and the streams of which there is news, or all that it
+    /// watches. None for want of memory.
+    fn report(&mut self, wires: &mut [Wire], now: u64, is_spurious: bool) -> Option<()> {
         self.reports.clear();
-        if self.is_woken {
-            self.is_woken = false;
-            is_well = self.reports.push(Report::Woken).is_ok();
+        if mem::replace(&mut self.is_woken, false) {
+            self.reports.push(Report::Woken).ok()?;
         }
         for (place, listener) in self.listeners.iter_mut().enumerate() {
             if listener.news_at.is_some_and(|at| at <= now) {
                 listener.news_at = None;
-                is_well = self.reports.push(Report::Listener(place)).is_ok() && is_well;
+                self.reports.push(Report::Listener(place)).ok()?;
             }
         }
-        is_well
-    }
-
-    /// Reports the streams of which there is news, or all that it watches. Whether there is memory for that.
-    fn report_streams(&mut self, wires: &mut [Wire], now: u64, is_spurious: bool) -> bool {
-        let mut is_well = true;
         for number in &self.watched {
+            let has_room = self.reports.len() < EVENTS_MOST;
             if let Some(wire) = wires.get_mut(*number) {
-                let has_room = self.reports.len() < EVENTS_MOST;
                 if let Some(report) = wire.report(now, has_room, is_spurious) {
-                    is_well = self.reports.push(report).is_ok() && is_well;
+                    self.reports.push(report).ok()?;
                 }
             }
         }
-        is_well
+        Some(())
     }
 
     /// Has what a poll has reported come in any order.
@@ -147,94 +129,53 @@ impl World {
     /// From when on a thread has something to do; none once it has ended.
     pub fn due_at(&self, number: usize) -> Option<u64> {
         let thread = self.threads.get(number)?;
-        if thread.has_ended {
-            return None;
-        }
-        let mut at = thread.until.unwrap_or(self.now);
-        if thread.is_woken {
-            at = self.now;
-        }
+        let waits_until = thread.until.filter(|_| !thread.is_woken);
+        let mut at = waits_until.unwrap_or(self.now);
         for listener in thread.listeners {
             at = at.min(listener.news_at.unwrap_or(at));
         }
         for number in &thread.watched {
-            if let Some(wire) = self.wires.get(*number) {
+            if let Some(wire) = self.network.wires.get(*number) {
                 at = at.min(wire.news_at.unwrap_or(at));
             }
         }
-        Some(at.max(thread.held_until))
-    }
-
-    /// A worker holds a connection that has come.
-    fn hold_comer(&mut self, number: usize, fresh: usize) {
-        let is_starved = self.is_starved();
-        if let Some(wire) = self.wires.get_mut(fresh) {
-            wire.is_held = true;
-        }
-        if let Some(thread) = self.threads.get_mut(number) {
-            self.is_overdrawn = self.is_overdrawn || (is_starved && !thread.has_held);
-            thread.has_held = true;
-        }
+        (!thread.has_ended).then_some(at.max(thread.held_until))
     }
 
     /// A worker's source tells this, of this connection, where there is news of it or is not.
     pub fn note_turn(&mut self, number: usize, turn: Option<Turn>, met: Option<(usize, bool)>) {
-        if let (Some(Turn::Fresh { .. }), Some((fresh, _))) = (turn, met) {
-            self.hold_comer(number, fresh);
-        }
+        let is_starved = self.is_starved();
         if let Some(thread) = self.threads.get_mut(number) {
             thread.turn = turn;
             thread.met = met;
             thread.steps = thread.steps.saturating_add(1);
+            if let (Some(Turn::Fresh { .. }), Some((fresh, _))) = (turn, met) {
+                self.memory.is_overdrawn |= is_starved && !thread.has_held;
+                thread.has_held = true;
+                if let Some(wire) = self.network.wires.get_mut(fresh) {
+                    wire.is_held = true;
+                }
+            }
         }
     }
 
     /// What the source of a worker told last.
     pub fn last_turn(&self, number: usize) -> Option<Turn> {
         let thread = self.threads.get(number)?;
-        if thread.has_ended { None } else { thread.turn }
+        thread.turn.filter(|_| !thread.has_ended)
     }
 
-    /// A worker has made a turn, and goes on or ends: the fresh connection that it was told, or the late one, with
-    /// whether there was news of it.
-    pub fn met(&mut self, number: usize, goes_on: bool) -> (Option<usize>, Option<(usize, bool)>) {
-        let Some(thread) = self.threads.get_mut(number) else {
-            return (None, None);
-        };
+    /// A worker has made a turn, and goes on or ends: what its source told, the connection of that, and whether there
+    /// was news of it.
+    pub fn met(&mut self, number: usize, goes_on: bool) -> Option<(Turn, (usize, bool))> {
+        let thread = self.threads.get_mut(number)?;
         thread.has_ended = !goes_on;
-        match (thread.turn, thread.met) {
-            (Some(Turn::Fresh { .. }), Some((fresh, _))) => (Some(fresh), None),
-            (Some(Turn::Late(_)), late) => (None, late),
-            _ => (None, None),
-        }
+        thread.turn.zip(thread.met)
     }
 
     /// Whether a thread has something to do now, or has ended.
     pub fn is_due(&self, number: usize) -> bool {
         self.due_at(number).is_none_or(|at| at <= self.now)
-    }
-
-    /// How often workers have polled.
-    pub fn polls(&self) -> u64 {
-        let workers = self.workers().iter();
-        workers.fold(0, |polls: u64, thread| polls.saturating_add(thread.polls))
-    }
-
-    /// Whether a worker has made more steps than that since it polled.
-    pub fn has_made(&self, steps: u32) -> bool {
-        self.workers().iter().any(|thread| thread.steps > steps)
-    }
-
-    /// How many streams are watched.
-    pub fn watched(&self) -> usize {
-        let watched = self.threads.iter().map(|thread| thread.watched.len());
-        watched.fold(0, usize::saturating_add)
-    }
-
-    /// How many threads are told of connections that come.
-    pub fn listening(&self) -> usize {
-        let threads = self.threads.iter();
-        threads.filter(|thread| thread.listens()).count()
     }
 
     /// When so many milliseconds are over.
@@ -245,7 +186,7 @@ impl World {
     /// Who takes the log out, which is empty or is not, waits for so many milliseconds.
     pub fn wait_out(&mut self, number: usize, timeout_ms: u64, is_out: bool) {
         if is_out {
-            self.read_bytes = 0;
+            self.network.read_bytes = 0;
         }
         let until = self.until(timeout_ms);
         if let Some(thread) = self.threads.get_mut(number) {
@@ -254,51 +195,41 @@ impl World {
         }
     }
 
-    /// A thread is held until this time, if there is one. Whether there is.
-    fn hold(&mut self, number: usize, until: Option<u64>) -> bool {
-        if let Some(until) = until {
-            if let Some(thread) = self.threads.get_mut(number) {
-                thread.held_until = until;
-            }
+    /// Until when a fault holds a worker of so many from now on, if one does.
+    fn held(&mut self, worker: usize, workers: usize) -> Option<u64> {
+        let is_first = worker == 0 && self.happens_first(Fault::Delayed) && workers > 1;
+        if is_first || self.happens_first(Fault::Hung) {
+            return Some(self.now.saturating_add(HUNG_US));
         }
-        until.is_some()
+        match self.lasts(Fault::Held, HELD_US) {
+            None => self.lasts(Fault::Stuck, 30_000_000),
+            until => until,
+        }
     }
 
-    /// Whether a fault holds a worker from now on.
-    pub fn holds(&mut self, number: usize) -> bool {
-        let are_several = self.workers().len() > 1;
-        let begins_late = number == 0 && self.happens_first(Fault::Delayed) && are_several;
-        let until = if begins_late || self.happens_first(Fault::Hung) {
-            Some(self.now.saturating_add(HUNG_US))
-        } else {
-            match self.lasts(Fault::Held, HELD_US) {
-                None => self.lasts(Fault::Stuck, 30_000_000),
-                until => until,
+    /// Whether a fault keeps somebody from now on from doing something: one of so many workers, who takes the log out,
+    /// who is behind then, or who writes it, since the disk takes nothing.
+    pub fn keeps(&mut self, actor: usize, workers: usize) -> bool {
+        let until = match actor.checked_sub(workers) {
+            None => self.held(actor, workers),
+            Some(0) if self.happens(Fault::Behind) => Some(self.now.saturating_add(HUNG_US)),
+            Some(1) => {
+                let until = self.lasts(Fault::Stalled, 3_000_000);
+                self.disk.stalled_until = until.unwrap_or(self.disk.stalled_until);
+                until
             }
+            Some(_) => None,
         };
-        self.hold(number, until)
-    }
-
-    /// Whether a thread hangs from now on, as it is behind.
-    pub fn is_behind(&mut self, number: usize) -> bool {
-        let is_behind = self.happens(Fault::Behind);
-        let until = is_behind.then_some(self.now.saturating_add(HUNG_US));
-        self.hold(number, until)
-    }
-
-    /// Whether the disk takes nothing from now on.
-    pub fn stalls(&mut self) -> bool {
-        let until = self.lasts(Fault::Stalled, 3_000_000);
-        self.stalled_until = until.unwrap_or(self.stalled_until);
+        if let (Some(until), Some(thread)) = (until, self.threads.get_mut(actor)) {
+            thread.held_until = until;
+        }
         until.is_some()
     }
 
     /// The threads of the workers: all but that of who takes the log out.
-    fn workers(&self) -> &[Thread] {
-        match self.threads.split_last() {
-            Some((_, workers)) => workers,
-            None => &[],
-        }
+    pub fn workers(&self) -> &[Thread] {
+        let count = self.threads.len().saturating_sub(1);
+        &self.threads[..count]
     }
 
     /// Until when a worker is, or was, held; without one, until when all are.
@@ -309,13 +240,6 @@ impl World {
         }
         let workers = self.workers().iter();
         workers.fold(u64::MAX, |least: u64, thread| least.min(thread.held_until))
-    }
-
-    /// Ends the wait of a thread.
-    pub fn wake(&mut self, number: usize) {
-        if let Some(thread) = self.threads.get_mut(number) {
-            thread.is_woken = true;
-        }
     }
 
     /// Polls. If there is nothing to report the thread waits for so many milliseconds.
@@ -335,23 +259,11 @@ impl World {
         if is_reversed {
             thread.watched.reverse();
         }
-        let are_told = thread.report_calls(now)
-            && thread.report_streams(&mut self.wires, now, is_spurious);
-        self.is_lost = self.is_lost || !are_told;
+        let reported = thread.report(&mut self.network.wires, now, is_spurious);
+        self.memory.note(reported.is_some());
         thread.until = thread.reports.is_empty().then_some(until);
-        thread.shuffle(&mut self.random);
+        thread.shuffle(&mut self.weather.random);
         true
-    }
-
-    /// What a thread's last poll has reported at this place.
-    pub fn report(&self, number: usize, place: usize) -> Option<Report> {
-        self.threads.get(number)?.reports.get(place).copied()
-    }
-
-    /// Whether a thread's last poll has reported as much as it can.
-    pub fn is_full(&self, number: usize) -> bool {
-        let thread = self.threads.get(number);
-        thread.is_some_and(|thread| thread.reports.len() >= EVENTS_MOST)
     }
 
     /// Has a thread's poll report a stream.
@@ -365,7 +277,7 @@ impl World {
         if self.happens(Fault::Unwatched) || self.happens(Fault::Unreported) {
             return Err(ErrorKind::OutOfMemory);
         }
-        let wire = self.wires.get_mut(number).ok_or(ErrorKind::Other)?;
+        let wire = self.network.wires.get_mut(number).ok_or(ErrorKind::Other)?;
         let is_both = interest == Interest::Both;
         let watch = Watch {
             thread,
@@ -374,9 +286,8 @@ impl World {
         };
         let is_new = wire.begin_watch(watch, self.now);
         let thread = self.threads.get_mut(thread).ok_or(ErrorKind::Other)?;
-        if is_new && thread.watched.push(number).is_err() {
-            self.is_lost = true;
-        }
+        self.memory
+            .note(!is_new || thread.watched.push(number).is_ok());
         Ok(())
     }
 
@@ -391,7 +302,7 @@ impl World {
             self.notices.note_unaccepted(self.now);
             return Err(ErrorKind::OutOfMemory);
         }
-        let waiting = self.backlogs.get(place);
+        let waiting = self.network.backlogs.get(place);
         let are_there = waiting.is_some_and(|waiting| !waiting.is_empty());
         let news_at = are_there.then_some(self.now);
         let listener = self.listener(number, place).ok_or(ErrorKind::Other)?;
@@ -411,52 +322,47 @@ impl World {
             return;
         }
         if let Some(listener) = self.listener(number, place) {
-            *listener = UNHEARD;
+            *listener = Listening::default();
         }
     }
 
     /// Why no connection can be accepted now, if none can.
     fn exhaustion(&mut self) -> Option<ErrorKind> {
-        if let Some(until) = self.lasts(Fault::Exhausted, 200_000) {
-            self.exhausted_until = until;
-            self.exhausted_kind = ErrorKind::Other;
+        for (fault, kind) in EXHAUSTIONS {
+            if let Some(until) = self.lasts(fault, 200_000) {
+                self.network.exhausted = (until, kind);
+            }
         }
-        if let Some(until) = self.lasts(Fault::Unable, 200_000) {
-            self.exhausted_until = until;
-            self.exhausted_kind = ErrorKind::OutOfMemory;
+        let (until, kind) = self.network.exhausted;
+        if self.now >= until && !self.has_no_descriptor() {
+            return None;
         }
-        if self.now < self.exhausted_until || self.has_no_descriptor() {
-            self.notices.note_unaccepted(self.now);
-            // Whom it is for, nobody knows: one may be given up for it.
-            self.wanting = self.wanting.saturating_add(1);
-            return Some(self.exhausted_kind);
-        }
-        None
+        self.notices.note_unaccepted(self.now);
+        // Whom it is for, nobody knows: one may be given up for it.
+        self.network.wanting = self.network.wanting.saturating_add(1);
+        Some(kind)
     }
 
     /// Whether all descriptors are taken, while a connection waits.
     fn has_no_descriptor(&self) -> bool {
-        let taken = self.local.saturating_add(self.remote);
-        taken >= self.scenario.descriptors
-            && self.backlogs.iter().any(|waiting| !waiting.is_empty())
+        let network = &self.network;
+        let taken = network.local.saturating_add(network.remote);
+        let mut backlogs = network.backlogs.iter();
+        taken >= self.scenario.descriptors && backlogs.any(|waiting| !waiting.is_empty())
     }
 
     /// A connection is accepted that wants a place.
     fn count_comer(&mut self, is_local: bool) {
-        let (local, remote) = (self.local as usize, self.remote as usize);
+        let network = &mut self.network;
         // Some places are kept for this host, and half of those that it leaves are others' at least.
-        let places = self.scenario.conn_max as usize;
-        let left = places.saturating_sub(local);
+        let places = self.scenario.conn_max;
+        let left = places.saturating_sub(network.local);
         let share = (places / 8).min(left / 2);
         let kept = if is_local { 0 } else { share };
-        if remote >= left.saturating_sub(kept) {
-            self.wanting = self.wanting.saturating_add(1);
+        if network.remote >= left.saturating_sub(kept) {
+            network.wanting = network.wanting.saturating_add(1);
         }
-        let count = if is_local {
-            &mut self.local
-        } else {
-            &mut self.remote
-        };
+        let count = network.count(is_local);
         *count = count.saturating_add(1);
     }
 
@@ -468,18 +374,21 @@ impl World {
         if let Some(kind) = self.exhaustion() {
             return Err(kind);
         }
-        let waiting = self.backlogs.get_mut(place).ok_or(ErrorKind::WouldBlock)?;
+        let waiting = self.network.backlogs.get_mut(place);
+        let waiting = waiting.ok_or(ErrorKind::WouldBlock)?;
         let number = waiting.pop_front().ok_or(ErrorKind::WouldBlock)?;
         if waiting.is_empty() && self.happens(Fault::Taken) {
             for thread in &mut self.threads {
-                thread.forget_comers(place);
+                if let Some(listener) = thread.listeners.get_mut(place) {
+                    listener.news_at = None;
+                }
             }
         }
         if self.happens(Fault::Aborted) {
             self.reset(number);
             return Err(ErrorKind::ConnectionAborted);
         }
-        let wire = self.wires.get_mut(number).ok_or(ErrorKind::Other)?;
+        let wire = self.network.wires.get_mut(number).ok_or(ErrorKind::Other)?;
         wire.accepted = Some((thread, self.now));
         let is_local = wire.is_local;
         self.count_comer(is_local);

@@ -135,124 +135,66 @@ const USUAL: Role = Role {
     given_up: GivenUp::Nobody,
 };
 
+/// A role by what differs from another one.
+macro_rules! role {
+    ($other:ident, $($field:ident: $value:expr),*) => {
+        Role { $($field: $value,)* ..$other }
+    };
+}
+
 /// Registers a name of its own, at once, holds it for a while, leaves and comes back at once.
-pub const NODE: Role = Role {
-    asks: REGISTRATION,
-    naming: Naming::Holds,
-    pieces: Pieces::UpTo(usize::MAX),
-    comes: Comes::Alone,
-    away_us: 200,
-    ..USUAL
-};
+pub const NODE: Role =
+    role!(USUAL, asks: REGISTRATION, naming: Naming::Holds, pieces: Pieces::UpTo(usize::MAX),
+    comes: Comes::Alone, away_us: 200);
 
 /// Registers the name of a node.
-pub const RIVAL: Role = Role {
-    naming: Naming::Tries,
-    pieces: Pieces::Any,
-    away_us: 500_000,
-    ..NODE
-};
+pub const RIVAL: Role = role!(NODE, naming: Naming::Tries, pieces: Pieces::Any, away_us: 500_000);
 
 /// Registers a name of its own and goes on sending.
-pub const TALKER: Role = Role {
-    naming: Naming::Talks,
-    pieces: Pieces::Any,
-    away_us: 1000,
-    ..NODE
-};
+pub const TALKER: Role = role!(NODE, naming: Naming::Talks, pieces: Pieces::Any, away_us: 1000);
 
 /// Looks a node up.
-pub const SEEKER: Role = Role {
-    asks: &[0, 3, 0x7A],
-    naming: Naming::Asks,
-    asks_once: true,
-    ..USUAL
-};
+pub const SEEKER: Role = role!(USUAL, asks: &[0, 3, 0x7A], naming: Naming::Asks, asks_once: true);
 
 /// Asks for the list of names.
-pub const LISTER: Role = Role {
-    asks_once: true,
-    ..USUAL
-};
+pub const LISTER: Role = role!(USUAL, asks_once: true);
 
 /// Asks for all that is known.
-pub const DUMPER: Role = Role {
-    asks: &[0, 1, 0x64],
-    asks_once: true,
-    ..USUAL
-};
+pub const DUMPER: Role = role!(USUAL, asks: &[0, 1, 0x64], asks_once: true);
 
 /// Asks for the list of names and reads it late, or byte by byte.
-pub const SLOW: Role = Role {
-    reading: Reading::Slowly,
-    ..USUAL
-};
+pub const SLOW: Role = role!(USUAL, reading: Reading::Slowly);
 
 /// Asks for the list of names, a byte each three and a half seconds.
-pub const PLODDER: Role = Role {
-    pieces: Pieces::UpTo(1),
-    pauses: Pauses::UpTo(3_500_000),
-    owed: Owed::Always,
-    ..USUAL
-};
+pub const PLODDER: Role =
+    role!(USUAL, pieces: Pieces::UpTo(1), pauses: Pauses::UpTo(3_500_000), owed: Owed::Always);
 
 /// Asks for the list of names and reads nothing.
-pub const UNREADING: Role = Role {
-    reading: Reading::Nothing,
-    owed: Owed::Never,
-    given_up: GivenUp::Anybody,
-    ..USUAL
-};
+pub const UNREADING: Role =
+    role!(USUAL, reading: Reading::Nothing, owed: Owed::Never, given_up: GivenUp::Anybody);
 
 /// Asks the port mapper to end.
-pub const KILLER: Role = Role {
-    asks: &[0, 1, 0x6B],
-    ..USUAL
-};
+pub const KILLER: Role = role!(USUAL, asks: &[0, 1, 0x6B]);
 
 /// Asks for a node to be stopped.
-pub const STOPPER: Role = Role {
-    asks: &[0, 3, 0x73],
-    naming: Naming::Asks,
-    owed: Owed::Never,
-    ..USUAL
-};
+pub const STOPPER: Role =
+    role!(USUAL, asks: &[0, 3, 0x73], naming: Naming::Asks, owed: Owed::Never);
 
 /// Connects and says nothing.
-pub const SILENT: Role = Role {
-    asks: &[],
-    next: Next::Stays,
-    comes: Comes::Apart,
-    owed: Owed::Never,
-    given_up: GivenUp::Anybody,
-    ..USUAL
-};
+pub const SILENT: Role =
+    role!(USUAL, asks: &[], next: Next::Stays, comes: Comes::Apart, owed: Owed::Never,
+    given_up: GivenUp::Anybody);
 
 /// Sends a byte of a request now and then, and never all of it.
-pub const DRIPPER: Role = Role {
-    asks: &[0, 200],
-    pieces: Pieces::UpTo(1),
-    next: Next::Drips,
-    owed: Owed::Never,
-    given_up: GivenUp::Remote,
-    ..USUAL
-};
+pub const DRIPPER: Role =
+    role!(USUAL, asks: &[0, 200], pieces: Pieces::UpTo(1), next: Next::Drips, owed: Owed::Never,
+    given_up: GivenUp::Remote);
 
 /// Sends any bytes.
-pub const BABBLER: Role = Role {
-    asks: &[],
-    noise: 40,
-    next: Next::Stays,
-    owed: Owed::Never,
-    ..USUAL
-};
+pub const BABBLER: Role = role!(USUAL, asks: &[], noise: 40, next: Next::Stays, owed: Owed::Never);
 
 /// Asks for the list of names, and says the last of that about when its time is over, or with all others where there
 /// are bursts.
-pub const TARDY: Role = Role {
-    pieces: Pieces::UpTo(2),
-    pauses: Pauses::UntilLate,
-    comes: Comes::Alone,
-    owed: Owed::Never,
-    ..USUAL
-};
+pub const TARDY: Role =
+    role!(USUAL, pieces: Pieces::UpTo(2), pauses: Pauses::UntilLate, comes: Comes::Alone,
+    owed: Owed::Never);

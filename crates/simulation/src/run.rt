@@ -3,14 +3,15 @@ ghost use Rattle.std.specs.Prelude.{◌≡◌};
 
 use crate::checks::{GOES_ON, NEVER_HEAVY, SEATS, UNSEEN, Wrong};
 use crate::daemon::{Around, Daemon, SimWorker};
+use crate::disk::PATH;
 use crate::judge::judge;
 use crate::people::{Tally, people_of};
 use crate::scenario::Scenario;
 use crate::scene::Scene;
 use crate::steps::{Step, Stepped};
 use crate::system::{SharedWorld, SimFile, SimHost, SimThread};
-use crate::weather::FaultCounts;
-use crate::world::{PATH, World};
+use crate::weather::{Fault, FaultCounts};
+use crate::world::World;
 use portmap_book::{Book, Desk, PARTS, Seat};
 use portmap_core::Config;
 use portmap_worker::{
@@ -65,11 +66,11 @@ const FNV_PRIME: u64 = 0x0000_0100_0000_01B3;
 
 /// This sum, with the bytes of a number in it, the least first.
 fn fnv(sum: u64, number: u64) -> u64 {
-    let mut sum = sum;
-    for byte in number.to_le_bytes() {
-        sum = (sum ^ u64::from(byte)).wrapping_mul(FNV_PRIME);
-    }
-    sum
+    let bytes = number.to_le_bytes();
+    bytes.iter().fold(
+        sum,
+        |sum: u64, byte| (sum ^ u64::from(*byte)).wrapping_mul(FNV_PRIME),
+    )
 }
 
 impl Outcome {
@@ -100,14 +101,13 @@ impl<'a, L: Ledger, S: Source + Drop, R: Wait + Drop> Daemon<'a, L, S, R> {
     /// The storm of a case: so many steps, unless something is wrong, or it ends, or is to. Whether it goes on behind
     /// them.
     fn storm(&mut self, case: &Case) -> Option<bool> {
-        let killed_at = self.scene.killed_at(case.steps)?;
-        for step in 0..case.steps {
-            if u64::from(step) == killed_at {
-                self.scene.kill()?;
+        let steps = u64::from(case.steps);
+        let killed_at = self.scene.world()?.weather.random.below(steps);
+        for step in 0..steps {
+            if step == killed_at {
+                self.scene.world()?.disk.kill()?;
             }
-            if !self.step(u64::MAX) {
-                return None;
-            }
+            self.step(u64::MAX)?;
             let weight = self.weight();
             let goes_on = self.scene.look(weight)?;
             if !goes_on || self.has_ended() {
@@ -119,21 +119,21 @@ impl<'a, L: Ledger, S: Source + Drop, R: Wait + Drop> Daemon<'a, L, S, R> {
         Some(true)
     }
 
-    /// It ends once nothing gets through for want of memory, if it may. Whether there was memory for the world.
-    fn starve(&mut self) -> bool {
-        let is_passed = self.pass(STARVED_US);
-        let has_ended = !self.scene.scenario.may_end || self.has_ended();
-        self.scene.check(!is_passed || has_ended, GOES_ON);
-        is_passed
-    }
-
-    /// All of a case: a storm, and the rest after it.
+    /// All of a case: a storm, and the rest after it. It ends once nothing gets through for want of memory, if it may.
     fn run(&mut self, case: &Case) -> Option<()> {
         if !self.storm(case)? {
             return Some(());
         }
-        let is_done = !self.scene.is_famished()? || self.starve();
-        (is_done && (self.has_ended() || self.rest())).then_some(())
+        let is_famished = self.scene.world()?.weather.has_happened(Fault::Famine);
+        if is_famished {
+            self.pass(STARVED_US)?;
+            let is_over = !self.scene.scenario.may_end || self.has_ended();
+            self.scene.check(is_over, GOES_ON);
+        }
+        if self.has_ended() {
+            return Some(());
+        }
+        self.rest()
     }
 
     /// It serves the people of a case. What that comes to, and the seats of its workers.
@@ -175,7 +175,10 @@ impl<'a> Scene<'a> {
         let mut world = self.world()?;
         let most = self.scenario.file_bytes_most;
         let is_seen = world.weather.has_all_happened(self.scenario.chances);
-        let found = judge(self.alloc, &mut world, &self.opened, self.acts, most)?;
+        if world.memory.is_lost {
+            return None;
+        }
+        let found = judge(self.alloc, &mut world, &self.opened, self.acts, most).err();
         Some(Outcome {
             wrong: self.wrong.or(found).or((!is_seen).then_some(UNSEEN)),
             tally: self.tally,

@@ -1,5 +1,4 @@
 //! What a scenario is: who comes, in which weather, with which limits.
-use crate::people::Tally;
 use crate::roles::{BABBLER, DUMPER, LISTER, NODE, Naming, Role, SEEKER, SILENT, SLOW};
 use crate::scenario::Crowd::{Local, Remote};
 use crate::weather::Chances;
@@ -22,23 +21,7 @@ impl Crowd {
 }
 
 /// So many registrations, restarts of nodes, answers, and registrations that were refused.
-#[derive(Clone, Copy)]
-pub struct Deeds(pub u32, pub u32, pub u32, pub u32);
-
-impl Deeds {
-    /// The same, and what this tally has.
-    pub fn add(&mut self, tally: &Tally) {
-        self.0 = self.0.saturating_add(tally.registrations);
-        self.1 = self.1.saturating_add(tally.restarts);
-        self.2 = self.2.saturating_add(tally.answers);
-        self.3 = self.3.saturating_add(tally.refused);
-    }
-
-    /// Whether they are as many as these.
-    pub fn reach(&self, least: &Deeds) -> bool {
-        self.0 >= least.0 && self.1 >= least.1 && self.2 >= least.2 && self.3 >= least.3
-    }
-}
+pub type Deeds = [u32; 4];
 
 /// A scenario.
 pub struct Scenario {
@@ -138,7 +121,7 @@ const BUSTLE: &[Crowd] = &[
 /// What is not said of a scenario.
 pub const USUAL: Scenario = Scenario {
     name: "",
-    least: Deeds(0, 0, 0, 0),
+    least: [0; 4],
     people: &[],
     chances: &[],
     is_relaxed: false,

@@ -1,15 +1,15 @@
 //! The scenarios, a row for each: its name, what its people do at least, who comes if it is not the usual people, the
 //! weather, and what else differs from the usual scenario.
 use crate::roles;
-use crate::scenario::{Crowd, Deeds, Scenario, USUAL};
+use crate::scenario::{Crowd, Scenario, USUAL};
 use crate::weather::Fault;
 
 macro_rules! scenarios {
-    ($($name:literal $least:tt [$($host:ident $role:ident $count:literal),*] [$($fault:ident $chance:literal),*]
-        $($field:ident: $value:expr),*;)*) => {
+    ($($name:literal ($($least:literal),*) [$($host:ident $role:ident $count:literal),*]
+        [$($fault:ident $chance:literal),*] $($field:ident: $value:expr),*;)*) => {
         &[$(Scenario {
             name: $name,
-            least: Deeds $least,
+            least: [$($least),*],
             people: &[$(Crowd::$host(&roles::$role, $count)),*],
             chances: &[$((Fault::$fault, $chance)),*],
             $($field: $value,)*

@@ -1,12 +1,13 @@
 //! What is around a daemon: the world, its people, and what was wrong.
-use crate::checks::{UNHEEDED, Wrong};
+use crate::checks::{UNHEEDED, Wrong, is_right};
+use crate::network::Ending;
 use crate::people::{Person, Tally};
 use crate::scenario::Scenario;
 use crate::steps::Step;
 use crate::system::SharedWorld;
 use crate::weather::Fault;
 use crate::world::World;
-use portmap_worker::Failure;
+use portmap_worker::{Failure, Turn};
 use std::alloc::Global;
 use std::cell::RefMut;
 
@@ -50,24 +51,14 @@ fn choose(world: &mut World, due: &[usize], workers: usize, until: u64) -> Optio
         world.land();
         return None;
     }
-    let place = world.random.below(due.len() as u64) as usize;
+    let place = world.weather.random.below(due.len() as u64) as usize;
     let chosen = due.get(place).copied()?;
     let is_slow = chosen < workers && world.happens(Fault::Slow);
     let most = if is_slow { 2000 } else { 30 };
-    world.now = world.now.saturating_add(world.random.between(1, most));
+    let pause = world.weather.random.between(1, most);
+    world.now = world.now.saturating_add(pause);
     world.land();
     Some(chosen)
-}
-
-/// Whether a fault keeps this one from doing something: of so many workers, or who takes the log out, or who writes it.
-fn is_kept_from(world: &mut World, actor: usize, workers: usize) -> bool {
-    if actor < workers {
-        world.holds(actor)
-    } else if actor == workers {
-        world.is_behind(actor)
-    } else {
-        actor == workers.saturating_add(1) && world.stalls()
-    }
 }
 
 /// The outer none of what a function gives is want of memory.
@@ -82,19 +73,17 @@ impl<'a> Scene<'a> {
     /// From when on somebody may do something: workers, then who takes the log out, who writes it, and people; none if
     /// there is nothing to do.
     fn due_at(&self, world: &World, actor: usize, has_parts: bool) -> Option<u64> {
-        if actor < self.workers || (actor == self.workers && !self.is_drained) {
-            return world.due_at(actor);
+        match actor.checked_sub(self.workers) {
+            Some(0) if self.is_drained => None,
+            None | Some(0) => world.due_at(actor),
+            Some(1) => has_parts.then_some(world.disk.stalled_until),
+            Some(place) => self.people.get(place.saturating_sub(2))?.due_at(world),
         }
-        let place = actor.saturating_sub(self.workers);
-        if place == 1 {
-            return has_parts.then_some(world.stalled_until);
-        }
-        self.people.get(place.checked_sub(2)?)?.due_at(world)
     }
 
     /// Finds who may do something now, and the time when somebody else may.
     fn find_due(&mut self, world: &World, has_parts: bool) -> Option<u64> {
-        let mut next = world.lands_at();
+        let mut next = world.network.lands_at();
         let count = self.workers.saturating_add(2);
         self.due.clear();
         for actor in 0..count.saturating_add(self.people.len()) {
@@ -107,19 +96,15 @@ impl<'a> Scene<'a> {
         Some(next)
     }
 
-    /// Who does something now, where there may be parts to be written. The inner none if nobody has anything to do, so
-    /// that time passes until somebody has, up to this time, or if a fault keeps him from it.
-    pub(crate) fn choose(&mut self, has_parts: bool, until: u64) -> Option<Option<usize>> {
+    /// Who does something now, where there may be parts to be written, and whether a fault keeps him from it. The inner
+    /// none if nobody has anything to do, so that time passes until somebody has, up to this time.
+    pub(crate) fn choose(&mut self, has_parts: bool, until: u64) -> Option<Option<(usize, bool)>> {
         let mut world = self.world()?;
         let next = self.find_due(&world, has_parts)?;
-        let chosen = choose(&mut world, &self.due, self.workers, next.min(until));
-        if let Some(actor) = chosen {
-            if is_kept_from(&mut world, actor, self.workers) {
-                self.note_step(&world, actor)?;
-                return Some(None);
-            }
-        }
-        Some(chosen)
+        let Some(actor) = choose(&mut world, &self.due, self.workers, next.min(until)) else {
+            return Some(None);
+        };
+        Some(Some((actor, world.keeps(actor, self.workers))))
     }
 
     /// Somebody acts.
@@ -132,25 +117,16 @@ impl<'a> Scene<'a> {
     }
 
     /// Notes a step, if each is told.
-    fn note_step(&mut self, world: &World, actor: usize) -> Option<()> {
+    pub(crate) fn note_step(&mut self, actor: usize) -> Option<()> {
         if !self.is_traced {
             return Some(());
         }
+        let world = self.world()?;
         let (now, turn) = (world.now, world.last_turn(actor));
         self.trace.push(Step { now, actor, turn }).ok()
     }
 
-    /// Notes a step that was made.
-    pub(crate) fn note_done(&mut self, actor: usize) -> Option<()> {
-        self.note_step(&*self.world()?, actor)
-    }
-
     // ---- what the daemon does
-
-    /// Whether no memory can be had now.
-    pub(crate) fn is_starved(&self) -> Option<bool> {
-        Some(self.world()?.is_starved())
-    }
 
     /// Notes a turn of a worker: whether it goes on, whether it has acted, and whether a connection has ended
     /// unanswered, as none had since that was last looked into.
@@ -163,25 +139,14 @@ impl<'a> Scene<'a> {
     ) -> Option<()> {
         let mut world = self.world()?;
         let is_due = world.is_due(self.workers);
-        let (fresh, late) = world.met(number, goes_on);
+        let met = world.met(number, goes_on);
         drop(world);
         self.check(!is_unanswered || is_due, UNHEEDED);
-        match fresh {
-            Some(fresh) if has_acted => self.opened.push(fresh).ok()?,
-            _ => {}
+        match met {
+            Some((Turn::Fresh { .. }, (fresh, _))) if has_acted => self.opened.push(fresh).ok(),
+            Some((Turn::Late(_), (late, has_news))) => self.judge_late(late, has_news),
+            _ => Some(()),
         }
-        match late {
-            Some((late, has_news)) => self.judge_late(late, has_news),
-            None => Some(()),
-        }
-    }
-
-    /// Who takes the log out waits for so many milliseconds; memory was owed to somebody, or it was not, and the log is
-    /// empty, or it is not.
-    pub(crate) fn wait(&mut self, timeout: u64, is_owed: bool, is_out: bool) -> Option<()> {
-        self.judge_wait(timeout, is_owed);
-        self.world()?.wait_out(self.workers, timeout, is_out);
-        Some(())
     }
 
     // ---- what is known
@@ -191,14 +156,11 @@ impl<'a> Scene<'a> {
         self.world().map_or(u64::MAX, |world| world.now)
     }
 
-    /// Whether nothing got through for want of memory.
-    pub(crate) fn is_famished(&self) -> Option<bool> {
-        Some(self.world()?.weather.has_happened(Fault::Famine))
-    }
-
     /// How often workers have polled.
-    pub(crate) fn polls(&self) -> u64 {
-        self.world().map_or(0, |world| world.polls())
+    pub(crate) fn polls(&self) -> Option<u64> {
+        let world = self.world()?;
+        let polls = world.workers().iter().map(|thread| thread.polls);
+        Some(polls.fold(0, u64::saturating_add))
     }
 
     /// How many people hold a name.
@@ -207,16 +169,6 @@ impl<'a> Scene<'a> {
     }
 
     // ---- the storm, the rest behind it, and the end
-
-    /// The step, of so many, before which the process is killed.
-    pub(crate) fn killed_at(&self, steps: u32) -> Option<u64> {
-        Some(self.world()?.random.below(u64::from(steps)))
-    }
-
-    /// What is in the files is kept as a kill would leave it.
-    pub(crate) fn kill(&self) -> Option<()> {
-        self.world()?.kill()
-    }
 
     /// The storm is over.
     pub(crate) fn retire(&mut self) -> Option<()> {
@@ -228,15 +180,11 @@ impl<'a> Scene<'a> {
         Some(())
     }
 
-    /// Opens a connection of this host at a listener; none if too many wait there.
-    pub(crate) fn connect(&self, place: usize) -> Option<usize> {
-        self.world()?.connect(place, true)
-    }
-
     /// A connection ends. Whether it was accepted.
-    pub(crate) fn leave(&self, number: usize) -> bool {
-        self.world()
-            .is_some_and(|mut world| world.leave_wire(number))
+    pub(crate) fn leave(&self, number: usize) -> Option<bool> {
+        let mut world = self.world()?;
+        world.end(number, Ending::Gone);
+        Some(world.network.wires.get(number)?.accepted.is_some())
     }
 
     /// Opens a connection of this host, and sends these bytes.
@@ -267,9 +215,10 @@ impl<'a> Scene<'a> {
 
     /// It is to end, and tells this fault, or none: by when.
     pub(crate) fn begin_end(&mut self, failure: Option<Failure>) -> Option<u64> {
-        self.judge_failure(failure)?;
-        self.is_ending = true;
         let mut world = self.world()?;
+        let is_right = is_right(&world.weather, failure, self.scenario.may_end);
+        self.check(is_right, "it tells another reason than why it ends");
+        self.is_ending = true;
         world.calm();
         Some(world.now.saturating_add(END_US))
     }

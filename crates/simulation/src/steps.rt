@@ -24,10 +24,12 @@ pub struct Stepped<'a, L: Ledger, R: Wait + Drop> {
 }
 
 impl<L: Ledger, R: Wait + Drop> Stepped<'_, L, R> {
-    /// The connection of a link, and whether there is news of it.
+    /// The connection of a link, and whether bytes were reported that were not read.
     fn connection(&self, key: u64) -> Option<(usize, bool)> {
-        let stream = self.source.held(key)?.stream();
-        Some((stream.number(), stream.has_news()))
+        let number = self.source.held(key)?.stream().number;
+        let world = self.world.try_borrow().ok()?;
+        let wire = world.network.wires.get(number)?;
+        Some((number, wire.is_reported && !wire.up.is_empty()))
     }
 }
 

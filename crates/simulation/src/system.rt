@@ -1,5 +1,5 @@
 //! The world as a daemon's system: its streams, its polls, its clock and its disk.
-use crate::times::file_of;
+use crate::polls::EVENTS_MOST;
 use crate::world::{LISTENERS, World};
 use portmap_worker::{Host, Interest, Notice, RecordFile, Report, Stream, System, Wake};
 use std::alloc::Global;
@@ -42,25 +42,8 @@ fn borrow(world: &SharedWorld) -> io::Result<RefMut<'_, World>> {
 /// The daemon's end of a connection.
 pub struct SimStream {
     world: SharedWorld,
-    number: usize,
-}
-
-impl SimStream {
     /// Which connection it is.
-    pub fn number(&self) -> usize {
-        self.number
-    }
-
-    /// Whether bytes were reported that were not read.
-    pub fn has_news(&self) -> bool {
-        match self.world.try_borrow() {
-            Ok(world) => {
-                let wire = world.wires.get(self.number);
-                wire.is_some_and(|wire| wire.is_reported && !wire.up.is_empty())
-            }
-            Err(_) => false,
-        }
-    }
+    pub number: usize,
 }
 
 impl Drop for SimStream {
@@ -120,7 +103,9 @@ impl SimThread {
 impl Wake for SimThread {
     fn wake(&self) {
         if let Ok(mut world) = self.world.try_borrow_mut() {
-            world.wake(self.thread);
+            if let Some(thread) = world.threads.get_mut(self.thread) {
+                thread.is_woken = true;
+            }
         }
     }
 }
@@ -135,11 +120,12 @@ impl System for SimThread {
     }
 
     fn report(&self, place: usize) -> Option<Report> {
-        self.world.try_borrow().ok()?.report(self.thread, place)
+        let world = self.world.try_borrow().ok()?;
+        world.threads.get(self.thread)?.reports.get(place).copied()
     }
 
     fn is_full(&self) -> bool {
-        borrow(&self.world).is_ok_and(|world| world.is_full(self.thread))
+        self.report(EVENTS_MOST - 1).is_some()
     }
 
     fn watch(
@@ -202,12 +188,7 @@ impl Write for SimFile {
 impl RecordFile for SimFile {
     fn cut(&mut self, size: u64) {
         if let Ok(mut world) = self.world.try_borrow_mut() {
-            let size = size as usize;
-            if self.is_of_times {
-                world.times.cut(self.number, size);
-            } else {
-                world.cut(self.number, size);
-            }
+            world.cut(self.number, size as usize, self.is_of_times);
         }
     }
 
@@ -244,7 +225,7 @@ impl<R: Wait + Drop> Host for SimHost<R> {
 
     fn make(&self, path: &str) -> io::Result<SimFile> {
         let world = self.world.clone()?;
-        let times = file_of(path);
+        let times = path.strip_suffix(".times");
         let number = match times {
             Some(path) => borrow(&self.world)?.make_times(path)?,
             None => borrow(&self.world)?.make(path)?,

@@ -83,16 +83,18 @@ pub type Chances = &'static [(Fault, u32)];
 /// How often each has happened.
 pub type FaultCounts = [u32; 32];
 
-/// The weather: what may happen, and how often each has.
+/// The weather: the choices of a seed, what may happen by them, and how often each has.
 #[derive(Drop)]
 pub struct Weather {
+    pub random: Random,
     chances: Chances,
     pub happened: FaultCounts,
 }
 
 impl Weather {
-    pub fn new(chances: Chances) -> Weather {
+    pub fn new(seed: u64, chances: Chances) -> Weather {
         Weather {
+            random: Random::new(seed),
             chances,
             happened: [0; 32],
         }
@@ -104,12 +106,11 @@ impl Weather {
     }
 
     /// Whether a fault happens now.
-    pub fn happens(&mut self, random: &mut Random, fault: Fault) -> bool {
+    pub fn happens(&mut self, fault: Fault) -> bool {
         for (each, per_mille) in self.chances {
-            if *each == fault && random.happens(*per_mille) {
-                if let Some(count) = self.happened.get_mut(fault as usize) {
-                    *count = count.saturating_add(1);
-                }
+            if *each == fault && self.random.happens(*per_mille) {
+                let count = &mut self.happened[fault as usize];
+                *count = count.saturating_add(1);
                 return true;
             }
         }
@@ -118,7 +119,7 @@ impl Weather {
 
     /// Whether a fault has happened.
     pub fn has_happened(&self, fault: Fault) -> bool {
-        self.happened.get(fault as usize).copied().unwrap_or(0) > 0
+        self.happened[fault as usize] > 0
     }
 
     /// Whether each fault that may happen has.

@@ -1,7 +1,7 @@
 //! A connection, with both of its ends.
 ghost use Rattle.std.specs.Prelude.{◌≤◌, length};
 
-use crate::world::Ending;
+use crate::network::Ending;
 use portmap_worker::Report;
 use std::alloc::Global;
 use std::collections::VecDeque;
@@ -167,10 +167,7 @@ impl Wire {
 
     /// What the peer has sent is there, and its end. Whether there is memory for it.
     pub fn arrive(&mut self, now: u64, bytes: &[u8], end: Option<Ending>) -> bool {
-        let mut is_kept = true;
-        for byte in bytes {
-            is_kept = self.up.push_back(*byte).is_ok() && is_kept;
-        }
+        let is_kept = self.up.extend(bytes.iter().copied()).is_ok();
         self.is_up_ended = self.is_up_ended || end.is_some();
         self.is_gone = self.is_gone || end == Some(Ending::Gone);
         let mut is_due = self.is_read_due;
@@ -211,16 +208,12 @@ impl Wire {
         if is_unread { self.worker() } else { None }
     }
 
-    /// The daemon sends the first of these bytes, so many. Whether there is memory for them.
-    pub fn put(&mut self, bytes: &[u8], count: usize) -> bool {
-        let mut is_kept = true;
-        for byte in bytes.iter().take(count) {
-            is_kept = self.down.push_back(*byte).is_ok() && is_kept;
-        }
+    /// The daemon sends these bytes. Whether there is memory for them.
+    pub fn put(&mut self, bytes: &[u8]) -> bool {
         self.has_peer_news = true;
         // Who has gone answers what comes by a reset.
         self.is_reset = self.is_gone;
-        is_kept
+        self.down.extend(bytes.iter().copied()).is_ok()
     }
 
     /// It is watched, for writing too or not. Whether it was not before.
@@ -238,13 +231,9 @@ impl Wire {
     /// The peer reads so many bytes at most. Whether there is memory for them.
     pub fn receive(&mut self, now: u64, most: usize) -> bool {
         let was_full = most > 0 && !self.is_writable();
-        let mut is_kept = true;
+        let count = most.min(self.down.len());
+        let is_kept = self.received.extend(self.down.drain(..count)).is_ok();
         self.has_peer_news = false;
-        for _ in 0..most.min(self.down.len()) {
-            if let Some(byte) = self.down.pop_front() {
-                is_kept = self.received.push(byte).is_ok() && is_kept;
-            }
-        }
         if was_full {
             self.note_news(now, self.is_room_due);
         }

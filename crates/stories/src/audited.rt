@@ -1,11 +1,10 @@
 //! Recorded sessions in several files, judged as one.
-use crate::call::marked;
 use crate::devices::plan;
 use crate::words::{by_name, bytes, number, text};
 use anyhow::Result;
 use portmap_record::{AuditFault, Audited, PlayFault, audit};
-use portmap_testing::marks::begin;
-use portmap_testing::tape::{DevicePlan, Tape};
+use portmap_testing::marked;
+use portmap_testing::tape::Tape;
 use std::alloc::Global;
 use std::collections::VecDeque;
 
@@ -15,18 +14,12 @@ pub fn audited(alloc: Global, device: &str, turns: &str, words: &[&str]) -> Resu
     for word in words {
         files.push(bytes(alloc, word)?)?;
     }
-    let inputs = tapes(alloc, plan(device)?, &files)?;
-    let turns = number(turns)?;
-    begin(alloc);
-    told(alloc, marked(alloc, audit(alloc, inputs, turns)))
-}
-
-fn tapes(alloc: Global, plan: DevicePlan, files: &[Vec<u8>]) -> Result<VecDeque<Tape<'_>>> {
-    let mut tapes = VecDeque::new(alloc);
-    for file in files {
-        tapes.push_back(Tape::new(alloc, file, plan))?;
+    let (plan, turns) = (plan(device)?, number(turns)?);
+    let mut inputs = VecDeque::new(alloc);
+    for file in &files {
+        inputs.push_back(Tape::new(alloc, file, plan))?;
     }
-    Ok(tapes)
+    told(alloc, marked!(alloc, audit(alloc, inputs, turns)))
 }
 
 /// Want of memory is told without the file, as by every call.

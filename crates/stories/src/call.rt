@@ -3,12 +3,12 @@ use crate::devices::{device, plan};
 use crate::lists::{dumped, listed};
 use crate::played::played;
 use crate::requests::{Fields, registration};
-use crate::words::{Digits, by_name, bytes, digits_of, name, number, shown, text, wrong};
-use anyhow::Result;
+use crate::words::{Digits, by_name, bytes, name, number, shown, text, wrong};
+use anyhow::{Result, ensure};
 use portmap_client::{ClientFault, Registration, dump, kill, lookup, names, stop};
 use portmap_link::{Input, Outbox, Output, send, write_reply};
-use portmap_testing::marks::{begin, end};
-use portmap_testing::tape::{DevicePlan, Fountain, STEADY, Tape};
+use portmap_testing::marked;
+use portmap_testing::tape::{DevicePlan, STEADY, Tape};
 use portmap_wire::Reg;
 use std::alloc::Global;
 
@@ -54,7 +54,8 @@ impl Calls {
     ) -> Result<String> {
         let mut tape = device(alloc, gives, plan, 10_000)?;
         if let ["register", port, name, extra] = *call {
-            return self.registered(alloc, &node(alloc, port, name, extra)?, tape);
+            let node = registration(alloc, number(port)?, 6, name, &bytes(alloc, extra)?)?;
+            return self.registered(alloc, &node, tape);
         }
         let says = asked(alloc, &mut tape, call)?;
         self.wrote(alloc, says.as_str(), &tape)
@@ -62,10 +63,7 @@ impl Calls {
 
     /// The same of a registration: the creation that it gives, or why it gives none.
     fn registered(&mut self, alloc: Global, node: &Reg, tape: Tape<'_>) -> Result<String> {
-        begin(alloc);
-        let made = Registration::make(alloc, tape, node);
-        end(alloc);
-        match made {
+        match marked!(alloc, Registration::make(alloc, tape, node)) {
             Ok(registration) => {
                 let says = format!(in alloc; "{}", registration.creation())?;
                 self.wrote(alloc, says.as_str(), &registration.leave())
@@ -76,30 +74,24 @@ impl Calls {
 
     /// The same of what it says. Where memory is refused to it, a front of what it writes is written.
     fn wrote(&mut self, alloc: Global, says: &str, tape: &Tape<'_>) -> Result<String> {
-        if !tape.sink.starts_with(&self.begun) {
-            return wrong("a refusal has written something else");
-        }
+        let is_so = tape.sink.starts_with(&self.begun);
+        ensure!(is_so, "a refusal has written something else");
         self.begun.clear();
         if says == "NoMemory" {
             self.begun.extend_from_slice(&tape.sink)?;
         }
-        text(format!(in alloc;
-            "{says} wrote {} left {}",
-            Digits(&tape.sink),
-            Digits(tape.source)
-        ))
-    }
-
-    /// Turns to another device, for which no bytes wait.
-    fn turn_to(&mut self, alloc: Global, plan: DevicePlan) {
-        self.output = Tape::new(alloc, &[], plan);
-        self.outbox = Outbox::new(alloc);
+        let (sink, left) = (Digits(&tape.sink), Digits(tape.source));
+        text(format!(in alloc; "{says} wrote {sink} left {left}"))
     }
 
     /// What comes of bytes that wait for a device.
     fn sent(&mut self, alloc: Global, words: &[&str]) -> Result<String> {
         match *words {
-            ["to", device] => self.turn_to(alloc, plan(device)?),
+            // Another device, for which no bytes wait.
+            ["to", device] => {
+                self.output = Tape::new(alloc, &[], plan(device)?);
+                self.outbox = Outbox::new(alloc);
+            }
             ["push", word] => self.outbox.push(&bytes(alloc, word)?)?,
             ["flush"] => {
                 let flush = self.outbox.flush(&mut self.output);
@@ -110,61 +102,36 @@ impl Calls {
                 return text(format!(in alloc; "{count} {flush:?}"));
             }
             ["tell", word, turns] => {
-                let turns = number(turns)?;
-                return shown(
-                    alloc,
-                    write_reply(&mut self.output, &bytes(alloc, word)?, turns),
-                );
+                let (reply, turns) = (bytes(alloc, word)?, number(turns)?);
+                return shown(alloc, write_reply(&mut self.output, &reply, turns));
             }
-            ["written"] if Output::failed(&self.output) => return text(format!(in alloc;
-                "{} failed",
-                Digits(&self.output.sink)
-            )),
-            ["written"] => return digits_of(alloc, &self.output.sink),
+            ["written"] => {
+                let has_failed = Output::failed(&self.output);
+                let end = if has_failed { " failed" } else { "" };
+                return text(format!(in alloc; "{}{end}", Digits(&self.output.sink)));
+            }
             _ => return wrong("no such act"),
         }
         Ok(String::new(alloc))
     }
 }
 
-/// The node that a call registers.
-fn node(alloc: Global, port: &str, name: &str, extra: &str) -> Result<Reg> {
-    registration(alloc, number(port)?, 6, name, &bytes(alloc, extra)?)
-}
-
 /// What a call over a stream says.
 fn asked<S: Input + Output>(alloc: Global, stream: &mut S, call: &[&str]) -> Result<String> {
     match *call {
-        ["kill"] => {
-            begin(alloc);
-            shown(alloc, marked(alloc, kill(alloc, stream)))
-        }
+        ["kill"] => shown(alloc, marked!(alloc, kill(alloc, stream))),
         ["stop", word] => {
             let name = name(alloc, word)?;
-            begin(alloc);
-            shown(alloc, marked(alloc, stop(alloc, stream, &name)))
+            shown(alloc, marked!(alloc, stop(alloc, stream, &name)))
         }
         ["lookup", word] => {
             let name = name(alloc, word)?;
-            begin(alloc);
-            found(alloc, marked(alloc, lookup(alloc, stream, &name)))
+            found(alloc, marked!(alloc, lookup(alloc, stream, &name)))
         }
-        ["names"] => {
-            begin(alloc);
-            listed(alloc, marked(alloc, names(alloc, stream)))
-        }
-        ["dump"] => {
-            begin(alloc);
-            dumped(alloc, marked(alloc, dump(alloc, stream)))
-        }
+        ["names"] => listed(alloc, marked!(alloc, names(alloc, stream))),
+        ["dump"] => dumped(alloc, marked!(alloc, dump(alloc, stream))),
         _ => wrong("no such call"),
     }
-}
-
-/// What has come, to which memory could be refused.
-pub fn marked<T>(alloc: Global, came: T) -> T {
-    end(alloc);
-    came
 }
 
 /// The fields of the node that is found.
@@ -175,9 +142,13 @@ fn found(alloc: Global, says: Result<Option<Reg>, ClientFault>) -> Result<String
     }
 }
 
-/// What a call over a stream says that gives the letter `a` without end, and how many it takes.
+/// What a call says to which a stream gives the letter `a`, more often than any call may take it, and how many it
+/// takes.
 fn endless(alloc: Global, call: &str) -> Result<String> {
-    let mut stream = Fountain::new();
+    let mut source = Vec::new(alloc);
+    source.resize(20_000_000, b'a')?;
+    let mut stream = Tape::new(alloc, &source, STEADY);
     let says = asked(alloc, &mut stream, &[call])?;
-    text(format!(in alloc; "{says} took {}", stream.given))
+    let taken = source.len().saturating_sub(stream.source.len());
+    text(format!(in alloc; "{says} took {taken}"))
 }

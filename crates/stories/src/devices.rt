@@ -46,16 +46,14 @@ pub fn plan(word: &str) -> Result<DevicePlan> {
         Some((name, call)) => (name, Some(number(call)?)),
         None => (word, None),
     };
-    for (device, most, later) in DEVICES {
-        if *device == name {
-            return Ok(DevicePlan {
-                most: *most,
-                later,
-                fault,
-            });
-        }
+    match DEVICES.iter().find(|device| device.0 == name) {
+        Some((_, most, later)) => Ok(DevicePlan {
+            most: *most,
+            later,
+            fault,
+        }),
+        None => unknown("no device", word),
     }
-    unknown("no device", word)
 }
 
 /// A device that gives these bytes, and takes so many without memory.

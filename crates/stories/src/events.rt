@@ -6,50 +6,49 @@ use std::alloc::Global;
 
 /// The event that words tell of.
 pub fn event(alloc: Global, words: &[&str]) -> Result<Event> {
-    Ok(match *words {
-        ["connect", whence] => Event::Connect {
-            local: is_local(whence)?,
-        },
-        ["piece", slot, "get", piece] => Event::Piece {
-            slot: number(slot)?,
-            bytes: bytes(alloc, piece)?,
-        },
-        ["close", slot] => Event::Close {
-            slot: number(slot)?,
-        },
-        ["fault", slot] => Event::Fault {
-            slot: number(slot)?,
-        },
-        ["late", slot] => Event::Late {
-            slot: number(slot)?,
-        },
+    let [act, word, ref rest @ ..] = *words else {
+        return wrong("no such act");
+    };
+    if act == "connect" && rest.is_empty() {
+        let local = is_local(word)?;
+        return Ok(Event::Connect { local });
+    }
+    let slot = number(word)?;
+    Ok(match (act, rest) {
+        ("piece", ["get", piece]) => {
+            let bytes = bytes(alloc, piece)?;
+            Event::Piece { slot, bytes }
+        }
+        ("close", []) => Event::Close { slot },
+        ("fault", []) => Event::Fault { slot },
+        ("late", []) => Event::Late { slot },
         _ => return wrong("no such act"),
     })
 }
 
 /// The entry that words tell of.
 pub fn entry(alloc: Global, words: &[&str]) -> Result<Entry> {
-    Ok(match *words {
-        ["connect", slot, whence] => Entry::Connected {
-            local: is_local(whence)?,
-            slot: number(slot)?,
-        },
-        ["piece", slot, "get", piece, "say", reply, then] => Entry::Piece {
-            slot: number(slot)?,
+    let [act, word, ref rest @ ..] = *words else {
+        return wrong("no such entry");
+    };
+    let slot = number(word)?;
+    Ok(match (act, rest) {
+        ("connect", [whence]) => {
+            let local = is_local(whence)?;
+            Entry::Connected { local, slot }
+        }
+        ("piece", ["get", piece, "say", reply, then]) => Entry::Piece {
+            slot,
             fate: fate(then)?,
             bytes: bytes(alloc, piece)?,
             reply: bytes(alloc, reply)?,
         },
-        ["close", slot] => Entry::Closed {
-            slot: number(slot)?,
-        },
-        ["fault", slot] => Entry::Faulted {
-            slot: number(slot)?,
-        },
-        ["late", slot, then] => Entry::Late {
-            slot: number(slot)?,
-            fate: fate(then)?,
-        },
+        ("close", []) => Entry::Closed { slot },
+        ("fault", []) => Entry::Faulted { slot },
+        ("late", [then]) => {
+            let fate = fate(then)?;
+            Entry::Late { slot, fate }
+        }
         _ => return wrong("no such entry"),
     })
 }

@@ -2,7 +2,7 @@
 use crate::words::{Digits, bytes, number, text, wrong};
 use anyhow::{Result, ensure};
 use portmap_feed::{Feed, Seen};
-use portmap_testing::marks::{begin, end};
+use portmap_testing::marked;
 use std::alloc::Global;
 
 /// What has come of one stream: in the pieces of a story, and byte by byte.
@@ -46,12 +46,9 @@ impl Pieces {
     /// What is seen of a piece, none where memory is refused: that is only before the length is known.
     fn push(&mut self, alloc: Global, piece: &[u8]) -> Result<Option<Seen>> {
         let is_known = self.whole.kept().len() >= 2;
-        begin(alloc);
-        let seen = self.whole.push(piece);
-        end(alloc);
-        if seen.is_err() && is_known {
-            return wrong("memory was asked for once the length was known");
-        }
+        let seen = marked!(alloc, self.whole.push(piece));
+        let is_due = seen.is_ok() || !is_known;
+        ensure!(is_due, "memory was asked for once the length was known");
         let Ok(seen) = seen else { return Ok(None) };
         let mut last = self.single.push(&[]);
         for byte in piece {
@@ -63,9 +60,8 @@ impl Pieces {
 
     /// What is seen once all but the first bytes are taken back.
     fn cut(&mut self, len: usize) -> Result<Option<Seen>> {
-        if self.whole.kept().len() < len || self.single.kept().len() < len {
-            return wrong("fewer bytes are kept");
-        }
+        let least = self.whole.kept().len().min(self.single.kept().len());
+        ensure!(len <= least, "fewer bytes are kept");
         self.whole.cut(len);
         self.single.cut(len);
         Ok(self.whole.push(&[]).ok())

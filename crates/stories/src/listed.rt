@@ -2,7 +2,7 @@
 use crate::events::entry;
 use crate::session::written;
 use crate::words::{by_name, bytes_told, digits_of, number, text, wanted, wrong};
-use anyhow::Result;
+use anyhow::{Result, ensure};
 use portmap_core::{Config, Entry};
 use portmap_record::{
     Record, Verdict, Version, read_record, transcript, verdict_line, without_remote, write_entries,
@@ -26,18 +26,19 @@ pub fn came(alloc: Global, entries: &mut Vec<Entry>, words: &[&str]) -> Result<S
             alloc,
             &verdict_line(alloc, number(count)?, verdict_of(verdict)?)?,
         ),
-        ["left"] => left(alloc, entries),
-        ["entries", ref numbers @ ..] => entries_told(alloc, entries, &workers(alloc, numbers)?),
+        ["left"] => {
+            let left = without_remote(alloc, entries)?;
+            digits_of(alloc, &transcript(alloc, &left, Verdict::Run)?)
+        }
+        ["entries", ref numbers @ ..] => {
+            let workers = workers(alloc, numbers)?;
+            let workers = (!workers.is_empty()).then_some(workers.as_slice());
+            bytes_told(alloc, write_entries(alloc, entries, workers))
+        }
         ["record"] => written(alloc, &recorded(alloc, entries)?),
         ["size"] => size(alloc, &recorded(alloc, entries)?),
         _ => wrong("no such act"),
     }
-}
-
-/// The transcript of what is left without remote peers.
-fn left(alloc: Global, entries: &[Entry]) -> Result<String> {
-    let left = without_remote(alloc, entries)?;
-    digits_of(alloc, &transcript(alloc, &left, Verdict::Run)?)
 }
 
 /// The settings of a session: port 4369, not relaxed, two connections and two names at most.
@@ -63,29 +64,16 @@ pub fn workers(alloc: Global, words: &[&str]) -> Result<Vec<u32>> {
     Ok(workers)
 }
 
-/// The bytes of entries, by these workers if there are any, or why there are none.
-fn entries_told(alloc: Global, entries: &[Entry], workers: &[u32]) -> Result<String> {
-    bytes_told(
-        alloc,
-        write_entries(alloc, entries, (!workers.is_empty()).then_some(workers)),
-    )
-}
-
 /// How many bytes a record has, which are read as its entries; or why there are none.
 fn size(alloc: Global, session: &Record) -> Result<String> {
-    match write_record(alloc, session) {
-        Ok(written) => size_of(alloc, session, &written),
-        Err(fault) => by_name(alloc, &fault),
-    }
-}
-
-fn size_of(alloc: Global, session: &Record, written: &[u8]) -> Result<String> {
-    match read_record(alloc, written) {
-        Ok(again) if again.entries.as_slice() == session.entries.as_slice() => text(
-            format!(in alloc; "{}", written.len()),
-        ),
-        _ => wrong("it is read otherwise"),
-    }
+    let written = match write_record(alloc, session) {
+        Ok(written) => written,
+        Err(fault) => return by_name(alloc, &fault),
+    };
+    let again = wanted(read_record(alloc, &written), "it is read otherwise")?;
+    let is_same = again.entries.as_slice() == session.entries.as_slice();
+    ensure!(is_same, "it is read otherwise");
+    text(format!(in alloc; "{}", written.len()))
 }
 
 fn verdict_of(words: &[&str]) -> Result<Verdict> {

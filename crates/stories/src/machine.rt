@@ -12,7 +12,7 @@ use portmap_book::{ActFault, Book, Segment, Ticket, gather};
 use portmap_core::{
     Answer, Config, Core, Entry, Event, Ip, Refusal, Replay, State, is_local, name_to_register,
 };
-use portmap_testing::marks::{begin, end};
+use portmap_testing::marked;
 use std::alloc::Global;
 use std::mem;
 
@@ -63,32 +63,26 @@ impl Machine {
 
     /// What comes of an act.
     pub fn came(&mut self, alloc: Global, words: &[&str]) -> Result<String> {
-        let act = words.first().copied().unwrap_or("");
-        match act {
-            "with" => self.set(alloc, words),
-            "keep" => self.keep(alloc),
-            "as" | "follow" => self.turn(alloc, words),
-            "seal" | "segment" => self.sealed(alloc, words),
-            "advance" => self.advanced(alloc),
-            "may" => self.may(alloc, words),
-            "connect" | "piece" | "close" | "fault" | "late" => self.event(alloc, words),
-            _ => self.look(alloc, words),
+        match *words {
+            ["with", ref settings @ ..] => return self.set(alloc, settings),
+            ["keep"] => self.kept = self.book.core().state(alloc)?,
+            ["as", worker] => self.worker = number(worker)?,
+            ["follow"] => self.is_followed = true,
+            ["seal"] => return self.sealed(alloc, false),
+            ["segment"] => return self.sealed(alloc, true),
+            ["advance"] => return self.advanced(alloc),
+            ["may", ref words @ ..] => return self.may(alloc, words),
+            ["connect" | "piece" | "close" | "fault" | "late", ..] => return self.event(
+                alloc, words,
+            ),
+            _ => return self.look(alloc, words),
         }
+        Ok(String::new(alloc))
     }
 
     /// Begins anew with these settings, or says why they are none.
     fn set(&mut self, alloc: Global, words: &[&str]) -> Result<String> {
-        let [
-            "with",
-            checks,
-            "conn",
-            conn_max,
-            "known",
-            known_max,
-            "first",
-            first,
-        ] = *words
-        else {
+        let [checks, "conn", conn_max, "known", known_max, "first", first] = *words else {
             return wrong("no such settings");
         };
         let (conn_max, known_max) = (number(conn_max)?, number(known_max)?);
@@ -104,22 +98,6 @@ impl Machine {
         let kept = mem::replace(&mut self.kept, State::empty(alloc));
         *self = Machine::of(alloc, config, first, kept)?;
         ensure!(*self.book.core().config() == config, "it is set otherwise");
-        Ok(String::new(alloc))
-    }
-
-    /// Keeps the state as it is.
-    fn keep(&mut self, alloc: Global) -> Result<String> {
-        self.kept = self.book.core().state(alloc)?;
-        Ok(String::new(alloc))
-    }
-
-    /// Turns to another worker, or has the base follow.
-    fn turn(&mut self, alloc: Global, words: &[&str]) -> Result<String> {
-        match *words {
-            ["as", worker] => self.worker = number(worker)?,
-            ["follow"] => self.is_followed = true,
-            _ => return wrong("no such act"),
-        }
         Ok(String::new(alloc))
     }
 
@@ -142,7 +120,7 @@ impl Machine {
     /// Whether an entry may be recorded next. The state stays as it is.
     fn may(&self, alloc: Global, words: &[&str]) -> Result<String> {
         let core = self.book.core();
-        let entry = entry(alloc, words.get(1..).unwrap_or(&[]))?;
+        let entry = entry(alloc, words)?;
         let moved = moves(alloc, core.config(), &core.state(alloc)?, &entry)?;
         answer(alloc, moved)
     }
@@ -181,13 +159,10 @@ impl Machine {
     }
 
     /// The place of the first entry that is sealed, and how many are; or the bytes of their record, which begins there.
-    fn sealed(&mut self, alloc: Global, words: &[&str]) -> Result<String> {
+    fn sealed(&mut self, alloc: Global, is_whole: bool) -> Result<String> {
         let (first, len) = (self.book.first(), self.book.log().len());
-        begin(alloc);
-        let sealed = self.book.seal(alloc);
-        end(alloc);
-        match sealed {
-            Ok(segment) => self.take(alloc, segment, words == ["segment"].as_slice()),
+        match marked!(alloc, self.book.seal(alloc)) {
+            Ok(segment) => self.take(alloc, segment, is_whole),
             Err(_) if (self.book.first(), self.book.log().len()) == (first, len) => text(
                 String::from_str(alloc, "NoMemory"),
             ),
@@ -233,40 +208,37 @@ impl Machine {
     /// What the book answers to an event: at the next place of its log. The replay moves by its entry.
     fn acted(&mut self, alloc: Global, event: Event) -> Result<Result<Answer, Refusal>> {
         let count = self.book.count();
-        begin(alloc);
-        let acted = self.book.act(alloc, self.worker, event);
-        end(alloc);
-        match acted {
-            Ok((place, answer)) => {
-                self.follow(alloc, place == count)?;
+        match marked!(alloc, self.book.act(alloc, self.worker, event)) {
+            Ok((place, answer)) if place == count => {
+                let entry = self.book.log().last().context("it is not logged")?;
+                ensure!(self.replay.step(alloc, entry)?, "a replay does not follow");
                 Ok(Ok(answer))
             }
             Err(ActFault::Refused(refusal)) => Ok(Err(refusal)),
-            Err(_) => wrong("it is logged at another place"),
+            _ => wrong("it is logged at another place"),
         }
-    }
-
-    /// Moves the replay by the last entry of the log, if that stands in its place.
-    fn follow(&mut self, alloc: Global, is_in_place: bool) -> Result<()> {
-        ensure!(is_in_place, "it is logged at another place");
-        let entry = self.book.log().last().context("it is not logged")?;
-        ensure!(self.replay.step(alloc, entry)?, "a replay does not follow");
-        Ok(())
     }
 
     /// Whether its log leads from its base to where it stands.
     pub fn stands(&self, alloc: Global) -> Result<bool> {
         let (book, core) = (&self.book, self.book.core());
         let is_counted = book.count() == book.first().saturating_add(book.log().len() as u64);
-        match Replay::of(alloc, *core.config(), book.base())? {
-            Some(replay) => Ok(is_counted && ends(alloc, replay, book.log(), core)?),
-            None => Ok(false),
+        let Some(mut replay) = Replay::of(alloc, *core.config(), book.base())? else {
+            return Ok(false);
+        };
+        for entry in book.log() {
+            if !replay.step(alloc, entry)? {
+                return Ok(false);
+            }
         }
+        let state = replay.into_state(alloc)?;
+        Ok(is_counted && is_at(alloc, core, &state)?)
     }
 
-    /// What is wrong at the end, if anything is.
+    /// What is wrong at the end, if anything is. None is left of the replay.
     pub fn ended(&mut self, alloc: Global) -> Result<()> {
-        let replayed = self.replayed(alloc)?;
+        let none = Replay::new(alloc, *self.book.core().config())?;
+        let replayed = mem::replace(&mut self.replay, none).into_state(alloc)?;
         let is_so = self.stands(alloc)? && is_at(alloc, self.book.core(), &replayed)?;
         ensure!(is_so, "the machine stands otherwise than what followed it");
         self.is_run(alloc)?;
@@ -277,18 +249,11 @@ impl Machine {
         is_recorded(alloc, &self.book, self.lines.as_str())
     }
 
-    /// The state that the replay has come to. None is left of it.
-    fn replayed(&mut self, alloc: Global) -> Result<State> {
-        let none = Replay::new(alloc, *self.book.core().config())?;
-        Ok(mem::replace(&mut self.replay, none).into_state(alloc)?)
-    }
-
     /// Fails unless its state is that of its parts, and a run comes to it.
     fn is_run(&self, alloc: Global) -> Result<()> {
         let (config, state) = (self.book.core().config(), self.book.core().state(alloc)?);
-        if !is_built_again(alloc, config, &state)? {
-            return wrong("its state is not that of its parts");
-        }
+        let is_so = is_built_again(alloc, config, &state)?;
+        ensure!(is_so, "its state is not that of its parts");
         runs_so(alloc, *config, self.first, &self.told, &state)
     }
 
@@ -308,9 +273,10 @@ impl Machine {
 fn moves(alloc: Global, config: &Config, before: &State, entry: &Entry) -> Result<bool> {
     let mut state = before.try_copy(alloc)?;
     let moved = state.step(alloc, config, entry)?;
-    if !moved && !state.same(before) {
-        return wrong("a state moves by what may not be");
-    }
+    ensure!(
+        moved || state.same(before),
+        "a state moves by what may not be"
+    );
     let replayed = replays(alloc, *config, before, entry, &state)?;
     ensure!(replayed == moved, "a replay moves otherwise");
     Ok(moved)
@@ -327,23 +293,6 @@ fn replays(alloc: Global, config: Config, from: &State, entry: &Entry, to: &Stat
     Ok(moved)
 }
 
-/// Whether a replay moves by all these entries, and comes to where a machine stands.
-fn ends(alloc: Global, mut replay: Replay, entries: &[Entry], core: &Core) -> Result<bool> {
-    let follows = steps(alloc, &mut replay, entries)?;
-    let state = replay.into_state(alloc)?;
-    Ok(follows && is_at(alloc, core, &state)?)
-}
-
-/// Whether a replay moves by all these entries.
-fn steps(alloc: Global, replay: &mut Replay, entries: &[Entry]) -> Result<bool> {
-    for entry in entries {
-        if !replay.step(alloc, entry)? {
-            return Ok(false);
-        }
-    }
-    Ok(true)
-}
-
 /// The entry of a line of a transcript.
 fn entry_of(alloc: Global, line: &str) -> Result<Entry> {
     let words: Vec<&str> = line.split_whitespace().skip(1).collect(alloc)?;
@@ -354,7 +303,7 @@ fn entry_of(alloc: Global, line: &str) -> Result<Entry> {
 fn phase(alloc: Global, core: &Core, slot: u64) -> Result<String> {
     match core.phase(slot) {
         Some(phase) => by_name(alloc, &phase),
-        None => text(String::from_str(alloc, "-")),
+        None => digits_of(alloc, &[]),
     }
 }
 
@@ -362,22 +311,16 @@ fn phase(alloc: Global, core: &Core, slot: u64) -> Result<String> {
 fn asked(alloc: Global, piece: &[u8]) -> Result<String> {
     match name_to_register(alloc, piece) {
         Some(name) => digits_of(alloc, name.bytes()),
-        None => text(String::from_str(alloc, "-")),
+        None => digits_of(alloc, &[]),
     }
 }
 
 /// The address of these bytes.
 fn address(alloc: Global, word: &str) -> Result<Ip> {
-    match ip(&bytes(alloc, word)?) {
-        Some(ip) => Ok(ip),
-        None => unknown("no address", word),
-    }
-}
-
-fn ip(bytes: &[u8]) -> Option<Ip> {
-    match (bytes.try_into(), bytes.try_into()) {
-        (Ok(four), _) => Some(Ip::V4(four)),
-        (_, Ok(sixteen)) => Some(Ip::V6(sixteen)),
-        _ => None,
+    let bytes = bytes(alloc, word)?;
+    match (bytes.as_slice().try_into(), bytes.as_slice().try_into()) {
+        (Ok(four), _) => Ok(Ip::V4(four)),
+        (_, Ok(sixteen)) => Ok(Ip::V6(sixteen)),
+        _ => unknown("no address", word),
     }
 }

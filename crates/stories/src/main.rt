@@ -27,7 +27,7 @@ mod wire;
 mod words;
 mod worker;
 
-use crate::story::{Ended, Story};
+use crate::story::Story;
 use crate::words::Names;
 use anyhow::{Context, Result};
 use std::process::ExitCode;
@@ -48,15 +48,12 @@ fn main(rt: HostRuntime) -> Result<ExitCode> {
 
 /// Tells the stories of a file, and whether all of them hold.
 fn tell_file<R: Wait>(rt: &HostRuntime, host: &R, path: &str, names: &mut Names) -> Result<bool> {
-    let text = text_of(rt, path)?;
-    tell_text(rt, host, path, text.as_str(), names)
+    let text = fs::read_to_string(rt, path).context(format_args!("{path}"))?;
+    tell_all(rt, host, path, text.as_str(), names)
 }
 
-fn text_of(rt: &HostRuntime, path: &str) -> Result<String> {
-    fs::read_to_string(rt, path).context(format_args!("{path}"))
-}
-
-fn tell_text<R: Wait>(
+/// Tells the stories of a text, and whether all of them hold.
+fn tell_all<R: Wait>(
     rt: &HostRuntime,
     host: &R,
     path: &str,
@@ -64,42 +61,15 @@ fn tell_text<R: Wait>(
     names: &mut Names,
 ) -> Result<bool> {
     let mut story = Story::none(host, rt.alloc());
-    tell_all(rt, host, path, text, names, &mut story)
-}
-
-/// Tells the stories of a text, and whether all of them hold.
-fn tell_all<'a, R: Wait>(
-    rt: &HostRuntime,
-    host: &'a R,
-    path: &str,
-    text: &str,
-    names: &mut Names,
-    story: &mut Story<'a, R>,
-) -> Result<bool> {
     let mut all_hold = true;
     for (place, line) in text.lines().enumerate() {
-        all_hold &= tell(rt, host, path, names, story, place.saturating_add(1), line)?;
+        if let Some(next) = Story::begun(host, rt.alloc(), line)? {
+            all_hold &= turn(rt, path, &mut story, next)?;
+        } else if let Some(wrong) = story.wrong(rt.alloc(), names, line)? {
+            println!(rt; "BAD {path}:{} {wrong}", place.saturating_add(1))?;
+        }
     }
-    Ok(turn(rt, path, story, Story::none(host, rt.alloc()))? && all_hold)
-}
-
-/// Tells what is wrong with the line of this number; or, where it begins another story, whether the one before holds.
-fn tell<'a, R: Wait>(
-    rt: &HostRuntime,
-    host: &'a R,
-    path: &str,
-    names: &mut Names,
-    story: &mut Story<'a, R>,
-    number: usize,
-    line: &str,
-) -> Result<bool> {
-    if let Some(next) = Story::begun(host, rt.alloc(), line)? {
-        return turn(rt, path, story, next);
-    }
-    if let Some(wrong) = story.wrong(rt.alloc(), names, line)? {
-        println!(rt; "BAD {path}:{number} {wrong}")?;
-    }
-    Ok(true)
+    Ok(turn(rt, path, &mut story, Story::none(host, rt.alloc()))? && all_hold)
 }
 
 /// Turns to the next story, once it is told that the one before holds, or what is wrong at its end. Whether it holds.
@@ -109,16 +79,7 @@ fn turn<'a, R: Wait>(
     story: &mut Story<'a, R>,
     next: Story<'a, R>,
 ) -> Result<bool> {
-    match mem::replace(story, next).ended(rt.alloc())? {
-        Ended::Nameless => Ok(true),
-        Ended::Well(name) => {
-            println!(rt; "ok {name}")?;
-            Ok(true)
-        }
-        Ended::Badly => Ok(false),
-        Ended::Wrong(wrong) => {
-            println!(rt; "BAD {path}: {wrong}")?;
-            Ok(false)
-        }
-    }
+    let (holds, line) = mem::replace(story, next).ended(rt.alloc(), path)?;
+    print!(rt; "{line}")?;
+    Ok(holds)
 }

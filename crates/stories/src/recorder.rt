@@ -14,19 +14,14 @@ use std::alloc::Global;
 /// What a recorder over a device answers at the header, at two entries and at the others, with the numbers of workers,
 /// and how many puts it makes and bytes it writes, which are a front of these.
 pub fn recorded(alloc: Global, words: &[&str], entries: &[Entry], bytes: &[u8]) -> Result<String> {
-    let ["recorder", device, ref numbers @ ..] = *words else {
+    let [device, ref numbers @ ..] = *words else {
         return wrong("no device");
     };
     let (plan, workers) = (plan(device)?, workers(alloc, numbers)?);
     let mut recorder = Recorder::new(Tape::new(alloc, &[], plan));
-    let answers = answers(alloc, &mut recorder, entries, &workers)?;
-    seen(alloc, answers, recorder.output(), bytes)
-}
-
-fn seen(alloc: Global, answers: [bool; 3], output: &Tape<'_>, bytes: &[u8]) -> Result<String> {
-    let Tape { calls, sink, .. } = output;
+    let [begun, one, two] = answers(alloc, &mut recorder, entries, &workers)?.map(yes);
+    let Tape { calls, sink, .. } = recorder.output();
     ensure!(bytes.starts_with(sink), "other bytes are written");
-    let [begun, one, two] = answers.map(yes);
     text(format!(in alloc; "{begun} {one} {two} puts {calls} bytes {}", sink.len()))
 }
 

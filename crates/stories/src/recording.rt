@@ -1,7 +1,7 @@
 //! Sessions as they are recorded, read, judged and shown.
 use crate::session::record_in;
 use crate::words::{digits_of, text, wanted, wrong};
-use anyhow::Result;
+use anyhow::{Result, ensure};
 use portmap_book::{Book, Segment};
 use portmap_core::Entry;
 use portmap_record::{
@@ -15,9 +15,9 @@ use std::mem;
 /// Fails unless a log is recorded, and its record, in both versions, is a run that is shown by these lines.
 pub fn is_recorded(alloc: Global, book: &Book, lines: &str) -> Result<()> {
     let shown = run_lines(alloc, lines, book.log())?;
-    if transcript(alloc, book.log(), Verdict::Run)?.as_slice() != shown.as_str().as_bytes() {
-        return wrong("its transcript is another one");
-    }
+    let transcript = transcript(alloc, book.log(), Verdict::Run)?;
+    let is_same = transcript.as_slice() == shown.as_bytes();
+    ensure!(is_same, "its transcript is another one");
     let bytes = log_bytes(alloc, book)?;
     is_run(alloc, &bytes, book.log(), shown.as_str())?;
     is_run(alloc, &upgraded(alloc, &bytes)?, book.log(), shown.as_str())
@@ -82,28 +82,21 @@ fn written(alloc: Global, session: &Record) -> Result<Vec<u8>> {
 /// Fails unless bytes are read as the record of these entries, which is a run, is written as these bytes, and is shown
 /// so from one device to another.
 fn is_run(alloc: Global, bytes: &[u8], entries: &[Entry], shown: &str) -> Result<()> {
-    is_record(alloc, &record_in(alloc, bytes)?, bytes, entries)?;
+    let session = record_in(alloc, bytes)?;
+    let is_same = session.entries.as_slice() == entries;
+    ensure!(is_same, "its record has other entries");
+    wanted(check(alloc, &session), "its record is no run")?;
+    let is_same = written(alloc, &session)?.as_slice() == bytes;
+    ensure!(is_same, "its record is written otherwise");
     is_played(alloc, bytes, shown)
-}
-
-/// Fails unless a record has these entries, is a run, and is written as these bytes.
-fn is_record(alloc: Global, session: &Record, bytes: &[u8], entries: &[Entry]) -> Result<()> {
-    if session.entries.as_slice() != entries {
-        return wrong("its record has other entries");
-    }
-    wanted(check(alloc, session), "its record is no run")?;
-    if written(alloc, session)?.as_slice() != bytes {
-        return wrong("its record is written otherwise");
-    }
-    Ok(())
 }
 
 /// Fails unless a recorded session is shown so from one device to another.
 fn is_played(alloc: Global, bytes: &[u8], shown: &str) -> Result<()> {
     let mut input = Tape::new(alloc, bytes, STEADY);
     let mut output = Tape::new(alloc, &[], STEADY);
-    match play(alloc, &mut input, &mut output, 1_000_000) {
-        Ok(true) if output.sink.as_slice() == shown.as_bytes() => Ok(()),
-        _ => wrong("its record is played otherwise"),
-    }
+    let played = play(alloc, &mut input, &mut output, 1_000_000);
+    let is_so = played == Ok(true) && output.sink.as_slice() == shown.as_bytes();
+    ensure!(is_so, "its record is played otherwise");
+    Ok(())
 }

@@ -24,16 +24,12 @@ pub fn read_registered(alloc: Global, reply: &str) -> Result<String> {
 
 /// What an answer to a look-up says, and how that is written; or its fault.
 pub fn read_found(alloc: Global, reply: &str) -> Result<String> {
-    let found = read_port2(alloc, &bytes(alloc, reply)?);
-    match found {
-        Ok(found) => sent(alloc, found.as_ref()),
-        Err(fault) => by_name(alloc, &fault),
-    }
-}
-
-fn sent(alloc: Global, found: Option<&Reg>) -> Result<String> {
-    let written = write_port2(alloc, found)?;
-    match found {
+    let found = match read_port2(alloc, &bytes(alloc, reply)?) {
+        Ok(found) => found,
+        Err(fault) => return by_name(alloc, &fault),
+    };
+    let written = write_port2(alloc, found.as_ref())?;
+    match &found {
         Some(reg) => text(format!(in alloc; "{} sent {}", Fields(reg), Digits(&written))),
         None => text(format!(in alloc; "None sent {}", Digits(&written))),
     }

@@ -1,6 +1,6 @@
 //! Names, registrations and requests as bytes.
 use crate::words::{Digits, answer, by_name, bytes, digits_of, name, number, text, wanted, wrong};
-use anyhow::Result;
+use anyhow::{Result, ensure};
 use portmap_wire::{
     ExtraFault, Name, Reg, Request, read_request, write_lookup, write_registration, write_request,
     write_stop,
@@ -57,36 +57,22 @@ fn sent(alloc: Global, request: &Request) -> Result<Vec<u8>, AllocError> {
 
 /// What a body asks and how that is sent, or why it is no request.
 pub fn asked(alloc: Global, word: &str) -> Result<String> {
-    let request = read_request(alloc, &bytes(alloc, word)?);
-    match request {
-        Ok(request) => asked_and_sent(alloc, &request),
-        Err(fault) => by_name(alloc, &fault),
-    }
-}
-
-/// What a request asks and how it is sent.
-fn asked_and_sent(alloc: Global, request: &Request) -> Result<String> {
-    let written = write_request(alloc, request)?;
-    if sent(alloc, request)?.as_slice() != written.as_slice() {
-        return wrong("it is sent in two ways");
-    }
-    text(format!(in alloc; "{} sent {}", asks(alloc, request)?, Digits(&written)))
+    let request = match read_request(alloc, &bytes(alloc, word)?) {
+        Ok(request) => request,
+        Err(fault) => return by_name(alloc, &fault),
+    };
+    let written = write_request(alloc, &request)?;
+    let is_same = sent(alloc, &request)?.as_slice() == written.as_slice();
+    ensure!(is_same, "it is sent in two ways");
+    text(format!(in alloc; "{} sent {}", asks(alloc, &request)?, Digits(&written)))
 }
 
 /// Whether two bodies ask of equal names, or register equal nodes.
 pub fn are_equal(alloc: Global, one: &str, other: &str) -> Result<String> {
-    let are_same = are_same(&read(alloc, one)?, &read(alloc, other)?);
-    match are_same {
-        Some(is_so) => answer(alloc, is_so),
-        None => wrong("no two look-ups or registrations"),
-    }
-}
-
-fn are_same(one: &Request, other: &Request) -> Option<bool> {
-    match (one, other) {
-        (Request::Port(name), Request::Port(wanted)) => Some(name == wanted),
-        (Request::Alive(reg), Request::Alive(wanted)) => Some(reg == wanted),
-        _ => None,
+    match (read(alloc, one)?, read(alloc, other)?) {
+        (Request::Port(name), Request::Port(wanted)) => answer(alloc, name == wanted),
+        (Request::Alive(reg), Request::Alive(wanted)) => answer(alloc, reg == wanted),
+        _ => wrong("no two look-ups or registrations"),
     }
 }
 

@@ -1,9 +1,10 @@
 //! All events of a story at once, as one run.
 use crate::events::{came_of, event};
 use crate::words::wrong;
-use anyhow::{Result, bail};
+use anyhow::{Result, ensure};
 use portmap_core::{Answer, Config, Core, Event, Refusal, State};
-use portmap_testing::marks::{begin, end, was_refused};
+use portmap_testing::marked;
+use portmap_testing::marks::was_refused;
 use std::alloc::Global;
 
 /// An event, and what came of it.
@@ -44,9 +45,7 @@ pub fn is_at(alloc: Global, core: &Core, state: &State) -> Result<bool> {
 /// What a run tells of all events. One that is refused as a whole has changed nothing, and is made once more.
 fn results_of(alloc: Global, core: &mut Core, told: &[Happened]) -> Result<Results> {
     let events = events_of(alloc, told)?;
-    begin(alloc);
-    let results = core.run(alloc, events);
-    end(alloc);
+    let results = marked!(alloc, core.run(alloc, events));
     let is_refused = was_refused(alloc);
     match results {
         Ok(results) => Ok((results, is_refused)),
@@ -58,47 +57,33 @@ fn results_of(alloc: Global, core: &mut Core, told: &[Happened]) -> Result<Resul
 fn events_of(alloc: Global, told: &[Happened]) -> Result<Vec<Event>> {
     let mut events = Vec::new(alloc);
     for one in told {
-        events.push(event_of(alloc, one.act.as_str())?)?;
+        let words: Vec<&str> = one.act.as_str().split_whitespace().collect(alloc)?;
+        events.push(event(alloc, &words)?)?;
     }
     Ok(events)
 }
 
-fn event_of(alloc: Global, act: &str) -> Result<Event> {
-    let words: Vec<&str> = act.split_whitespace().collect(alloc)?;
-    event(alloc, &words)
-}
-
-/// Whether memory was refused to none of the events, which another machine answers the same.
+/// Whether memory was refused to none of the events. Fails unless another machine answers each of the others like the
+/// run, and it was answered so where memory was refused to none before.
 fn follows(alloc: Global, other: &mut Core, told: &[Happened], results: Results) -> Result<bool> {
     let (results, is_refused) = results;
     let mut is_whole = true;
     for (one, (event, outcome)) in told.iter().zip(results) {
-        let came = came_of(alloc, one.act.as_str(), &outcome)?;
+        let act = one.act.as_str();
+        let came = came_of(alloc, act, &outcome)?;
         if is_refused && came.as_str() == "NoMemory" {
             is_whole = false;
-        } else {
-            answers(alloc, other, one, event, came.as_str(), is_whole)?;
+            continue;
         }
+        let again = came_of(alloc, act, &other.event(alloc, event))?;
+        ensure!(
+            again == came,
+            "a machine answers {act} otherwise than a run"
+        );
+        ensure!(
+            !is_whole || one.came == came,
+            "a run answers {act} otherwise"
+        );
     }
     Ok(is_whole)
-}
-
-/// Fails unless another machine answers an event like this, and it was answered so where memory was refused to none
-/// before.
-fn answers(
-    alloc: Global,
-    other: &mut Core,
-    one: &Happened,
-    event: Event,
-    came: &str,
-    is_whole: bool,
-) -> Result<()> {
-    let act = one.act.as_str();
-    if came != came_of(alloc, act, &other.event(alloc, event))?.as_str() {
-        bail!("a machine answers {act} otherwise than a run");
-    }
-    if is_whole && came != one.came.as_str() {
-        bail!("a run answers {act} otherwise");
-    }
-    Ok(())
 }

@@ -4,17 +4,18 @@ use crate::listed;
 use crate::listed::workers;
 use crate::played::played;
 use crate::recorder::recorded;
-use crate::states::copied_rows;
+use crate::states::copied;
 use crate::words::{
     Digits, by_name, bytes, bytes_told, digits_of, number, text, unknown, wanted, wrong, yes,
 };
-use anyhow::{Result, bail};
+use anyhow::{Context, Result, ensure};
 use portmap_core::{Entry, State};
 use portmap_record::{
     CheckFault, Form, Record, Version, WriteRecordFault, check, local_record, read_record, upgrade,
     whole_entries, write_record,
 };
-use portmap_testing::marks::{begin, end, was_refused};
+use portmap_testing::marked;
+use portmap_testing::marks::was_refused;
 use std::alloc::Global;
 
 /// A recorded session, and entries to be recorded.
@@ -34,39 +35,31 @@ impl Session {
 
     /// What comes of an act.
     pub fn came(&mut self, alloc: Global, words: &[&str]) -> Result<String> {
-        let act = words.first().copied().unwrap_or("");
-        match act {
-            "bytes" => self.take(alloc, words),
-            "recorded" => self.record(alloc),
-            "read" | "cut" | "at" | "whole" | "front" | "judged" => self.read(alloc, words),
-            "play" | "tell" | "leave" => {
-                played(alloc, act, &self.bytes, words.get(1..).unwrap_or(&[]))
+        match *words {
+            ["bytes", word] => self.take(alloc, word),
+            ["recorded"] => {
+                let written = written(alloc, &listed::recorded(alloc, &mut self.entries)?)?;
+                self.take(alloc, written.as_str())
             }
-            "recorder" => recorded(alloc, words, &self.entries, &self.bytes),
-            "audit" => judged_as_one(alloc, words),
-            "local" => left(alloc, &self.bytes),
-            "check" | "begins" | "upgrade" | "workers" | "alone" => of_record(
+            ["recorder", ref words @ ..] => recorded(alloc, words, &self.entries, &self.bytes),
+            ["audit", device, turns, ref files @ ..] => audited(alloc, device, turns, files),
+            ["local"] => left(alloc, &self.bytes),
+            ["check" | "begins" | "upgrade" | "workers" | "alone", ..] => of_record(
                 alloc,
                 record_in(alloc, &self.bytes)?,
                 words,
             ),
+            [
+                "read" | "cut" | "at" | "whole" | "front" | "judged" | "play" | "tell" | "leave",
+                ..
+            ] => { self.read(alloc, words) }
             _ => listed::came(alloc, &mut self.entries, words),
         }
     }
 
     /// Takes these bytes as the session.
-    fn take(&mut self, alloc: Global, words: &[&str]) -> Result<String> {
-        let ["bytes", word] = *words else {
-            return wrong("no bytes");
-        };
+    fn take(&mut self, alloc: Global, word: &str) -> Result<String> {
         self.bytes = bytes(alloc, word)?;
-        Ok(String::new(alloc))
-    }
-
-    /// Takes the record of the entries as the session.
-    fn record(&mut self, alloc: Global) -> Result<String> {
-        let written = written(alloc, &listed::recorded(alloc, &mut self.entries)?)?;
-        self.bytes = bytes(alloc, written.as_str())?;
         Ok(String::new(alloc))
     }
 
@@ -82,6 +75,9 @@ impl Session {
                 played(alloc, "play", self.front(number(len)?), devices)
             }
             ["judged"] => self.judged(alloc),
+            [act @ ("play" | "tell" | "leave"), ref devices @ ..] => {
+                played(alloc, act, &self.bytes, devices)
+            }
             _ => wrong("no such act"),
         }
     }
@@ -117,13 +113,6 @@ impl Session {
     }
 }
 
-fn judged_as_one(alloc: Global, words: &[&str]) -> Result<String> {
-    let ["audit", device, turns, ref files @ ..] = *words else {
-        return wrong("no device and a number of turns");
-    };
-    audited(alloc, device, turns, files)
-}
-
 fn put(bytes: &mut Vec<u8>, place: usize, new: u8) {
     if let Some(byte) = bytes.get_mut(place) {
         *byte = new;
@@ -138,16 +127,9 @@ fn is_judged(alloc: Global, bytes: &[u8]) -> Result<bool> {
         Ok(session) => verdict_of(alloc, session, bytes)?,
         Err(fault) => format!(in alloc; "Bad({fault:?}) -")?,
     };
-    is_told(alloc, bytes, wanted.as_str())?;
-    Ok(session.is_ok())
-}
-
-fn is_told(alloc: Global, bytes: &[u8], wanted: &str) -> Result<()> {
     let told = played(alloc, "tell", bytes, &["steady", "steady", "3"])?;
-    if told.as_str() != wanted {
-        bail!("{wanted} is told as {told}");
-    }
-    Ok(())
+    ensure!(told == wanted, "{wanted} is told as {told}");
+    Ok(session.is_ok())
 }
 
 /// What is to be told of a record, which is written back as these bytes.
@@ -164,9 +146,8 @@ fn verdict_of(alloc: Global, session: &Record, bytes: &[u8]) -> Result<String> {
 
 fn is_written_back(alloc: Global, session: &Record, bytes: &[u8]) -> Result<()> {
     let written = written(alloc, session)?;
-    if written.as_str() != digits_of(alloc, bytes)?.as_str() {
-        return unknown("it is written otherwise", written.as_str());
-    }
+    let is_same = written == digits_of(alloc, bytes)?;
+    ensure!(is_same, "it is written otherwise: {written}");
     Ok(())
 }
 
@@ -177,18 +158,13 @@ pub fn record_in(alloc: Global, bytes: &[u8]) -> Result<Record> {
 
 /// How many entries these bytes are the record of, by which they are written again; or their fault.
 fn counted(alloc: Global, bytes: &[u8]) -> Result<String> {
-    begin(alloc);
-    let session = read_record(alloc, bytes);
-    end(alloc);
-    match session {
-        Ok(session) => count(alloc, &session, bytes),
+    match marked!(alloc, read_record(alloc, bytes)) {
+        Ok(session) => {
+            is_written_back(alloc, &session, bytes)?;
+            text(format!(in alloc; "{}", session.entries.len()))
+        }
         Err(fault) => by_name(alloc, &fault),
     }
-}
-
-fn count(alloc: Global, session: &Record, bytes: &[u8]) -> Result<String> {
-    is_written_back(alloc, session, bytes)?;
-    text(format!(in alloc; "{}", session.entries.len()))
 }
 
 /// How many of these bytes are whole entries.
@@ -203,9 +179,7 @@ fn whole(alloc: Global, form: &str, bytes: &[u8]) -> Result<String> {
 
 /// The bytes of a record, or why there are none. Where memory was refused, they are asked for once more.
 pub fn written(alloc: Global, session: &Record) -> Result<String> {
-    begin(alloc);
-    let mut written = write_record(alloc, session);
-    end(alloc);
+    let mut written = marked!(alloc, write_record(alloc, session));
     if matches!(&written, Err(WriteRecordFault::NoMemory)) && was_refused(alloc) {
         written = write_record(alloc, session);
     }
@@ -226,10 +200,7 @@ fn of_record(alloc: Global, session: Record, words: &[&str]) -> Result<String> {
 
 /// What is found of a record.
 fn found(alloc: Global, session: &Record) -> Result<String> {
-    begin(alloc);
-    let found = check(alloc, session);
-    end(alloc);
-    match found {
+    match marked!(alloc, check(alloc, session)) {
         Ok(()) => text(String::from_str(alloc, "Run")),
         Err(fault) => by_name(alloc, &fault),
     }
@@ -238,32 +209,20 @@ fn found(alloc: Global, session: &Record) -> Result<String> {
 /// The record in version 2; where that is refused, it comes back as it was.
 fn upgraded(alloc: Global, session: Record) -> Result<String> {
     let before = written(alloc, &session)?;
-    begin(alloc);
-    let upgraded = upgrade(alloc, session);
-    end(alloc);
-    match upgraded {
+    match marked!(alloc, upgrade(alloc, session)) {
         Ok(session) => written(alloc, &session),
-        Err((_, session)) => refused(alloc, &session, before.as_str()),
+        Err((_, session)) => {
+            let is_same = written(alloc, &session)? == before;
+            ensure!(is_same, "it comes back as another one");
+            text(String::from_str(alloc, "NoMemory"))
+        }
     }
-}
-
-fn refused(alloc: Global, session: &Record, before: &str) -> Result<String> {
-    if written(alloc, session)?.as_str() != before {
-        return wrong("it comes back as another one");
-    }
-    text(String::from_str(alloc, "NoMemory"))
 }
 
 /// What is left of the record that these bytes are without its remote peers.
 fn left(alloc: Global, bytes: &[u8]) -> Result<String> {
-    let session = match read_record(alloc, bytes) {
-        Ok(session) => session,
-        Err(fault) => bail!("it is no record: {fault:?}"),
-    };
-    begin(alloc);
-    let left = local_record(alloc, &session);
-    end(alloc);
-    match left {
+    let session = record_in(alloc, bytes)?;
+    match marked!(alloc, local_record(alloc, &session)) {
         Ok(left) => written(alloc, &left),
         Err(fault) => by_name(alloc, &fault),
     }
@@ -274,64 +233,41 @@ fn left(alloc: Global, bytes: &[u8]) -> Result<String> {
 /// of each entry.
 fn beginning(alloc: Global, session: &Record) -> Result<String> {
     let config = &session.config;
-    let mut told = format!(in alloc;
-        "{} {} {} {}",
-        config.port,
-        yes(config.relaxed),
-        config.conn_max,
-        config.known_max
-    )?;
+    let mut told = format!(in alloc; "{} {}", config.port, yes(config.relaxed))?;
+    write!(told, " {} {}", config.conn_max, config.known_max)?;
     if let Version::Two {
         first,
         start,
         workers,
     } = &session.version
     {
-        write_beginning(&mut told, *first, start, workers)?;
+        write!(told, " first {first}")?;
+        write_start(&mut told, start)?;
+        told.push_str(" workers")?;
+        for worker in workers {
+            write!(told, " {worker}")?;
+        }
     }
     Ok(told)
-}
-
-fn write_beginning(told: &mut String, first: u64, start: &State, workers: &[u32]) -> Result<()> {
-    write!(told, " first {first}")?;
-    write_start(told, start)?;
-    told.push_str(" workers")?;
-    for worker in workers {
-        write!(told, " {worker}")?;
-    }
-    Ok(())
 }
 
 /// Tells a state by its parts.
 fn write_start(told: &mut String, start: &State) -> Result<()> {
     for row in start.active() {
+        let name = Digits(row.reg.name.bytes());
         write!(
             told,
-            " row {} {} {} {}",
-            Digits(row.reg.name.bytes()),
-            row.reg.port,
-            row.creation,
-            row.slot
+            " row {name} {} {} {}",
+            row.reg.port, row.creation, row.slot
         )?;
     }
     for old in start.retired() {
-        write!(
-            told,
-            " old {} {} {}",
-            Digits(old.name.bytes()),
-            old.port,
-            old.creation
-        )?;
+        let name = Digits(old.name.bytes());
+        write!(told, " old {name} {} {}", old.port, old.creation)?;
     }
     for held in start.conns() {
-        write!(
-            told,
-            " conn {} {} {:?} {}",
-            held.slot,
-            yes(held.local),
-            held.phase,
-            Digits(&held.bytes)
-        )?;
+        let (local, bytes) = (yes(held.local), Digits(&held.bytes));
+        write!(told, " conn {} {local} {:?} {bytes}", held.slot, held.phase)?;
     }
     if start.halted() {
         told.push_str(" halted")?;
@@ -341,11 +277,6 @@ fn write_start(told: &mut String, start: &State) -> Result<()> {
 
 /// How a record of version 2 is written with these workers, and with its active names alone where that is asked for.
 fn written_by(alloc: Global, mut session: Record, numbers: &[&str], alone: bool) -> Result<String> {
-    change(alloc, &mut session, numbers, alone)?;
-    written(alloc, &session)
-}
-
-fn change(alloc: Global, session: &mut Record, numbers: &[&str], alone: bool) -> Result<()> {
     let Version::Two {
         start,
         workers: made,
@@ -358,14 +289,12 @@ fn change(alloc: Global, session: &mut Record, numbers: &[&str], alone: bool) ->
     if alone {
         *start = active_alone(alloc, start)?;
     }
-    Ok(())
+    written(alloc, &session)
 }
 
 /// The active names of a state, without any connection.
 fn active_alone(alloc: Global, start: &State) -> Result<State> {
-    let rows = copied_rows(alloc, start.active())?;
-    match State::build(rows, Vec::new(alloc), Vec::new(alloc), false) {
-        Some(state) => Ok(state),
-        None => wrong("no state"),
-    }
+    let rows = copied!(alloc, start.active());
+    let state = State::build(rows, Vec::new(alloc), Vec::new(alloc), false);
+    state.context("no state")
 }

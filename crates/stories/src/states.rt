@@ -3,10 +3,23 @@ use crate::events::is_local;
 use crate::listed::settings;
 use crate::requests::registration;
 use crate::words::{bytes, name, number, text, unknown, wrong};
-use anyhow::Result;
+use anyhow::{Result, ensure};
 use portmap_core::{Config, Entry, Held, Old, Phase, Row, State};
 use std::alloc::Global;
 use std::mem;
+
+/// Copies of the parts of a state of one kind.
+macro_rules! copied {
+    ($alloc:expr, $parts:expr) => {{
+        let mut copies = Vec::new($alloc);
+        for part in $parts {
+            copies.push(part.try_copy($alloc)?)?;
+        }
+        copies
+    }};
+}
+
+pub(crate) use copied;
 
 /// Parts of a state.
 #[derive(Drop)]
@@ -28,44 +41,27 @@ impl Parts {
     /// What comes of an act: parts are added, or what there are is built.
     pub fn came(&mut self, alloc: Global, words: &[&str]) -> Result<String> {
         match *words {
-            ["row", word, creation, slot] => self.active.push(row(alloc, word, creation, slot)?)?,
-            ["old", word, creation] => self.retired.push(old(alloc, word, creation)?)?,
-            ["conn", slot, whence, ref held @ ..] => self
-                .connections
-                .push(conn(alloc, slot, whence, held)?)?,
+            ["row", word, creation, slot] => self.active.push(Row {
+                creation: number(creation)?,
+                slot: number(slot)?,
+                reg: registration(alloc, 5000, 6, word, &[])?,
+            })?,
+            ["old", word, creation] => self.retired.push(Old {
+                port: 5000,
+                creation: number(creation)?,
+                name: name(alloc, word)?,
+            })?,
+            ["conn", slot, whence, phase, kept] => self.connections.push(Held {
+                slot: number(slot)?,
+                local: is_local(whence)?,
+                phase: phase_of(phase)?,
+                bytes: bytes(alloc, kept)?,
+            })?,
             ["build"] => return built(alloc, mem::replace(self, Parts::new(alloc))),
             _ => return wrong("no such act"),
         }
         Ok(String::new(alloc))
     }
-}
-
-fn row(alloc: Global, word: &str, creation: &str, slot: &str) -> Result<Row> {
-    Ok(Row {
-        creation: number(creation)?,
-        slot: number(slot)?,
-        reg: registration(alloc, 5000, 6, word, &[])?,
-    })
-}
-
-fn old(alloc: Global, word: &str, creation: &str) -> Result<Old> {
-    Ok(Old {
-        port: 5000,
-        creation: number(creation)?,
-        name: name(alloc, word)?,
-    })
-}
-
-fn conn(alloc: Global, slot: &str, whence: &str, held: &[&str]) -> Result<Held> {
-    let [phase, kept] = *held else {
-        return wrong("no phase and bytes");
-    };
-    Ok(Held {
-        slot: number(slot)?,
-        local: is_local(whence)?,
-        phase: phase_of(phase)?,
-        bytes: bytes(alloc, kept)?,
-    })
 }
 
 fn phase_of(word: &str) -> Result<Phase> {
@@ -79,20 +75,15 @@ fn phase_of(word: &str) -> Result<Phase> {
 
 /// Whether parts are a state, and a port mapper of two connections and two names comes to it.
 fn built(alloc: Global, parts: Parts) -> Result<String> {
-    match State::build(parts.active, parts.retired, parts.connections, false) {
-        Some(state) => kind_of(alloc, &settings()?, &state),
-        None => text(String::from_str(alloc, "none")),
-    }
-}
-
-fn kind_of(alloc: Global, config: &Config, state: &State) -> Result<String> {
-    if is_built_again(alloc, config, state)? {
-        return text(String::from_str(alloc, "owned"));
-    }
-    if !stays(alloc, config, state)? {
-        return wrong("it moves where no port mapper is");
-    }
-    text(String::from_str(alloc, "strange"))
+    let config = settings()?;
+    let state = State::build(parts.active, parts.retired, parts.connections, false);
+    let kind = match state {
+        None => "none",
+        Some(state) if is_built_again(alloc, &config, &state)? => "owned",
+        Some(state) if stays(alloc, &config, &state)? => "strange",
+        Some(_) => return wrong("it moves where no port mapper is"),
+    };
+    text(String::from_str(alloc, kind))
 }
 
 /// Whether a copy of a state stays as it is where a connection comes.
@@ -107,44 +98,16 @@ fn stays(alloc: Global, config: &Config, state: &State) -> Result<bool> {
 
 /// Whether a port mapper comes to a state. It is that of copies of its parts, in either case.
 pub fn is_built_again(alloc: Global, config: &Config, state: &State) -> Result<bool> {
-    let is_same = match copied(alloc, state)? {
-        Some(built) => built.same(state),
-        None => false,
-    };
-    if !is_same {
-        return wrong("it is another state than that of its parts");
-    }
+    let built = copy_of(alloc, state)?;
+    let is_same = built.is_some_and(|built| built.same(state));
+    ensure!(is_same, "it is another state than that of its parts");
     Ok(state.owned(alloc, config)?)
 }
 
 /// The state of copies of a state's parts.
-fn copied(alloc: Global, state: &State) -> Result<Option<State>> {
-    let active = copied_rows(alloc, state.active())?;
-    let retired = copied_olds(alloc, state.retired())?;
-    let connections = copied_conns(alloc, state.conns())?;
+fn copy_of(alloc: Global, state: &State) -> Result<Option<State>> {
+    let active = copied!(alloc, state.active());
+    let retired = copied!(alloc, state.retired());
+    let connections = copied!(alloc, state.conns());
     Ok(State::build(active, retired, connections, state.halted()))
-}
-
-pub fn copied_rows(alloc: Global, rows: &[Row]) -> Result<Vec<Row>> {
-    let mut copies = Vec::new(alloc);
-    for row in rows {
-        copies.push(row.try_copy(alloc)?)?;
-    }
-    Ok(copies)
-}
-
-fn copied_olds(alloc: Global, olds: &[Old]) -> Result<Vec<Old>> {
-    let mut copies = Vec::new(alloc);
-    for old in olds {
-        copies.push(old.try_copy(alloc)?)?;
-    }
-    Ok(copies)
-}
-
-fn copied_conns(alloc: Global, conns: &[Held]) -> Result<Vec<Held>> {
-    let mut copies = Vec::new(alloc);
-    for held in conns {
-        copies.push(held.try_copy(alloc)?)?;
-    }
-    Ok(copies)
 }

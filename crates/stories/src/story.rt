@@ -15,19 +15,6 @@ pub struct Story<'a, R: Wait> {
     holds: bool,
 }
 
-/// How a story has ended.
-#[derive(Drop)]
-pub enum Ended {
-    /// There was none.
-    Nameless,
-    /// The story of this name holds.
-    Well(String),
-    /// A line of it was wrong, and told.
-    Badly,
-    /// This is wrong at its end.
-    Wrong(String),
-}
-
 impl<'a, R: Wait> Story<'a, R> {
     /// What stands before the first story of a file.
     pub fn none(host: &'a R, alloc: Global) -> Story<'a, R> {
@@ -41,22 +28,19 @@ impl<'a, R: Wait> Story<'a, R> {
 
     /// The story that a line begins, if it begins one: by the part that it is about, and what it shows.
     pub fn begun(host: &'a R, alloc: Global, line: &str) -> Result<Option<Story<'a, R>>> {
-        let Some((word, name)) = line.split_once(' ') else {
-            return Ok(None);
-        };
+        let (word, name) = line.split_once(' ').unwrap_or((line, ""));
         let Some(part) = Part::begun(alloc, word)? else {
             return Ok(None);
         };
-        Ok(Some(Story {
-            host,
-            name: String::from_str(alloc, name)?,
-            part,
-            holds: true,
-        }))
+        let mut story = Story::none(host, alloc);
+        story.name.push_str(name)?;
+        story.part = part;
+        Ok(Some(story))
     }
 
-    /// What is wrong with a line, if anything is: one that begins with `times 1 9` is told for each number from 1 to 9,
-    /// which stands there as `$`.
+    /// What is wrong with a line, if anything is. One that begins with `times 1 9` is told for each number from 1 to 9,
+    /// which stands there as `$`. ` && ` joins acts, of which one that begins with `each 1 9` is told for each number,
+    /// as `@`.
     pub fn wrong(
         &mut self,
         alloc: Global,
@@ -67,27 +51,12 @@ impl<'a, R: Wait> Story<'a, R> {
             return Ok(None);
         }
         for acts in &spread(alloc, line, "times ", "$")? {
-            let wrong = self.first_wrong(alloc, names, acts.as_str())?;
-            if wrong.is_some() {
-                return Ok(wrong);
-            }
-        }
-        Ok(None)
-    }
-
-    /// What is wrong with acts that ` && ` joins, if anything is: one that begins with `each 1 9` is told for each
-    /// number, as `@`.
-    fn first_wrong(
-        &mut self,
-        alloc: Global,
-        names: &mut Names,
-        acts: &str,
-    ) -> Result<Option<String>> {
-        for act in acts.split(" && ") {
-            for line in &spread(alloc, act, "each ", "@")? {
-                let wrong = self.once(alloc, names, line.as_str())?;
-                if wrong.is_some() {
-                    return Ok(wrong);
+            for act in acts.as_str().split(" && ") {
+                for line in &spread(alloc, act, "each ", "@")? {
+                    let wrong = self.once(alloc, names, line.as_str())?;
+                    if wrong.is_some() {
+                        return Ok(wrong);
+                    }
                 }
             }
         }
@@ -141,8 +110,8 @@ impl<'a, R: Wait> Story<'a, R> {
         Ok(None)
     }
 
-    /// How it has ended.
-    pub fn ended(self, alloc: Global) -> Result<Ended> {
+    /// Whether it holds, and the line for that; there is none where a line of it was told to be wrong.
+    pub fn ended(self, alloc: Global, path: &str) -> Result<(bool, String)> {
         let Story {
             name,
             part,
@@ -150,10 +119,9 @@ impl<'a, R: Wait> Story<'a, R> {
             ..
         } = self;
         Ok(match part.ended(alloc) {
-            Ok(()) if !holds => Ended::Badly,
-            Ok(()) if name.is_empty() => Ended::Nameless,
-            Ok(()) => Ended::Well(name),
-            Err(error) => Ended::Wrong(format!(in alloc; "{name}: {error}")?),
+            Ok(()) if !holds || name.is_empty() => (holds, String::new(alloc)),
+            Ok(()) => (true, format!(in alloc; "ok {name}\n")?),
+            Err(error) => (false, format!(in alloc; "BAD {path}: {name}: {error}\n")?),
         })
     }
 }
@@ -189,10 +157,8 @@ fn numbered(alloc: Global, line: &str, mark: &str, number: u32) -> Result<String
     let next = format!(in alloc; "{mark}+1")?;
     let line = replaced(alloc, line, next.as_str(), number.saturating_add(1))?;
     let line = replaced(alloc, line.as_str(), mark, number)?;
-    Ok(
-        line.as_str()
-            .replace(alloc, "%", format!(in alloc; "{number:08x}")?.as_str())?,
-    )
+    let digits = format!(in alloc; "{number:08x}")?;
+    Ok(line.as_str().replace(alloc, "%", digits.as_str())?)
 }
 
 fn replaced(alloc: Global, line: &str, mark: &str, number: u32) -> Result<String> {

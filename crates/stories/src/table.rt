@@ -1,9 +1,9 @@
 //! The names that a port mapper knows.
 use crate::requests::registration;
-use crate::words::{Digits, answer, name, number, text, told, wrong};
+use crate::words::{Digits, answer, digits_of, name, number, shown, text, wrong};
 use anyhow::{Context, Result, ensure};
 use portmap_table::{Old, RegFault, Row, Table};
-use portmap_testing::marks::{begin, end};
+use portmap_testing::marked;
 use portmap_wire::{Name, Reg};
 use std::alloc::Global;
 
@@ -30,9 +30,8 @@ fn write_row(told: &mut String, row: &Row) -> Result<()> {
 
 /// Adds a retired name and its creation.
 fn write_old(told: &mut String, old: &Old) -> Result<()> {
-    if old.port != 40_000 {
-        return wrong("a retired node that was not registered so");
-    }
+    let is_usual = old.port == 40_000;
+    ensure!(is_usual, "a retired node that was not registered so");
     Ok(write!(told, " {} {}", Digits(old.name.bytes()), old.creation)?)
 }
 
@@ -52,29 +51,38 @@ fn known(alloc: Global, names: &Table) -> Result<String> {
     Ok(told)
 }
 
-/// The slot that owns a name; `-` where the name is not active.
+/// The slot that owns a name, which is that of its row; `-` where the name is not active.
 fn owner(alloc: Global, names: &Table, word: &str) -> Result<String> {
-    let owner = slot_of(names, &name(alloc, word)?)?;
+    let name = name(alloc, word)?;
+    let (owner, row) = (names.owner(&name), names.find(&name));
+    let is_so = row.map(|row| row.slot) == owner && names.is_active(&name) == owner.is_some();
+    ensure!(is_so, "its row has another slot");
     match owner {
         Some(slot) => text(format!(in alloc; "{slot}")),
-        None => text(String::from_str(alloc, "-")),
+        None => digits_of(alloc, &[]),
     }
-}
-
-/// The slot that owns a name, which is that of its row.
-fn slot_of(names: &Table, name: &Name) -> Result<Option<u64>> {
-    let owner = names.owner(name);
-    if names.find(name).map(|row| row.slot) != owner || names.is_active(name) != owner.is_some() {
-        return wrong("its row has another slot");
-    }
-    Ok(owner)
 }
 
 /// What comes of an act on a table.
 pub fn came(alloc: Global, table: &mut Table, words: &[&str]) -> Result<String> {
     match *words {
-        ["with", ref settings @ ..] => set(alloc, table, settings),
-        ["offer", word, high] => offered(alloc, table, word, number(high)?),
+        ["with", "known", known_max, "first", first] => {
+            *table = Table::new(alloc, number(known_max)?, number(first)?)?;
+            Ok(String::new(alloc))
+        }
+        [
+            "with",
+            "known",
+            known_max,
+            "first",
+            first,
+            "active",
+            ref names @ ..,
+        ] => {
+            let made = made(alloc, number(known_max)?, number(first)?, names)?;
+            set(alloc, table, made)
+        }
+        ["offer", word, high] => shown(alloc, table.offer(&name(alloc, word)?, number(high)?)),
         ["register", word, high, slot] => registered(
             alloc,
             table,
@@ -90,43 +98,25 @@ pub fn came(alloc: Global, table: &mut Table, words: &[&str]) -> Result<String> 
     }
 }
 
-/// Begins anew with these settings; with the names behind `active` if there are any, and then whether there is such a
-/// table.
-fn set(alloc: Global, table: &mut Table, settings: &[&str]) -> Result<String> {
-    match *settings {
-        ["known", known_max, "first", first] => {
-            *table = Table::new(alloc, number(known_max)?, number(first)?)?;
-            Ok(String::new(alloc))
-        }
-        ["known", known_max, "first", first, "active", ref names @ ..] => {
-            let Some(made) = made(alloc, number(known_max)?, number(first)?, names)? else {
-                return answer(alloc, false);
-            };
-            *table = made;
-            answer(alloc, true)
-        }
-        _ => wrong("no such act"),
+/// Turns to this table. Whether there is one.
+fn set(alloc: Global, table: &mut Table, made: Option<Table>) -> Result<String> {
+    let is_made = made.is_some();
+    if let Some(made) = made {
+        *table = made;
     }
-}
-
-fn offered(alloc: Global, table: &Table, word: &str, high: u16) -> Result<String> {
-    told(alloc, table.offer(&name(alloc, word)?, high))
+    answer(alloc, is_made)
 }
 
 /// The retired name at a place, and its creation.
 fn retired_at(alloc: Global, table: &Table, place: usize) -> Result<String> {
-    match table.retired_at(place) {
-        Some(old) => text(format!(in alloc; "{} {}", Digits(old.name.bytes()), old.creation)),
-        None => wrong("fewer names are retired"),
-    }
+    let old = table.retired_at(place).context("fewer names are retired")?;
+    text(format!(in alloc; "{} {}", Digits(old.name.bytes()), old.creation))
 }
 
 /// The table of these names, active and retired, if a port mapper that may know so many can have come to them.
 fn made(alloc: Global, known_max: u32, first: u32, names: &[&str]) -> Result<Option<Table>> {
-    let Some(place) = names.iter().position(|word| *word == "retired") else {
-        return wrong("no retired names");
-    };
-    let (active, retired) = names.split_at(place);
+    let place = names.iter().position(|word| *word == "retired");
+    let (active, retired) = names.split_at(place.context("no retired names")?);
     let rows = rows(alloc, active)?;
     let olds = olds(alloc, retired.get(1..).unwrap_or(&[]))?;
     Ok(Table::of(alloc, known_max, first, &rows, &olds)?)
@@ -165,21 +155,19 @@ fn olds(alloc: Global, words: &[&str]) -> Result<Vec<Old>> {
 /// What is answered to a registration.
 fn registered(alloc: Global, table: &mut Table, slot: u64, reg: Reg) -> Result<String> {
     let name = reg.name.try_copy(alloc)?;
-    told(alloc, entered(alloc, table, &name, reg, slot)?)
+    shown(alloc, entered(alloc, table, &name, reg, slot)?)
 }
 
 /// The same. Where it is refused, the name is offered the same as before, and as many names are known.
 fn entered(alloc: Global, table: &mut Table, name: &Name, reg: Reg, slot: u64) -> Result<Offer> {
-    if table.holds(slot) {
-        return wrong("the slot owns a name");
-    }
+    ensure!(!table.holds(slot), "the slot owns a name");
     let (high, before) = (reg.high, stands(table, name, reg.high));
-    begin(alloc);
-    let registered = table.register(reg, slot);
-    end(alloc);
-    if registered.is_err() && (table.holds(slot) || stands(table, name, high) != before) {
-        return wrong("a refusal has changed the table");
-    }
+    let registered = marked!(alloc, table.register(reg, slot));
+    let is_same = !table.holds(slot) && stands(table, name, high) == before;
+    ensure!(
+        registered.is_ok() || is_same,
+        "a refusal has changed the table"
+    );
     Ok(registered)
 }
 
@@ -195,8 +183,5 @@ fn stands(table: &Table, name: &Name, high: u16) -> (Offer, usize, usize, u32) {
 
 /// Whether the name that a slot owns is retired, for which no memory is wanted.
 fn retired(alloc: Global, table: &mut Table, slot: u64) -> Result<String> {
-    begin(alloc);
-    let is_retired = table.retire(slot);
-    end(alloc);
-    answer(alloc, is_retired)
+    answer(alloc, marked!(alloc, table.retire(slot)))
 }

@@ -57,12 +57,7 @@ impl Names {
     /// is given digits stands for itself.
     pub fn spelled(&self, alloc: Global, line: &str) -> Result<String> {
         let mut spelled = String::new(alloc);
-        self.spell(&mut spelled, unquoted(alloc, line)?.as_str())?;
-        Ok(spelled)
-    }
-
-    fn spell(&self, spelled: &mut String, line: &str) -> Result<()> {
-        for word in line.split_whitespace() {
+        for word in unquoted(alloc, line)?.as_str().split_whitespace() {
             let is_given = matches!(spelled.as_str(), "let" | "more");
             if !spelled.is_empty() {
                 spelled.push_str(" ")?;
@@ -70,10 +65,10 @@ impl Names {
             if is_given {
                 spelled.push_str(word)?;
             } else {
-                self.push_word(spelled, word)?;
+                self.push_word(&mut spelled, word)?;
             }
         }
-        Ok(())
+        Ok(spelled)
     }
 
     fn push_word(&self, spelled: &mut String, word: &str) -> Result<()> {
@@ -144,10 +139,7 @@ pub fn bytes(alloc: Global, word: &str) -> Result<Vec<u8>> {
     if word == "-" {
         return Ok(Vec::new(alloc));
     }
-    match hex::decode(alloc, word) {
-        Ok(bytes) => Ok(bytes),
-        Err(_) => unknown("no bytes", word),
-    }
+    hex::decode(alloc, word).or_else(|_| unknown("no bytes", word))
 }
 
 /// The number that a word writes.
@@ -155,10 +147,7 @@ pub fn number<T: FromStr>(word: &str) -> Result<T>
 where
     T::Err: Drop,
 {
-    match word.parse::<T>() {
-        Ok(number) => Ok(number),
-        Err(_) => unknown("no number", word),
-    }
+    word.parse::<T>().or_else(|_| unknown("no number", word))
 }
 
 /// The name that a word has the bytes of.
@@ -191,17 +180,6 @@ pub fn answer(alloc: Global, is_so: bool) -> Result<String> {
 }
 
 /// The words for a value, or for why there is none.
-pub fn told<T: fmt::Display + Drop, E: fmt::Debug + Drop>(
-    alloc: Global,
-    outcome: Result<T, E>,
-) -> Result<String> {
-    match outcome {
-        Ok(value) => text(format!(in alloc; "{value}")),
-        Err(fault) => by_name(alloc, &fault),
-    }
-}
-
-/// The same where the value has a name.
 pub fn shown<T: fmt::Debug + Drop, E: fmt::Debug + Drop>(
     alloc: Global,
     outcome: Result<T, E>,

@@ -3,8 +3,8 @@ ghost use Rattle.std.specs.Prelude.{◌≡◌};
 
 use crate::devices::{device, plan};
 use crate::events::is_local;
-use crate::words::{Digits, bytes, is_relaxed, number, text, told, unknown, wrong};
-use anyhow::Result;
+use crate::words::{Digits, bytes, is_relaxed, number, text, wrong};
+use anyhow::{Context, Result, ensure};
 use portmap_book::{Desk, PARTS, Seat};
 use portmap_core::Entry;
 use portmap_record::{Verdict, transcript};
@@ -98,24 +98,18 @@ impl<'a> Wires<'a> {
         [self.log.len(), seven, eight, self.ended.len()]
     }
 
-    /// What has come behind what was told.
+    /// What has come behind what was told: entries, and what both links got and gave up.
     fn line(&self, alloc: Global, told: Amounts, is_over: bool) -> Result<String> {
         let mut line = entry_words(alloc, self.log.get(told[0]..).unwrap_or(&[]))?;
-        self.put_rest(&mut line, told, is_over)?;
-        text(String::from_str(alloc, line.as_str().trim_start_matches(" ; ")))
-    }
-
-    /// Adds what both links got and gave up to the entries of a line.
-    fn put_rest(&self, line: &mut String, told: Amounts, is_over: bool) -> Result<()> {
-        put_bytes(line, 7, self.seven.sink.get(told[1]..).unwrap_or(&[]))?;
-        put_bytes(line, 8, self.eight.sink.get(told[2]..).unwrap_or(&[]))?;
+        put_bytes(&mut line, 7, self.seven.sink.get(told[1]..).unwrap_or(&[]))?;
+        put_bytes(&mut line, 8, self.eight.sink.get(told[2]..).unwrap_or(&[]))?;
         for key in self.ended.iter().skip(told[3]) {
             write!(line, " ; ends {key}")?;
         }
         if is_over {
             line.push_str(" ; over")?;
         }
-        Ok(())
+        text(String::from_str(alloc, line.as_str().trim_start_matches(" ; ")))
     }
 
     /// How many connections have come, what link 7 got, and what has come of link 8.
@@ -195,20 +189,14 @@ impl Scene {
     /// Tells what has come of all turns and was not told. Where memory is refused to the last one, its link is given
     /// up, and all are made once more.
     fn came_new<R: Wait>(&mut self, rt: &R, alloc: Global) -> Result<String> {
-        let is_marked = !end_of(alloc, self.turns.last())?.is_empty();
-        let (line, told) = self.line(rt, alloc, is_marked)?;
-        if was_refused(alloc) {
-            return self.came_again(rt, alloc, line.as_str());
-        }
-        self.told = told;
-        Ok(line)
-    }
-
-    fn came_again<R: Wait>(&mut self, rt: &R, alloc: Global, refused: &str) -> Result<String> {
-        let (line, told) = self.line(rt, alloc, false)?;
         let given_up = end_of(alloc, self.turns.last())?;
-        if refused != line.as_str() && !refused.contains(given_up.as_str()) {
-            return unknown("where memory is refused comes", refused);
+        let (mut line, mut told) = self.line(rt, alloc, !given_up.is_empty())?;
+        if was_refused(alloc) {
+            let (again, told_again) = self.line(rt, alloc, false)?;
+            let is_so = line == again || line.as_str().contains(given_up.as_str());
+            ensure!(is_so, "where memory is refused comes: {line}");
+            line = again;
+            told = told_again;
         }
         self.told = told;
         Ok(line)
@@ -248,10 +236,8 @@ impl Scene {
 
 /// Has a worker make all turns. Whether the port mapper has ended.
 fn serve_all<R: Wait>(rt: &R, alloc: Global, scene: &Scene, wires: &mut Wires<'_>) -> Result<bool> {
-    match served::<Brand, R>(rt, alloc, Blank::new(PARTS), scene, wires) {
-        Some(is_over) => Ok(is_over),
-        None => wrong("it closes not all as it stops, or has served otherwise than it says"),
-    }
+    let served = served::<Brand, R>(rt, alloc, Blank::new(PARTS), scene, wires);
+    served.context("it closes not all as it stops, or has served otherwise than it says")
 }
 
 /// The same, if a worker has served what it says and its seat has counted, and as it stops it closes what is open, and
@@ -289,9 +275,7 @@ fn served<L: Ledger, R: Wait>(
 }
 
 fn ended<L: Ledger>(alloc: Global, desk: Desk<L>, seat: Seat<L>, count: u64) -> Option<bool> {
-    let mut seats = Vec::new(alloc);
-    seats.push(seat).ok()?;
-    let book = desk.finish(seats).ok()?;
+    let book = desk.finish(vec![in alloc; seat].ok()?).ok()?;
     let (mut log, core) = (book.log().iter(), book.core());
     let is_left = core.halted() || core.connections() == 0;
     let are_closed = is_left && log.all(|entry| matches!(entry, Entry::Closed { .. }));

@@ -19,7 +19,7 @@ pub struct Pushed<R: Clock> {
 }
 
 /// What the copies of it share.
-#[derive(Drop)]
+#[derive(Drop, Default)]
 pub struct Pushing {
     /// By how many seconds it was pushed.
     seconds: AtomicU64,
@@ -40,18 +40,7 @@ pub struct Pushing {
 
 impl<R: Clock + Copy> Pushed<R> {
     pub fn new(rt: R, alloc: Global) -> Result<Pushed<R>, AllocError> {
-        let pushing = Pushing {
-            seconds: AtomicU64::new(0),
-            stands: AtomicBool::new(false),
-            is_short: AtomicBool::new(false),
-            asked: AtomicU64::new(0),
-            told: AtomicU64::new(0),
-            again: AtomicU64::new(0),
-            short: AtomicU64::new(0),
-            remote: AtomicU64::new(0),
-            is_alone: AtomicBool::new(false),
-        };
-        let shared = Arc::new(alloc, pushing)?;
+        let shared = Arc::new(alloc, Pushing::default())?;
         Ok(Pushed { rt, shared })
     }
 

@@ -20,11 +20,11 @@ use std::test::Fail;
 use std::time::Duration;
 use std::{fs, thread};
 
-/// What a client does with the daemon.
+/// What a client does with the daemon, each at the port of this number.
 #[derive(Clone, Copy, PartialEq, Eq)]
 enum Story {
     /// A node registers, is listed, and leaves.
-    Leaves,
+    Leaves = 14_369,
     /// A node registers, and its connection is reset.
     Resets,
     /// A connection says nothing, for longer than it may, and a node that is registered neither.
@@ -38,21 +38,6 @@ enum Story {
     Records,
     /// It was to be recorded, and can't be.
     Nowhere,
-}
-
-impl Story {
-    /// A port of its own.
-    fn port(self) -> u16 {
-        match self {
-            Story::Leaves => 14_369,
-            Story::Resets => 14_370,
-            Story::Silent => 14_371,
-            Story::Stalls => 14_372,
-            Story::Crowds => 14_373,
-            Story::Records => 14_374,
-            Story::Nowhere => 14_375,
-        }
-    }
 }
 
 /// Whether the request is answered so, and the connection closed behind it. A reply has at most 64 bytes.
@@ -111,11 +96,7 @@ pub fn registered<R: Net<Stream = TcpStream> + Clock>(rt: &R, port: u16) -> Opti
     let mut stream = sent(rt, port, ALIVE_A)?;
     let mut reply = [0; 6];
     stream.read_exact(&mut reply).ok()?;
-    if reply.starts_with(&[0x76, 0]) {
-        Some(stream)
-    } else {
-        None
-    }
+    reply.starts_with(&[0x76, 0]).then_some(stream)
 }
 
 /// The list of names of the daemon at port 14,369, which is 0x3821, with `a` in it.
@@ -216,7 +197,7 @@ fn crowds<R: Net<Stream = TcpStream> + Clock>(rt: &R, alloc: Global, port: u16) 
 
 /// Whether the story goes as it should. The daemon is told to end in any case.
 fn goes_well<R: Net<Stream = TcpStream> + Clock>(rt: &R, alloc: Global, story: Story) -> bool {
-    let port = story.port();
+    let port = story as u16;
     let told = match story {
         Story::Leaves => leaves(rt, port, LISTED),
         Story::Records => leaves(rt, port, LISTED_AS_RECORDED),
@@ -266,20 +247,16 @@ fn settings(alloc: Global, story: Story, recording: Option<&str>) -> Result<Sett
     ensures workers { IfOk result (λ settings. (1 ≤ settings.workers) × (settings.workers ≤ SEATS_MOST)) }
 {
     let timeout = if story == Story::Silent { 1 } else { 60 };
-    settings_at(alloc, story.port(), timeout, 2, recording)
+    settings_at(alloc, story as u16, timeout, 2, recording)
 }
 
 /// Whether each of two workers has told what it served, together one act at least, and whether all was recorded is told
 /// so.
 fn have_served(ended: &Result<RunEnd, RunFault>, recorded: bool) -> bool {
-    match ended {
-        Ok(end) => {
-            end.served.len() == 2
-                && end.served.iter().any(|served| *served > 0)
-                && end.recorded == recorded
-        }
-        Err(_) => false,
-    }
+    ended.as_ref().is_ok_and(|end| {
+        let has_one = end.served.iter().any(|served| *served > 0);
+        end.served.len() == 2 && has_one && end.recorded == recorded
+    })
 }
 
 /// Stories, the path that is recorded to, and whether all was.
@@ -296,11 +273,8 @@ fn each_story_goes_as_it_should(rt: HostRuntime) -> Result<(), Fail> {
     let alloc = rt.alloc();
     for (story, path, recorded) in TOLD {
         let settings = settings(alloc, story, path)?;
-        let (ended, told) = thread::join(
-            &rt,
-            || run(&rt, alloc, settings),
-            || goes_well(&rt, alloc, story),
-        );
+        let daemon = || run(&rt, alloc, settings);
+        let (ended, told) = thread::join(&rt, daemon, || goes_well(&rt, alloc, story));
         assert!(rt; told && have_served(&ended, recorded));
     }
     Ok(())
@@ -311,24 +285,18 @@ fn a_worker_that_is_held_stops_no_other(rt: HostRuntime) -> Result<(), Fail> {
     let alloc = rt.alloc();
     let gate = Meet::new(&rt);
     let settings = settings(alloc, Story::Crowds, None)?;
-    let (ended, told) = thread::join(
-        &rt,
-        || run_gated(&rt, alloc, settings, &gate),
-        || goes_well(&rt, alloc, Story::Crowds),
-    );
+    let daemon = || run_gated(&rt, alloc, settings, &gate);
+    let (ended, told) = thread::join(&rt, daemon, || goes_well(&rt, alloc, Story::Crowds));
     assert!(rt; told && have_served(&ended, true) && gate.have_met());
     Ok(())
 }
 
 /// How many acts the workers made together.
 pub fn acts_of(ended: &Result<RunEnd, RunFault>) -> u64 {
-    let mut acts = 0u64;
-    if let Ok(end) = ended {
-        for served in &end.served {
-            acts = acts.saturating_add(*served);
-        }
-    }
-    acts
+    ended.as_ref().map_or(0, |end| {
+        let served = end.served.iter();
+        served.fold(0, |acts: u64, served| acts.saturating_add(*served))
+    })
 }
 
 /// Whether a recorded session is found to be a run of so many entries.
@@ -347,11 +315,8 @@ const RECORDING: &str = "recording-14374";
 fn what_is_answered_is_recorded(rt: HostRuntime) -> Result<(), Fail> {
     let alloc = rt.alloc();
     let settings = settings(alloc, Story::Records, Some(RECORDING))?;
-    let (ended, told) = thread::join(
-        &rt,
-        || run(&rt, alloc, settings),
-        || goes_well(&rt, alloc, Story::Records),
-    );
+    let daemon = || run(&rt, alloc, settings);
+    let (ended, told) = thread::join(&rt, daemon, || goes_well(&rt, alloc, Story::Records));
     assert!(rt; told && have_served(&ended, true));
     let file = File::open(&rt, RECORDING)?;
     fs::remove_file(&rt, RECORDING)?;

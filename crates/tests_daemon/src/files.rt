@@ -151,11 +151,9 @@ fn a_file_that_is_full_is_followed_by_one_that_begins_where_it_ended(
     rt: HostRuntime,
 ) -> Result<(), Fail> {
     let queue = RecordQueue::new(rt.alloc(), "full".to_string(rt.alloc())?);
-    let (_, is_handed_on) = thread::join(
-        &rt,
-        || write_recording(&rt, rt.alloc(), &queue, 93),
-        || hand_on(&rt, rt.alloc(), &queue, Turn::Full),
-    );
+    let writer = || write_recording(&rt, rt.alloc(), &queue, 93);
+    let client = || hand_on(&rt, rt.alloc(), &queue, Turn::Full);
+    let (_, is_handed_on) = thread::join(&rt, writer, client);
     assert!(rt; is_handed_on == Some(true) && queue.is_written(&rt, Duration::ZERO));
     assert!(rt; has_had(&rt, "full", &REGISTERS)? && has_had(&rt, "full.1", &CLOSES)?);
     Ok(())
@@ -198,11 +196,8 @@ fn who_waits_for_the_end_of_a_recording_is_told_at_once(rt: HostRuntime) -> Resu
     let queue = RecordQueue::new(alloc, "none".to_string(alloc)?);
     queue.close(&rt);
     let before = rt.monotonic()?;
-    let (_, is_written) = thread::join(
-        &rt,
-        || end_late(&rt, alloc, &queue),
-        || queue.is_written(&rt, patience),
-    );
+    let client = || queue.is_written(&rt, patience);
+    let (_, is_written) = thread::join(&rt, || end_late(&rt, alloc, &queue), client);
     let waited = rt.monotonic()?.saturating_sub(before);
     assert!(rt; is_written && waited < Duration::from_secs(5));
     Ok(())
@@ -226,10 +221,8 @@ fn ends_between<R: Files<File = File> + Wait + Clock>(
 /// The second file begins at place 0 again, and the first one ends at place 3.
 #[test]
 fn a_file_that_does_not_follow_is_not_begun(rt: HostRuntime) -> Result<(), Fail> {
-    assert_eq!(rt;
-        ends_between(&rt, rt.alloc(), Turn::Full, "apart"),
-        Some(true)
-    );
+    let ends = ends_between(&rt, rt.alloc(), Turn::Full, "apart");
+    assert_eq!(rt; ends, Some(true));
     assert!(rt; is_one_record(&rt, "apart")? && !fs::exists(&rt, "apart.1")?);
     Ok(())
 }
@@ -237,10 +230,8 @@ fn a_file_that_does_not_follow_is_not_begun(rt: HostRuntime) -> Result<(), Fail>
 /// The name gets the creation again that it had.
 #[test]
 fn entries_that_are_no_run_are_not_recorded(rt: HostRuntime) -> Result<(), Fail> {
-    assert_eq!(rt;
-        ends_between(&rt, rt.alloc(), Turn::Never, "again"),
-        Some(true)
-    );
+    let ends = ends_between(&rt, rt.alloc(), Turn::Never, "again");
+    assert_eq!(rt; ends, Some(true));
     assert!(rt; is_one_record(&rt, "again")?);
     Ok(())
 }

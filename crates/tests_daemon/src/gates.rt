@@ -3,8 +3,6 @@ use portmap_testing::books::is_raised;
 use portmap_worker::{Gate, Point};
 use std::rt::Clock;
 use std::sync::atomic::{AtomicU64, Ordering};
-use std::thread;
-use std::time::Duration;
 
 /// A gate that says when a worker that is to come behind another one may begin.
 pub trait Order: Gate {
@@ -13,7 +11,7 @@ pub trait Order: Gate {
 }
 
 /// A gate at which two workers meet with no lock held: the one that comes first at `Answered` is held there until one
-/// with another number has passed. After a million looks it lets go, and notes it.
+/// with another number has passed. After ten seconds it lets go, and notes it.
 #[derive(Drop)]
 pub struct Meet<'a, R: Clock> {
     rt: &'a R,
@@ -49,21 +47,6 @@ impl<'a, R: Clock> Meet<'a, R> {
             Err(first) => first == own,
         }
     }
-
-    /// Waits for a worker with another number. Whether one has passed.
-    fn is_met(&self) -> bool {
-        for look in 0..1_000_000u32 {
-            if self.others.load(Ordering::SeqCst) > 0 {
-                return true;
-            }
-            if look % 100 == 99 {
-                thread::sleep(self.rt, Duration::from_millis(1));
-            } else {
-                thread::yield_now();
-            }
-        }
-        false
-    }
 }
 
 impl<R: Clock> Gate for Meet<'_, R> {
@@ -72,8 +55,8 @@ impl<R: Clock> Gate for Meet<'_, R> {
             return;
         }
         if !self.is_first(worker) {
-            self.others.fetch_add(1, Ordering::SeqCst);
-        } else if !self.is_met() {
+            self.others.store(1, Ordering::SeqCst);
+        } else if !is_raised(self.rt, &self.others) {
             self.noted.fetch_add(1, Ordering::SeqCst);
         }
     }

@@ -1,6 +1,6 @@
 //! The file of a recording as the host makes it, and what an operator reads.
 use portmap_core::Fate;
-use portmap_testing::bytes::{ALIVE_A, ALIVE_B, FOURTH, NOT_FOUND, PORT_A};
+use portmap_testing::bytes::{ALIVE_A, ALIVE_B, DUMP, FOURTH, KILL, NOT_FOUND, PORT_A, STOP_A};
 use portmap_testing::entries::{Kept, entry};
 use portmap_worker::{Host, LocalRequest, Notice, RecordFile, Refused, RemoteRefused, RemoteSlots};
 use std::alloc::Global;
@@ -57,16 +57,10 @@ fn refuses_links(rt: &HostRuntime) -> Result<bool, Fail> {
     let are_refused = rt.make("link").is_err() && rt.make("dangling").is_err();
     let is_kept = fs::read(rt, "target")?.as_slice() == b"kept".as_slice();
     let is_so = are_refused && is_kept && !fs::exists(rt, "none")?;
-    remove_all(rt, &["target", "link", "dangling"])?;
-    Ok(is_so)
-}
-
-/// Removes these files, and links.
-fn remove_all(rt: &HostRuntime, paths: &[&str]) -> Result<(), Fail> {
-    for path in paths {
-        fs::remove_file(rt, *path)?;
+    for path in ["target", "link", "dangling"] {
+        fs::remove_file(rt, path)?;
     }
-    Ok(())
+    Ok(is_so)
 }
 
 #[test]
@@ -123,45 +117,40 @@ fn a_plain_file_is_cut(rt: HostRuntime) -> Result<(), Fail> {
     Ok(())
 }
 
+/// The lines of the notices below.
+const NOTICE_LINES: &str = "\
+epmd: cannot accept connections
+epmd: memory is short, 1200 requests were refused
+epmd: 3 connections that did not read their replies were reset
+epmd: recording failed: /var/session: No space left on device
+epmd: recording again: /var/session.12
+epmd: at most 990 connections, since the limit of descriptors is 1024
+";
+
 #[test]
 fn an_operator_reads_a_line_of_each_kind(rt: HostRuntime) -> Result<(), Fail> {
     let alloc = rt.alloc();
-    let failed = Notice::RecordingFailed {
-        path: "/var/session",
-        number: 0,
-        reason: b"No space left on device",
-    };
-    let again = Notice::RecordingAgain {
-        path: "/var/session",
-        number: 12,
-    };
-    let fewer = Notice::FewerPlaces {
-        places: 990,
-        limit: 1024,
-    };
-    let read: &[(Notice<'_>, &[u8])] = &[
-        (Notice::CannotAccept, b"epmd: cannot accept connections\n"),
-        (
-            Notice::ShortOfMemory(1200),
-            b"epmd: memory is short, 1200 requests were refused\n",
-        ),
-        (
-            Notice::Unread(3),
-            b"epmd: 3 connections that did not read their replies were reset\n",
-        ),
-        (
-            failed,
-            b"epmd: recording failed: /var/session: No space left on device\n",
-        ),
-        (again, b"epmd: recording again: /var/session.12\n"),
-        (
-            fewer,
-            b"epmd: at most 990 connections, since the limit of descriptors is 1024\n",
-        ),
+    let (path, reason) = ("/var/session", b"No space left on device");
+    let notices = [
+        Notice::CannotAccept,
+        Notice::ShortOfMemory(1200),
+        Notice::Unread(3),
+        Notice::RecordingFailed {
+            path,
+            number: 0,
+            reason,
+        },
+        Notice::RecordingAgain { path, number: 12 },
+        Notice::FewerPlaces {
+            places: 990,
+            limit: 1024,
+        },
     ];
-    for (notice, line) in read {
-        assert_eq!(rt; notice.line(alloc)?.as_slice(), *line);
+    for (notice, line) in notices.iter().zip(NOTICE_LINES.lines()) {
+        let read = format!(in alloc; "{line}\n")?;
+        assert_eq!(rt; notice.line(alloc)?.as_slice(), read.as_bytes());
     }
+    assert_eq!(rt; NOTICE_LINES.lines().count(), notices.len());
     Ok(())
 }
 
@@ -207,13 +196,6 @@ fn an_operator_reads_of_names_that_are_in_use(rt: HostRuntime) -> Result<(), Fai
     Ok(())
 }
 
-/// A DUMP, a KILL, a STOP and a look-up, as they are sent.
-const DUMP_SENT: &[u8] = &[0, 1, 100];
-
-const KILL_SENT: &[u8] = &[0, 1, 107];
-
-const STOP_SENT: &[u8] = &[0, 2, 115, 97];
-
 /// Another host has slots 1 and 3, and this one slot 2.
 const ROUNDS: &[Kept] = &[
     Kept::Connected(false, 1),
@@ -224,22 +206,22 @@ const ROUNDS: &[Kept] = &[
 /// None of these is a request of another host that was refused: of this host, answered, in parts, a look-up, or of a
 /// slot that is this host's again.
 const UNCOUNTED: &[Kept] = &[
-    Kept::Piece(2, DUMP_SENT, b"", Fate::Close),
-    Kept::Piece(1, DUMP_SENT, b"dump", Fate::Close),
-    Kept::Piece(1, DUMP_SENT, b"", Fate::Stay),
+    Kept::Piece(2, DUMP, b"", Fate::Close),
+    Kept::Piece(1, DUMP, b"dump", Fate::Close),
+    Kept::Piece(1, DUMP, b"", Fate::Stay),
     Kept::Piece(1, b"\0", b"", Fate::Close),
     Kept::Piece(1, PORT_A, b"", Fate::Close),
     Kept::Closed(1),
     Kept::Connected(true, 1),
-    Kept::Piece(1, DUMP_SENT, b"", Fate::Close),
-    Kept::Piece(7, DUMP_SENT, b"", Fate::Close),
+    Kept::Piece(1, DUMP, b"", Fate::Close),
+    Kept::Piece(7, DUMP, b"", Fate::Close),
 ];
 
 /// Each of these is one.
 const COUNTED: &[Kept] = &[
-    Kept::Piece(3, STOP_SENT, b"", Fate::Close),
-    Kept::Piece(3, KILL_SENT, b"", Fate::Close),
-    Kept::Piece(3, DUMP_SENT, b"", Fate::Close),
+    Kept::Piece(3, STOP_A, b"", Fate::Close),
+    Kept::Piece(3, KILL, b"", Fate::Close),
+    Kept::Piece(3, DUMP, b"", Fate::Close),
     Kept::Piece(3, ALIVE_A, b"", Fate::Close),
 ];
 

@@ -78,16 +78,28 @@ const FIRST: &[(&[u8], bool, bool)] = &[
     (&[0x00], true, false),
 ];
 
-/// Whether a link gives these bytes at once, once it has said Later where its stream fails so first. If they are kept
-/// back, that it is asked to register `a`, it says Later to one pull before.
+/// How often, and in which way, a stream fails before it gives them.
+const FIRST_FAULTS: [(u32, ErrorKind); 3] = [
+    (0, ErrorKind::Other),
+    (1, ErrorKind::WouldBlock),
+    (1, ErrorKind::Interrupted),
+];
+
+/// Whether a link gives these bytes at once, once it has said Later to as many pulls as its stream fails so. If they
+/// are kept back, that it is asked to register `a`, it says Later to one pull before.
 fn gives(
     alloc: Global,
-    first: Option<ErrorKind>,
+    (failing, kind): (u32, ErrorKind),
     (bytes, is_local, is_kept): (&[u8], bool, bool),
 ) -> bool {
-    let mut link = Link::new(alloc, Giving { first, bytes }, is_local, 0);
+    let stream = Giving {
+        failing,
+        kind,
+        bytes,
+    };
+    let mut link = Link::new(alloc, stream, is_local, 0);
     let mut buffer = [0; 64];
-    if first.is_some() && (link.pull(&mut buffer) != Pull::Later || link.asked_name().is_some()) {
+    if failing > 0 && (link.pull(&mut buffer) != Pull::Later || link.asked_name().is_some()) {
         return false;
     }
     if is_kept && (link.pull(&mut buffer) != Pull::Later || !asks(&link, b"a")) {
@@ -104,11 +116,7 @@ fn asks(link: &Link<Giving<'_>>, name: &[u8]) -> bool {
 #[test]
 fn a_first_piece_that_registers_a_name_is_kept_back(rt: HostRuntime) -> Result<(), Fail> {
     for case in FIRST {
-        for first in [
-            None,
-            Some(ErrorKind::WouldBlock),
-            Some(ErrorKind::Interrupted),
-        ] {
+        for first in FIRST_FAULTS {
             assert!(rt; gives(rt.alloc(), first, *case));
         }
     }

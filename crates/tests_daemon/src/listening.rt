@@ -87,11 +87,8 @@ fn who_connects_between_two_daemons_is_served_by_the_second(rt: HostRuntime) -> 
         // It is set to another port.
         let settings = settings_at(alloc, 1, 60, 2, None)?;
         let listening = handed(alloc, &socket)?;
-        let (told, ended) = thread::join(
-            &rt,
-            || is_served(&rt),
-            || run_over(&rt, alloc, settings, &Open, listening, FILE_BYTES_MOST),
-        );
+        let daemon = || run_over(&rt, alloc, settings, &Open, listening, FILE_BYTES_MOST);
+        let (told, ended) = thread::join(&rt, || is_served(&rt), daemon);
         assert!(rt; told && ended.is_ok());
     }
     Ok(())

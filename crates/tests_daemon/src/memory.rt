@@ -89,21 +89,13 @@ fn while_memory_is_short_no_name_is_registered_and_for_five_seconds_at_most(
     let host = Pushed::new(rt, alloc)?;
     host.pushing().stand();
     host.pushing().is_short.store(false, Ordering::SeqCst);
-    let (ended, told) = thread::join(
-        &rt,
-        || run(&host, alloc, settings),
-        || {
-            let pushing = host.pushing();
-            let has_begun = has_begun(&rt, pushing);
-            let is_spared = is_spared(&rt, pushing);
-            (
-                has_begun,
-                is_spared,
-                is_over(&rt, pushing),
-                starves(&rt, pushing),
-            )
-        },
-    );
+    let client = || {
+        let pushing = host.pushing();
+        let (has_begun, is_spared) = (has_begun(&rt, pushing), is_spared(&rt, pushing));
+        let (is_over, starves) = (is_over(&rt, pushing), starves(&rt, pushing));
+        (has_begun, is_spared, is_over, starves)
+    };
+    let (ended, told) = thread::join(&rt, || run(&host, alloc, settings), client);
     assert_eq!(rt; told, (true, Some(true), true, Some(true)));
     assert!(rt; host.pushing().short.load(Ordering::SeqCst) > 0);
     assert!(rt; matches!(ended, Err(RunFault::NoMemory)));

@@ -77,14 +77,11 @@ fn is_kept<R: Net<Stream = TcpStream> + Clock>(rt: &R, port: u16, clock: &Pushin
 #[test]
 fn a_connection_that_says_nothing_makes_room_for_others(rt: HostRuntime) -> Result<(), Fail> {
     let clock = Pushed::new(rt, rt.alloc())?;
-    let (ended, told) = thread::join(
-        &rt,
-        || serves(&clock, rt.alloc(), 14_440),
-        || {
-            let makes_room = makes_room(&rt, 14_440, clock.pushing());
-            (makes_room, is_answered(&rt, 14_440, KILL, b"OK"))
-        },
-    );
+    let client = || {
+        let makes_room = makes_room(&rt, 14_440, clock.pushing());
+        (makes_room, is_answered(&rt, 14_440, KILL, b"OK"))
+    };
+    let (ended, told) = thread::join(&rt, || serves(&clock, rt.alloc(), 14_440), client);
     assert_eq!(rt; told, (Some(true), Some(true)));
     assert!(rt; ended?);
     Ok(())

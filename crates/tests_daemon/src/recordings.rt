@@ -79,11 +79,8 @@ fn a_recording_that_fails_is_told_at_once_and_once(rt: HostRuntime) -> Result<()
     let alloc = rt.alloc();
     let settings = settings_at(alloc, MUTE_PORT, 60, 1, Some("nowhere/recording"))?;
     let host = Pushed::new(rt, alloc)?;
-    let (ended, told) = thread::join(
-        &rt,
-        || run(&host, alloc, settings),
-        || is_told_at_once(&rt, &host, MUTE_PORT),
-    );
+    let client = || is_told_at_once(&rt, &host, MUTE_PORT);
+    let (ended, told) = thread::join(&rt, || run(&host, alloc, settings), client);
     assert!(rt; told == Some(true) && is_told_once(&host, &ended));
     Ok(())
 }
@@ -117,16 +114,18 @@ fn goes_on_again(rt: &HostRuntime, host: &Pushing) -> Option<bool> {
     Some(is_answered(rt, AGAIN_PORT, KILL, b"OK")? && has_failed && is_again && is_found)
 }
 
-/// How many of a file's entries there are, where it is a run that begins with a connection that holds a name.
-fn begins_held(rt: &HostRuntime, path: &str) -> Result<Option<usize>, Fail> {
+/// Where a file of a recording that is a run begins, and how many entries it has. It is removed.
+fn held(rt: &HostRuntime, path: &str) -> Result<Option<(u64, u64)>, Fail> {
     let bytes = fs::read(rt, path)?;
     fs::remove_file(rt, path)?;
     let Ok(session) = read_record(rt.alloc(), &bytes) else {
         return Ok(None);
     };
-    let begins_later = matches!(&session.version, Version::Two { first, .. } if *first > 0);
     let is_run = check(rt.alloc(), &session) == Ok(());
-    Ok((begins_later && is_run).then_some(session.entries.len()))
+    Ok(match &session.version {
+        Version::Two { first, .. } if is_run => Some((*first, session.entries.len() as u64)),
+        _ => None,
+    })
 }
 
 #[test]
@@ -134,14 +133,11 @@ fn a_recording_that_failed_begins_anew_once_it_can(rt: HostRuntime) -> Result<()
     let alloc = rt.alloc();
     let settings = settings_at(alloc, AGAIN_PORT, 60, 1, Some(AGAIN))?;
     let host = Pushed::new(rt, alloc)?;
-    let (ended, told) = thread::join(
-        &rt,
-        || run(&host, alloc, settings),
-        || goes_on_again(&rt, host.pushing()),
-    );
+    let client = || goes_on_again(&rt, host.pushing());
+    let (ended, told) = thread::join(&rt, || run(&host, alloc, settings), client);
     assert_eq!(rt; told, Some(true));
     assert!(rt; is_told_once(&host, &ended));
-    assert!(rt; begins_held(&rt, AGAIN)?.is_some_and(|count| count > 3));
+    assert!(rt; held(&rt, AGAIN)?.is_some_and(|(first, count)| first > 0 && count > 3));
     fs::remove_file(&rt, AGAIN_TIMES)?;
     fs::remove_dir(&rt, AGAIN_FOLDER)?;
     Ok(())
@@ -154,11 +150,8 @@ fn a_recording_that_can_not_start_is_told_at_once_and_once(rt: HostRuntime) -> R
     let settings = settings_at(alloc, UNSTARTED_PORT, 60, 1, Some("unstarted"))?;
     let host = Pushed::new(rt, alloc)?;
     host.pushing().is_alone.store(true, Ordering::SeqCst);
-    let (ended, told) = thread::join(
-        &rt,
-        || run(&host, alloc, settings),
-        || is_told_at_once(&rt, &host, UNSTARTED_PORT),
-    );
+    let client = || is_told_at_once(&rt, &host, UNSTARTED_PORT);
+    let (ended, told) = thread::join(&rt, || run(&host, alloc, settings), client);
     assert!(rt; told == Some(true) && is_told_once(&host, &ended));
     Ok(())
 }
@@ -205,21 +198,6 @@ fn numbered(alloc: Global, number: u32) -> Result<String, AllocError> {
     }
 }
 
-/// How many entries a recording has that begins at this place, where it is a run.
-fn entries_from(alloc: Global, bytes: &[u8], place: u64) -> Option<u64> {
-    let session = read_record(alloc, bytes).ok()?;
-    let begins_there = matches!(&session.version, Version::Two { first, .. } if *first == place);
-    let is_run = begins_there && check(alloc, &session) == Ok(());
-    is_run.then_some(session.entries.len() as u64)
-}
-
-/// The same of a file, which is removed.
-fn held_from(rt: &HostRuntime, path: &str, place: u64) -> Result<Option<u64>, Fail> {
-    let bytes = fs::read(rt, path)?;
-    fs::remove_file(rt, path)?;
-    Ok(entries_from(rt.alloc(), &bytes, place))
-}
-
 /// How many entries the files have together, where each one begins at the place at which the one before it ended.
 fn recorded(rt: &HostRuntime) -> Result<Option<u64>, Fail> {
     let mut place = 0u64;
@@ -228,9 +206,9 @@ fn recorded(rt: &HostRuntime) -> Result<Option<u64>, Fail> {
         if !fs::exists(rt, path.as_str())? {
             break;
         }
-        match held_from(rt, path.as_str(), place)? {
-            Some(count) => place = place.saturating_add(count),
-            None => return Ok(None),
+        match held(rt, path.as_str())? {
+            Some((first, count)) if first == place => place = place.saturating_add(count),
+            _ => return Ok(None),
         }
     }
     Ok(Some(place))
@@ -244,11 +222,8 @@ fn a_recording_goes_on_in_files_that_follow_one_another(rt: HostRuntime) -> Resu
     socket.set_nonblocking(true)?;
     let listening = vec![in alloc; socket]?;
     // So many bytes a header has with which nothing is known: each file is full at once.
-    let (ended, told) = thread::join(
-        &rt,
-        || run_over(&rt, alloc, settings, &Open, listening, 37),
-        || goes_on(&rt),
-    );
+    let daemon = || run_over(&rt, alloc, settings, &Open, listening, 37);
+    let (ended, told) = thread::join(&rt, daemon, || goes_on(&rt));
     let acts = acts_of(&ended);
     assert!(rt; told == Some(true) && ended.is_ok_and(|end| end.recorded));
     assert_eq!(rt; recorded(&rt)?, Some(acts));

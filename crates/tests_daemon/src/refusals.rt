@@ -8,7 +8,8 @@ use crate::recordings::path_of;
 use portmap_book::{Desk, PARTS};
 use portmap_testing::books::small_book;
 use portmap_testing::bytes::ALIVE_A;
-use portmap_testing::marks::{begin, end, was_refused};
+use portmap_testing::marked;
+use portmap_testing::marks::was_refused;
 use portmap_worker::{
     Drain, Drained, Host, RecordQueue, Shared, UNSENT_BYTES_MOST, Wake, write_recording,
 };
@@ -45,10 +46,7 @@ fn is_out<L: Ledger, R: Host + Wait + Clock>(
     drain: &mut Drain<'_>,
 ) -> bool {
     let shared = Shared::new(rt, Vec::new(alloc), Nobody, 2, UNSENT_BYTES_MOST);
-    begin(alloc);
-    let drained = drain.turn(rt, alloc, desk, &shared);
-    end(alloc);
-    drained == Drained::Done(true)
+    marked!(alloc, drain.turn(rt, alloc, desk, &shared)) == Drained::Done(true)
 }
 
 /// Whether it is told that all was recorded at this path.

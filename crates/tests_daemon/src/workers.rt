@@ -6,7 +6,7 @@ use crate::gates::{Meet, Order, Relay};
 use portmap_book::{Desk, PARTS, Seat};
 use portmap_testing::books::book;
 use portmap_testing::bytes::{ALIVE_A, Bytes, FOUND_A, FOURTH, NAMES, NONE_LISTED, PORT_A};
-use portmap_testing::tape::{STEADY, Tape, Watched};
+use portmap_testing::tape::{STEADY, Tape};
 use portmap_worker::{Carrier, Gate, Outcome, Point, Source, Turn, serve};
 use std::alloc::Global;
 use std::marker::Brand;
@@ -84,7 +84,8 @@ fn passed<L: Ledger, R: Wait>(
         answered: AtomicU64::new(u64::MAX),
         sent: AtomicU64::new(u64::MAX),
     };
-    let mut link = Watched::new(Tape::new(alloc, ALIVE_A, STEADY), &written);
+    let mut link = Tape::new(alloc, ALIVE_A, STEADY);
+    link.written = Some(&written);
     let (_, conn) = desk.connect(rt, alloc, seat, true).ok()?;
     Carrier::new(alloc, conn).ready(rt, alloc, desk, seat, 0, &mut link, &gate);
     Some([

@@ -12,9 +12,9 @@ use portmap_testing::sessions::{
     CLOSES, HEADER, LOCAL_LEFT, LOOK_UP_LINES, MIXED, REMOTE_NAMES, REMOTE_OPEN, SESSION,
     WRONG_LOOK_UP_LINES, wrong_session,
 };
-use portmap_testing::streams::{Broken, Interrupted};
+use portmap_testing::streams::{Broken, Giving};
 use std::alloc::Global;
-use std::io::{Read, Write};
+use std::io::{ErrorKind, Read, Write};
 use std::test::Fail;
 
 /// A failure, and how it ends the program.
@@ -123,8 +123,12 @@ fn acted<W: Write>(
     let status = if input == "broken" {
         status_of(alloc, word, Broken, output, &mut errors)
     } else if let Some(times) = input.strip_prefix("interrupted:") {
-        let times = times.parse::<u32>()?;
-        status_of(alloc, word, Interrupted { times }, output, &mut errors)
+        let asking = Giving {
+            failing: times.parse::<u32>()?,
+            kind: ErrorKind::Interrupted,
+            bytes: NAMES,
+        };
+        status_of(alloc, word, asking, output, &mut errors)
     } else {
         let bytes = input_of(alloc, input)?;
         status_of(alloc, word, bytes.as_slice(), output, &mut errors)

@@ -1,0 +1,296 @@
+//! The network of a world: connections, what is underway on them, and what waits at listeners.
+ghost use Rattle.std.specs.Prelude.{◌≤◌, IfOk, length};
+
+use crate::notices::Subject;
+use crate::weather::Fault;
+use crate::wire::Wire;
+use crate::world::{LISTENERS, World};
+use std::alloc::Global;
+use std::collections::VecDeque;
+use std::io::ErrorKind;
+
+/// Of so many nodes it is known when they were stopped.
+const NODES_MOST: usize = 8;
+
+/// What a peer has done, and the daemon can't see before this time.
+#[derive(Drop)]
+struct Flight {
+    at: u64,
+    number: usize,
+    bytes: Vec<u8>,
+    end: Option<Ending>,
+}
+
+/// How a peer ends its connection.
+#[derive(Clone, Copy, PartialEq, Eq)]
+pub enum Ending {
+    /// It sends no more, and reads on.
+    Shut,
+    /// It has gone.
+    Gone,
+    Reset,
+}
+
+/// A network. Times are in microseconds.
+#[derive(Drop)]
+pub struct Network {
+    alloc: Global,
+    pub wires: Vec<Wire>,
+    /// What is underway, in the order in which it was done.
+    flights: VecDeque<Flight>,
+    /// The connections that wait at each listener.
+    pub(crate) backlogs: [VecDeque<usize>; LISTENERS],
+    /// Until when no connection can be accepted, and why.
+    pub(crate) exhausted: (u64, ErrorKind),
+    /// How many connections of other hosts the daemon has, and of this one.
+    pub remote: u32,
+    pub local: u32,
+    /// How many connections came as there was no place for them.
+    pub wanting: u32,
+    /// How many bytes the daemon has read since the log was taken out.
+    pub read_bytes: u64,
+    /// By nodes: since when the last stop of each was asked for, and when it was told that it is stopped.
+    stopped: [(u64, u64); NODES_MOST],
+}
+
+impl Network {
+    /// One in which nothing has happened.
+    pub fn new(alloc: Global) -> Network {
+        Network {
+            alloc,
+            wires: Vec::new(alloc),
+            flights: VecDeque::new(alloc),
+            backlogs: [VecDeque::new(alloc), VecDeque::new(alloc)],
+            exhausted: (0, ErrorKind::Other),
+            remote: 0,
+            local: 0,
+            wanting: 0,
+            read_bytes: 0,
+            stopped: [(0, 0); NODES_MOST],
+        }
+    }
+
+    /// The time when something lands next; never, if nothing is underway.
+    pub fn lands_at(&self) -> u64 {
+        let flights = self.flights.iter();
+        flights.fold(u64::MAX, |least: u64, flight| least.min(flight.at))
+    }
+
+    /// How many connections of this host the daemon has, or of other ones.
+    pub fn count(&mut self, is_local: bool) -> &mut u32 {
+        if is_local {
+            &mut self.local
+        } else {
+            &mut self.remote
+        }
+    }
+
+    /// A node is told to be stopped, which was asked for at this time.
+    pub fn note_stopped(&mut self, node: u8, asked: u64, now: u64) {
+        if let Some(stopped) = self.stopped.get_mut(node as usize) {
+            *stopped = (asked, now);
+        }
+    }
+
+    /// When it was told that a node is stopped, if that was asked for after this time.
+    pub fn stopped_after(&self, node: u8, time: u64) -> Option<u64> {
+        let (asked, told) = self.stopped.get(node as usize).copied()?;
+        (asked > time).then_some(told)
+    }
+}
+
+impl World {
+    // ---- what peers do
+
+    /// A peer connects at a listener. The number of the connection; none if too many wait there.
+    pub fn connect(&mut self, place: usize, is_local: bool) -> Option<usize> {
+        let waiting = self.network.backlogs.get_mut(place)?;
+        if waiting.len() >= self.scenario.backlog_most {
+            return None;
+        }
+        let is_narrow = self.weather.random.happens(200);
+        let room = if is_narrow { 64 } else { 65_536 };
+        let wire = Wire::new(self.network.alloc, is_local, room, self.scenario.is_sparing);
+        let number = self.network.wires.len();
+        if self.network.wires.push(wire).is_err() || waiting.push_back(number).is_err() {
+            self.memory.is_lost = true;
+            return None;
+        }
+        self.note_comer(place);
+        Some(number)
+    }
+
+    /// A connection has come to the listener at this place: threads are told of it, all now, or one before the others.
+    fn note_comer(&mut self, place: usize) {
+        let (now, mut first) = (self.now, None);
+        if self.happens(Fault::Taken) {
+            first = Some(self.weather.random.below(self.threads.len() as u64) as usize);
+        }
+        for (number, thread) in self.threads.iter_mut().enumerate() {
+            let is_later = first.is_some_and(|first| first != number);
+            thread.note_comer(place, now.saturating_add(if is_later { 1000 } else { 0 }));
+        }
+    }
+
+    /// A peer sends bytes, ends its connection, or resets it: then it sends and reads no more.
+    pub fn send(&mut self, number: usize, bytes: &[u8]) {
+        self.fly(number, bytes, None);
+    }
+
+    pub fn end(&mut self, number: usize, ending: Ending) {
+        self.fly(number, &[], Some(ending));
+    }
+
+    fn fly(&mut self, number: usize, bytes: &[u8], end: Option<Ending>) {
+        let lands_at = if self.happens(Fault::Late) {
+            self.after(20_000)
+        } else if end.is_none() && self.happens(Fault::Lost) {
+            self.after(3_000_000)
+        } else {
+            self.now
+        };
+        let Ok(bytes) = Vec::from_slice(self.network.alloc, bytes) else {
+            self.memory.is_lost = true;
+            return;
+        };
+        // What one peer does is seen in the order in which it was done.
+        let flights = &mut self.network.flights;
+        let own = flights.iter().filter(|flight| flight.number == number);
+        let at = own.fold(lands_at, |at: u64, flight| at.max(flight.at));
+        let flight = Flight {
+            at,
+            number,
+            bytes,
+            end,
+        };
+        self.memory.note(flights.push_back(flight).is_ok());
+        self.land();
+    }
+
+    /// What was underway is there now, if it is time.
+    pub fn land(&mut self) {
+        for _ in 0..self.network.flights.len() {
+            if let Some(flight) = self.network.flights.pop_front() {
+                if flight.at > self.now {
+                    let is_kept = self.network.flights.push_back(flight).is_ok();
+                    self.memory.note(is_kept);
+                } else {
+                    self.arrive(&flight);
+                }
+            }
+        }
+    }
+
+    fn arrive(&mut self, flight: &Flight) {
+        if let Some(wire) = self.network.wires.get_mut(flight.number) {
+            let is_kept = wire.arrive(self.now, &flight.bytes, flight.end);
+            self.memory.note(is_kept);
+            // What was there before a reset is lost, or may still be read.
+            if flight.end == Some(Ending::Reset) && self.weather.random.happens(500) {
+                wire.up.clear();
+            }
+        }
+    }
+
+    /// A peer reads so many bytes at most.
+    pub fn receive(&mut self, number: usize, most: usize) {
+        if let Some(wire) = self.network.wires.get_mut(number) {
+            self.memory.note(wire.receive(self.now, most));
+        }
+    }
+
+    // ---- what the daemon's streams do
+
+    /// Begins a call of a stream, which takes a moment, in which more may come, or is interrupted.
+    fn begin_call(&mut self) -> Result<(), ErrorKind> {
+        self.now = self.after(3);
+        self.land();
+        if self.happens(Fault::Interrupted) {
+            return Err(ErrorKind::Interrupted);
+        }
+        Ok(())
+    }
+
+    /// What a call on a connection tells that was reset.
+    fn reset_error(&mut self) -> ErrorKind {
+        if self.happens(Fault::Broken) {
+            ErrorKind::BrokenPipe
+        } else {
+            ErrorKind::ConnectionReset
+        }
+    }
+
+    /// Reads the bytes that have come.
+    pub fn read(&mut self, number: usize, buffer: &mut [u8]) -> Result<usize, ErrorKind>
+        ensures { IfOk result (λ n. n ≤ length buffer.new) }
+    {
+        self.begin_call()?;
+        let wire = self.network.wires.get_mut(number).ok_or(ErrorKind::Other)?;
+        wire.is_reported = false;
+        wire.is_read_due = !wire.is_readable();
+        if wire.is_reset && wire.up.is_empty() {
+            return Err(self.reset_error());
+        }
+        if wire.is_read_due {
+            return Err(ErrorKind::WouldBlock);
+        }
+        let count = wire.take(buffer);
+        self.network.read_bytes = self.network.read_bytes.saturating_add(count as u64);
+        Ok(count)
+    }
+
+    /// Writes as many bytes as there is room for.
+    pub fn write(&mut self, number: usize, bytes: &[u8]) -> Result<usize, ErrorKind>
+        ensures { IfOk result (λ n. n ≤ length bytes.now) }
+    {
+        self.begin_call()?;
+        let is_short = self.happens(Fault::Short);
+        let wire = self.network.wires.get_mut(number).ok_or(ErrorKind::Other)?;
+        if wire.is_reset {
+            return Err(self.reset_error());
+        }
+        let room = wire.room.saturating_sub(wire.down.len());
+        let count = bytes.len().min(if is_short { room.min(1) } else { room });
+        wire.note_unsent(self.now, bytes.len(), count);
+        wire.is_room_due = room == 0;
+        if room == 0 {
+            return Err(ErrorKind::WouldBlock);
+        }
+        self.memory.note(wire.put(&bytes[..count]));
+        Ok(count)
+    }
+
+    /// The daemon has a connection reset.
+    pub fn reset(&mut self, number: usize) {
+        if let Some(wire) = self.network.wires.get_mut(number) {
+            wire.is_reset = true;
+            wire.has_peer_news = true;
+        }
+    }
+
+    /// The daemon gives a connection up. One that it could not hold for want of memory could not be accepted.
+    pub fn close(&mut self, number: usize) {
+        let is_starved = self.is_starved();
+        // Long enough for who takes the log out to see it.
+        let is_starved_on = self.now.saturating_add(100_000) < self.memory.starved_until;
+        if let Some(wire) = self.network.wires.get_mut(number) {
+            if is_starved && !wire.is_held {
+                self.notices.note_unaccepted(self.now);
+            }
+            if is_starved_on && wire.down.is_empty() && wire.received.is_empty() {
+                self.notices.note(Subject::Short, self.now);
+            }
+            wire.is_down_ended = true;
+            wire.is_ended_well = !wire.is_up_ended && !wire.is_reset;
+            wire.has_peer_news = true;
+            if let Some(watch) = wire.watch.take() {
+                if let Some(thread) = self.threads.get_mut(watch.thread) {
+                    thread.watched.retain(|watched| *watched != number);
+                }
+            }
+            let is_local = wire.is_local;
+            let count = self.network.count(is_local);
+            *count = count.saturating_sub(1);
+        }
+    }
+}
