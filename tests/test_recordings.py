@@ -504,7 +504,8 @@ class Stalled(RecordCase):
             asked += 1
             self.assertLess(asked, 2000)
         self.assertEqual(daemon.lines(), [f"{FAILED}{self.file}: more than 16 MiB wait to be written"])
-        self.assertGreater(asked * 300_000, 16 * 1024 * 1024)
+        # A list has 305,704 bytes, and the registrations have less than two.
+        self.assertGreater((asked + 2) * 305_704, 16 * 1024 * 1024)
         self.assertLess(daemon.kb("VmRSS"), 96 * 1024)
         for _ in range(20):
             self.assertIs(look_up(daemon.port, NAMES[0], PATIENCE), True)
