@@ -68,7 +68,7 @@ def is_root():
 class RecordCase(Case):
     def setUp(self):
         super().setUp()
-        self.file, self.answered = self.path("session"), 0
+        self.file, self.answered, self.counting = self.path("session"), 0, threading.Lock()
 
     def read(self, word, data):
         write(self.file, data)
@@ -98,7 +98,9 @@ class RecordCase(Case):
             sizes = [os.path.getsize(path) for path in (file, f"{file}.1") if os.path.exists(path)]
             return is_over() or sizes and sum(sizes) > self.answered - BEHIND
         eventually(is_near, "the recording")
-        self.answered += len(ask(daemon.port, b"n", PATIENCE) or b"")
+        size = len(ask(daemon.port, b"n", PATIENCE) or b"")
+        with self.counting:
+            self.answered += size
 
     def kill(self, daemon):
         """Ends a daemon that allows it by a request, and returns its status."""
