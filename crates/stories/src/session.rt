@@ -221,7 +221,9 @@ fn upgraded(alloc: Global, session: Record) -> Result<String> {
 
 /// What is left of the record that these bytes are without its remote peers.
 fn left(alloc: Global, bytes: &[u8]) -> Result<String> {
-    let session = record_in(alloc, bytes)?;
+    let Ok(session) = read_record(alloc, bytes) else {
+        return wrong("it is no record");
+    };
     match marked!(alloc, local_record(alloc, &session)) {
         Ok(left) => written(alloc, &left),
         Err(fault) => by_name(alloc, &fault),

@@ -41,27 +41,41 @@ impl Parts {
     /// What comes of an act: parts are added, or what there are is built.
     pub fn came(&mut self, alloc: Global, words: &[&str]) -> Result<String> {
         match *words {
-            ["row", word, creation, slot] => self.active.push(Row {
-                creation: number(creation)?,
-                slot: number(slot)?,
-                reg: registration(alloc, 5000, 6, word, &[])?,
-            })?,
-            ["old", word, creation] => self.retired.push(Old {
-                port: 5000,
-                creation: number(creation)?,
-                name: name(alloc, word)?,
-            })?,
-            ["conn", slot, whence, phase, kept] => self.connections.push(Held {
-                slot: number(slot)?,
-                local: is_local(whence)?,
-                phase: phase_of(phase)?,
-                bytes: bytes(alloc, kept)?,
-            })?,
+            ["row", word, creation, slot] => self.active.push(row(alloc, word, creation, slot)?)?,
+            ["old", word, creation] => self.retired.push(old(alloc, word, creation)?)?,
+            ["conn", slot, whence, phase, kept] => self
+                .connections
+                .push(conn(alloc, slot, whence, (phase, kept))?)?,
             ["build"] => return built(alloc, mem::replace(self, Parts::new(alloc))),
             _ => return wrong("no such act"),
         }
         Ok(String::new(alloc))
     }
+}
+
+fn row(alloc: Global, word: &str, creation: &str, slot: &str) -> Result<Row> {
+    Ok(Row {
+        creation: number(creation)?,
+        slot: number(slot)?,
+        reg: registration(alloc, 5000, 6, word, &[])?,
+    })
+}
+
+fn old(alloc: Global, word: &str, creation: &str) -> Result<Old> {
+    Ok(Old {
+        port: 5000,
+        creation: number(creation)?,
+        name: name(alloc, word)?,
+    })
+}
+
+fn conn(alloc: Global, slot: &str, whence: &str, (phase, kept): (&str, &str)) -> Result<Held> {
+    Ok(Held {
+        slot: number(slot)?,
+        local: is_local(whence)?,
+        phase: phase_of(phase)?,
+        bytes: bytes(alloc, kept)?,
+    })
 }
 
 fn phase_of(word: &str) -> Result<Phase> {
