@@ -500,11 +500,12 @@ class Stalled(RecordCase):
         reader.start()
         daemon = self.daemon("-relaxed_command_check", "-record", self.file)
         self.hold(daemon, NAMES)
-        asked = 0
+        # Lines are printed once a second, and a fast machine answers more than 2,000 lists in that time.
+        asked, until = 0, time.monotonic() + PATIENCE
         while not daemon.lines():
             self.assertTrue(answers(daemon.port))
             asked += 1
-            self.assertLess(asked, 2000)
+            self.assertLess(time.monotonic(), until)
         self.assertEqual(daemon.lines(), [f"{FAILED}{self.file}: more than 16 MiB wait to be written"])
         # A list has 305,704 bytes, and the registrations have less than two.
         self.assertGreater((asked + 2) * 305_704, 16 * 1024 * 1024)
