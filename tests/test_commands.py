@@ -69,9 +69,9 @@ def has_ipv6():
 class StandIn:
     """A server in the place of a port mapper. It reads the request of each connection and hands both to `serve`."""
 
-    def __init__(self, serve, address="127.0.0.1"):
+    def __init__(self, serve, address="127.0.0.1", port=None):
         self.serve, self.asked = serve, []
-        self.port, self.kept = free_port()
+        self.port, self.kept = (port, socket.socket()) if port else free_port()
         family = socket.AF_INET6 if ":" in address else socket.AF_INET
         self.listener = socket.create_server((address, self.port), family=family)
         self.thread = threading.Thread(target=self.run, daemon=True)
@@ -182,7 +182,7 @@ class Words(CommandCase):
                 self.refused(1, "-stop", bad)
 
     def test_a_second_command(self):
-        for second in (["-names"], ["-kill"], ["-dump"], ["-once"], ["-stop", "a"], ["-check", "f"], ["-play", "f"], ["-local", "f"],
+        for second in (["-names"], ["-kill"], ["-dump"], ["-health"], ["-once"], ["-stop", "a"], ["-check", "f"], ["-play", "f"], ["-local", "f"],
                        ["-audit", "f"]):
             with self.subTest(second=second):
                 self.refused(1, "-names", *second)

@@ -229,7 +229,9 @@ class Floods(Peers):
             s = dial(daemon.port)
             s.sendall((NAMES, alive(b"reset"), NAMES[:1], b"")[number % 4])
             wire.reset(s)
-        self.honest(daemon, 5, names)
+        self.honest(daemon, 5, None)  # A busy machine may still serve some of them.
+        rows = listed(daemon.port, *((name, 5000) for name in names))
+        eventually(lambda: ask(daemon.port, NAMES) == rows, "that the names of those that reset left")
 
 
 def send_on(s, goes_on):

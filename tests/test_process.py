@@ -118,6 +118,24 @@ class Memory(Serves):
         else:
             self.assertEqual(daemon.ended(PATIENCE)[0], OUT_OF_MEMORY[0])
 
+    def test_a_request_that_is_read_is_not_answered_by_that(self):
+        """A worker that once had more connections has room for one without memory: it reads the request, and can't answer it."""
+        with Faults() as faults:
+            daemon = self.daemon(*NEVER, "-workers", "1", env=faults.env)
+            with contextlib.ExitStack() as once:
+                for number in range(8):
+                    once.enter_context(register(daemon.port, b"name%d" % number))
+            eventually(lambda: not wire.is_registered(daemon.port, b"name7"), "that they left")
+            time.sleep(2)  # The log is taken out once a second.
+            faults.refuse("memory", 1, run=FOR_EVER)
+            faults.on = 1
+            until = time.monotonic() + PATIENCE
+            while daemon.runs() and time.monotonic() < until:
+                with contextlib.suppress(ConnectionError):
+                    self.assertEqual(wire.ending_of(daemon.port, port_please(b"one")), b"")
+            self.assertEqual(daemon.ended()[0], OUT_OF_MEMORY[0])
+            self.assertIn(OUT_OF_MEMORY[1], daemon.lines())
+
     def test_none_is_to_be_had_for_seconds(self):
         with Faults() as faults:
             daemon = self.daemon(*NEVER, env=faults.env)

@@ -1,17 +1,29 @@
-"""The pages beside the manuals: what they name and link to is there, and they are as short and as narrow as they are to be."""
+"""The pages beside the manuals: the files, targets, names and links in them exist, blocks of Rattle are quotations, and pages are short and
+narrow."""
 import fnmatch
+import functools
+import glob
 import os
 import re
 import unittest
 
 TOP = os.path.join(os.path.dirname(os.path.abspath(__file__)), "..", "..")
-README, CONTRIBUTING, PROVED, DECISIONS = "README.md", "docs/CONTRIBUTING.md", "docs/PROVED.md", "docs/DECISIONS.md"
-FORMATS, PROTOCOL = "docs/FORMATS.md", "docs/PROTOCOL.md"
-PAGES = [README, CONTRIBUTING, PROVED, DECISIONS, FORMATS, PROTOCOL]
-# These come and go with versions, and count for no length.
-OTHERS = ["CHANGELOG.md", "SECURITY.md"]
-# Of a line, and of one of the code; of all pages; of the decisions.
-COLUMNS_MOST, CODE_COLUMNS_MOST, LINES_MOST, WORDS_MOST = 140, 120, 1330, 6300
+README, DECISIONS, CHANGELOG = "README.md", "docs/DECISIONS.md", "CHANGELOG.md"
+# The pages that explain the code: each name in backquotes is a word of the code.
+NAMES = "ARCHITECTURE", "CONTRIBUTING", "DECISIONS", "FORMATS", "GLOSSARY", "PROTOCOL", "PROVED", "TESTING"
+OF_CODE = [f"docs/{name}.md" for name in NAMES]
+PAGES = [README, "docs/INSTALL.md", *OF_CODE]
+# One for each crate of the product, and for those of which it is made.
+CRATES = sorted(os.path.relpath(path, TOP) for path in glob.glob(os.path.join(TOP, "crates/*/README.md")))
+FIGURES = "bench/RESULTS.md"
+# These come and go with versions.
+OTHERS = [CHANGELOG, "SECURITY.md"]
+# Of a line, and of a line of the code.
+COLUMNS_MOST, CODE_COLUMNS_MOST = 140, 120
+# Lines of README and docs/*.md together, and of the README of a crate. Manual pages, changes, figures and SECURITY.md have no limit.
+LINES_MOST, CRATE_LINES_MOST = 2400, 100
+# Of the decisions, in words.
+WORDS_MOST = 6000
 
 FOLDERS = ["crates", "contrib", "docs", "bench", "faults", "include", "tests", ".ci"]
 # Where a name has to stand as a word of the code. This file is left out: what it names itself would be found in it.
@@ -37,6 +49,9 @@ NAME = re.compile(r"[A-Za-z_]\w*(::\w+)*(\(\))?")
 MEMBER = re.compile(r"\b([A-Z]\w*[a-z]\w*)::(\w+)")
 CRATE = re.compile(r"\b(portmap_\w+|tests_\w+|epmd|stories|simulation)\b")
 LINK = re.compile(r"\]\(([^)#\s]*)(?:#([^)\s]*))?\)")
+RUST = re.compile(r"(?ms)^ *```rust\n(.*?)^ *```$")
+# The first line of an item of code, or the end of one. A quotation may leave out what is between two items.
+BEGINS = re.compile(r"(pub|fn|impl|trait|struct|enum|type|const|use|ghost|///?|#\[|\})")
 
 
 def read(*path):
@@ -118,10 +133,38 @@ class Checkout:
     def missing_members(self, page):
         """Of a type and what is its own, as `Desk::close`: functions and variants, in a file that is of the type."""
         for found in MEMBER.finditer(page):
-            of_type = re.compile(rf"\b(?:struct|enum|trait|impl(?:<[^>]*>)?(?:\s+\w+\s+for)?)\s+{found[1]}\b")
-            own = re.compile(rf"(?m)\bfn\s+{found[2]}\b|^\s*{found[2]}\s*[,({{]")
-            if not any(of_type.search(source) and own.search(source) for source in self.sources):
+            if not self.has_member(found[1], found[2]):
                 yield 1 + page.count("\n", 0, found.start()), found[0]
+
+    @functools.cache
+    def has_member(self, name, member):
+        of_type = re.compile(rf"\b(?:struct|enum|trait|impl(?:<[^>]*>)?(?:\s+\w+\s+for)?)\s+{name}\b")
+        own = re.compile(rf"(?m)\bfn\s+{member}\b|^\s*{member}\s*[,({{]")
+        return any(name in source and of_type.search(source) and own.search(source) for source in self.sources)
+
+
+def without_removed(changes):
+    """The changes without the sections of what is gone: names in these are in no file any more. Lines keep their numbers."""
+    return re.sub(r"(?m)^### Removed$[\s\S]*?(?=^##|\Z)", lambda part: "\n" * part[0].count("\n"), changes)
+
+
+def flat(code):
+    """Code without indentation, with a line break before each line and behind it."""
+    return "\n" + "\n".join(line.strip() for line in code.strip().split("\n")) + "\n"
+
+
+def unquoted(block, sources):
+    """The first line of a block at which it leaves all sources; none if the block is made of quotations that begin with an item each."""
+    lines = flat(block).strip("\n").split("\n")
+    while lines:
+        most = 0
+        while most < len(lines) and any(flat("\n".join(lines[:most + 1])) in source for source in sources):
+            most += 1
+        lines = lines[most:]
+        if lines and not (most and (not lines[0] or BEGINS.match(lines[0]))):
+            return lines[0]
+        lines = lines[1:] if lines and not lines[0] else lines
+    return None
 
 
 def anchor(head):
@@ -149,8 +192,15 @@ class Pages(unittest.TestCase):
     def none(self, find, *pages):
         self.assertEqual([(page, *found) for page in pages for found in find(read(page))], [])
 
+    def test_each_page_is_of_one_kind(self):
+        docs = [os.path.relpath(path, TOP) for path in glob.glob(os.path.join(TOP, "docs/*.md"))]
+        self.assertEqual(sorted(docs), sorted(PAGES[1:]))
+        self.assertGreater(len(CRATES), 10)
+
     def test_each_path_is_there(self):
-        self.none(self.CHECKOUT.missing_paths, *PAGES)
+        self.none(self.CHECKOUT.missing_paths, *PAGES, *CRATES, FIGURES)
+        changes = without_removed(read(CHANGELOG))
+        self.assertEqual(list(self.CHECKOUT.missing_paths(changes)), [])
 
     def test_a_path_of_a_crate_is_so_in_a_crate_that_is_named_beside_it(self):
         for page, missing in (
@@ -173,14 +223,39 @@ class Pages(unittest.TestCase):
         self.assertEqual(code_of("a.story", "two"), "")
 
     def test_each_target_is_one_of_the_makefile(self):
-        self.none(self.CHECKOUT.missing_targets, *PAGES)
+        self.none(self.CHECKOUT.missing_targets, *PAGES, *CRATES, *OTHERS, FIGURES)
 
     def test_each_name_stands_in_the_code(self):
-        self.none(self.CHECKOUT.missing_names, CONTRIBUTING, PROVED, DECISIONS, FORMATS, PROTOCOL)
-        self.none(self.CHECKOUT.missing_members, *PAGES)
+        self.none(self.CHECKOUT.missing_names, *OF_CODE, *CRATES, FIGURES)
+        self.none(self.CHECKOUT.missing_members, *PAGES, *CRATES)
+        changes = without_removed(read(CHANGELOG))
+        self.assertEqual(list(self.CHECKOUT.missing_names(changes)), [])
+
+    def test_what_was_removed_needs_no_name_in_the_code(self):
+        changes = "## 2\n\n### Removed\n\n- `gone_by_now`\n\n### Fixed\n\n- `gone_by_now`\n"
+        self.assertEqual(list(self.CHECKOUT.missing_names(without_removed(changes))), [(9, "gone_by_now")])
 
     def test_each_link_leads_somewhere(self):
-        self.assertEqual([(page, *found) for page in [*PAGES, *OTHERS] for found in broken_links(page)], [])
+        self.assertEqual([(page, *found) for page in [*PAGES, *CRATES, *OTHERS, FIGURES] for found in broken_links(page)], [])
+
+    def test_each_block_of_rattle_is_a_quotation(self):
+        """In README.md a caller is shortened."""
+        sources = [flat(source) for source in self.CHECKOUT.sources]
+        pages = [*PAGES[1:], *CRATES]
+        blocks = [(page, block) for page in pages for block in RUST.findall(read(page))]
+        self.assertGreater(len(blocks), 0)
+        found = [(page, unquoted(block, sources)) for page, block in blocks]
+        self.assertEqual([(page, line) for page, line in found if line is not None], [])
+
+    def test_a_quotation_leaves_out_whole_items_alone(self):
+        sources = [flat(source) for source in (
+            "pub fn one()\n    ensures a { b }\n{\n    two();\n\n    three();\n}\n\nfn four() {}", "  struct Five;\n")]
+        for block, line in {
+            "pub fn one()\n    ensures a { b }\n": None, "        pub fn one()\n    ensures a { b }\nfn four() {}\nstruct Five;\n": None,
+            "pub fn one()\n    ensures a { c }\n": "ensures a { c }", "pub fn one()\n{\n": "{", "three();\ntwo();\n": "two();",
+            "two();\n\nthree();\n": None, "two();\nthree();\n": "three();", "fn six()\n": "fn six()", "two();\n}\n": None,
+        }.items():
+            self.assertEqual(unquoted(block, sources), line, block)
 
     def test_each_decision_names_a_file_and_each_room_is_in_the_index(self):
         page = read(DECISIONS)
@@ -192,7 +267,7 @@ class Pages(unittest.TestCase):
         self.assertEqual([item for item, named in zip(items, files) if not named], [])
 
     def test_no_line_is_too_wide(self):
-        self.none(too_wide, *PAGES, *OTHERS)
+        self.none(too_wide, *PAGES, *CRATES, *OTHERS, FIGURES)
 
     def test_no_line_of_the_crates_is_too_wide(self):
         """Of the code, rows of tests are left out: a case is one line."""
@@ -204,6 +279,7 @@ class Pages(unittest.TestCase):
 
     def test_the_pages_are_short(self):
         self.assertLessEqual(sum(read(page).count("\n") for page in PAGES), LINES_MOST)
+        self.assertEqual([page for page in CRATES if read(page).count("\n") > CRATE_LINES_MOST], [])
         self.assertLessEqual(len(read(DECISIONS).split()), WORDS_MOST)
 
 

@@ -5,3 +5,4 @@ pub mod Sayings
 pub mod Completing
 pub mod Pieces
 pub mod Recordings
+pub mod Checking

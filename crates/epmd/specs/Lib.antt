@@ -7,4 +7,5 @@ pub mod Meaning
 pub mod Daemon
 pub mod Handing
 pub mod Commands
+pub mod Health
 pub mod Auditing

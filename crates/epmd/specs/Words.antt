@@ -1,4 +1,5 @@
--- The words of the command: the options of epmd(1) and, as profile, -workers, -record, -dump, -once, -check, -play, -local and -audit.
+-- The words of the command: the options of epmd(1) and, as profile, -workers, -record, -dump, -health, -once, -check, -play, -local and
+-- -audit.
 use Rattle.std.specs.Option.{option_or}
 use Rattle.std.specs.Prelude.{◌≡◌, ℕ, List, [], ◌∷◌, Bool, true, false, codes, string_bytes, Option, Some, None, ◌⊎◌}
 use Rattle.std.specs.{Prelude.String, declared.alloc.Global.Global, declared.vec.Vec.Vec}
@@ -27,6 +28,7 @@ Begins (Act (action.Ask ask.Names)) words rest = words ≡ codes "-names" ∷ re
 Begins (Act (action.Ask ask.Kill)) words rest = words ≡ codes "-kill" ∷ rest
 Begins (Act (action.Ask (ask.Stop name))) words rest = (words ≡ codes "-stop" ∷ name ∷ rest) × IsName name
 Begins (Act (action.Ask ask.Dump)) words rest = words ≡ codes "-dump" ∷ rest
+Begins (Act action.Health) words rest = words ≡ codes "-health" ∷ rest
 Begins (Act action.Once) words rest = words ≡ codes "-once" ∷ rest
 Begins (Act (action.Inspect text.Verdict path)) words rest = words ≡ codes "-check" ∷ string_bytes path ∷ rest
 Begins (Act (action.Inspect text.Transcript path)) words rest = words ≡ codes "-play" ∷ string_bytes path ∷ rest

@@ -50,6 +50,7 @@ fn read_plain(word: &str) -> Option<Word>
         "-names" => Word::Act(Action::Ask(Ask::Names)),
         "-kill" => Word::Act(Action::Ask(Ask::Kill)),
         "-dump" => Word::Act(Action::Ask(Ask::Dump)),
+        "-health" => Word::Act(Action::Health),
         "-once" => Word::Act(Action::Once),
         _ => return None,
     };

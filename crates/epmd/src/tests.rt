@@ -4,6 +4,7 @@ mod actions;
 mod auditing;
 mod commands;
 mod handing;
+mod health;
 mod program;
 mod settings;
 mod typed;

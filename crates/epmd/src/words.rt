@@ -42,6 +42,8 @@ pub enum Action {
     Serve,
     /// To ask the daemon on this host.
     Ask(Ask),
+    /// To check that the daemon on this host registers names, finds them and frees them.
+    Health,
     /// To answer one request from standard input, on standard output.
     Once,
     /// To judge the recorded session in the file of this path, and to write this of it.

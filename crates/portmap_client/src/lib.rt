@@ -1,12 +1,23 @@
-//! A client of the port mapper, over any stream of bytes. Each call sends one request and reads its answer, over a
-//! connection of its own: the port mapper closes it after every answer, but for a registration that succeeds.
+//! A client of the port mapper, over any stream of bytes.
 //!
-//! One clause stands on all six calls, `Calls`: exactly the request was written (a front of it where the call was given
-//! up), and at `Write` nothing was pulled; nothing behind the answer was read, and the result is what the bytes say,
-//! unless the call was given up (`Write`, `Read`, `TooManyTurns`, `NoMemory`); at `Write` and `Read` the stream has
-//! failed; fewer than 1,000 Laters were met, or exactly as many and `TooManyTurns`. `leave`, and the error of `make`,
-//! hand the stream back. Of a socket only counts are known. Give it a read timeout: a call waits for at most a thousand
-//! of them.
+//! Each call sends one request and reads its reply, over a connection of its own. The port mapper closes the connection
+//! after every reply, except after a registration that succeeds. Give a socket a read timeout: a call waits for at most
+//! a thousand of them.
+//!
+//! # Guarantees
+//! One clause, `Calls`, holds of all six calls:
+//! - The call wrote exactly the request, or a prefix of it if the call was aborted. At `Write` it has pulled nothing.
+//! - It read nothing after the reply. Its result is what the bytes say, unless it was aborted (`Write`, `Read`,
+//!   `TooManyTurns`, `NoMemory`).
+//! - At `Write` and `Read` the stream has failed.
+//! - It met fewer than 1,000 Laters, or exactly 1,000 and returned `TooManyTurns`.
+//!
+//! `leave`, and the error of `make`, return the stream.
+//!
+//! # Not covered
+//! The bytes of a socket: only their counts are known.
+//!
+//! The `README.md` of this crate shows a proved caller, and lists errors and allocation.
 #![tactic(auto)]
 
 mod commands;

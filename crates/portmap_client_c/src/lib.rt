@@ -1,6 +1,8 @@
-//! The client of the port mapper for programs in C, and in whatever calls C: `include/epmd_client.h` says how each call
-//! is used. Each calls `portmap_wire` or `portmap_client`, and its clauses are theirs in numbers and bytes. No memory
-//! is kept after a call, and want of it is told last: only where nothing is wrong with what the call was handed.
+//! The client of the port mapper for programs in C, and in languages that call C.
+//!
+//! `include/epmd_client.h` says how each call is used. Each calls `portmap_wire` or `portmap_client`, and has their
+//! clauses in numbers and bytes. No memory is kept after a call. Out of memory is returned last: only if nothing is
+//! wrong with the arguments.
 #![tactic(auto)]
 
 mod answers;

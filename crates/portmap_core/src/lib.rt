@@ -1,21 +1,29 @@
-//! The port mapper's machine: events in, answers out.
+//! The port mapper's state machine: events in, answers out.
 //!
-//! What the crates above may build on, beside the clauses themselves:
-//! - `Core::event`: a step of the machine, or the first refusal that holds, which changes nothing. A close or fault of
-//!   an open slot of a machine that hasn't ended is always answered, and takes no memory; nor does a timeout, or a
-//!   piece on a connection that holds a name or is done. The state stays owned. `Core::entry`: the same, with the entry
-//!   for a log. `Core::refusal`: the refusal that `event` gives, whatever memory there is. `Core::run`: any events over
-//!   any slots in any order; an error has done nothing. Which slot and creation come next is left open.
-//! - `State::build`: the state of these parts; none exactly where slots don't rise, or one that doesn't wait has bytes.
-//!   `State::owned`: whether it is one that a machine of the configuration may come to. `State::step`, of an owned
-//!   state: true and moved exactly where the machine allows the entry, false and unchanged exactly where not; of any
-//!   other state false, and unchanged. `Replay`, made of an owned state alone, moves so and stays owned, and finds
-//!   names without a walk.
-//! - `State::follow`: the step of an entry that a machine has made in this very state. It trusts the entry, so one that
-//!   changes no name costs no walk. Only a connect wants memory, a piece that does more than end its connection, and
-//!   the end of a connection that holds a name.
-//! - `name_to_register`: a name only of a piece that is a whole registration of it; that it is found where memory is
-//!   ample: tests.
+//! # Guarantees
+//! - `Core::event` makes one transition, or returns the first refusal that holds and changes nothing. The state stays
+//!   valid.
+//! - A close or a fault of an open slot is always answered until the machine halts. It never allocates. Nor does a
+//!   timeout, or a chunk on a connection that holds a name or is done.
+//! - `Core::entry` makes the same transition and returns its log entry. `Core::refusal` returns the refusal of `event`,
+//!   whatever memory there is.
+//! - `Core::run` applies any events, over any slots, in any order. An error has done nothing.
+//! - `State::build` returns the state with these parts. It returns `None` if and only if slots do not rise, or a
+//!   connection that is not waiting has bytes.
+//! - `State::owned` returns whether a machine of the configuration may reach the state: whether it is valid.
+//! - `State::step` returns true and moves the state if and only if the state is valid and the machine allows the entry.
+//!   Otherwise it returns false and changes nothing.
+//! - A `Replay` is made only of a valid state. It moves in the same way, stays valid, and finds names without a walk.
+//! - `State::follow` makes the step of an entry that a machine has made in this very state. It trusts the entry, so an
+//!   entry that changes no name costs no walk. It allocates only for a connect, for a chunk that does more than end
+//!   its connection, and for the end of a connection that holds a name.
+//! - `name_to_register` returns a name only of a chunk that is a complete registration of it.
+//!
+//! # Not covered
+//! Which slot and which creation come next is left open. That `name_to_register` finds the name if memory is ample is
+//! tested only.
+//!
+//! The `README.md` of this crate shows a proved caller, and lists errors and allocation.
 #![tactic(auto)]
 
 mod asked;

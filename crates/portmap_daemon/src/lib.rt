@@ -1,15 +1,21 @@
-//! The daemon over sockets: its threads, `mio`, and its start and end. What a worker is: `portmap_worker`, whose calls
-//! are this crate's too.
+//! The daemon over sockets: its threads, `mio`, and its start and end. Its workers are those of `portmap_worker`, whose
+//! calls this crate exports too.
 //!
-//! What is promised, beside the clauses themselves:
-//! - `run`, `run_gated` ask for one address, 1 to 64 workers, a timeout of 1 to 86,400 seconds: one count for each
-//!   worker. `Listen(i)`: an address of the list. `run_over` is the same over sockets that listen already. Of sockets
-//!   and threads only safety is proved: what the counts are, and that `recorded` tells of a recording that is not
-//!   whole, is tested.
-//! - Exact are: where a socket listens (`address_at`), at which IPv6 address another one (`beside`, `address_of`), what
-//!   says that there is no IPv6 (`lacks_ipv6`), what a poll reports (`report_of`), whether it may have more to report
-//!   (`is_full`), the address of a peer (`ip_in`), what an end says of the recording (`has_recorded`), and with which
-//!   fault (`fault_of`). That they are asked: tests.
+//! # Guarantees
+//! - `run` and `run_gated` require at least one address, 1 to 64 workers, and a timeout of 1 to 86,400 seconds. They
+//!   return one count for each worker. `Listen(i)` names an address of the list. `run_over` is the same over sockets
+//!   that listen already.
+//! - These functions are exact: where a socket listens (`address_at`), at which IPv6 address another socket listens
+//!   (`beside`, `address_of`), what says that there is no IPv6 (`lacks_ipv6`), what a poll reports (`report_of`) and
+//!   whether it may have more to report (`is_full`).
+//! - These are exact too: the address of a peer (`ip_in`), what an end says of the recording (`has_recorded`), and with
+//!   which fault (`fault_of`).
+//!
+//! # Not covered
+//! Of sockets and threads only safety is proved. That the counts are right, that `recorded` reports an incomplete
+//! recording, and that the exact functions are called is tested only.
+//!
+//! The `README.md` of this crate shows a proved caller, and lists errors and allocation.
 #![tactic(auto)]
 
 mod daemon;
@@ -21,7 +27,7 @@ mod recording;
 
 pub use crate::daemon::{RunEnd, RunFault, Settings, run, run_gated, run_over};
 pub use crate::limits::{TIMEOUT_SECONDS_MOST, numbers_are_the_profiles};
-pub use crate::listening::{HandedFault, beside, handed_over};
+pub use crate::listening::{HandedFault, beside, handed_over, lacks_ipv6};
 pub use crate::mio_system::{MioStream, MioSystem, MioWaker};
 pub use portmap_worker::{
     Carrier, FILE_BYTES_MOST, Gate, Host, Next, Notice, Open, Outcome, Point, RecordFile, Recorder,

@@ -97,7 +97,7 @@ pub fn beside(address: [u8; 4]) -> Option<Ipv6Addr>
 }
 
 /// Whether a system without IPv6 says so by the error of this number.
-fn lacks_ipv6(number: Option<i32>) -> bool
+pub fn lacks_ipv6(number: Option<i32>) -> bool
     ensures { (result ≡ true) ↔ ((number ≡ Some EAFNOSUPPORT) ⊎ (number ≡ Some EADDRNOTAVAIL)) }
 {
     number == Some(EAFNOSUPPORT) || number == Some(EADDRNOTAVAIL)

@@ -14,6 +14,7 @@ use mio::event::Event;
 use mio::net::{TcpListener, TcpStream};
 use mio::{Events, Poll, Token, Waker};
 use os::FromRawFd;
+use portmap_link::Past;
 use portmap_worker::{EVENTS_MOST, Interest, Report, Stream, System, Wake};
 use std::alloc::Global;
 use std::io::{Read, Write};
@@ -117,6 +118,8 @@ pub struct MioSystem {
     poll: Poll,
     events: Events,
     listeners: Vec<TcpListener>,
+    /// What the poll has taken. Only proofs read it.
+    watched: Past<(usize, Interest)>,
 }
 
 impl MioSystem {
@@ -139,6 +142,7 @@ impl MioSystem {
             poll,
             events,
             listeners,
+            watched: Past::new(),
         };
         Ok((system, MioWaker { inner }))
     }
@@ -156,9 +160,12 @@ impl System for MioSystem {
 
     type Waker = MioWaker;
 
+    ghost use Rattle.std.specs.Prelude.{Some};
     ghost use Rattle.portmap_daemon.specs.Events.{all_reported};
 
     ghost reports = { all_reported };
+
+    ghost watched = { λ system. Some system.watched };
 
     fn poll(&mut self, timeout_ms: u64) -> bool {
         let timeout = Duration::from_millis(timeout_ms);
@@ -182,16 +189,20 @@ impl System for MioSystem {
         interest: Interest,
         was_watched: bool,
     ) -> io::Result<()> {
-        let interest = match interest {
+        let events = match interest {
             Interest::Reading => mio::Interest::READABLE,
             Interest::Both => mio::Interest::READABLE | mio::Interest::WRITABLE,
         };
         let registry = self.poll.registry();
-        if was_watched {
-            registry.reregister(&mut stream.inner, Token(key), interest)
+        let told = if was_watched {
+            registry.reregister(&mut stream.inner, Token(key), events)
         } else {
-            registry.register(&mut stream.inner, Token(key), interest)
+            registry.register(&mut stream.inner, Token(key), events)
+        };
+        if told.is_ok() {
+            self.watched.note(&(key, interest));
         }
+        told
     }
 
     fn listeners(&self) -> usize {

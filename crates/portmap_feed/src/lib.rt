@@ -1,10 +1,14 @@
-//! The first request of a byte stream that comes in pieces, each request preceded by its length.
+//! The first request of a byte stream that arrives in chunks. Each request is preceded by its length.
 //!
-//! With the bytes so far joined, `push` answers what they amount to, `kept` is what is kept of them (8,194 bytes at
-//! most) and `body` the body once it is whole; how the stream was cut doesn't matter. Behind a whole request or a bad
-//! length a push changes nothing, takes no memory and answers the same. A refused push changes nothing, and `cut` to
-//! the length before a push undoes it. Inside the crate only: the push that completes the length takes the room of the
-//! whole request, so none behind it is refused.
+//! # Guarantees
+//! - `push` returns what all bytes so far amount to, however the stream was cut. `kept` is the part of them that is
+//!   kept, at most 8,194 bytes, and `body` is the body once it is complete.
+//! - After a complete request or a bad length a push changes nothing, never allocates, and returns the same.
+//! - A refused push changes nothing. `cut` to the length before a push undoes that push.
+//! - Inside the crate only: the push that completes the length reserves the room of the complete request, so no later
+//!   push is refused.
+//!
+//! The `README.md` of this crate shows a proved caller, and lists errors and allocation.
 #![tactic(auto)]
 
 mod feed;

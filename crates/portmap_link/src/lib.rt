@@ -1,17 +1,21 @@
-//! Devices that give and take bytes and may answer later, and bytes that wait for one.
+//! Devices that give and take bytes and may answer later, and a send buffer for bytes that wait for a device.
 //!
-//! What the crates above may build on, beside the clauses themselves:
-//! - A device (`Input`, `Output`) is believed where its calls keep their clauses. `Reading`, `Writing` and `Both` are
-//!   such devices over the standard library's readers and writers. Files and sockets tell no bytes, so of them only
-//!   counts are known.
-//! - `Outbox::flush`: what it wrote, and then what waits, is what waited; at `Empty` nothing waits; at `Later` and
-//!   `Fault` the last put of this call said so. `write` is push and flush in one: room is taken first, so that a
-//!   refusal has put nothing.
-//! - `send_all`: under a limit of puts or of Laters, a put is made where bytes are left and the limit isn't reached,
-//!   and only there, until one fails.
-//! - `once`, Ok: the reply that a machine with one local connection gives to the bytes read was written, and nothing
-//!   else; or the input ended before a request was whole, and nothing was written. `WriteFault`, `TooManyTurns` say how
-//!   many bytes were written; at `ReadFault`, `NoMemory` none were.
+//! # Guarantees
+//! - `Reading`, `Writing` and `Both` are devices over the standard library's readers and writers.
+//! - `Outbox::flush`: the bytes that it wrote, followed by those that wait, are the bytes that waited before. At
+//!   `Empty` nothing waits. At `Later` and `Fault` the last put of this call said so.
+//! - `Outbox::write` is push and flush in one. It reserves room first, so a refusal has put nothing.
+//! - `send_all`, under a limit of puts or of Laters: it makes a put if and only if bytes are left and the limit is not
+//!   reached, until a put fails.
+//! - If `once` returns Ok, it wrote the reply of a machine with one local connection to the bytes read, and nothing
+//!   else. Or the input ended before a complete request, and it wrote nothing. `WriteFault` and `TooManyTurns` say how
+//!   many bytes were written. At `ReadFault` and `NoMemory` none were.
+//!
+//! # Not covered
+//! A device (`Input`, `Output`) is assumed to meet the contracts of its trait. Of files and sockets only counts of
+//! bytes are known.
+//!
+//! The `README.md` of this crate shows a proved caller, and lists errors and allocation.
 #![tactic(auto)]
 
 mod adapters;

@@ -1,18 +1,21 @@
-//! Where each of a worker's links stands, and in which order there is something to tell of them.
+//! A scheduler for the links of one worker: a run queue, a list of pending links and a list of paused links.
 //!
-//! What the crates above may build on, beside the clauses themselves:
-//! - None is forgotten (`none_is_forgotten`, always): each link is idle, queued, pending, resting or told, and in no
-//!   two of these. Each that is queued stands in the queue once, and no other key does; so it is with those that are
-//!   pending, and with those that rest. At most one is told, and `told` names it.
-//! - In turn (`told_in_turn`, `taken_in_turn`, `in_order`): whatever is called in between, a link of which there is
-//!   something to tell is told within as many turns as links stood before it, and one more, unless it is removed; and
-//!   none is told before it that stood behind it. Those that are pending are taken in turn too.
-//! - Each call leaves exactly what its clause says. After `rest` the link is among those that rest, and the others keep
-//!   their order.
-//! - `insert` alone may want memory. Where it is refused no link changes, and where `has_room` it is not refused.
-//! - A key is not given out again while it stands in a list, even if its link was removed.
+//! # Guarantees
+//! - No link is lost (`none_is_forgotten`, always): each link is in exactly one state, and is idle, queued, pending,
+//!   paused (`Resting`) or current (`Told`). The queue has each queued link once and no other key. The same holds for
+//!   pending and for paused links. At most one link is current, and `told` names it.
+//! - The wait is bounded (`told_in_turn`): a link with `n` other links ahead in the queue is served within `n + 1`
+//!   turns, whatever is called in between, unless it is removed. `taken_in_turn` says so for pending links.
+//! - The queue is FIFO (`in_order`): no link is served before a link that was queued earlier. The same holds for
+//!   pending links.
+//! - Each call leaves exactly what its clause says. After `rest` the link is paused, and the others keep their order.
+//! - Only `insert` may allocate. If it is refused, no link changes. If `has_room` holds, it is not refused.
+//! - A key is not used again while it is in a list, even if its link was removed.
 //!
-//! What no clause says: which link there is something to tell of, and that the caller goes on to take turns.
+//! # Not covered
+//! Which links are ready, and that the caller continues to take turns.
+//!
+//! The `README.md` of this crate shows a proved caller, and lists errors and allocation.
 #![tactic(auto)]
 
 ghost use Rattle.std.specs.Prelude.{◌≡◌, ◌≤◌, ◌<◌, ◌==◌, ℕ, [], true, false, Some, None, IfOk, IfErr, IsOk, OnErr};

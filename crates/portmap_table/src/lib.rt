@@ -1,14 +1,17 @@
 //! The names that a port mapper knows, active and retired, and the creations that it gives.
 //!
-//! What the crates above may build on, beside the clauses themselves:
-//! - Always: no name is known twice, no slot owns two, no more are known than may be, creations are in range.
-//! - `offer`: what `register` would give. `register` and `admit`, which has the creation already, ask that the slot
-//!   owns no active name; where the name is not known and as many are known as may be, the one retired longest is
-//!   forgotten. Looks and `retire` take no memory.
-//! - `standing` tells by one look whether a name is active, is one too many, or is free, and the creation that is
-//!   remembered for it then.
-//! - `Table::of`: a table of these names, exactly where none is known twice, no slot owns two, no more are known than
-//!   may be, and creations are in range.
+//! # Guarantees
+//! - Always: no name is known twice, no slot owns two names, no more names are known than the limit allows, and
+//!   creations are in range.
+//! - `offer` returns what `register` would give. `register`, and `admit`, which has the creation already, require that
+//!   the slot owns no active name. If the name is not known and the limit is reached, the name that was retired longest
+//!   ago is forgotten.
+//! - Lookups and `retire` never allocate.
+//! - `standing` returns, by one lookup, whether a name is active, exceeds the limit, or is free, and then the creation
+//!   that is remembered for it.
+//! - `Table::of` returns a table of these names if and only if they meet the first rule.
+//!
+//! The `README.md` of this crate shows a proved caller, and lists errors and allocation.
 #![tactic(auto)]
 
 mod creation;

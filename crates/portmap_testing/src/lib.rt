@@ -1,4 +1,4 @@
-//! What the tests of several crates use, and no program does.
+//! What the tests of several crates share. No program uses it.
 #![tactic(auto)]
 
 pub mod books;

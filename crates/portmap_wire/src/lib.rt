@@ -1,17 +1,20 @@
 //! The port mapper's requests and replies as bytes.
 //!
-//! What the crates above may build on, beside the clauses themselves:
-//! - `Name::read`, `Reg::new`, `read_request`: exactly where the bytes are a name, a registration, a request; else the
-//!   first fault from left to right. `write_*`: the bytes of FORMATS.md. `write_alive` asks that a creation which goes
-//!   into two bytes is below 65,536. `ListReply` builds a list line by line, in room that is taken at once where its
-//!   size is told.
-//! - `read_alive`, `read_port2`: what the front of the bytes says as an answer. `alive_missing`, `port2_missing`: how
-//!   many bytes are missing at least, 0 exactly where the answer is not `Short`; so who pulls no more than that reads
-//!   no further than the answer.
-//! - `read_names`: port and lines exactly where the bytes are that list; a strange line is the first one. `read_dump`:
-//!   the port, and the text.
-//! - Copies equal their sources; `==` is equality. Errors leave nothing behind, and want of memory is the last refusal
+//! # Guarantees
+//! - `Name::read`, `Reg::new` and `read_request` succeed if and only if the bytes are a name, a registration or a
+//!   request. Otherwise they return the first fault from left to right.
+//! - The `write_*` functions write the bytes of FORMATS.md. `write_alive` requires that a creation in two bytes is
+//!   below 65,536.
+//! - `ListReply` builds a list line by line. If its size is given, its room is reserved at once.
+//! - `read_alive` and `read_port2` return what the first bytes say as a reply. `alive_missing` and `port2_missing`
+//!   return how many bytes are missing at least, and 0 if and only if the reply is not `Short`. A caller that pulls no
+//!   more than that reads no further than the reply.
+//! - `read_names` returns port and lines if and only if the bytes are that list. It reports the first strange line.
+//!   `read_dump` returns the port, and the text.
+//! - Copies equal their sources; `==` is equality. Errors leave nothing behind, and out of memory is the last refusal
 //!   of a call.
+//!
+//! The `README.md` of this crate shows a proved caller, and lists errors and allocation.
 #![tactic(auto)]
 
 mod fields_reading;

@@ -1,16 +1,22 @@
--- What each call of a worker's links does to those that are idle: lemmas.
-use Rattle.std.specs.{Ordering.nat_cmp, Prelude.{drop, fold, IfSome, option_map, slice_get, IfOk, OnErr, unwrap_or}}
+-- What each call of a worker's links does to them: lemmas.
+use Rattle.std.specs.{Ordering.nat_cmp, Prelude.{drop, fold, IfSome, is_some, option_map, slice_get, unwrap_or}}
 use Rattle.std.specs.FinMap as map
-use Rattle.std.proofs.Common.{◌≡◌, ◌≢◌, ℕ, Bool, true, false, not, ◌&&◌, Result, Ok, Err, Option, Some, None, List, [], ◌∷◌, ◌++◌}
+use Rattle.std.proofs.Common.{◌≡◌, ◌≢◌, ℕ, Bool, true, false, not, ◌&&◌, Option, Some, None, List, [], ◌∷◌, ◌++◌}
 use Rattle.std.proofs.Common.{refl, sym, ap, ◌∙◌, ◌⊎◌, inl, inr, arith, length, take, ◌+◌, ◌-◌, ◌≤◌}
 use Rattle.std.proofs.{Common.rules, lemmas.Bool.{cases_eq, Decides.nat_tests}, lemmas.Grind.common_steps}
-use Rattle.portmap_ready.specs.Links.{IsButForRoom, IsReady, Links, at_place, first_at, inserted, is_resting, link_at, moved, one_at}
+use Rattle.portmap_ready.specs.Links.{IsButForRoom, IsReady, Links, first_at, inserted, is_resting, link_at, moved, one_at}
 use Rattle.portmap_ready.specs.Links.{place_at, put_at, removed, reported, rest_ended, times, told_next, without, write_at, written}
 use Rattle.std.proofs.{Math.Seq.{drop-nil, take_all}, lemmas.List.{drop-drop, Sums.fold_more}}
 use Rattle.std.proofs.lemmas.{Option.{get_or_from_slice_get, slice_get_cases, slice_get_within}}
+use Rattle.portmap_ready.{specs.Links.{is_queued, is_quiet as is_quiet_place, pushed}}
+use Rattle.portmap_ready.{specs.Runs.{Queue, PutBack, Remove}, proofs.Turns.comes_in_turn}
 use Rattle.portmap_ready.specs.declared.Place.{Place, TheVariants.{Idle, Pending, Queued, Resting, Told}}
-use Rattle.portmap_worker.specs.IdleLinks.{AllQuiet, AreNoted, IsReported, Keeps, hears, is_calm, is_safe, noted_at, notes_of}
-use Rattle.portmap_worker.specs.IdleLinks.{place_reported}
+use Rattle.portmap_worker.specs.IdleLinks.{Ahead, AllQuiet, AreNoted, Changes, Fact, Has, Holds, IsReported, Keeps, KeepsLinks}
+use Rattle.portmap_worker.specs.IdleLinks.{Safe, Spares, Tells, TellsLinks, There}
+use Rattle.portmap_worker.specs.IdleLinks.{hears, is_calm, is_safe, noted_at, notes_of, place_reported}
+use Rattle.portmap_worker.specs.Keys.{Comes, Ends, come}
+use Rattle.portmap_worker.specs.Link.{IsOf}
+use Rattle.portmap_worker.specs.declared.source.Turn.{Turn, TheVariants.{Fresh, Idle as Quiet, Late, Ready, Stop}}
 use Rattle.portmap_worker.specs.declared.system.Report.{Report, TheVariants.{Stream}}
 use Rattle.portmap_worker.specs.{Quiet.is_quiet, declared.open_link.OpenLink.OpenLink, declared.readiness.Note.TheVariants.{Reported}}
 
@@ -30,6 +36,10 @@ all_dropped n most xs e b =
 awake : (a b : Bool) → not a && b ≡ true → a ≡ false
 awake true b e = absurd (cc)
 awake false b e = refl
+
+there_still : {A B : Type 0} (f : A → B) (o : Option A) → is_some (option_map f o) ≡ is_some o
+there_still f None = refl
+there_still f (Some a) = refl
 
 module _ {S : Type 0} where
   -- it is at another place, or is another one, or was reported
@@ -64,31 +74,6 @@ module _ {S : Type 0} where
   write_there k v None m q d = refl
   write_there k v (Some l) m q d = grind (arith, nat_tests, map.gets, d)
 
-  -- one is the other but perhaps under this key
-  abbrev pub Others : ℕ → Links (OpenLink S) → Links (OpenLink S) → Type 0
-  Others k old new = (q : ℕ) → q ≢ k → link_at new q ≡ link_at old q
-
-  pub then_written : (k : ℕ) (v : OpenLink S) (old r : Links (OpenLink S)) → Others k old r → Others k old (written k r v)
-  then_written k v old r o q d = write_there k v (link_at r k) r.links q d ∙ o q d
-
-  pub then_moved : (place : Place) (k : ℕ) (old r : Links (OpenLink S)) → Others k old r → Others k old (moved place k r)
-  then_moved place k old r o q d = put_there place k (link_at r k) r.links q d ∙ o q d
-
-  pub then_reported : (k : ℕ) (old r : Links (OpenLink S)) → Others k old r → Others k old (reported k r)
-  then_reported k old r o q d = here k r q d ∙ o q d
-    where
-      here : (k : ℕ) (r : Links (OpenLink S)) (q : ℕ) → q ≢ k → link_at (reported k r) q ≡ link_at r q
-      here k r q d = search (rules, put_there)
-
-  pub keep : (k : ℕ) (old new : Links (OpenLink S)) → Others k old new → is_safe (link_at new k) ≡ true → Keeps old new
-  keep k old new others safe all = record {
-    safe = λ q.
-        elim (cases_eq q k) [
-          | inl same ↦ rw same safe
-          | inr differs ↦ rw (others q differs) (all.safe q)
-        ];
-  }
-
   -- ---- a link
 
   pub moved_here : (place : Place) (k : ℕ) (r : Links (OpenLink S)) → link_at (moved place k r) k ≡ option_map (to place) (link_at r k)
@@ -109,17 +94,88 @@ module _ {S : Type 0} where
   pub reported_here : (k : ℕ) (r : Links (OpenLink S)) → link_at (reported k r) k ≡ option_map waked (link_at r k)
   reported_here k r = reported_at (link_at r k) k r refl
 
-  -- what was reported is not idle
-  pub not_idle : (k : ℕ) (r : Links (OpenLink S)) → place_at (reported k r) k ≡ Some Idle → ⊥
-  not_idle k r e = at (link_at r k) (sym (ap (option_map (λ (l : OpenLink S × Place). l.1)) (reported_here k r)) ∙ e)
+  -- one is the other but perhaps in what stands under this key
+  pub record Alike (k : ℕ) (old new : Links (OpenLink S)) : Type 0 where
+    pub others : (q : ℕ) → q ≢ k → link_at new q ≡ link_at old q
+    pub there : is_some (link_at new k) ≡ is_some (link_at old k)
+
+  pub itself : (k : ℕ) (r : Links (OpenLink S)) → Alike k r r
+  itself k r = record { others = λ q d. refl; there = refl }
+
+  pub then_written : (k : ℕ) (v : OpenLink S) (old r : Links (OpenLink S)) → Alike k old r → Alike k old (written k r v)
+  then_written k v old r a = record {
+    others = λ q d. write_there k v (link_at r k) r.links q d ∙ a.others q d;
+    there = ap is_some (written_here k v r) ∙ there_still (with v) (link_at r k) ∙ a.there;
+  }
+
+  pub then_moved : (place : Place) (k : ℕ) (old r : Links (OpenLink S)) → Alike k old r → Alike k old (moved place k r)
+  then_moved place k old r a = record {
+    others = λ q d. put_there place k (link_at r k) r.links q d ∙ a.others q d;
+    there = ap is_some (moved_here place k r) ∙ there_still (to place) (link_at r k) ∙ a.there;
+  }
+
+  pub then_reported : (k : ℕ) (old r : Links (OpenLink S)) → Alike k old r → Alike k old (reported k r)
+  then_reported k old r a = record {
+    others = λ q d. here k r q d ∙ a.others q d;
+    there = ap is_some (reported_here k r) ∙ there_still waked (link_at r k) ∙ a.there;
+  }
     where
-      at : (o : Option (OpenLink S × Place)) → option_map (λ (l : OpenLink S × Place). l.1) (option_map waked o) ≡ Some Idle → ⊥
-      at None e = absurd (cc)
-      at (Some (v, Idle)) e = absurd (cc)
-      at (Some (v, Queued)) e = absurd (cc)
-      at (Some (v, Pending)) e = absurd (cc)
-      at (Some (v, Resting)) e = absurd (cc)
-      at (Some (v, Told)) e = absurd (cc)
+      here : (k : ℕ) (r : Links (OpenLink S)) (q : ℕ) → q ≢ k → link_at (reported k r) q ≡ link_at r q
+      here k r q d = search (rules, put_there)
+
+  -- ---- those that are queued
+
+  -- the links, and the queue
+  abbrev pub seen : Links (OpenLink S) → map.FinMap nat_cmp (OpenLink S × Place) × List ℕ
+  seen r = (r.links, r.queue)
+
+  -- each that is queued stays so, behind no more than before
+  abbrev pub Stays : Links (OpenLink S) → Links (OpenLink S) → Type 0
+  Stays old new = (q most : ℕ) → Holds (Ahead q most) old → Holds (Ahead q most) new
+
+  pub stays : (old new : Links (OpenLink S)) → new.queue ≡ old.queue → Stays old new
+  stays old new e q most h = rw e h
+
+  -- a key may have joined it
+  pub joins : (b : Bool) (k : ℕ) (old new : Links (OpenLink S)) → new.queue ≡ pushed b k old.queue → Stays old new
+  joins false k old new e q most h = rw e h
+  joins true k old new e q most h =
+      let there = h.0 in
+      let near = h.1 in
+      let still = comes_in_turn Queue q (PutBack k ∷ []) old (moved Queued k old) (moved Queued k old, refl, refl) there (tt, tt) in
+      let less = still.1 in
+      rw e (still.0, omega (arith, near, less))
+
+  pub reports_stay : (k : ℕ) (r : Links (OpenLink S)) → Stays r (reported k r)
+  reports_stay k r = at (is_quiet_place (place_at r k)) refl
+    where
+      at : (b : Bool) → is_quiet_place (place_at r k) ≡ b → Stays r (reported k r)
+      at true e = joins true k r (reported k r) (search (rules, e))
+      at false e = stays r (reported k r) (search (rules, e))
+
+  -- what holds of a link goes on to hold, if it does so of this key
+  keep_so : (k : ℕ) (old new : Links (OpenLink S)) → Alike k old new
+      → (is_safe (link_at old k) ≡ true → is_safe (link_at new k) ≡ true) → KeepsLinks old new
+  keep_so k old new a safe (There q there) l h = elim (cases_eq q k) [
+    | inl same ↦ rw same (a.there ∙ (rw same at h))
+    | inr differs ↦ ap is_some (a.others q differs) ∙ h
+  ]
+  keep_so k old new a safe (Safe q) l h = elim (cases_eq q k) [
+    | inl same ↦ rw same (safe (rw same at h))
+    | inr differs ↦ ap is_safe (a.others q differs) ∙ h
+  ]
+  keep_so k old new a safe (Ahead q most) l h = absurd l
+
+  pub keeps_both : (old new : Links (OpenLink S)) → KeepsLinks old new → Stays old new → Keeps old new
+  keeps_both old new links queue (There q there) h = links (There q there) tt h
+  keeps_both old new links queue (Safe q) h = links (Safe q) tt h
+  keeps_both old new links queue (Ahead q most) h = queue q most h
+
+  pub stays_of : (old new : Links (OpenLink S)) → Keeps old new → Stays old new
+  stays_of old new keeps q most h = keeps (Ahead q most) h
+
+  pub keep : (k : ℕ) (old new : Links (OpenLink S)) → Alike k old new → Stays old new → is_safe (link_at new k) ≡ true → Keeps old new
+  keep k old new a queue safe = keeps_both old new (keep_so k old new a (λ _. safe)) queue
 
   all_safe : (f : OpenLink S × Place → OpenLink S × Place) (o : Option (OpenLink S × Place))
       → ((l : OpenLink S × Place) → o ≡ Some l → is_safe (Some (f l)) ≡ true) → is_safe (option_map f o) ≡ true
@@ -146,56 +202,64 @@ module _ {S : Type 0} where
 
   -- ---- changes
 
-  module _ (place : Place) (k : ℕ) (old r new : Links (OpenLink S)) where
-    -- a link goes elsewhere, whatever else is done to it
-    pub goes : Others k old r → new.links ≡ at_place place k r.links → ((v : OpenLink S) → is_safe (Some (v, place)) ≡ true) → Keeps old new
-    goes others e safe =
-        keep k old new (λ q d. ap (λ m. map.get m q) e ∙ then_moved place k old r others q d)
-        (ap is_safe (ap (λ m. map.get m k) e ∙ moved_here place k r) ∙ all_safe (to place) (link_at r k) (λ l _. safe l.0))
-
-  -- it has another value, and goes elsewhere
-  pub placed : (place : Place) (k : ℕ) (v : OpenLink S) (old new : Links (OpenLink S))
-      → new.links ≡ at_place place k (written k old v).links → ((v : OpenLink S) → is_safe (Some (v, place)) ≡ true) → Keeps old new
-  placed place k v old new e = goes place k old (written k old v) new (then_written k v old old (λ q d. refl)) e
+  -- a link goes elsewhere, and its key to the end of the queue, if it goes there
+  abbrev pub IsMoved : Place → ℕ → Links (OpenLink S) → Links (OpenLink S) → Type 0
+  IsMoved place k r new = seen new ≡ seen (moved place k r)
 
   module _ (place : Place) (k : ℕ) (old r new : Links (OpenLink S)) where
-    -- it may have another value, and goes elsewhere
-    pub sent : ((v : OpenLink S) × (r ≡ written k old v)) ⊎ (r ≡ old) → new.links ≡ at_place place k r.links
+    goes : Alike k old r → Stays old r → IsMoved place k r new → ((v : OpenLink S) → is_safe (Some (v, place)) ≡ true) → Keeps old new
+    goes others queue e safe =
+        let gone = then_moved place k old r others in
+        let links = ap (λ p. p.0) e in
+        keep k old new (record {
+          others = λ q d. ap (λ m. map.get m q) links ∙ gone.others q d;
+          there = ap (λ m. is_some (map.get m k)) links ∙ gone.there;
+        }) (λ q most h. joins (is_queued place) k r new (ap (λ p. p.1) e) q most (queue q most h))
+        (ap is_safe (ap (λ m. map.get m k) links ∙ moved_here place k r) ∙ all_safe (to place) (link_at r k) (λ l _. safe l.0))
+
+  -- it has another value
+  pub placed : (place : Place) (k : ℕ) (v : OpenLink S) (old new : Links (OpenLink S)) → IsMoved place k (written k old v) new
+      → ((v : OpenLink S) → is_safe (Some (v, place)) ≡ true) → Keeps old new
+  placed place k v old new = goes place k old (written k old v) new (then_written k v old old (itself k old)) (λ q most h. h)
+
+  module _ (place : Place) (k : ℕ) (old r new : Links (OpenLink S)) where
+    -- it has the value that it had, or another one
+    pub sent : ((v : OpenLink S) × (r ≡ written k old v)) ⊎ (r ≡ old) → IsMoved place k r new
         → ((v : OpenLink S) → is_safe (Some (v, place)) ≡ true) → Keeps old new
-    sent (inl (v, h)) e = placed place k v old new (e ∙ ap (λ r. at_place place k r.links) h)
-    sent (inr h) e = goes place k old old new (λ q d. refl) (e ∙ ap (λ r. at_place place k r.links) h)
+    sent (inl (v, h)) e = placed place k v old new (e ∙ ap (λ r. seen (moved place k r)) h)
+    sent (inr h) e = goes place k old old new (itself k old) (λ q most h. h) (e ∙ ap (λ r. seen (moved place k r)) h)
 
   -- it has another value, and is idle
   pub idles : (k : ℕ) (v : OpenLink S) (old new : Links (OpenLink S)) → new ≡ moved Idle k (written k old v)
       → v.link.is_resting ≡ false → is_quiet (notes_of v) ≡ true → Keeps old new
   idles k v old new e rests quiet =
-      rw e (keep k old _ (then_moved Idle k old (written k old v) (then_written k v old old (λ q d. refl)))
+      rw e (keep k old _ (then_moved Idle k old (written k old v) (then_written k v old old (itself k old))) (λ q most h. h)
       (ap is_safe (moved_here Idle k (written k old v) ∙ ap (option_map (to Idle)) (written_here k v old)) ∙ at (link_at old k)))
     where
       at : (o : Option (OpenLink S × Place)) → is_safe (option_map (to Idle) (option_map (with v) o)) ≡ true
       at None = refl
       at (Some l) = both v rests quiet
 
-  -- it has another value, which is quiet
-  pub calms : (k : ℕ) (v : OpenLink S) (old r : Links (OpenLink S)) → Others k old r → v.link.is_resting ≡ false
-      → is_quiet (notes_of v) ≡ true → Keeps old (written k r v)
-  calms k v old r others rests quiet =
-      keep k old (written k r v) (then_written k v old r others)
-      (ap is_safe (written_here k v r) ∙ all_safe (with v) (link_at r k) (λ l _. quiet_safe v l.1 (both v rests quiet)))
+  module _ (k : ℕ) (v : OpenLink S) (old r : Links (OpenLink S)) where
+    -- it has another value, which is quiet
+    pub calms : Alike k old r → Stays old r → v.link.is_resting ≡ false → is_quiet (notes_of v) ≡ true → Keeps old (written k r v)
+    calms others queue rests quiet =
+        keep k old (written k r v) (then_written k v old r others) queue
+        (ap is_safe (written_here k v r) ∙ all_safe (with v) (link_at r k) (λ l _. quiet_safe v l.1 (both v rests quiet)))
 
-  -- it was reported
-  pub wakes : (k : ℕ) (v : OpenLink S) (old r new : Links (OpenLink S)) → Others k old r → new ≡ reported k (written k r v)
-      → Keeps old new
-  wakes k v old r new others e =
-      rw e (keep k old (reported k (written k r v)) (then_reported k old (written k r v) (then_written k v old r others))
-      (ap is_safe (reported_here k (written k r v)) ∙ waked_safe (link_at (written k r v) k)))
+    -- it was reported
+    pub wakes : (new : Links (OpenLink S)) → Alike k old r → Stays old r → new ≡ reported k (written k r v) → Keeps old new
+    wakes new others queue e =
+        rw e (keep k old (reported k (written k r v)) (then_reported k old (written k r v) (then_written k v old r others))
+        (λ q most h. reports_stay k (written k r v) q most (queue q most h))
+        (ap is_safe (reported_here k (written k r v)) ∙ waked_safe (link_at (written k r v) k)))
 
   -- it has another value, which is calm if the one before was
   pub kept_so : (k : ℕ) (r : Links (OpenLink S)) (h v : OpenLink S) → Some h ≡ option_map (λ (l : OpenLink S × Place). l.0) (link_at r k)
       → (is_calm h ≡ true → is_calm v ≡ true) → Keeps r (written k r v)
-  kept_so k r h v value same all =
-      keep k r (written k r v) (then_written k v r r (λ q d. refl))
-      (ap is_safe (written_here k v r) ∙ at (link_at r k) value (all.safe k)) all
+  kept_so k r h v value same =
+      keeps_both r (written k r v) (keep_so k r (written k r v) (then_written k v r r (itself k r)) (λ safe.
+      ap is_safe (written_here k v r) ∙ at (link_at r k) value safe)) (λ q most h. h)
     where
       at : (o : Option (OpenLink S × Place)) → Some h ≡ option_map (λ (l : OpenLink S × Place). l.0) o → is_safe o ≡ true
           → is_safe (option_map (with v) o) ≡ true
@@ -222,7 +286,8 @@ module _ {S : Type 0} where
   -- it has another value, and rests
   pub rests_on : (k : ℕ) (v : OpenLink S) (r : Links (OpenLink S)) → place_at r k ≡ Some Resting → Keeps r (written k r v)
   rests_on k v r h =
-      keep k r (written k r v) (then_written k v r r (λ q d. refl)) (ap is_safe (written_here k v r) ∙ at (link_at r k) h)
+      keep k r (written k r v) (then_written k v r r (itself k r)) (λ q most h. h)
+      (ap is_safe (written_here k v r) ∙ at (link_at r k) h)
     where
       at : (o : Option (OpenLink S × Place)) → option_map (λ (l : OpenLink S × Place). l.1) o ≡ Some Resting
           → is_safe (option_map (with v) o) ≡ true
@@ -237,33 +302,99 @@ module _ {S : Type 0} where
   no_link None e = refl
   no_link (Some l) e = absurd (cc)
 
-  pub absent : (k : ℕ) (old new : Links (OpenLink S)) → Others k old new → link_at new k ≡ None → Keeps old new
-  absent k old new others e = keep k old new others (ap is_safe e)
+  pub absent : (k : ℕ) (old new : Links (OpenLink S)) → Alike k old new → Stays old new → link_at new k ≡ None
+      → Keeps old new
+  absent k old new others queue e = keep k old new others queue (ap is_safe e)
+
+  -- it was reported before it has another value
+  pub lent : (k : ℕ) (v : OpenLink S) (old r : Links (OpenLink S)) → r ≡ reported k old → Keeps old (written k r v)
+  lent k v old r e =
+      let alike : Alike k old r = rw e (then_reported k old old (itself k old)) in
+      let queue : Stays old r = rw e (reports_stay k old) in
+      keep k old (written k r v) (then_written k v old r alike) queue
+      (ap is_safe (written_here k v r ∙ ap (option_map (with v)) (ap (λ r. link_at r k) e ∙ reported_here k old)) ∙ at (link_at old k))
+    where
+      at : (o : Option (OpenLink S × Place)) → is_safe (option_map (with v) (option_map waked o)) ≡ true
+      at None = refl
+      at (Some (t, Idle)) = refl
+      at (Some (t, Queued)) = refl
+      at (Some (t, Pending)) = refl
+      at (Some (t, Resting)) = refl
+      at (Some (t, Told)) = refl
+
+  -- whether it is there is whether it was
+  pub there_before : (k : ℕ) (old r : Links (OpenLink S)) (o : Option (OpenLink S)) → r ≡ reported k old
+      → o ≡ option_map (λ (l : OpenLink S × Place). l.0) (link_at r k) → Has old k (is_some o)
+  there_before k old r o e value =
+      sym (ap is_some value ∙ there_still (λ (l : OpenLink S × Place). l.0) (link_at r k) ∙ ap (λ r. is_some (link_at r k)) e
+      ∙ (then_reported k old old (itself k old)).there)
+
+  pub reports : (k : ℕ) (old r : Links (OpenLink S)) → r ≡ reported k old → Keeps old r
+  reports k old r e =
+      rw e (keep k old (reported k old) (then_reported k old old (itself k old)) (reports_stay k old)
+      (ap is_safe (reported_here k old) ∙ waked_safe (link_at old k)))
+
+  -- what is the same under each key
+  same_links : (old new : Links (OpenLink S)) → new.links ≡ old.links → KeepsLinks old new
+  same_links old new e (There q there) l h = ap (λ m. is_some (map.get m q)) e ∙ h
+  same_links old new e (Safe q) l h = ap (λ m. is_safe (map.get m q)) e ∙ h
+  same_links old new e (Ahead q most) l h = absurd l
 
   -- the first of a list goes elsewhere
   pub first_goes : (place : Place) (o : Option ℕ) (old new : Links (OpenLink S)) → new.links ≡ first_at place o old.links
+      → ((v : OpenLink S) → is_safe (Some (v, place)) ≡ true) → KeepsLinks old new
+  first_goes place None old new e safe = same_links old new e
+  first_goes place (Some k) old new e safe =
+      let gone = then_moved place k old old (itself k old) in
+      keep_so k old new (record {
+        others = λ q d. ap (λ m. map.get m q) e ∙ gone.others q d;
+        there = ap (λ m. is_some (map.get m k)) e ∙ gone.there;
+      }) (λ _. ap is_safe (ap (λ m. map.get m k) e ∙ moved_here place k old) ∙ all_safe (to place) (link_at old k) (λ l _. safe l.0))
+
+  pub refused : (old new : Links (OpenLink S)) → IsButForRoom new old → Keeps old new
+  refused old new e =
+      keeps_both old new (same_links old new (ap (λ (r : Links (OpenLink S)). r.links) e))
+      (stays old new (ap (λ (r : Links (OpenLink S)). r.queue) e))
+
+  -- of those that are pending the first is taken
+  pub taken : (place : Place) (o : Option ℕ) (old new : Links (OpenLink S)) → seen new ≡ (first_at place o old.links, old.queue)
       → ((v : OpenLink S) → is_safe (Some (v, place)) ≡ true) → Keeps old new
-  first_goes place None old new e safe all = record { safe = λ q. rw e (all.safe q) }
-  first_goes place (Some k) old new e safe all = goes place k old old new (λ q d. refl) e safe all
+  taken place o old new e safe =
+      keeps_both old new (first_goes place o old new (ap (λ p. p.0) e) safe) (stays old new (ap (λ p. p.1) e))
 
   pub first_others : (place : Place) (k : ℕ) (o : Option ℕ) (old new : Links (OpenLink S)) → o ≡ Some k
-      → new.links ≡ first_at place o old.links → Others k old new
-  first_others place k None old new s e q d = absurd (cc)
-  first_others place k (Some j) old new s e q d =
-      ap (λ m. map.get m q) (e ∙ ap (λ o. first_at place o old.links) s) ∙ put_there place k (link_at old k) old.links q d
+      → new.links ≡ first_at place o old.links → Alike k old new
+  first_others place k None old new s e = absurd (cc)
+  first_others place k (Some j) old new s e =
+      let links = e ∙ ap (λ o. first_at place o old.links) s in
+      let gone = then_moved place k old old (itself k old) in
+      record {
+        others = λ q d. ap (λ m. map.get m q) links ∙ gone.others q d;
+        there = ap (λ m. is_some (map.get m k)) links ∙ gone.there;
+      }
 
   -- the first of the queue is told, and has another value
   pub told_written : (k : ℕ) (old r : Links (OpenLink S)) (v : OpenLink S) → slice_get old.queue 0 ≡ Some k → IsButForRoom r (told_next old)
-      → Keeps old (written k r v)
+      → KeepsLinks old (written k r v)
   told_written k old r v s h =
       let links = ap (λ (r : Links (OpenLink S)). r.links) h in
-      keep k old (written k r v) (then_written k v old r (first_others Told k (slice_get old.queue 0) old r s links))
-      (ap is_safe (written_here k v r ∙ ap (option_map (with v)) (ap (λ m. map.get m k) (links ∙ ap (λ o. first_at Told o old.links) s)
+      keep_so k old (written k r v) (then_written k v old r (first_others Told k (slice_get old.queue 0) old r s links))
+      (λ _. ap is_safe (written_here k v r ∙ ap (option_map (with v)) (ap (λ m. map.get m k) (links ∙ ap (λ o. first_at Told o old.links) s)
       ∙ put_here Told k (link_at old k) old.links refl)) ∙ at (link_at old k))
     where
       at : (o : Option (OpenLink S × Place)) → is_safe (option_map (with v) (option_map (to Told) o)) ≡ true
       at None = refl
       at (Some l) = refl
+
+  -- there is none to be told
+  pub none_told : (old new : Links (OpenLink S)) → slice_get old.queue 0 ≡ None → IsButForRoom new (told_next old) → Keeps old new
+  none_told old new s e =
+      keeps_both old new (first_goes Told (slice_get old.queue 0) old new (ap (λ (r : Links (OpenLink S)). r.links) e) (λ v. refl))
+      (stays old new (ap (λ (r : Links (OpenLink S)). r.queue) e ∙ at old.queue s))
+    where
+      at : (xs : List ℕ) → slice_get xs 0 ≡ None → drop 1 xs ≡ xs
+      at [] e = refl
+      at (x ∷ xs) e = absurd (cc)
 
   -- ---- what a report does to a link
 
@@ -314,27 +445,57 @@ module _ {S : Type 0} where
       → map.get (map.insert m k l) q ≡ map.get m q
   others_there k l m q d = grind (arith, nat_tests, map.gets, d)
 
+  module _ (k : ℕ) (comes : Bool) (old new : Links (OpenLink S)) where
+    but : ((q : ℕ) → q ≢ k → link_at new q ≡ link_at old q)
+        → ((q most : ℕ) → Spares k comes (Ahead q most) → Holds (Ahead q most) old → Holds (Ahead q most) new)
+        → is_safe (link_at new k) ≡ true → (fact : Fact) → Spares k comes fact → Holds fact old → Holds fact new
+    but others queue safe (There q t) d h = ap is_some (others q d) ∙ h
+    but others queue safe (Safe q) d h = elim (cases_eq q k) [
+      | inl same ↦ rw same safe
+      | inr differs ↦ ap is_safe (others q differs) ∙ h
+    ]
+    but others queue safe (Ahead q most) d h = queue q most d h
+
   is_gone : (k : ℕ) (m : map.FinMap nat_cmp (OpenLink S × Place)) → map.get (map.remove m k) k ≡ None
   is_gone k m = grind (arith, nat_tests, map.gets)
 
   others_stay : (k : ℕ) (m : map.FinMap nat_cmp (OpenLink S × Place)) (q : ℕ) → q ≢ k → map.get (map.remove m k) q ≡ map.get m q
   others_stay k m q d = grind (arith, nat_tests, map.gets, d)
 
-  pub after_insert : {E : Type 0} (result : Result ℕ E) (old new : Links (OpenLink S)) (v : OpenLink S)
-      → IfOk result (λ key. IsButForRoom new (inserted key v old)) → OnErr result (IsButForRoom new old) → Keeps old new
-  after_insert (Ok k) old new v i e all =
-      let links = ap (λ (r : Links (OpenLink S)). r.links) i in
-      keep k old new (λ q d. ap (λ m. map.get m q) links ∙ others_there k (v, Queued) old.links q d)
-      (ap (λ m. is_safe (map.get m k)) links ∙ ap is_safe (is_there k (v, Queued) old.links)) all
-  after_insert (Err fault) old new v i e all = record {
-    safe = λ q. ap (λ (r : Links (OpenLink S)). is_safe (map.get r.links q)) e ∙ all.safe q;
-  }
+  -- one has come, under a key that had none
+  pub after_insert : (k : ℕ) (old new : Links (OpenLink S)) (v : OpenLink S) → link_at old k ≡ None
+      → IsButForRoom new (inserted k v old) → Has old k false × Changes k true old new
+  after_insert k old new v free e =
+      let links = ap (λ (r : Links (OpenLink S)). r.links) e in
+      let here = ap (λ m. map.get m k) links ∙ is_there k (v, Queued) old.links in
+      let others = λ (q : ℕ) (d : q ≢ k). ap (λ m. map.get m q) links ∙ others_there k (v, Queued) old.links q d in (
+        ap is_some free,
+        record {
+          now = ap is_some here;
+          others = but k true old new others (λ q most _. joins true k old new (ap (λ (r : Links (OpenLink S)). r.queue) e) q most)
+              (ap is_safe here);
+        },
+      )
 
-  pub after_remove : (k : ℕ) (old new : Links (OpenLink S)) → IsButForRoom new (removed k old) → Keeps old new
+  -- one is gone
+  pub after_remove : (k : ℕ) (old new : Links (OpenLink S)) → IsButForRoom new (removed k old) → Changes k false old new
   after_remove k old new e =
       let links = ap (λ (r : Links (OpenLink S)). r.links) e in
-      keep k old new (λ q d. ap (λ m. map.get m q) links ∙ others_stay k old.links q d)
-      (ap (λ m. is_safe (map.get m k)) links ∙ ap is_safe (is_gone k old.links))
+      let here = ap (λ m. map.get m k) links ∙ is_gone k old.links in
+      let others = λ (q : ℕ) (d : q ≢ k). ap (λ m. map.get m q) links ∙ others_stay k old.links q d in
+      record { now = ap is_some here; others = but k false old new others queue (ap is_safe here) }
+    where
+      queue : (q most : ℕ) → q ≢ k → Holds (Ahead q most) old → Holds (Ahead q most) new
+      queue q most d h =
+          let there = h.0 in
+          let near = h.1 in
+          let other : k ≢ q = λ e. d (sym e) in
+          let still = comes_in_turn Queue q (Remove k ∷ []) old (removed k old) (removed k old, refl, refl) there (other, tt) in
+          let less = still.1 in
+          rw (ap (λ (r : Links (OpenLink S)). r.queue) e) (still.0, omega (arith, near, less))
+
+  pub ends : (k : ℕ) (old new : Links (OpenLink S)) → Changes k false old new → Ends k (Has old) (Has new)
+  ends k old new c = record { gone = c.now; others = λ q there d h. c.others (There q there) d h }
 
   nothing : (k : ℕ) (m : map.FinMap nat_cmp (OpenLink S × Place)) → m ≡ map.empty → map.get m k ≡ None
   nothing k m e = grind (arith, common_steps, map.gets, e)
@@ -342,10 +503,104 @@ module _ {S : Type 0} where
   pub none : (new : Links (OpenLink S)) → new.links ≡ map.empty → AllQuiet new
   none new e = record { safe = λ q. ap is_safe (nothing q new.links e) }
 
+  pub none_there : (new : Links (OpenLink S)) → new.links ≡ map.empty → (k : ℕ) → Has new k false
+  none_there new e k = ap is_some (nothing k new.links e)
+
+  -- ---- what is told
+
+  none_before : (key : ℕ) (old r : Links (OpenLink S)) → Keeps old r → Has r key false → Has old key false
+  none_before key old r k none = at (is_some (link_at old key)) refl
+    where
+      at : (there : Bool) → Has old key there → Has old key false
+      at false h = h
+      at true h = let both : true ≡ false = sym (k (There key true) h) ∙ none in absurd (cc)
+
+  pub nothing_told : (old new : Links (OpenLink S)) (told : Option Turn) → is_some told ≡ false → Tells old new told → Keeps old new
+  nothing_told old new None e t = t
+  nothing_told old new (Some turn) e t = absurd (cc)
+
+  pub none_told_links : (old new : Links (OpenLink S)) (told : Option Turn) → is_some told ≡ false → TellsLinks old new told → Keeps old new
+  none_told_links old new None e t = t
+  none_told_links old new (Some turn) e t = absurd (cc)
+
+  -- what held before goes on to hold
+  pub then_tells : (old r new : Links (OpenLink S)) (told : Option Turn) → Keeps old r → Tells r new told → Tells old new told
+  then_tells old r new None k t = λ fact h. t fact (k fact h)
+  then_tells old r new (Some (Fresh key local)) k t =
+      (none_before key old r k t.0, record { now = t.1.now; others = λ fact s h. t.1.others fact s (k fact h) })
+  then_tells old r new (Some (Ready key)) k t = λ fact h. t fact (k fact h)
+  then_tells old r new (Some (Late key)) k t = λ fact h. t fact (k fact h)
+  then_tells old r new (Some Quiet) k t = λ fact h. t fact (k fact h)
+  then_tells old r new (Some Stop) k t = λ fact h. t fact (k fact h)
+
+  -- whether it was taken from the queue or not
+  pub weaker : (old new : Links (OpenLink S)) (told : Option Turn) → Tells old new told → TellsLinks old new told
+  weaker old new None t = t
+  weaker old new (Some (Fresh key local)) t = t
+  weaker old new (Some (Ready key)) t = λ fact _. t fact
+  weaker old new (Some (Late key)) t = λ fact _. t fact
+  weaker old new (Some Quiet) t = λ fact _. t fact
+  weaker old new (Some Stop) t = λ fact _. t fact
+
+  pub then_told : (old r new : Links (OpenLink S)) (told : Option Turn) → Keeps old r → TellsLinks r new told → TellsLinks old new told
+  then_told old r new None k t = λ fact h. t fact (k fact h)
+  then_told old r new (Some (Fresh key local)) k t =
+      (none_before key old r k t.0, record { now = t.1.now; others = λ fact s h. t.1.others fact s (k fact h) })
+  then_told old r new (Some (Ready key)) k t = λ fact l h. t fact l (k fact h)
+  then_told old r new (Some (Late key)) k t = λ fact l h. t fact l (k fact h)
+  then_told old r new (Some Quiet) k t = λ fact l h. t fact l (k fact h)
+  then_told old r new (Some Stop) k t = λ fact l h. t fact l (k fact h)
+
+  -- what is told brings none that is queued further back
+  pub told_stays : (old new : Links (OpenLink S)) (told : Option Turn) → Tells old new told → Stays old new
+  told_stays old new None t q most h = t (Ahead q most) h
+  told_stays old new (Some (Fresh key local)) t q most h = t.1.others (Ahead q most) tt h
+  told_stays old new (Some (Ready key)) t q most h = t (Ahead q most) h
+  told_stays old new (Some (Late key)) t q most h = t (Ahead q most) h
+  told_stays old new (Some Quiet) t q most h = t (Ahead q most) h
+  told_stays old new (Some Stop) t q most h = t (Ahead q most) h
+
+  -- what is told of a link that was there
+  pub late_tells : (key : Option ℕ) (turn : Turn) (old new : Links (OpenLink S)) → IsOf key turn → Keeps old new → Tells old new (Some turn)
+  late_tells key (Fresh k local) old new of keeps = absurd of
+  late_tells key (Ready k) old new of keeps = keeps
+  late_tells key (Late k) old new of keeps = keeps
+  late_tells key Quiet old new of keeps = absurd of
+  late_tells key Stop old new of keeps = absurd of
+
+  pub tells_of : (key : Option ℕ) (turn : Turn) (old new : Links (OpenLink S)) → IsOf key turn → KeepsLinks old new
+      → TellsLinks old new (Some turn)
+  tells_of key (Fresh k local) old new of keeps = absurd of
+  tells_of key (Ready k) old new of keeps = keeps
+  tells_of key (Late k) old new of keeps = keeps
+  tells_of key Quiet old new of keeps = absurd of
+  tells_of key Stop old new of keeps = absurd of
+
+  none_come : (turn : Turn) (old new : Links (OpenLink S)) → come turn ≡ None → KeepsLinks old new → Comes (Has old) (Has new) turn
+  none_come turn old new none keeps = record {
+    free = λ k e. let both : None ≡ Some k = sym none ∙ e in absurd (cc);
+    there = λ k e. let both : None ≡ Some k = sym none ∙ e in absurd (cc);
+    others = λ k there d h. keeps (There k there) tt h;
+  }
+
+  pub comes : (turn : Turn) (old new : Links (OpenLink S)) → TellsLinks old new (Some turn) → Comes (Has old) (Has new) turn
+  comes (Fresh key local) old new t = record {
+    free = λ k e. rw (sym (same k e)) t.0;
+    there = λ k e. rw (sym (same k e)) t.1.now;
+    others = λ k there d h. t.1.others (There k there) (λ e. d (ap Some (sym e))) h;
+  }
+    where
+      same : (k : ℕ) → Some key ≡ Some k → key ≡ k
+      same k e = ap (λ o. unwrap_or o key) e
+  comes (Ready key) old new t = none_come (Ready key) old new refl t
+  comes (Late key) old new t = none_come (Late key) old new refl t
+  comes Quiet old new t = none_come Quiet old new refl t
+  comes Stop old new t = none_come Stop old new refl t
+
   -- ---- reports that are noted
 
   pub one_noted : (key : ℕ) (closed : Bool) (old new : Links (OpenLink S)) → IsReported closed (link_at old key) (link_at new key)
-      → Others key old new → (k : ℕ) → noted_at new k ≡ hears k (noted_at old k) (Stream key closed)
+      → ((q : ℕ) → q ≢ key → link_at new q ≡ link_at old q) → (k : ℕ) → noted_at new k ≡ hears k (noted_at old k) (Stream key closed)
   one_noted key closed old new reported others k = elim (cases_eq k key) [
     | inl same ↦ rw same (here (link_at old key) (link_at new key) reported)
     | inr differs ↦ ap (option_map (λ (l : OpenLink S × Place). notes_of l.0)) (others k differs) ∙ there (link_at old k) differs

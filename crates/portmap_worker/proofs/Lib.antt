@@ -1,4 +1,6 @@
+pub mod Asked
 pub mod Carrying
 pub mod Escaping
 pub mod Files
 pub mod Idle
+pub mod Turns

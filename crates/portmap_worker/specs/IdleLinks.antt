@@ -1,9 +1,12 @@
 -- The links of a worker that are idle, and what a report does: profile.
-use Rattle.std.specs.Prelude.{◌≡◌, ℕ, ◌==◌, Bool, true, not, ◌&&◌, cond, List, [], ◌∷◌, ◌++◌, fold, Option, Some, None, option_map}
-use Rattle.portmap_ready.specs.Links.{Links, link_at}
+use Rattle.std.specs.Prelude.{◌≡◌, ◌≢◌, ℕ, ◌==◌, Bool, true, false, not, ◌&&◌, cond}
+use Rattle.std.specs.Prelude.{List, [], ◌∷◌, ◌++◌, fold, Option, Some, None, length, ◌<◌}
+use Rattle.std.specs.Prelude.{option_map, is_some}
+use Rattle.portmap_ready.specs.{Links.{Links, link_at, times}, Runs.before}
 use Rattle.portmap_ready.specs.declared.Place.{Place, TheVariants.{Idle, Queued, Resting}}
 use Rattle.portmap_worker.specs.{Quiet.is_quiet, declared.open_link.OpenLink.OpenLink}
 use Rattle.portmap_worker.specs.declared.readiness.Note.{Note, TheVariants.{Reported}}
+use Rattle.portmap_worker.specs.declared.source.Turn.{Turn, TheVariants.{Fresh, Idle as Quiet, Late, Ready, Stop}}
 use Rattle.portmap_worker.specs.declared.system.Report.{Report, TheVariants.{Stream}}
 
 -- where a link stands that was reported: in the queue, if it was idle, or rested and its peer sends no more
@@ -20,6 +23,26 @@ heard k report notes = notes
 abbrev pub hears : ℕ → Option (List Note) → Report → Option (List Note)
 hears k notes report = heard k report notes
 
+-- what may be said of a key: that there is a link, or none; that no news of its link can be missed; or that it is queued behind fewer
+-- others than these
+pub data Fact : Type 0 where
+  There : ℕ → Bool → Fact
+  Safe : ℕ → Fact
+  Ahead : ℕ → ℕ → Fact
+
+-- whether a fact is not changed by the coming of a link under this key, or by its end
+abbrev pub Spares : ℕ → Bool → Fact → Type 0
+Spares key comes (There k there) = k ≢ key
+Spares key comes (Safe k) = Unit {0}
+Spares key true (Ahead k most) = Unit {0}
+Spares key false (Ahead k most) = k ≢ key
+
+-- whether a fact is of a link, and not of the queue
+abbrev pub IsOfLink : Fact → Type 0
+IsOfLink (There k there) = Unit {0}
+IsOfLink (Safe k) = Unit {0}
+IsOfLink (Ahead k most) = ⊥
+
 module _ {S : Type 0} where
   -- what was done at its stream, or told of it
   abbrev pub notes_of : OpenLink S → List Note
@@ -34,13 +57,49 @@ module _ {S : Type 0} where
   is_safe (Some (held, Idle)) = is_calm held
   is_safe other = true
 
+  -- there is a link under this key, or none
+  abbrev pub Has : Links (OpenLink S) → ℕ → Bool → Type 0
+  Has links k there = is_some (link_at links k) ≡ there
+
+  abbrev pub Holds : Fact → Links (OpenLink S) → Type 0
+  Holds (There k there) links = Has links k there
+  Holds (Safe k) links = is_safe (link_at links k) ≡ true
+  Holds (Ahead k most) links = (0 < times k links.queue) × (length (before k links.queue) < most)
+
   -- of no idle link news can be missed
   pub record AllQuiet (links : Links (OpenLink S)) : Type 0 where
-    pub safe : (k : ℕ) → is_safe (link_at links k) ≡ true
+    pub safe : (k : ℕ) → Holds (Safe k) links
 
-  -- if that holds it goes on to hold
+  -- what holds goes on to hold
   abbrev pub Keeps : Links (OpenLink S) → Links (OpenLink S) → Type 0
-  Keeps old new = AllQuiet old → AllQuiet new
+  Keeps old new = (fact : Fact) → Holds fact old → Holds fact new
+
+  -- what holds of a link goes on to hold
+  abbrev pub KeepsLinks : Links (OpenLink S) → Links (OpenLink S) → Type 0
+  KeepsLinks old new = (fact : Fact) → IsOfLink fact → Holds fact old → Holds fact new
+
+  -- there is a link now under this key, or none any more, and what else holds goes on to hold
+  pub record Changes (key : ℕ) (there : Bool) (old new : Links (OpenLink S)) : Type 0 where
+    pub now : Has new key there
+    pub others : (fact : Fact) → Spares key there fact → Holds fact old → Holds fact new
+
+  -- where a link has come it is told so, and else what holds goes on to hold
+  abbrev pub Tells : Links (OpenLink S) → Links (OpenLink S) → Option Turn → Type 0
+  Tells old new None = Keeps old new
+  Tells old new (Some (Fresh key local)) = Has old key false × Changes key true old new
+  Tells old new (Some (Ready key)) = Keeps old new
+  Tells old new (Some (Late key)) = Keeps old new
+  Tells old new (Some Quiet) = Keeps old new
+  Tells old new (Some Stop) = Keeps old new
+
+  -- the same, but what is told may have been taken from the queue
+  abbrev pub TellsLinks : Links (OpenLink S) → Links (OpenLink S) → Option Turn → Type 0
+  TellsLinks old new None = Keeps old new
+  TellsLinks old new (Some (Fresh key local)) = Has old key false × Changes key true old new
+  TellsLinks old new (Some (Ready key)) = KeepsLinks old new
+  TellsLinks old new (Some (Late key)) = KeepsLinks old new
+  TellsLinks old new (Some Quiet) = KeepsLinks old new
+  TellsLinks old new (Some Stop) = KeepsLinks old new
 
   -- a link was reported
   abbrev pub IsReported : Bool → Option (OpenLink S × Place) → Option (OpenLink S × Place) → Type 0

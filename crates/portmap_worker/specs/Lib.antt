@@ -1,6 +1,7 @@
 pub mod Carrying
 pub mod Files
 pub mod IdleLinks
+pub mod Keys
 pub mod Link
 pub mod Listening
 pub mod Notices
@@ -14,5 +15,6 @@ pub mod Recording
 pub mod Refused
 pub mod Remote
 pub mod Replies
+pub mod Schedule
 pub mod Showing
 pub mod Unsent

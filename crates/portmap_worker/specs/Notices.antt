@@ -1,6 +1,6 @@
 -- The lines that an operator reads while the daemon runs: profile.
 use Rattle.std.specs.Fmt.{decimal}
-use Rattle.std.specs.Prelude.{ℕ, ◌-◌, ◌==◌, List, [], ◌++◌, codes, Bool, true, false, Option, Some, None, if◌then◌else◌}
+use Rattle.std.specs.Prelude.{ℕ, ◌-◌, ◌==◌, List, ◌++◌, codes, if◌then◌else◌}
 use Rattle.portmap_worker.specs.{Refused.in_use_line, Remote.remote_line}
 use Rattle.portmap_worker.specs.declared.notice.Notice.{Notice, TheVariants.{CannotAccept, FewerPlaces, InUse}}
 use Rattle.portmap_worker.specs.declared.notice.Notice.TheVariants.{RecordingAgain, RecordingFailed, Remote, ShortOfMemory, Unread}

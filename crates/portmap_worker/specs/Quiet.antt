@@ -1,6 +1,7 @@
 -- When no news of a connection can be missed: profile. A poll reports once what comes of a stream behind a call that would have waited, and
 -- what is there as it is asked: that is the system's word.
-use Rattle.std.specs.Prelude.{Bool, true, false, ◌&&◌, cond, Option, Some, None, List, [], ◌∷◌, fold, Result, Ok, Err}
+use Rattle.std.specs.Prelude.{◌≡◌, ℕ, Bool, true, false, ◌&&◌, cond, Option, Some, None, IfSome, List, [], ◌∷◌, ◌++◌, fold, map}
+use Rattle.std.specs.Prelude.{Result, Ok, Err}
 use Rattle.std.specs.declared.io.Error.{Error}
 use Rattle.portmap_link.specs.declared.device.Put.{TheVariants.{Fault, Later, Wrote as Took}}
 use Rattle.portmap_worker.specs.declared.readiness.Note.{Note, TheVariants.{Read, Reported, Watched, Wrote}}
@@ -10,6 +11,17 @@ use Rattle.portmap_worker.specs.declared.system.Interest.{Interest, TheVariants.
 abbrev pub watches : {A : Type 0} → Result A Error → Interest → List Note
 watches (Ok answer) interest = Watched interest ∷ []
 watches (Err fault) interest = []
+
+-- what the poll was asked to report under this key, and has not refused to
+abbrev pub taken : {A : Type 0} → ℕ → Result A Error → Interest → List (ℕ × Interest)
+taken key (Ok answer) interest = (key, interest) ∷ []
+taken key (Err fault) interest = []
+
+-- what a poll has taken between two lists of what it watches, it has taken under this key, and that and nothing else is noted
+abbrev pub AreTaken : ℕ → Option (List (ℕ × Interest)) → Option (List (ℕ × Interest)) → List Note → List Note → Type 0
+AreTaken key old new before after =
+    (interests : List Interest) × (after ≡ before ++ map Watched interests)
+    × IfSome old (λ watched. new ≡ Some (watched ++ map (λ interest. (key, interest)) interests))
 
 -- what the poll was asked for last, if it was asked
 abbrev pub asks : Option Interest → Note → Option Interest

@@ -1,5 +1,5 @@
 -- Bytes of replies that wait to be written, and for whom a connection is reset: profile.
-use Rattle.std.specs.Prelude.{◌≡◌, ℕ, ◌+◌, ◌/◌, ◌<◌, ◌⊎◌, Bool, true, false}
+use Rattle.std.specs.Prelude.{◌≡◌, ℕ, ◌+◌, ◌/◌, ◌<◌, ◌⊎◌, Bool, false}
 use Rattle.portmap_worker.specs.declared.limits.TheConstants.{UNSENT_HEAVY_SHARE, UNSENT_SPARED_SHARE}
 
 -- so many of the bytes that may wait over all connections are many for one

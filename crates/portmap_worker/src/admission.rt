@@ -3,7 +3,7 @@ ghost use Rattle.std.specs.Prelude.{◌≡◌, ◌↔◌, ◌⊎◌, ◌+◌, �
 ghost use Rattle.portmap_worker.specs.declared.limits.TheConstants.{ROOM_BACKOFF_MS};
 ghost use Rattle.portmap_worker.specs.Listening.{IsFreshFrom};
 ghost use Rattle.portmap_worker.specs.Peers.{is_local_by};
-ghost use Rattle.portmap_worker.specs.IdleLinks.{Keeps};
+ghost use Rattle.portmap_worker.specs.IdleLinks.{Keeps, Tells};
 
 use crate::Turn;
 use crate::host::Host;
@@ -49,10 +49,6 @@ impl<S: Stream> Newcomer<S> {
 /// Where connections come to a worker.
 #[derive(Drop)]
 pub(crate) struct Door<S: Stream> {
-    /// The last turn accepted a connection, so the next one goes on with another.
-    has_accepted: bool,
-    /// How many more connections are accepted in a row, to learn whether so many wait.
-    pub(crate) backlog: u32,
     /// The connection that waits for a place. While it does none is accepted.
     pub(crate) newcomer: Option<Newcomer<S>>,
     /// No link is looked for before this time that may be given up for another one.
@@ -65,19 +61,10 @@ impl<S: Stream> Door<S> {
     /// None has come.
     pub(crate) fn new() -> Door<S> {
         Door {
-            has_accepted: false,
-            backlog: 0,
             newcomer: None,
             room_backoff: 0,
             lacking: None,
         }
-    }
-
-    /// Whether a connection that comes is told before a link that is held.
-    pub(crate) fn is_next(&self) -> bool
-        ensures { (result ≡ true) ↔ ((self.now.has_accepted ≡ false) ⊎ (0 < self.now.backlog)) }
-    {
-        !self.has_accepted || self.backlog > 0
     }
 
     /// Whether connections are accepted: none is while another one waits for a place.
@@ -100,17 +87,6 @@ impl<S: Stream> Door<S> {
         }
     }
 
-    /// One was accepted. Whether so many waited that a further worker is to accept too.
-    pub(crate) fn note_accepted(&mut self) -> bool
-        ensures last { (result ≡ true) ↔ (self.old.backlog ≡ 1) }
-        ensures counted { self.new ≡ record self.old { has_accepted = true; backlog = self.old.backlog - 1 } }
-    {
-        let is_last = self.backlog == 1;
-        self.has_accepted = true;
-        self.backlog = self.backlog.saturating_sub(1);
-        is_last
-    }
-
     /// The link that goes first of those that may be given up for another one, if it is time to look for one.
     fn candidate(&mut self, links: &Links<'_, S>, with_local: bool, now: u64) -> Option<usize>
         ensures early { now < self.old.room_backoff → (result ≡ None) × (self.new ≡ self.old) }
@@ -126,14 +102,6 @@ impl<S: Stream> Door<S> {
             self.room_backoff = now.saturating_add(ROOM_BACKOFF_MS);
         }
         first
-    }
-
-    /// A link that is held is told.
-    pub(crate) fn pass(&mut self)
-        ensures { self.new ≡ record self.old { has_accepted = false; backlog = 0 } }
-    {
-        self.has_accepted = false;
-        self.backlog = 0;
     }
 }
 
@@ -154,7 +122,8 @@ impl<'a, L: Ledger, S: System, R: Host + Wait + Clock> SocketSource<'a, L, S, R>
     /// The next connection: the one that waits for a place, or one that waits at a listener.
     pub(crate) fn admit(&mut self) -> Option<Turn>
         ensures told { self.new.ready.told ≡ self.old.ready.told }
-        ensures quiet { Keeps self.old.ready self.new.ready }
+        ensures links { Tells self.old.ready self.new.ready result }
+        ensures schedule { self.new.schedule ≡ self.old.schedule }
     {
         let waiting = self.door.newcomer.take();
         let has_waited = waiting.is_some();
@@ -181,7 +150,8 @@ impl<'a, L: Ledger, S: System, R: Host + Wait + Clock> SocketSource<'a, L, S, R>
     fn take(&mut self, newcomer: Newcomer<S::Stream>, permit: Permit<'a>) -> Option<Turn>
         ensures fresh { IfSome result (λ turn. IsFreshFrom newcomer.is_local turn) }
         ensures told { self.new.ready.told ≡ self.old.ready.told }
-        ensures quiet { Keeps self.old.ready self.new.ready }
+        ensures links { Tells self.old.ready self.new.ready result }
+        ensures schedule { self.new.schedule ≡ self.old.schedule }
     {
         if self.ready.is_empty() {
             self.state.take_first(self.shared);
@@ -199,7 +169,8 @@ impl<'a, L: Ledger, S: System, R: Host + Wait + Clock> SocketSource<'a, L, S, R>
     fn hold(&mut self, newcomer: Newcomer<S::Stream>, permit: Permit<'a>) -> Option<Turn>
         ensures fresh { IfSome result (λ turn. IsFreshFrom newcomer.is_local turn) }
         ensures told { self.new.ready.told ≡ self.old.ready.told }
-        ensures quiet { Keeps self.old.ready self.new.ready }
+        ensures links { Tells self.old.ready self.new.ready result }
+        ensures schedule { self.new.schedule ≡ self.old.schedule }
     {
         let local = newcomer.is_local;
         if !self.ready.has_room() && !self.rt.has_memory(self.alloc) {
@@ -211,15 +182,21 @@ impl<'a, L: Ledger, S: System, R: Host + Wait + Clock> SocketSource<'a, L, S, R>
             permit,
             unsent: Unsent::new(&self.shared.unsent, local, self.rounds.time),
         };
-        let key = self.ready.insert(held).ok()? as u64;
-        Some(Turn::Fresh { key, local })
+        let Ok(key) = self.ready.insert(held) else {
+            return None;
+        };
+        Some(Turn::Fresh {
+            key: key as u64,
+            local,
+        })
     }
 
     /// There is no place for a new connection: one is given up for it, here or, for a local peer, by another worker
     /// soon. A connection is closed for which none can be.
     fn make_room(&mut self, newcomer: Newcomer<S::Stream>) -> Option<Turn>
         ensures told { self.new.ready.told ≡ self.old.ready.told }
-        ensures quiet { Keeps self.old.ready self.new.ready }
+        ensures links { Tells self.old.ready self.new.ready result }
+        ensures schedule { self.new.schedule ≡ self.old.schedule }
     {
         let waited = self.rounds.time.saturating_sub(newcomer.came);
         let remote_first = spares_local(waited, self.shared.quota.remote());
@@ -246,7 +223,8 @@ impl<'a, L: Ledger, S: System, R: Host + Wait + Clock> SocketSource<'a, L, S, R>
     /// there were no place, here or by another worker soon. From which host it comes isn't known: remote ones go first.
     fn free_descriptor(&mut self) -> Option<Turn>
         ensures told { self.new.ready.told ≡ self.old.ready.told }
-        ensures quiet { Keeps self.old.ready self.new.ready }
+        ensures links { Tells self.old.ready self.new.ready result }
+        ensures schedule { self.new.schedule ≡ self.old.schedule }
     {
         if !self.sockets.listeners.take_lack() {
             self.end_lack();
@@ -266,7 +244,8 @@ impl<'a, L: Ledger, S: System, R: Host + Wait + Clock> SocketSource<'a, L, S, R>
 
     /// Connections can be accepted, or none waits: none is to be given up for one.
     fn end_lack(&mut self)
-        ensures { self.new.ready ≡ self.old.ready }
+        ensures ready { self.new.ready ≡ self.old.ready }
+        ensures schedule { self.new.schedule ≡ self.old.schedule }
     {
         if self.door.lacking.take().is_some() {
             self.shared.quota.want_none();
@@ -275,7 +254,8 @@ impl<'a, L: Ledger, S: System, R: Host + Wait + Clock> SocketSource<'a, L, S, R>
 
     /// Gives up a connection, if a local peer waits for a place at another worker and one may be.
     pub(crate) fn make_way(&mut self) -> Option<Turn>
-        ensures { Keeps self.old.ready self.new.ready }
+        ensures links { Tells self.old.ready self.new.ready result }
+        ensures schedule { self.new.schedule ≡ self.old.schedule }
     {
         let (is_wanted, is_any) = self.shared.quota.wanted();
         if !is_wanted || !self.door.accepts() {
@@ -290,7 +270,7 @@ impl<'a, L: Ledger, S: System, R: Host + Wait + Clock> SocketSource<'a, L, S, R>
 /// The link with this key is given up.
 pub(crate) fn give_way<S: Stream>(links: &mut Links<'_, S>, key: usize, now: u64) -> Turn
     ensures told { links.new.told ≡ links.old.told }
-    ensures quiet { Keeps links.old links.new }
+    ensures links { Keeps links.old links.new }
     ensures late { result ≡ Turn.Late key }
 {
     if let Some(held) = links.get_mut(key) {

@@ -138,7 +138,8 @@ impl<L: Ledger, S: System, R: Host + Wait + Clock> SocketSource<'_, L, S, R> {
     pub(crate) fn ask_behind(&mut self, begun: Begun, timeout: u64) -> Option<Polled>
         requires { 0 < timeout → self.old.ready.queue ≡ [] }
         ensures epoch { IfSome result (λ polled. polled.epoch ≡ begun.epoch) }
-        ensures quiet { Keeps self.old.ready self.new.ready }
+        ensures links { Keeps self.old.ready self.new.ready }
+        ensures schedule { self.new.schedule ≡ self.old.schedule }
     {
         let is_well = self.sockets.ask(&mut self.ready, timeout);
         is_well.then_some(Polled { epoch: begun.epoch })

@@ -3,7 +3,7 @@ ghost use Rattle.std.specs.Prelude.{◌≡◌, ◌↔◌, ◌+◌, ◌-◌, ◌^
 ghost use Rattle.portmap_link.specs.Adapters.{pull_of, put_of};
 ghost use Rattle.portmap_link.specs.Device.{pull_is_fault, put_is_fault};
 ghost use Rattle.portmap_worker.specs.Link.{IsBroken, IsOf, is_answered, is_timed, may_move, unsent_after, would_block};
-ghost use Rattle.portmap_worker.specs.Quiet.{is_quiet};
+ghost use Rattle.portmap_worker.specs.Quiet.{AreTaken, asked, is_quiet};
 ghost use Rattle.portmap_worker.specs.declared.readiness.Note.TheVariants.{Read, Reported, Wrote};
 ghost use Rattle.portmap_worker.specs.declared.limits.TheConstants.{YOUNG_MS};
 
@@ -61,6 +61,8 @@ pub struct Link<S: Read + Write> {
     unsent_bytes: usize,
     /// How many bytes have moved since that was last asked.
     moved_bytes: usize,
+    /// Bytes were written since that was last asked.
+    has_written: bool,
 }
 
 /// Whether a call would have blocked: then there will be a report.
@@ -101,6 +103,7 @@ impl<S: Read + Write> Link<S> {
             is_crowded: false,
             unsent_bytes: 0,
             moved_bytes: 0,
+            has_written: false,
         }
     }
 
@@ -147,6 +150,14 @@ impl<S: Read + Write> Link<S> {
         ensures { self.new.readiness ≡ self.old.readiness }
     {
         mem::replace(&mut self.moved_bytes, 0)
+    }
+
+    /// Returns whether bytes were written since this was last asked.
+    pub(crate) fn take_written(&mut self) -> bool
+        ensures written { result ≡ self.old.has_written }
+        ensures readiness { self.new.readiness ≡ self.old.readiness }
+    {
+        mem::replace(&mut self.has_written, false)
     }
 
     /// Whether its peer has only so much time: for its request, or for the bytes that wait to be written. One that was
@@ -219,6 +230,7 @@ impl<S: Read + Write> Link<S> {
     pub(crate) fn end_rest(&mut self) -> bool
         ensures rests { self.new.is_resting ≡ false }
         ensures quiet { result ≡ false → is_quiet self.new.readiness.notes ≡ true }
+        ensures asked { asked self.new.readiness.notes ≡ asked self.old.readiness.notes }
     {
         self.is_resting = false;
         if !self.readiness.is_watched() {
@@ -245,6 +257,7 @@ impl<S: Read + Write> Link<S> {
     pub(crate) fn look(&mut self, rounds: &Rounds, timeout: u64) -> bool
         ensures rests { self.new.is_resting ≡ self.old.is_resting }
         ensures quiet { result ≡ false → self.old.is_resting ≡ false → is_quiet self.new.readiness.notes ≡ true }
+        ensures asked { asked self.new.readiness.notes ≡ asked self.old.readiness.notes }
     {
         let is_timed = self.is_timed();
         self.timer.begin(is_timed, self.is_local, rounds.time);
@@ -278,6 +291,7 @@ impl<S: Read + Write> Link<S> {
     fn note_read(&mut self, count: usize)
         ensures moved { self.new.timer.has_moved ≡ true }
         ensures rests { self.new.is_resting ≡ is_answered self.old.progress }
+        ensures written { self.new.has_written ≡ self.old.has_written }
         ensures history { self.new.history ≡ self.old.history }
         ensures readiness { self.new.readiness ≡ self.old.readiness }
     {
@@ -289,10 +303,12 @@ impl<S: Read + Write> Link<S> {
     fn note_written(&mut self, count: usize)
         ensures moved { self.new.timer.has_moved ≡ true }
         ensures answered { is_answered self.new.progress ≡ true }
+        ensures written { self.new.has_written ≡ true }
         ensures history { self.new.history ≡ self.old.history }
         ensures readiness { self.new.readiness ≡ self.old.readiness }
     {
         self.note_moved(count);
+        self.has_written = true;
         if self.progress == Progress::Asked {
             self.progress = Progress::Answered;
         }
@@ -346,6 +362,8 @@ impl<S: Stream> Link<S> {
         ensures rests { result ≡ Fate.Rests → self.new.is_resting ≡ true }
         ensures waits { result ≡ Fate.Waits
             → (self.new.is_resting ≡ false) × (is_quiet self.new.readiness.notes ≡ true) }
+        ensures asked { AreTaken key (P.watched system.old) (P.watched system.new)
+            self.old.readiness.notes self.new.readiness.notes }
     {
         let is_asked = !self.is_resting && self.may_move();
         if !is_asked && !self.readiness.is_watched() {

@@ -80,13 +80,17 @@ impl Tally {
 
     /// A link has moved so many bytes. Whether the log is to be weighed.
     pub(crate) fn note_moved(&mut self, bytes: usize) -> bool {
-        self.news.answered = self.news.answered || bytes > 0;
         self.unweighed_bytes = self.unweighed_bytes.saturating_add(bytes);
         let is_due = self.unweighed_bytes >= WEIGH_BYTES;
         if is_due {
             self.unweighed_bytes = 0;
         }
         is_due
+    }
+
+    /// A link has written bytes of a reply, or not: bytes that were read alone are no answer.
+    pub(crate) fn note_written(&mut self, has_written: bool) {
+        self.news.answered = self.news.answered || has_written;
     }
 
     /// A connection has ended, or was closed at once, to which nothing was ever written: perhaps for want of memory.

@@ -1,7 +1,6 @@
 //! The links that a worker holds, each at its place.
 ghost use Rattle.std.specs.Prelude.{◌≡◌, ◌≢◌, ℕ, [], drop, false, Some, None};
-ghost use Rattle.portmap_ready.specs.Links.{link_at, place_at};
-ghost use Rattle.portmap_ready.specs.declared.Place.TheVariants.{Idle};
+ghost use Rattle.portmap_ready.specs.Links.{link_at};
 ghost use Rattle.portmap_worker.specs.IdleLinks.{IsReported, Keeps};
 
 use crate::link::Link;
@@ -52,6 +51,8 @@ pub(crate) type Links<'a, S> = Ready<OpenLink<'a, S>>;
 #[derive(Clone, Copy)]
 pub(crate) struct Moved {
     pub(crate) bytes: usize,
+    /// Bytes of a reply were written.
+    pub(crate) has_written: bool,
     /// More bytes wait to be written than before.
     pub(crate) is_unread: bool,
 }
@@ -65,23 +66,29 @@ pub(crate) fn put_in_place<S: System>(
 ) -> Moved
     requires { links.old.told ≡ Some key }
     ensures told { links.new.told ≡ None }
-    ensures quiet { Keeps links.old links.new }
+    ensures links { Keeps links.old links.new }
 {
     let Some(held) = links.get_mut(key) else {
         links.leave(key);
         return Moved {
             bytes: 0,
+            has_written: false,
             is_unread: false,
         };
     };
     let bytes = held.link.take_moved_bytes();
+    let has_written = held.link.take_written();
     let is_unread = held.unsent.set(held.link.unsent_bytes() as u64, now);
     match held.link.fate(system, key) {
         Fate::Again => links.put_back(key),
         Fate::Rests => links.rest(key),
         Fate::Waits => links.leave(key),
     }
-    Moved { bytes, is_unread }
+    Moved {
+        bytes,
+        has_written,
+        is_unread,
+    }
 }
 
 /// The poll has reported a link, and perhaps that its peer sends no more. There is something to tell of it, unless it
@@ -89,7 +96,7 @@ pub(crate) fn put_in_place<S: System>(
 pub(crate) fn report<S: Stream>(links: &mut Links<'_, S>, key: usize, is_closed: bool)
     ensures told { IsReported is_closed (link_at links.old key) (link_at links.new key) }
     ensures others { (k : ℕ) → k ≢ key → link_at links.new k ≡ link_at links.old k }
-    ensures quiet { Keeps links.old links.new }
+    ensures links { Keeps links.old links.new }
 {
     let rests = links.place(key) == Some(Place::Resting);
     let Some(held) = links.get_mut(key) else {
@@ -104,7 +111,7 @@ pub(crate) fn report<S: Stream>(links: &mut Links<'_, S>, key: usize, is_closed:
 /// A millisecond is over: of the links that have rested longest so many may move again.
 pub(crate) fn end_rests<S: Stream>(links: &mut Links<'_, S>, most: u32)
     ensures ended { links.new.resting ≡ drop most links.old.resting }
-    ensures quiet { Keeps links.old links.new }
+    ensures links { Keeps links.old links.new }
 {
     for _ in 0..most {
         if !end_rest(links) {
@@ -117,7 +124,7 @@ pub(crate) fn end_rests<S: Stream>(links: &mut Links<'_, S>, most: u32)
 fn end_rest<S: Stream>(links: &mut Links<'_, S>) -> bool
     ensures ended { links.new.resting ≡ drop 1 links.old.resting }
     ensures none { result ≡ false → links.old.resting ≡ [] }
-    ensures quiet { Keeps links.old links.new }
+    ensures links { Keeps links.old links.new }
 {
     links.none_is_forgotten();
     let Some(key) = links.end_rest() else {
@@ -140,14 +147,4 @@ pub(crate) fn look<S: Stream>(links: &mut Links<'_, S>, key: usize, rounds: &Rou
             links.report(key);
         }
     }
-}
-
-/// Lends a link that isn't idle. Calls on an idle one could take away what the poll is still to report.
-pub(crate) fn lend<'b, S: Stream>(
-    links: &'b mut Links<'_, S>,
-    key: usize,
-) -> Option<&'b mut Link<S>>
-    requires { place_at links.old key ≢ Some Idle }
-{
-    Some(&mut links.get_mut(key)?.link)
 }

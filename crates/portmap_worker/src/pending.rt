@@ -2,9 +2,10 @@
 //!
 //! If a name is active when it is asked for, perhaps the connection that owns it has ended, or is ending: then the name
 //! is free soon. What the machine says after that is final.
-ghost use Rattle.std.specs.Prelude.{◌≡◌, ◌↔◌, ◌<◌, ◌≤◌, true, false, Some, None};
+ghost use Rattle.std.specs.Prelude.{◌≡◌, ◌↔◌, ◌<◌, ◌≤◌, true, false, Some, None, IfSome};
 ghost use Rattle.portmap_worker.specs.Pending.{Awaits, GivesUp, GoesOn, earliest, until};
-ghost use Rattle.portmap_worker.specs.IdleLinks.{Keeps};
+ghost use Rattle.portmap_worker.specs.IdleLinks.{Keeps, Tells};
+ghost use Rattle.portmap_worker.specs.Link.{IsOf};
 
 use crate::Turn;
 use crate::host::Host;
@@ -116,7 +117,8 @@ impl<L: Ledger, S: System, R: Host + Wait + Clock> SocketSource<'_, L, S, R> {
     /// Whether a registration is not taken, since no memory is left that others may need. One that this worker alone
     /// finds so is counted here.
     fn refuses(&mut self) -> bool
-        ensures { self.new.ready ≡ self.old.ready }
+        ensures ready { self.new.ready ≡ self.old.ready }
+        ensures schedule { self.new.schedule ≡ self.old.schedule }
     {
         if self.shared.short.load(Ordering::SeqCst) {
             return true;
@@ -131,7 +133,9 @@ impl<L: Ledger, S: System, R: Host + Wait + Clock> SocketSource<'_, L, S, R> {
     /// What the link that was told last keeps back is told at once, unless its name is active, or no memory is left
     /// that others may need.
     pub(crate) fn hold_back(&mut self) -> Option<Turn>
-        ensures { Keeps self.old.ready self.new.ready }
+        ensures links { Tells self.old.ready self.new.ready result }
+        ensures again { IfSome result (λ told. IsOf self.old.ready.told told) }
+        ensures schedule { self.new.schedule ≡ self.old.schedule }
     {
         let key = self.ready.told()?;
         let is_active = self.is_name_active(key)?;
@@ -149,7 +153,8 @@ impl<L: Ledger, S: System, R: Host + Wait + Clock> SocketSource<'_, L, S, R> {
     /// next.
     pub(crate) fn retry_pending(&mut self)
         requires { self.old.ready.told ≡ None }
-        ensures { Keeps self.old.ready self.new.ready }
+        ensures links { Keeps self.old.ready self.new.ready }
+        ensures schedule { self.new.schedule ≡ self.old.schedule }
     {
         self.rounds.pending_until = None;
         if self.ready.pending() == 0 {
@@ -191,7 +196,7 @@ impl<L: Ledger, S: System, R: Host + Wait + Clock> SocketSource<'_, L, S, R> {
 fn wait_on<S: Stream>(links: &mut Links<'_, S>, rounds: &mut Rounds, key: usize, waiting: Waiting)
     requires { links.old.told ≡ Some key }
     ensures told { links.new.told ≡ None }
-    ensures quiet { Keeps links.old links.new }
+    ensures links { Keeps links.old links.new }
     ensures until { rounds.new ≡ record rounds.old
         { pending_until = Some (earliest rounds.old.pending_until (until waiting rounds.old.time)) } }
 {
@@ -206,7 +211,7 @@ fn wait_on<S: Stream>(links: &mut Links<'_, S>, rounds: &mut Rounds, key: usize,
 fn resume<S: Stream>(links: &mut Links<'_, S>, key: usize, is_short: bool)
     requires { links.old.told ≡ Some key }
     ensures told { links.new.told ≡ None }
-    ensures quiet { Keeps links.old links.new }
+    ensures links { Keeps links.old links.new }
 {
     if let Some(held) = links.get_mut(key) {
         held.link.set_late(is_short);

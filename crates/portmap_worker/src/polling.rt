@@ -1,12 +1,12 @@
 //! What a worker asks of its poll, and what it makes of the answers.
-ghost use Rattle.std.specs.Prelude.{◌≡◌, ◌<◌, [], None};
-ghost use Rattle.portmap_worker.specs.IdleLinks.{Keeps};
+ghost use Rattle.std.specs.Prelude.{◌≡◌, ◌⊎◌, ◌<◌, [], None, true};
+ghost use Rattle.portmap_worker.specs.IdleLinks.{Keeps, Tells};
+ghost use Rattle.portmap_worker.specs.Schedule.{IsPolled};
 
 use crate::Turn;
 use crate::ending::Failure;
 use crate::epochs::Begun;
 use crate::host::Host;
-use crate::limits::BACKLOG_MOST;
 use crate::open_link::{end_rests, look};
 use crate::rounds::poll_timeout;
 use crate::shared::IDLE;
@@ -22,7 +22,8 @@ impl<L: Ledger, S: System, R: Host + Wait + Clock> SocketSource<'_, L, S, R> {
     /// Polls. What is to be told by the time alone, or if the poll has failed.
     pub(crate) fn poll(&mut self) -> Option<Turn>
         requires { self.old.ready.told ≡ None }
-        ensures { Keeps self.old.ready self.new.ready }
+        ensures links { Tells self.old.ready self.new.ready result }
+        ensures schedule { IsPolled self.old.schedule self.new.schedule }
     {
         self.retry_pending();
         let before = self.time_us();
@@ -54,7 +55,8 @@ impl<L: Ledger, S: System, R: Host + Wait + Clock> SocketSource<'_, L, S, R> {
 
     /// The poll has answered at this time, in microseconds: with each millisecond a few of the links that rest go on.
     fn note_answer(&mut self, after: u64)
-        ensures { Keeps self.old.ready self.new.ready }
+        ensures links { Keeps self.old.ready self.new.ready }
+        ensures schedule { self.new.schedule ≡ self.old.schedule }
     {
         if self.rounds.note_answer(after) {
             let most = rests_most(self.shared.unsent.is_crowded());
@@ -65,17 +67,20 @@ impl<L: Ledger, S: System, R: Host + Wait + Clock> SocketSource<'_, L, S, R> {
     /// The poll was asked and has answered at these times. Another worker is to accept too, if this one has too much to
     /// do.
     fn note_load(&mut self, before: u64, after: u64)
-        ensures { self.new.ready ≡ self.old.ready }
+        ensures ready { self.new.ready ≡ self.old.ready }
+        ensures schedule { (self.new.schedule ≡ self.old.schedule)
+            ⊎ (self.new.schedule ≡ record self.old.schedule { accepted = 0; is_burst = true }) }
     {
         let worker = self.sockets.worker;
         if self.rounds.load.note_poll(before, after) && self.shared.may_add_acceptor(worker) {
-            self.door.backlog = BACKLOG_MOST;
+            self.schedule.expect_burst();
         }
     }
 
     /// Watches the listeners or leaves them, as the worker accepts or not.
     fn pass_listeners(&mut self)
-        ensures { self.new.ready ≡ self.old.ready }
+        ensures ready { self.new.ready ≡ self.old.ready }
+        ensures schedule { self.new.schedule ≡ self.old.schedule }
     {
         let is_on = self.shared.accepts(self.sockets.worker);
         let listeners = &mut self.sockets.listeners;
@@ -86,7 +91,9 @@ impl<L: Ledger, S: System, R: Host + Wait + Clock> SocketSource<'_, L, S, R> {
     }
 
     /// The poll has failed: the worker ends, and with it the others.
-    fn fail(&self) -> Turn {
+    fn fail(&self) -> Turn
+        ensures { result ≡ Turn.Stop }
+    {
         self.shared.ending.note_failure(Failure::Poll);
         Turn::Stop
     }
@@ -115,9 +122,10 @@ impl<L: Ledger, S: System, R: Host + Wait + Clock> SocketSource<'_, L, S, R> {
 
     /// Polls, and waits if there is nothing else to do. False if the poll has failed.
     fn wait(&mut self) -> bool
-        ensures { Keeps self.old.ready self.new.ready }
+        ensures links { Keeps self.old.ready self.new.ready }
+        ensures schedule { self.new.schedule ≡ record self.old.schedule { turns = 0 } }
     {
-        self.rounds.end_turns();
+        self.schedule.end_turns();
         if !self.rounds.pass.is_over() {
             let timeout = self.timeout(self.rounds.pass.begun());
             return self.sockets.ask(&mut self.ready, timeout);
@@ -137,7 +145,8 @@ impl<L: Ledger, S: System, R: Host + Wait + Clock> SocketSource<'_, L, S, R> {
     /// The time was read before, and however long this thread was stopped since, all that came meanwhile is noted
     /// first. False if the poll has failed.
     fn look_round(&mut self, is_due: bool) -> bool
-        ensures { Keeps self.old.ready self.new.ready }
+        ensures links { Keeps self.old.ready self.new.ready }
+        ensures schedule { self.new.schedule ≡ self.old.schedule }
     {
         if !is_due {
             return true;

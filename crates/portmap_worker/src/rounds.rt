@@ -3,11 +3,11 @@
 ghost use Rattle.std.specs.Prelude.{◌≡◌, ◌↔◌, ◌+◌, ◌-◌, ◌/◌, ◌≤◌, ◌<◌, ◌^◌, true, false, cond, min, max, Some};
 ghost use Rattle.portmap_worker.specs.Pending.{earliest};
 ghost use Rattle.portmap_worker.specs.declared.limits.TheConstants.{IDLE_TIMEOUT_MS, LOOK_INTERVAL_MS};
-ghost use Rattle.portmap_worker.specs.declared.limits.TheConstants.{SHORT_TIMEOUT_MS, TURNS_MOST};
+ghost use Rattle.portmap_worker.specs.declared.limits.TheConstants.{SHORT_TIMEOUT_MS};
 
 use crate::accept_scheduler::LoadMeter;
 use crate::epochs::Pass;
-use crate::limits::{IDLE_TIMEOUT_MS, LOOK_INTERVAL_MS, SHORT_TIMEOUT_MS, TURNS_MOST};
+use crate::limits::{IDLE_TIMEOUT_MS, LOOK_INTERVAL_MS, SHORT_TIMEOUT_MS};
 
 /// How many milliseconds a poll may wait: not at all while there is something to do; else until this time, but at least
 /// a moment.
@@ -37,8 +37,6 @@ fn earliest(time: Option<u64>, other: u64) -> u64
 pub(crate) struct Rounds {
     /// The time when the poll answered last.
     pub(crate) time: u64,
-    /// How many turns since the poll was asked.
-    turns: u32,
     pub(crate) pass: Pass,
     /// Until when the poll may wait for those that are pending, if any is.
     pub(crate) pending_until: Option<u64>,
@@ -53,7 +51,6 @@ impl Rounds {
     pub(crate) fn new() -> Rounds {
         Rounds {
             time: 0,
-            turns: 0,
             pass: Pass::default(),
             pending_until: None,
             look_due: LOOK_INTERVAL_MS,
@@ -70,26 +67,6 @@ impl Rounds {
         let before = self.time;
         self.time = after / 1000;
         before < self.time
-    }
-
-    /// A turn, if one more is to be had before the poll is asked. Whether it is.
-    pub(crate) fn take_turn(&mut self) -> bool
-        ensures most { (result ≡ true) ↔ (self.old.turns < TURNS_MOST) }
-        ensures counted { result ≡ true → self.new ≡ record self.old { turns = self.old.turns + 1 } }
-        ensures none { result ≡ false → self.new ≡ self.old }
-    {
-        let is_left = self.turns < TURNS_MOST;
-        if is_left {
-            self.turns = self.turns.saturating_add(1);
-        }
-        is_left
-    }
-
-    /// The poll is asked.
-    pub(crate) fn end_turns(&mut self)
-        ensures { self.new ≡ record self.old { turns = 0 } }
-    {
-        self.turns = 0;
     }
 
     /// The poll may wait until this time for one more that is pending.

@@ -1,14 +1,17 @@
 //! One worker: it serves what a source brings.
-ghost use Rattle.std.specs.Prelude.{◌≡◌, ◌+◌, ◌≤◌, None};
+ghost use Rattle.std.specs.Prelude.{◌≡◌, ◌≢◌, ◌+◌, ◌≤◌, ℕ, false, None, is_ok, is_some};
 ghost use Rattle.std.specs.Ordering.{nat_cmp};
 ghost use Rattle.std.specs.BTreeMap.{get};
 ghost use Rattle.portmap_worker.specs.Carrying.{LetsGo};
+ghost use Rattle.portmap_worker.specs.Keys.{Agree, AgreeBut};
 
 use crate::carrier::next_of;
 use crate::limits::LAST_TRIES_MOST;
-use crate::{Carrier, Gate, Next, Source, Turn};
+use crate::source::HandsOut;
+use crate::{Carrier, Gate, LinkSource, Next, Serve, Source, Turn};
 use portmap_book::{ActFault, Desk, Seat};
 use portmap_core::Refusal;
+use portmap_link::{Input, Output};
 use std::alloc::Global;
 use std::collections::BTreeMap;
 use std::collections::btree_map::Entry;
@@ -23,114 +26,38 @@ pub struct Outcome<L: Ledger> {
     pub served: u64,
 }
 
-/// A worker at a desk.
+/// The connections that a worker holds, and what it serves them with.
 #[derive(Drop)]
-pub struct Worker<'a, L: Ledger, S: Source, G: Gate, R: Wait> {
+struct Holder<'a, L: Ledger, G: Gate, R: Wait> {
     rt: &'a R,
     alloc: Global,
     desk: &'a Desk<L>,
     number: u32,
     gate: &'a G,
     seat: Seat<L>,
-    source: S,
-    /// The connections that it holds, by the keys of their links.
+    /// By the keys of their links.
     held: BTreeMap<u64, Carrier<L>>,
 }
 
-impl<'a, L: Ledger, S: Source + Drop, G: Gate, R: Wait> Worker<'a, L, S, G, R> {
-    /// A worker that holds no connection. It has the number of its seat.
-    pub fn new(
-        rt: &'a R,
-        alloc: Global,
-        desk: &'a Desk<L>,
-        seat: Seat<L>,
-        source: S,
-        gate: &'a G,
-    ) -> Worker<'a, L, S, G, R>
-        ensures { result.seat ≡ seat }
-    {
-        Worker {
-            rt,
-            alloc,
-            desk,
-            number: seat.worker(),
-            gate,
-            seat,
-            source,
-            held: BTreeMap::new(alloc),
-        }
-    }
+impl<I: Input + Output, L: Ledger, G: Gate, R: Wait> Serve<I> for Holder<'_, L, G, R> {
+    ghost use Rattle.std.specs.Prelude.{◌≤◌};
+    ghost use Rattle.portmap_worker.specs.Keys.{HeldAlike};
 
-    /// Does what its source tells next. Whether there is more to do.
-    pub fn turn(&mut self) -> bool
-        ensures { self.old.seat.count ≤ self.new.seat.count }
-    {
-        let turn = self.source.turn();
-        self.take(turn)
-    }
+    ghost becomes = { λ old new. (old.seat.count ≤ new.seat.count) × HeldAlike old.held new.held };
 
-    /// Where its links come from.
-    pub fn source(&mut self) -> &mut S {
-        &mut self.source
-    }
-
-    /// How many acts it made at the desk with its seat.
-    pub fn acts(&self) -> u64
-        ensures { result ≡ self.now.seat.count }
-    {
-        self.seat.count()
-    }
-
-    /// Goes on with what the source tells. Whether there is more to do.
-    fn take(&mut self, turn: Turn) -> bool
-        ensures { self.old.seat.count ≤ self.new.seat.count }
-    {
-        match turn {
-            Turn::Fresh { key, local } => self.open(key, local),
-            Turn::Ready(key) => self.go_on(key),
-            Turn::Late(key) => self.expire(key),
-            Turn::Idle => self.look_round(),
-            Turn::Stop => false,
-        }
-    }
-
-    /// A connection has come. Whether there is more to do.
-    fn open(&mut self, key: u64, local: bool) -> bool
-        ensures { self.old.seat.count ≤ self.new.seat.count }
-    {
-        // The link is the new one's by now.
-        self.release(key);
-        let Err(fault) = self.hold(key, local) else {
-            return true;
-        };
-        self.source.end(key);
-        next_of(fault) != Next::Halt
-    }
-
-    /// Holds a new connection. Room for it is taken first, so that what the desk has opened is held.
-    fn hold(&mut self, key: u64, local: bool) -> Result<(), ActFault>
-        ensures { self.old.seat.count ≤ self.new.seat.count }
-    {
-        let Ok(Entry::Vacant(place)) = self.held.entry(key) else {
-            return Err(ActFault::Refused(Refusal::NoMemory));
-        };
-        let (_, conn) = self
-            .desk
-            .connect(self.rt, self.alloc, &mut self.seat, local)?;
-        place.insert(Carrier::new(self.alloc, conn));
-        Ok(())
-    }
-
-    /// There is news of a link.
-    fn go_on(&mut self, key: u64) -> bool
-        ensures { self.old.seat.count ≤ self.new.seat.count }
-    {
+    /// At the last there are at most `LAST_TRIES_MOST` tries.
+    fn serve(&mut self, key: u64, is_last: bool, link: &mut I) -> Next {
         let Some(carrier) = self.held.get_mut(&key) else {
-            return true;
+            return Next::Keep;
         };
-        let Some(link) = self.source.link(key) else {
-            return self.follow(key, Next::Fault);
-        };
+        if is_last {
+            for _ in 0..LAST_TRIES_MOST {
+                if !carrier.flush(link) {
+                    break;
+                }
+            }
+            return Next::Halt;
+        }
         let (_, next) = carrier.ready(
             self.rt,
             self.alloc,
@@ -140,56 +67,38 @@ impl<'a, L: Ledger, S: Source + Drop, G: Gate, R: Wait> Worker<'a, L, S, G, R> {
             link,
             self.gate,
         );
-        self.follow(key, next)
+        next
     }
+}
 
-    /// The time of a connection is over.
-    fn expire(&mut self, key: u64) -> bool
-        ensures { self.old.seat.count ≤ self.new.seat.count }
-    {
-        let Some(carrier) = self.held.get(&key) else {
-            return true;
-        };
-        let next = carrier.late(self.rt, self.alloc, self.desk, &mut self.seat);
-        self.follow(key, next)
-    }
-
-    /// Does what is next for a connection. Whether there is more to do.
-    fn follow(&mut self, key: u64, next: Next) -> bool
+impl<L: Ledger, G: Gate, R: Wait> Holder<'_, L, G, R> {
+    /// Holds a new connection, whose link it is by now. Room for it is taken first, so that what the desk has opened is
+    /// held.
+    fn hold(&mut self, key: u64, local: bool) -> Result<(), ActFault>
         ensures count { self.old.seat.count ≤ self.new.seat.count }
-        ensures gone { LetsGo next → get nat_cmp self.new.held key ≡ None }
+        ensures held { is_some (get nat_cmp self.new.held key) ≡ is_ok result }
+        ensures others { (k : ℕ) → k ≢ key → get nat_cmp self.new.held k ≡ get nat_cmp self.old.held k }
     {
-        match next {
-            Next::Keep => true,
-            Next::Close | Next::NoMemory => {
-                self.release(key);
-                self.source.end(key);
-                true
+        self.release(key);
+        match self.held.entry(key) {
+            Ok(Entry::Vacant(place)) => {
+                let (_, conn) = self
+                    .desk
+                    .connect(self.rt, self.alloc, &mut self.seat, local)?;
+                place.insert(Carrier::new(self.alloc, conn));
+                Ok(())
             }
-            Next::Fault => {
-                self.fail(key);
-                self.source.end(key);
-                true
-            }
-            Next::Halt => {
-                self.send_last(key);
-                false
-            }
+            Ok(Entry::Occupied(_)) | Err(_) => Err(ActFault::Refused(Refusal::NoMemory)),
         }
     }
 
-    /// Closes the connections that another one has stopped. Whether the port mapper goes on.
-    fn look_round(&mut self) -> bool
-        ensures { self.old.seat.count ≤ self.new.seat.count }
+    /// The time of a connection is over. What is next for it, if it is held.
+    fn expire(&mut self, key: u64) -> Option<Next>
+        ensures count { self.old.seat.count ≤ self.new.seat.count }
+        ensures held { self.new.held ≡ self.old.held }
     {
-        if self.desk.halted(self.rt) {
-            return false;
-        }
-        for key in self.done() {
-            self.release(key);
-            self.source.end(key);
-        }
-        true
+        let carrier = self.held.get(&key)?;
+        Some(carrier.late(self.rt, self.alloc, self.desk, &mut self.seat))
     }
 
     /// The connections that are done and of which nothing waits to be written: as many of them as there is memory for.
@@ -207,6 +116,7 @@ impl<'a, L: Ledger, S: Source + Drop, G: Gate, R: Wait> Worker<'a, L, S, G, R> {
     fn release(&mut self, key: u64)
         ensures count { self.old.seat.count ≤ self.new.seat.count }
         ensures gone { get nat_cmp self.new.held key ≡ None }
+        ensures others { (k : ℕ) → k ≢ key → get nat_cmp self.new.held k ≡ get nat_cmp self.old.held k }
     {
         if let Some(carrier) = self.held.remove(&key) {
             let conn = carrier.into_conn();
@@ -218,6 +128,7 @@ impl<'a, L: Ledger, S: Source + Drop, G: Gate, R: Wait> Worker<'a, L, S, G, R> {
     fn fail(&mut self, key: u64)
         ensures count { self.old.seat.count ≤ self.new.seat.count }
         ensures gone { get nat_cmp self.new.held key ≡ None }
+        ensures others { (k : ℕ) → k ≢ key → get nat_cmp self.new.held k ≡ get nat_cmp self.old.held k }
     {
         if let Some(carrier) = self.held.remove(&key) {
             let conn = carrier.into_conn();
@@ -225,35 +136,179 @@ impl<'a, L: Ledger, S: Source + Drop, G: Gate, R: Wait> Worker<'a, L, S, G, R> {
         }
     }
 
-    /// Writes what waits for a link, the last reply among it, with at most `LAST_TRIES_MOST` tries.
-    fn send_last(&mut self, key: u64)
-        ensures { self.new.seat ≡ self.old.seat }
+    /// Closes all that it holds, and gives its seat back.
+    fn leave(self) -> Seat<L>
+        ensures { self.entry.seat.count ≤ result.count }
     {
-        let Some(carrier) = self.held.get_mut(&key) else {
-            return;
+        let mut holder = self;
+        while let Some((_, carrier)) = holder.held.pop_first() {
+            let conn = carrier.into_conn();
+            let _ = holder
+                .desk
+                .close(holder.rt, holder.alloc, &mut holder.seat, conn);
+        }
+        holder.seat
+    }
+}
+
+/// A worker at a desk.
+#[derive(Drop)]
+pub struct Worker<'a, L: Ledger, S: LinkSource, G: Gate, R: Wait> {
+    source: S,
+    holder: Holder<'a, L, G, R>,
+}
+
+impl<'a, L: Ledger, S: LinkSource + Drop, G: Gate, R: Wait> Worker<'a, L, S, G, R> {
+    /// A worker that holds no connection. It has the number of its seat.
+    pub fn new(
+        rt: &'a R,
+        alloc: Global,
+        desk: &'a Desk<L>,
+        seat: Seat<L>,
+        source: S,
+        gate: &'a G,
+    ) -> Worker<'a, L, S, G, R>
+        ensures seat { result.holder.seat ≡ seat }
+        ensures agree { ((key : ℕ) → S.has source key false) → Agree result.holder.held (S.has result.source) }
+    {
+        let holder = Holder {
+            rt,
+            alloc,
+            desk,
+            number: seat.worker(),
+            gate,
+            seat,
+            held: BTreeMap::new(alloc),
         };
-        let Some(link) = self.source.link(key) else {
-            return;
+        Worker { source, holder }
+    }
+
+    /// Does what its source tells next. Whether there is more to do.
+    pub fn turn(&mut self) -> bool
+        ensures count { self.old.holder.seat.count ≤ self.new.holder.seat.count }
+        ensures agree { Agree self.old.holder.held (S.has self.old.source)
+            → Agree self.new.holder.held (S.has self.new.source) }
+    {
+        let turn = self.source.turn();
+        self.take(turn)
+    }
+
+    /// Where its links come from.
+    pub fn source(&mut self) -> &mut S {
+        &mut self.source
+    }
+
+    /// How many acts it made at the desk with its seat.
+    pub fn acts(&self) -> u64
+        ensures { result ≡ self.now.holder.seat.count }
+    {
+        self.holder.seat.count()
+    }
+
+    /// Goes on with what the source tells. Whether there is more to do.
+    fn take(&mut self, turn: Turn) -> bool
+        ensures count { self.old.holder.seat.count ≤ self.new.holder.seat.count }
+        ensures agree { AgreeBut turn self.old.holder.held (S.has self.old.source)
+            → Agree self.new.holder.held (S.has self.new.source) }
+    {
+        match turn {
+            Turn::Fresh { key, local } => self.open(key, local),
+            Turn::Ready(key) => self.go_on(key),
+            Turn::Late(key) => self.expire(key),
+            Turn::Idle => self.look_round(),
+            Turn::Stop => false,
+        }
+    }
+
+    /// A connection has come. Whether there is more to do.
+    fn open(&mut self, key: u64, local: bool) -> bool
+        ensures count { self.old.holder.seat.count ≤ self.new.holder.seat.count }
+        ensures agree { AgreeBut (Turn.Fresh key local) self.old.holder.held (S.has self.old.source)
+            → Agree self.new.holder.held (S.has self.new.source) }
+    {
+        let Err(fault) = self.holder.hold(key, local) else {
+            return true;
         };
-        for _ in 0..LAST_TRIES_MOST {
-            if !carrier.flush(link) {
-                break;
+        self.source.end(key);
+        next_of(fault) != Next::Halt
+    }
+
+    /// There is news of a link.
+    fn go_on(&mut self, key: u64) -> bool
+        ensures count { self.old.holder.seat.count ≤ self.new.holder.seat.count }
+        ensures agree { Agree self.old.holder.held (S.has self.old.source)
+            → Agree self.new.holder.held (S.has self.new.source) }
+    {
+        match self.source.lend(key, false, &mut self.holder) {
+            Some(next) => self.follow(key, next),
+            None if self.holder.held.contains_key(&key) => self.follow(key, Next::Fault),
+            None => true,
+        }
+    }
+
+    /// The time of a connection is over.
+    fn expire(&mut self, key: u64) -> bool
+        ensures count { self.old.holder.seat.count ≤ self.new.holder.seat.count }
+        ensures agree { Agree self.old.holder.held (S.has self.old.source)
+            → Agree self.new.holder.held (S.has self.new.source) }
+    {
+        match self.holder.expire(key) {
+            Some(next) => self.follow(key, next),
+            None => true,
+        }
+    }
+
+    /// Does what is next for a connection. Whether there is more to do.
+    fn follow(&mut self, key: u64, next: Next) -> bool
+        ensures count { self.old.holder.seat.count ≤ self.new.holder.seat.count }
+        ensures agree { Agree self.old.holder.held (S.has self.old.source)
+            → Agree self.new.holder.held (S.has self.new.source) }
+        ensures gone { LetsGo next → get nat_cmp self.new.holder.held key ≡ None }
+    {
+        match next {
+            Next::Keep => true,
+            Next::Close | Next::NoMemory => {
+                self.holder.release(key);
+                self.source.end(key);
+                true
+            }
+            Next::Fault => {
+                self.holder.fail(key);
+                self.source.end(key);
+                true
+            }
+            Next::Halt => {
+                let _ = self.source.lend(key, true, &mut self.holder);
+                false
             }
         }
     }
 
+    /// Closes the connections that another one has stopped. Whether the port mapper goes on.
+    fn look_round(&mut self) -> bool
+        ensures count { self.old.holder.seat.count ≤ self.new.holder.seat.count }
+        ensures agree { Agree self.old.holder.held (S.has self.old.source)
+            → Agree self.new.holder.held (S.has self.new.source) }
+    {
+        if self.holder.desk.halted(self.holder.rt) {
+            return false;
+        }
+        for key in self.holder.done() {
+            self.holder.release(key);
+            self.source.end(key);
+        }
+        true
+    }
+
     /// Closes all that it holds, and gives its seat back.
     pub fn leave(self) -> Seat<L>
-        ensures { self.entry.seat.count ≤ result.count }
+        ensures { self.entry.holder.seat.count ≤ result.count }
     {
-        let mut worker = self;
-        while let Some((_, carrier)) = worker.held.pop_first() {
-            let conn = carrier.into_conn();
-            let _ = worker
-                .desk
-                .close(worker.rt, worker.alloc, &mut worker.seat, conn);
-        }
-        worker.seat
+        let Worker {
+            source: _source,
+            holder,
+        } = self;
+        holder.leave()
     }
 }
 
@@ -271,9 +326,24 @@ pub fn serve<'a, L: Ledger, S: Source + Drop, G: Gate, R: Wait>(
 ) -> Outcome<L>
     ensures { result.seat.count ≡ seat.count + result.served }
 {
+    serve_links(rt, alloc, desk, seat, number, HandsOut(source), gate)
+}
+
+/// Serves as `serve` does, over a source that lends its links.
+pub fn serve_links<'a, L: Ledger, S: LinkSource + Drop, G: Gate, R: Wait>(
+    rt: &'a R,
+    alloc: Global,
+    desk: &'a Desk<L>,
+    seat: Seat<L>,
+    number: u32,
+    source: S,
+    gate: &'a G,
+) -> Outcome<L>
+    ensures { result.seat.count ≡ seat.count + result.served }
+{
     let before = seat.count();
     let mut worker = Worker::new(rt, alloc, desk, seat, source, gate);
-    worker.number = number;
+    worker.holder.number = number;
     for _ in rt.forever() {
         if !worker.turn() {
             break;

@@ -1,7 +1,10 @@
 //! The source of a worker over sockets.
-ghost use Rattle.std.specs.Prelude.{◌≡◌, ◌<◌, [], None, slice_get, IfNone, IfSome};
+ghost use Rattle.std.specs.Prelude.{◌≡◌, ◌<◌, ℕ, [], Some, None, false, slice_get, is_some, IfNone, IfSome};
 ghost use Rattle.portmap_worker.specs.Link.{IsOf};
-ghost use Rattle.portmap_worker.specs.IdleLinks.{AllQuiet, Keeps};
+ghost use Rattle.portmap_worker.specs.IdleLinks.{AllQuiet, Changes, Has, Keeps, Tells, TellsLinks};
+ghost use Rattle.portmap_worker.specs.Keys.{Comes, Ends, Stay};
+ghost use Rattle.portmap_worker.specs.Schedule.{Does, HasAccepted, IsSpent, IsStep, IsTurn, Leaves, Lends, Nears};
+ghost use Rattle.portmap_worker.specs.Schedule.{Passes, scene};
 ghost use Rattle.portmap_worker.specs.declared.limits.TheConstants.{TURNS_MOST};
 
 use crate::admission::Door;
@@ -9,12 +12,13 @@ use crate::host::Host;
 use crate::limits::{LOG_BYTES_HEAVY, POLLS_MOST};
 use crate::link::Link;
 use crate::news::Tally;
-use crate::open_link::{Links, lend, put_in_place};
+use crate::open_link::{Links, OpenLink, put_in_place};
 use crate::rounds::Rounds;
+use crate::schedule::Schedule;
 use crate::shared::{Shared, WorkerState};
 use crate::sockets::Sockets;
 use crate::system::System;
-use crate::{Source, Turn};
+use crate::{LinkSource, Next, Serve, Turn};
 use portmap_book::Desk;
 use portmap_ready::Ready;
 use std::alloc::Global;
@@ -37,6 +41,7 @@ pub struct SocketSource<'a, L: Ledger, S: System, R: Host + Wait + Clock> {
     /// The links, each at its place.
     pub(crate) ready: Links<'a, S::Stream>,
     pub(crate) door: Door<S::Stream>,
+    pub(crate) schedule: Schedule,
     pub(crate) rounds: Rounds,
     /// What is to be told to others soon.
     pub(crate) tally: Tally,
@@ -53,7 +58,8 @@ impl<'a, L: Ledger, S: System, R: Host + Wait + Clock> SocketSource<'a, L, S, R>
         shared: &'a Shared<S::Waker>,
         sockets: Sockets<S>,
     ) -> Option<SocketSource<'a, L, S, R>>
-        ensures { IfSome result (λ source. AllQuiet source.ready) }
+        ensures quiet { IfSome result (λ source. AllQuiet source.ready) }
+        ensures none { IfSome result (λ source. (key : ℕ) → Has source.ready key false) }
     {
         let state = shared.workers.get(sockets.worker)?;
         Some(SocketSource {
@@ -65,6 +71,7 @@ impl<'a, L: Ledger, S: System, R: Host + Wait + Clock> SocketSource<'a, L, S, R>
             sockets,
             ready: Ready::new(alloc),
             door: Door::new(),
+            schedule: Schedule::new(),
             rounds: Rounds::new(),
             tally: Tally::default(),
             looks_for_unread: false,
@@ -80,17 +87,36 @@ impl<'a, L: Ledger, S: System, R: Host + Wait + Clock> SocketSource<'a, L, S, R>
 
     /// A link has moved so many bytes. Has the log taken out if it has become heavy.
     fn note_moved(&mut self, bytes: usize)
-        ensures { self.new.ready ≡ self.old.ready }
+        ensures ready { self.new.ready ≡ self.old.ready }
+        ensures schedule { self.new.schedule ≡ self.old.schedule }
     {
         if self.tally.note_moved(bytes) && self.desk.weight(self.rt) >= LOG_BYTES_HEAVY {
             self.shared.wake_drain();
         }
     }
 
+    /// A link is given up, and is no longer among those that are held.
+    fn note_end(&mut self, mut held: OpenLink<'a, S::Stream>)
+        ensures ready { self.new.ready ≡ self.old.ready }
+        ensures schedule { self.new.schedule ≡ self.old.schedule }
+    {
+        self.note_moved(held.link.take_moved_bytes());
+        self.tally.note_written(held.link.take_written());
+        if !held.link.is_answered() {
+            self.tally.note_unanswered(self.shared);
+        }
+        drop(held);
+        self.shared.wake_pending(self.sockets.worker);
+        if self.ready.is_empty() {
+            self.state.end_last();
+        }
+    }
+
     /// What was told last goes where there is more to tell of it, where it rests, or where the poll is to report it.
     fn put_back(&mut self)
         ensures told { self.new.ready.told ≡ None }
-        ensures quiet { Keeps self.old.ready self.new.ready }
+        ensures links { Keeps self.old.ready self.new.ready }
+        ensures schedule { self.new.schedule ≡ self.old.schedule }
     {
         let Some(key) = self.ready.told() else {
             return;
@@ -99,28 +125,46 @@ impl<'a, L: Ledger, S: System, R: Host + Wait + Clock> SocketSource<'a, L, S, R>
         let moved = put_in_place(&mut self.ready, &mut self.sockets.system, key, now);
         self.looks_for_unread = self.looks_for_unread || moved.is_unread;
         self.note_moved(moved.bytes);
+        self.tally.note_written(moved.has_written);
     }
 
     /// What is to be told without a poll. A connection that comes and a link that is held are told by turns.
     fn next(&mut self) -> Option<Turn>
         requires { self.old.ready.told ≡ None }
         ensures none { IfNone result (self.new.ready.told ≡ None) }
-        ensures most { IfSome result (λ _. self.old.rounds.turns < TURNS_MOST) }
-        ensures quiet { Keeps self.old.ready self.new.ready }
+        ensures most { IfSome result (λ _. self.old.schedule.turns < TURNS_MOST) }
+        ensures links { TellsLinks self.old.ready self.new.ready result }
+        ensures nears { IfSome result (λ told. Nears told
+            (scene self.old.ready self.old.schedule) (scene self.new.ready self.new.schedule)) }
+        ensures spent { IfNone result
+            (IsSpent (scene self.old.ready self.old.schedule) (scene self.new.ready self.new.schedule)) }
     {
-        if !self.rounds.take_turn() {
+        if !self.schedule.take_turn() {
             return None;
         }
-        if self.door.is_next() {
-            if let Some(turn) = self.admit() {
-                if self.door.note_accepted() {
-                    self.shared.add_acceptor(self.sockets.worker);
-                }
-                return Some(turn);
-            }
+        let accepted = self.accept();
+        if accepted.is_some() {
+            return accepted;
         }
-        self.door.pass();
+        self.schedule.note_served();
         self.pop()
+    }
+
+    /// A new connection, if one is served before the queue, and what is given up for it.
+    fn accept(&mut self) -> Option<Turn>
+        ensures told { self.new.ready.told ≡ self.old.ready.told }
+        ensures links { Tells self.old.ready self.new.ready result }
+        ensures none { IfNone result (self.new.schedule ≡ self.old.schedule) }
+        ensures some { IfSome result (λ _. HasAccepted self.old.schedule self.new.schedule) }
+    {
+        if !self.schedule.is_accept_next() {
+            return None;
+        }
+        let turn = self.admit()?;
+        if self.schedule.note_accepted() {
+            self.shared.add_acceptor(self.sockets.worker);
+        }
+        Some(turn)
     }
 
     /// The link with this key, if there is one, to look at.
@@ -130,7 +174,9 @@ impl<'a, L: Ledger, S: System, R: Host + Wait + Clock> SocketSource<'a, L, S, R>
 
     /// The next thing to do, if there is one without a poll or by the next one.
     pub fn step(&mut self) -> Option<Turn>
-        ensures { Keeps self.old.ready self.new.ready }
+        ensures links { TellsLinks self.old.ready self.new.ready result }
+        ensures nears { IsStep
+            (scene self.old.ready self.old.schedule) (scene self.new.ready self.new.schedule) result }
     {
         let held_back = self.hold_back();
         if held_back.is_some() {
@@ -141,10 +187,11 @@ impl<'a, L: Ledger, S: System, R: Host + Wait + Clock> SocketSource<'a, L, S, R>
         if unread.is_some() {
             return unread;
         }
-        match self.next() {
-            None => self.poll(),
-            turn => turn,
+        let next = self.next();
+        if next.is_some() {
+            return next;
         }
+        self.poll()
     }
 
     /// The link that has waited longest of those of which there is something to tell.
@@ -152,7 +199,9 @@ impl<'a, L: Ledger, S: System, R: Host + Wait + Clock> SocketSource<'a, L, S, R>
         requires { self.old.ready.told ≡ None }
         ensures first { IfSome result (λ turn. IsOf (slice_get self.old.ready.queue 0) turn) }
         ensures none { IfNone result ((self.old.ready.queue ≡ []) × (self.new.ready.told ≡ None)) }
-        ensures quiet { Keeps self.old.ready self.new.ready }
+        ensures links { TellsLinks self.old.ready self.new.ready result }
+        ensures passes { IfSome result (λ told. Passes told self.old.ready self.new.ready) }
+        ensures schedule { self.new.schedule ≡ self.old.schedule }
     {
         let is_short = self.shared.short.load(Ordering::SeqCst);
         let is_crowded = self.shared.unsent.is_crowded();
@@ -170,11 +219,18 @@ impl<'a, L: Ledger, S: System, R: Host + Wait + Clock> SocketSource<'a, L, S, R>
     }
 }
 
-impl<L: Ledger, S: System, R: Host + Wait + Clock> Source for SocketSource<'_, L, S, R> {
+impl<L: Ledger, S: System, R: Host + Wait + Clock> LinkSource for SocketSource<'_, L, S, R> {
     type Link = Link<S::Stream>;
 
+    ghost use Rattle.portmap_worker.specs.IdleLinks.{Has};
+
+    ghost has = { λ source. Has source.ready };
+
     fn turn(&mut self) -> Turn
-        ensures { Keeps self.old.ready self.new.ready }
+        ensures links { TellsLinks self.old.ready self.new.ready (Some result) }
+        ensures nears { IsTurn result
+            (scene self.old.ready self.old.schedule) (scene self.new.ready self.new.schedule) }
+        ensures comes { Comes (Has self.old.ready) (Has self.new.ready) result }
     {
         for _ in 0..POLLS_MOST {
             if let Some(turn) = self.step() {
@@ -184,26 +240,34 @@ impl<L: Ledger, S: System, R: Host + Wait + Clock> Source for SocketSource<'_, L
         Turn::Idle
     }
 
-    fn link(&mut self, key: u64) -> Option<&mut Link<S::Stream>> {
-        let key = key as usize;
-        self.ready.report(key);
-        lend(&mut self.ready, key)
+    /// The link is queued first, so that whatever is done to it, no news of it are missed.
+    fn lend<U: Serve<Self::Link>>(
+        &mut self,
+        key: u64,
+        is_last: bool,
+        server: &mut U,
+    ) -> Option<Next>
+        ensures there { Has self.old.ready key (is_some result) }
+        ensures links { Keeps self.old.ready self.new.ready }
+        ensures waits { Does Lends
+            (scene self.old.ready self.old.schedule) (scene self.new.ready self.new.schedule) }
+        ensures stay { Stay (Has self.old.ready) (Has self.new.ready) }
+        ensures served { IfSome result (λ _. U.becomes server.old server.new) }
+        ensures none { IfNone result (server.new ≡ server.old) }
+    {
+        self.ready.report(key as usize);
+        let held = self.ready.get_mut(key as usize)?;
+        Some(server.serve(key, is_last, &mut held.link))
     }
 
     fn end(&mut self, key: u64)
-        ensures { Keeps self.old.ready self.new.ready }
+        ensures links { Changes key false self.old.ready self.new.ready }
+        ensures waits { Does (Leaves key)
+            (scene self.old.ready self.old.schedule) (scene self.new.ready self.new.schedule) }
+        ensures ends { Ends key (Has self.old.ready) (Has self.new.ready) }
     {
-        let Some(mut held) = self.ready.remove(key as usize) else {
-            return;
-        };
-        self.note_moved(held.link.take_moved_bytes());
-        if !held.link.is_answered() {
-            self.tally.note_unanswered(self.shared);
-        }
-        drop(held);
-        self.shared.wake_pending(self.sockets.worker);
-        if self.ready.is_empty() {
-            self.state.end_last();
+        if let Some(held) = self.ready.remove(key as usize) {
+            self.note_end(held);
         }
     }
 }

@@ -55,7 +55,7 @@ impl<S: System> Sockets<S> {
         requires { 0 < timeout → links.old.queue ≡ [] }
         ensures noted { result ≡ true → IfSome (S.reports self.new.system)
             (λ reports. AreNoted (take EVENTS_MOST reports) links.old links.new) }
-        ensures quiet { Keeps links.old links.new }
+        ensures links { Keeps links.old links.new }
     {
         if !self.system.poll(timeout) {
             return false;
@@ -69,7 +69,7 @@ impl<S: System> Sockets<S> {
         ensures system { self.new.system ≡ self.old.system }
         ensures noted { IfSome (S.reports self.old.system)
             (λ reports. AreNoted (take EVENTS_MOST reports) links.old links.new) }
-        ensures quiet { Keeps links.old links.new }
+        ensures links { Keeps links.old links.new }
     {
         for place in 0..EVENTS_MOST {
             let Some(event) = self.system.report(place) else {
@@ -83,7 +83,7 @@ impl<S: System> Sockets<S> {
     fn take_event(&mut self, links: &mut Links<'_, S::Stream>, event: Report)
         ensures system { self.new.system ≡ self.old.system }
         ensures noted { (key : ℕ) → noted_at links.new key ≡ hears key (noted_at links.old key) event }
-        ensures quiet { Keeps links.old links.new }
+        ensures links { Keeps links.old links.new }
     {
         match event {
             Report::Woken => {}

@@ -1,7 +1,8 @@
 //! What workers ask of the system: readiness, connections and each other's attention. The daemon has it of `mio` and
 //! the kernel; a simulation has a world of its own.
-ghost use Rattle.std.specs.Prelude.{◌≡◌, List, Option, None, IfSome, slice_get};
-ghost use Rattle.portmap_worker.specs.declared.system.Report.{Report};
+ghost use Rattle.std.specs.Prelude.{◌≡◌, ℕ, ◌++◌, List, Option, Some, None, IfSome, slice_get};
+ghost use Rattle.portmap_worker.specs.Quiet.{taken};
+ghost use Rattle.portmap_worker.specs.declared.system.{Interest.Interest, Report.Report};
 
 use std::io;
 use std::io::{Read, Write};
@@ -52,6 +53,10 @@ pub trait System: Drop {
     /// What the last poll has reported. `None`: the system doesn't tell.
     ghost reports: { Self → Option (List Report) } = { λ _. None };
 
+    /// The keys under which the poll has accepted to report streams, each with what it reports. `None`: the system
+    /// doesn't show it.
+    ghost watched: { Self → Option (List (ℕ × Interest)) } = { λ _. None };
+
     /// Polls, and waits for news for so many milliseconds at most. False if the poll has failed.
     fn poll(&mut self, timeout_ms: u64) -> bool;
 
@@ -70,7 +75,9 @@ pub trait System: Drop {
         key: usize,
         interest: Interest,
         was_watched: bool,
-    ) -> io::Result<()>;
+    ) -> io::Result<()>
+        ensures { IfSome (Self.watched self.old)
+            (λ before. Self.watched self.new ≡ Some (before ++ taken key result interest)) };
 
     /// How many listeners this thread has.
     fn listeners(&self) -> usize;

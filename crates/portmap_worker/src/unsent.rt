@@ -1,6 +1,6 @@
 //! Bytes of replies that wait to be written since their peers don't read, over all connections of a daemon.
-ghost use Rattle.std.specs.Prelude.{◌≡◌, ◌↔◌, ◌-◌, ◌<◌, ◌≤◌, true, false};
-ghost use Rattle.portmap_worker.specs.IdleLinks.{Keeps};
+ghost use Rattle.std.specs.Prelude.{◌≡◌, ◌↔◌, ◌-◌, ◌<◌, ◌≤◌, ℕ, true, false, IfSome};
+ghost use Rattle.portmap_worker.specs.IdleLinks.{Tells};
 ghost use Rattle.portmap_worker.specs.Unsent.{AreMany, MayReset};
 ghost use Rattle.portmap_worker.specs.declared.limits.TheConstants.{RESTS_MOST, YOUNG_MS};
 
@@ -181,7 +181,9 @@ impl<L: Ledger, S: System, R: Host + Wait + Clock> SocketSource<'_, L, S, R> {
     /// worker's may go, the other workers are to look.
     pub(crate) fn give_up_unread(&mut self) -> Option<Turn>
         ensures told { self.new.ready.told ≡ self.old.ready.told }
-        ensures quiet { Keeps self.old.ready self.new.ready }
+        ensures links { Tells self.old.ready self.new.ready result }
+        ensures late { IfSome result (λ told. (k : ℕ) × (told ≡ Turn.Late k)) }
+        ensures schedule { self.new.schedule ≡ self.old.schedule }
     {
         if !mem::replace(&mut self.looks_for_unread, false) {
             return None;

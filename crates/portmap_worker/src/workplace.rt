@@ -4,7 +4,7 @@ use crate::shared::Shared;
 use crate::socket_source::SocketSource;
 use crate::sockets::Sockets;
 use crate::system::{System, Wake};
-use crate::{Gate, serve};
+use crate::{Gate, serve_links};
 use portmap_book::Desk;
 use std::alloc::Global;
 use std::rt::Clock;
@@ -43,7 +43,7 @@ impl<L: Ledger, W: Wake, G: Gate> Workplace<'_, L, W, G> {
         let number = sockets.number();
         let seat = self.desk.seat(rt, number)?;
         let source = SocketSource::new(rt, alloc, self.desk, self.shared, sockets)?;
-        let outcome = serve(rt, alloc, self.desk, seat, number, source, self.gate);
+        let outcome = serve_links(rt, alloc, self.desk, seat, number, source, self.gate);
         Some(outcome.served)
     }
 }

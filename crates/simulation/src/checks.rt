@@ -31,8 +31,12 @@ pub const SEATS: Wrong = "the seats don't add up";
 
 pub const UNSEEN: Wrong = "not all weather was seen";
 
-/// Who asks within so much time is owed an answer, however late that is seen.
+/// Who asks within so much time, by the clock that the daemon reads, is owed an answer, however late that is seen.
 const PROMPT_US: u64 = 1_000_000;
+
+/// While a worker is held a registration waits for so long at least for a name whose node has closed: 50 milliseconds,
+/// and a second.
+const PENDING_US: u64 = 1_050_000;
 
 /// A connection that asks nothing, or reads nothing, is given up so soon once its time is over: a look and a second
 /// later.
@@ -106,20 +110,20 @@ impl Person {
         (!wire.is_down_ended).then_some(world.now.saturating_sub(until))
     }
 
-    /// Whether it waits for an answer for longer than this, and the worker that has its connection was not held so
-    /// long.
+    /// Whether it waits for an answer for longer than this, while the process runs, and the worker that has its
+    /// connection was not held so long.
     fn is_late(&self, world: &World, limit: u64) -> bool {
         let worker = self.own(world).and_then(|wire| wire.worker());
         let since = world.held_until(worker).saturating_add(limit);
         let reads = self.is_local && self.role.reading == Reading::AtOnce;
-        reads && world.now > since && self.waited(world.now) > limit
+        reads && world.now > since && self.waited_awake(world) > limit
     }
 
     /// Its connection ends, with so much heard, while it waits for an answer.
     pub(crate) fn judge_unanswered(&self, heard: Heard) -> Option<Wrong> {
         let is_owed = match self.role.owed {
             Owed::Never => false,
-            Owed::IfPrompt => self.asked_at.saturating_sub(self.came_at) < PROMPT_US,
+            Owed::IfPrompt => self.asked_after < PROMPT_US,
             Owed::Always => true,
         };
         let is_closed = heard.bytes == 0 && !heard.is_reset;
@@ -137,12 +141,15 @@ impl Person {
         wrong.filter(|_| !heard.is_reset && !self.is_lenient)
     }
 
-    /// It is refused the name that it registers.
-    pub(crate) fn judge_refused(&self, now: u64) -> Option<Wrong> {
+    /// It is refused the name that it registers. One that closed first is, if a worker was held meanwhile, and does
+    /// not know of that end yet.
+    pub(crate) fn judge_refused(&self, world: &World) -> Option<Wrong> {
+        let waited = self.waited(world.now);
         let wrong = if self.role.owns() {
-            Some("a node that closed first was refused")
+            let is_behind = world.was_held_in(waited) && waited >= PENDING_US;
+            (!is_behind).then_some("a node that closed first was refused")
         } else {
-            let is_late = self.waited(now) > self.scenario.refusal_us;
+            let is_late = waited > self.scenario.refusal_us;
             is_late.then_some("a duplicate was refused too late")
         };
         wrong.filter(|_| !self.is_lenient)
@@ -182,6 +189,7 @@ impl<'a> Scene<'a> {
         let is_early = is_early && !is_unread;
         let given_up = self.given_up.saturating_add(u32::from(is_early));
         let is_wanted = given_up <= world.network.wanting;
+        let is_old = !is_early || world.is_old(late)?;
         let is_first = !is_early || world.goes_first(late, has_news)?;
         let is_anew = world.note_late(late, timeout)? || world.network.wanting > 0 || is_unread;
         drop(world);
@@ -190,6 +198,7 @@ impl<'a> Scene<'a> {
             let is_idle = is_early || is_unread || !has_news;
             self.check(is_idle, "one was told late of whom there was news");
             self.check(is_wanted, "a connection was given up for no one");
+            self.check(is_old, "one was given up that is young");
             self.check(is_first, "one was given up before who goes first");
             self.check(is_anew, "one was told late twice within its time");
         }

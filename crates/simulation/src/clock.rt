@@ -12,6 +12,8 @@ pub struct Clock {
     pub unread_until: u64,
     /// By how much it has jumped forward.
     jumped: u64,
+    /// For how long the process was stopped.
+    pub stopped: u64,
     /// The world has rested for so long that all was told.
     pub has_rested: bool,
 }
@@ -36,7 +38,7 @@ impl Memory {
 
 impl World {
     /// What a clock shows that can be read.
-    fn shown(&self) -> u64 {
+    pub(crate) fn shown(&self) -> u64 {
         self.now.saturating_add(self.clock.jumped)
     }
 
@@ -47,7 +49,9 @@ impl World {
             self.clock.jumped = self.clock.jumped.saturating_add(jump);
         }
         if self.happens(Fault::Stopped) {
-            self.now = self.after(10_000_000);
+            let stop = self.weather.random.below(10_000_000);
+            self.now = self.now.saturating_add(stop);
+            self.clock.stopped = self.clock.stopped.saturating_add(stop);
             self.land();
         }
         let until = self.lasts(Fault::Unread, 2_000_000);

@@ -2,7 +2,7 @@
 use crate::scene::Scene;
 use crate::system::{SimFile, SimHost, SimThread};
 use portmap_book::{Desk, Seat};
-use portmap_worker::{Drain, Drained, Open, RecordQueue, RecordWriter, Shared, Source, Worker};
+use portmap_worker::{Drain, Drained, LinkSource, Open, RecordQueue, RecordWriter, Shared, Worker};
 use std::sync::Wait;
 use std::sync::ledger::Ledger;
 
@@ -20,7 +20,7 @@ pub type SimWorker<'a, L, S, R> = Worker<'a, L, S, Open, SimHost<R>>;
 
 /// What a daemon in the world is made of.
 #[derive(Drop)]
-pub struct Daemon<'a, L: Ledger, S: Source + Drop, R: Wait + Drop> {
+pub struct Daemon<'a, L: Ledger, S: LinkSource + Drop, R: Wait + Drop> {
     pub(crate) around: &'a Around<'a, L, R>,
     pub(crate) scene: Scene<'a>,
     pub(crate) workers: Vec<Option<SimWorker<'a, L, S, R>>>,
@@ -33,7 +33,7 @@ pub struct Daemon<'a, L: Ledger, S: Source + Drop, R: Wait + Drop> {
 }
 
 /// A turn of a worker. Whether it goes on, and whether it has acted.
-fn turn<L: Ledger, S: Source + Drop, R: Wait + Drop>(
+fn turn<L: Ledger, S: LinkSource + Drop, R: Wait + Drop>(
     worker: &mut SimWorker<'_, L, S, R>,
 ) -> (bool, bool) {
     let acts = worker.acts();
@@ -41,7 +41,7 @@ fn turn<L: Ledger, S: Source + Drop, R: Wait + Drop>(
     (goes_on, worker.acts() > acts)
 }
 
-impl<'a, L: Ledger, S: Source + Drop, R: Wait + Drop> Daemon<'a, L, S, R> {
+impl<'a, L: Ledger, S: LinkSource + Drop, R: Wait + Drop> Daemon<'a, L, S, R> {
     /// One step of somebody who has something to do, or time passes until somebody has, up to this time. None for want
     /// of memory.
     pub(crate) fn step(&mut self, until: u64) -> Option<()> {

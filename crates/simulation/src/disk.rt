@@ -142,6 +142,10 @@ impl World {
             return Err(ErrorKind::StorageFull);
         }
         let count = self.taken(bytes.len());
+        if count == 0 {
+            // A write that takes nothing has failed too.
+            self.notices.note_write_failed(self.now);
+        }
         self.disk.times.has_grown = true;
         let file = self.disk.files.get_mut(number).ok_or(ErrorKind::Other)?;
         let stored = file.extend_from_slice(&bytes[..count]);

@@ -1,8 +1,8 @@
 //! A daemon in simulated worlds, whose every choice comes from a seed.
 //!
-//! Standard input has a line for each case: `seed N workers W scenario S steps K`. The output has one line a case: all
-//! counts where it is wrong, or the line has the word `counts`, and else some of them and a checksum of the others.
-//! With `trace` each step is a line.
+//! Standard input has a line for each case: `seed N workers W scenario S steps K`. The output has one line for each
+//! case. If the case is wrong, or its line has the word `counts`, the output line has all counts, and otherwise some of
+//! them and a checksum of the others. With `trace` each step is a line.
 #![tactic(auto)]
 
 mod checks;

@@ -63,9 +63,13 @@ pub struct Person {
     next_at: u64,
     request: Vec<u8>,
     sent: usize,
-    /// When it came last, if it has, and when it had asked.
-    pub(crate) came_at: u64,
-    pub(crate) asked_at: u64,
+    /// When it came last, if it has, by a clock that may jump.
+    came_at: u64,
+    /// When it had asked, how long it was there by then, by that clock, and for how long the process was stopped
+    /// before.
+    asked_at: u64,
+    pub(crate) asked_after: u64,
+    stopped_before: u64,
     has_come: bool,
     /// Since when it holds its name, if it does.
     pub(crate) held_since: u64,
@@ -120,6 +124,8 @@ impl Person {
             sent: 0,
             came_at: 0,
             asked_at: 0,
+            asked_after: 0,
+            stopped_before: 0,
             has_come: false,
             held_since: 0,
             is_lenient: !scenario.is_strict || (role.owns() && scenario.has_rivals()),
@@ -156,6 +162,12 @@ impl Person {
         } else {
             0
         }
+    }
+
+    /// For how long of that the process ran.
+    pub(crate) fn waited_awake(&self, world: &World) -> u64 {
+        let stopped = world.clock.stopped.saturating_sub(self.stopped_before);
+        self.waited(world.now).saturating_sub(stopped)
     }
 
     /// Whether it holds a name.
@@ -215,7 +227,7 @@ impl Person {
         let is_restart = self.has_come && self.role.naming == Naming::Holds;
         tally.connections = tally.connections.saturating_add(1);
         tally.restarts = tally.restarts.saturating_add(u32::from(is_restart));
-        self.came_at = world.now;
+        self.came_at = world.shown();
         self.has_come = true;
         self.stage = Stage::Sending;
         self.next_at = world.now;
@@ -254,6 +266,8 @@ impl Person {
         self.next_at = u64::MAX;
         self.stage = Stage::Waiting;
         self.asked_at = world.now;
+        self.asked_after = world.shown().saturating_sub(self.came_at);
+        self.stopped_before = world.clock.stopped;
         if self.role.asks_once && world.happens(Fault::Shut) {
             world.end(wire, Ending::Shut);
         }
@@ -374,7 +388,7 @@ impl Person {
             world.notices.note(Subject::InUse, world.now);
         }
         tally.refused = tally.refused.saturating_add(1);
-        let wrong = self.judge_refused(world.now);
+        let wrong = self.judge_refused(world);
         let owns = self.role.owns();
         self.leave(world, if owns { 50_000 } else { self.role.away_us });
         wrong

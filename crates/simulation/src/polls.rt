@@ -9,7 +9,7 @@ use std::io::ErrorKind;
 use std::mem;
 
 /// A thread that is held stands still for so long at most.
-pub(crate) const HELD_US: u64 = 500_000;
+const HELD_US: u64 = 500_000;
 
 /// For so long a thread hangs.
 const HUNG_US: u64 = 30_000_000;
@@ -53,7 +53,8 @@ pub struct Thread {
     /// What its source told last, if it is a worker's, and the connection of that with whether there was news of it.
     turn: Option<Turn>,
     met: Option<(usize, bool)>,
-    /// How often it has polled, and how many steps of its source were made since.
+    /// When it polled last, how often it has, and how many steps of its source were made since.
+    pub polled_at: u64,
     pub polls: u64,
     pub steps: u32,
 }
@@ -72,6 +73,7 @@ impl Thread {
             has_held: false,
             turn: None,
             met: None,
+            polled_at: 0,
             polls: 0,
             steps: 0,
         }
@@ -154,6 +156,7 @@ impl World {
                 thread.has_held = true;
                 if let Some(wire) = self.network.wires.get_mut(fresh) {
                     wire.is_held = true;
+                    wire.came_at = thread.polled_at;
                 }
             }
         }
@@ -242,6 +245,14 @@ impl World {
         workers.fold(u64::MAX, |least: u64, thread| least.min(thread.held_until))
     }
 
+    /// Whether a worker was held within so many microseconds up to now.
+    pub fn was_held_in(&self, time: u64) -> bool {
+        let since = self.now.saturating_sub(time);
+        self.workers()
+            .iter()
+            .any(|thread| thread.held_until > since)
+    }
+
     /// Polls. If there is nothing to report the thread waits for so many milliseconds.
     pub fn poll(&mut self, number: usize, timeout_ms: u64) -> bool {
         if self.happens(Fault::Deaf) {
@@ -254,6 +265,7 @@ impl World {
         let Some(thread) = self.threads.get_mut(number) else {
             return false;
         };
+        thread.polled_at = now;
         thread.polls = thread.polls.saturating_add(1);
         thread.steps = 0;
         if is_reversed {

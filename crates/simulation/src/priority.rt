@@ -1,14 +1,15 @@
 //! For whom a connection may be given up, or be reset since replies wait to be read.
-use crate::polls::HELD_US;
-use crate::weather::Fault;
 use crate::wire::Wire;
 use crate::world::World;
 
 /// A connection that is younger is not given up for another one.
 const YOUNG_US: u64 = 1_000_000;
 
-/// Those that come within so much time have come together.
+/// Writes of a worker within so much time were made together.
 const TOGETHER_US: u64 = 100_000;
+
+/// A worker's clock has milliseconds: what comes within one may have come together.
+const TICK_US: u64 = 1000;
 
 /// Of the bytes that may wait to be read more than one of so many are many for one connection, and while one of another
 /// host has many, one of so many more may wait before one of this host is reset.
@@ -17,14 +18,16 @@ const MANY_SHARE: u64 = 1024;
 const SPARED_SHARE: u64 = 4;
 
 impl World {
-    /// Connections that a worker accepts within so long may have come at one time for it: it reads the clock once a
-    /// round, and may be held between that and what it accepts.
-    fn together(&self) -> u64 {
-        if self.weather.has_happened(Fault::Held) {
-            HELD_US.saturating_add(TOGETHER_US)
-        } else {
-            TOGETHER_US
-        }
+    /// When the worker of a connection polled last: then it reads its clock.
+    fn polled_at(&self, wire: &Wire) -> Option<u64> {
+        Some(self.threads.get(wire.worker()?)?.polled_at)
+    }
+
+    /// Whether a connection that is given up for another one has been there for long enough, by its worker's clock.
+    pub fn is_old(&self, number: usize) -> Option<bool> {
+        let given_up = self.network.wires.get(number)?;
+        let age = self.polled_at(given_up)?.saturating_sub(given_up.came_at);
+        Some(age >= YOUNG_US)
     }
 
     /// Whether of the connections of its worker that were never answered none goes before one that is given up, and of
@@ -32,9 +35,8 @@ impl World {
     /// reported, where there is news of it, and else one that came earlier.
     pub fn goes_first(&self, number: usize, has_news: bool) -> Option<bool> {
         let given_up = self.network.wires.get(number)?;
-        let (worker, came) = given_up.accepted?;
-        let young = self.now.saturating_sub(YOUNG_US);
-        let together = self.together();
+        let (worker, came) = (given_up.worker()?, given_up.came_at);
+        let young = self.polled_at(given_up)?.saturating_sub(YOUNG_US);
         let goes_before = |wire: &Wire| {
             let is_alike = wire.is_local == given_up.is_local;
             let until = match (is_alike, wire.is_reported == has_news) {
@@ -44,7 +46,7 @@ impl World {
                 _ => 0,
             };
             let since = wire.waits_since(worker).unwrap_or(u64::MAX);
-            since.saturating_add(together) < until
+            since.saturating_add(TICK_US) < until
         };
         Some(!self.network.wires.iter().any(goes_before))
     }

@@ -2,7 +2,7 @@
 use crate::checks::{DOES_NOT_END, HAS_ENDED, NEVER_RESTS};
 use crate::daemon::Daemon;
 use crate::world::LISTENERS;
-use portmap_worker::Source;
+use portmap_worker::LinkSource;
 use std::sync::Wait;
 use std::sync::ledger::Ledger;
 
@@ -29,7 +29,7 @@ const REGISTRATION: &[u8] = &[
 ];
 
 /// The outer none of what a function gives is want of memory.
-impl<'a, L: Ledger, S: Source + Drop, R: Wait + Drop> Daemon<'a, L, S, R> {
+impl<'a, L: Ledger, S: LinkSource + Drop, R: Wait + Drop> Daemon<'a, L, S, R> {
     /// So much time passes, if nobody has too much to do.
     pub(crate) fn pass(&mut self, time: u64) -> Option<()> {
         let until = self.scene.now().saturating_add(time);

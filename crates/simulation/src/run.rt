@@ -15,7 +15,7 @@ use crate::world::World;
 use portmap_book::{Book, Desk, PARTS, Seat};
 use portmap_core::Config;
 use portmap_worker::{
-    Drain, Open, RecordQueue, RecordWriter, Shared, SocketSource, Sockets, Source, Worker,
+    Drain, LinkSource, Open, RecordQueue, RecordWriter, Shared, SocketSource, Sockets, Worker,
     WorkerState,
 };
 use std::alloc::Global;
@@ -97,7 +97,7 @@ impl Outcome {
     }
 }
 
-impl<'a, L: Ledger, S: Source + Drop, R: Wait + Drop> Daemon<'a, L, S, R> {
+impl<'a, L: Ledger, S: LinkSource + Drop, R: Wait + Drop> Daemon<'a, L, S, R> {
     /// The storm of a case: so many steps, unless something is wrong, or it ends, or is to. Whether it goes on behind
     /// them.
     fn storm(&mut self, case: &Case) -> Option<bool> {
@@ -225,7 +225,7 @@ fn sources_of<'a, L: Ledger, R: Wait + Drop>(
 }
 
 /// A worker for each source.
-fn workers_of<'a, L: Ledger, S: Source + Drop, R: Wait + Drop>(
+fn workers_of<'a, L: Ledger, S: LinkSource + Drop, R: Wait + Drop>(
     alloc: Global,
     around: &Around<'a, L, R>,
     sources: Vec<S>,
@@ -243,7 +243,7 @@ fn workers_of<'a, L: Ledger, S: Source + Drop, R: Wait + Drop>(
 }
 
 /// Has a daemon with these sources serve the people of a case. What that comes to, and the seats of its workers.
-fn simulate<'a, L: Ledger, S: Source + Drop, R: Wait + Drop>(
+fn simulate<'a, L: Ledger, S: LinkSource + Drop, R: Wait + Drop>(
     alloc: Global,
     around: &'a Around<'a, L, R>,
     sources: Vec<S>,

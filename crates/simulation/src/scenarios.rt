@@ -87,8 +87,8 @@ pub const TIMES: &[Scenario] = scenarios! {
     "jumps" (123, 83, 2284, 0) [] [Jump 2];
     "timeless" (123, 83, 2284, 0) [] [Jump 2, Timeless 300] file_bytes_most: 20_000;
     "stopped" (267, 232, 3474, 0) [Local NODE 6, Local SEEKER 10, Local LISTER 10]
-        [Stopped 5, Late 200, Lost 200] limit_ms: 30_000;
-    "frozen" (1940, 1876, 1940, 0) [Local NODE 12] [Stopped 100, Late 200] limit_ms: 1_000_000;
+        [Stopped 5, Late 200, Lost 200] limit_ms: 4000;
+    "frozen" (1940, 1876, 1940, 0) [Local NODE 12] [Stopped 100, Late 200];
     "tardy" (0, 0, 5870, 0) [Local TARDY 180, Local SEEKER 1] [] conn_max: 256;
 };
 
@@ -117,7 +117,7 @@ pub const ENDS: &[Scenario] = scenarios! {
     "unheeded" (130, 110, 2100, 0) [Local SILENT 6, Remote SILENT 3, Remote DRIPPER 3, Local NODE 3, Local SEEKER 3]
         [Unreported 1000] limit_ms: 10;
     "floods" (654, 577, 14512, 0) [Local TARDY 750, Local NODE 30]
-        [Stopped 20, Late 300] conn_max: 1024, burst_us: 1_000_000, hold_us: 300_000, limit_ms: 200_000;
+        [Stopped 20, Late 300] conn_max: 1024, burst_us: 1_000_000, hold_us: 300_000;
     "swells" (700, 546, 15852, 0) [Local TARDY 750, Local NODE 30]
         [Held 1, Reversed 500] conn_max: 1024, burst_us: 1_000_000, hold_us: 300_000, limit_ms: 200_000;
     "deaf" (55, 20, 700, 0) [] [Deaf 2] is_strict: false, may_end: true;

@@ -1,6 +1,6 @@
 //! A worker's source, step by step.
 use crate::system::{SharedWorld, SimHost, SimStream, SimThread};
-use portmap_worker::{Link, SocketSource, Source, Turn};
+use portmap_worker::{Link, LinkSource, Next, Serve, SocketSource, Turn};
 use std::sync::Wait;
 use std::sync::ledger::Ledger;
 
@@ -33,7 +33,7 @@ impl<L: Ledger, R: Wait + Drop> Stepped<'_, L, R> {
     }
 }
 
-impl<L: Ledger, R: Wait + Drop> Source for Stepped<'_, L, R> {
+impl<L: Ledger, R: Wait + Drop> LinkSource for Stepped<'_, L, R> {
     type Link = Link<SimStream>;
 
     fn turn(&mut self) -> Turn {
@@ -49,8 +49,13 @@ impl<L: Ledger, R: Wait + Drop> Source for Stepped<'_, L, R> {
         turn
     }
 
-    fn link(&mut self, key: u64) -> Option<&mut Self::Link> {
-        self.source.link(key)
+    fn lend<U: Serve<Self::Link>>(
+        &mut self,
+        key: u64,
+        is_last: bool,
+        server: &mut U,
+    ) -> Option<Next> {
+        self.source.lend(key, is_last, server)
     }
 
     fn end(&mut self, key: u64) {

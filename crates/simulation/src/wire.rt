@@ -52,6 +52,8 @@ pub struct Wire {
     pub accepted: Option<(usize, u64)>,
     /// A worker was told that it has come: there was a place for it, and memory.
     pub is_held: bool,
+    /// When that one had polled last by then: as its clock has it, it came at that time.
+    pub came_at: u64,
     /// When the worker was told last that its time is over.
     pub late_at: Option<u64>,
     pub watch: Option<Watch>,
@@ -88,6 +90,7 @@ impl Wire {
             received: Vec::new(alloc),
             accepted: None,
             is_held: false,
+            came_at: 0,
             late_at: None,
             watch: None,
             news_at: None,
@@ -135,12 +138,12 @@ impl Wire {
         Some(Report::Stream { key, is_closed })
     }
 
-    /// When it was accepted, if it stays at a worker and was never answered.
+    /// When it came by its worker's clock, if it stays at this one and was never answered.
     pub fn waits_since(&self, worker: usize) -> Option<u64> {
-        let (thread, at) = self.accepted?;
+        let is_there = self.is_held && self.worker()? == worker;
         let is_answered = !self.received.is_empty() || !self.down.is_empty();
-        let waits = thread == worker && !self.is_down_ended && !self.is_up_ended && !is_answered;
-        waits.then_some(at)
+        let waits = is_there && !self.is_down_ended && !self.is_up_ended && !is_answered;
+        waits.then_some(self.came_at)
     }
 
     /// The thread that has accepted it.

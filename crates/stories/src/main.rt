@@ -1,7 +1,7 @@
-//! Stories of the protocol, told in files: what comes to a part of the port mapper, and what is wanted of it.
+//! Stories of the protocol in files: the input of a part of the port mapper, and the expected output.
 //!
-//! Each argument is a file of stories. The output has a line for each story that holds, and one for each line that does
-//! not.
+//! Each argument is a file of stories. The output has a line for each story that holds, and a line for each line of a
+//! story that does not hold.
 #![tactic(auto)]
 
 mod audited;

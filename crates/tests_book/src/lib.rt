@@ -1,4 +1,4 @@
-//! What no story shows of the book: workers on one table, and what is gathered of segments and tickets.
+//! Tests of the book beyond the stories: workers on one table, and gathering segments and tickets.
 #![tactic(auto)]
 
 #[cfg(test)]

@@ -1,5 +1,5 @@
-//! What no story shows of the client and of the devices below it: calls over sockets, and the adapters of readers and
-//! writers.
+//! Tests of the client and of the devices below it, beyond the stories: calls over sockets, and the adapters of readers
+//! and writers.
 #![tactic(auto)]
 
 #[cfg(test)]

@@ -1,4 +1,4 @@
-//! What no clause and no story shows of the daemon: two workers over memory, the daemon over sockets of this host, and
+//! Tests of the daemon beyond clauses and stories: two workers over memory, the daemon over sockets of this host, and
 //! its recordings.
 #![tactic(auto)]
 

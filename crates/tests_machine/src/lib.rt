@@ -1,4 +1,4 @@
-//! What no story shows of the parts up to the machine: long lists of events by chance.
+//! Tests of the crates up to the machine, beyond the stories: long random lists of events.
 #![tactic(auto)]
 
 #[cfg(test)]

@@ -138,7 +138,8 @@ fn a_daemon_and_its_commands_meet_at_the_port_of_their_words(rt: HostRuntime) ->
             let node = node(&rt, 14_471);
             (
                 is_between(&node, before, since_1970(&rt)),
-                ends_so(&rt, &rt, "epmd -port 14471 -names", LISTED),
+                ends_so(&rt, &rt, "epmd -port 14471 -names", LISTED)
+                    && ends_so(&rt, &rt, "epmd -port 14471 -health", "0"),
                 ends_so(&rt, &rt, "epmd -kill -port 14471", "0 out Killed|"),
             )
         },
@@ -253,6 +254,8 @@ fn an_input_that_fails_is_told(rt: HostRuntime) -> Result<(), Fail> {
 fn a_port_mapper_that_is_not_there_is_told(rt: HostRuntime) -> Result<(), Fail> {
     let told = "1 err epmd: Cannot connect to local epmd|";
     assert!(rt; ends_so(&rt, &rt, "epmd -port 14472 -names", told));
+    let told = "1 err epmd: cannot connect to 127.0.0.1:14472|";
+    assert!(rt; ends_so(&rt, &rt, "epmd -port 14472 -health", told));
     Ok(())
 }
 

@@ -23,6 +23,7 @@ fn show_action<W: fmt::Write>(action: &Action, f: &mut fmt::Formatter<W>) -> fmt
             write!(f, "stop <{text}>")
         }
         Action::Ask(Ask::Dump) => f.write_str("dump"),
+        Action::Health => f.write_str("health"),
         Action::Once => f.write_str("once"),
         Action::Inspect(Text::Verdict, path) => write!(f, "check <{path}>"),
         Action::Inspect(Text::Transcript, path) => write!(f, "play <{path}>"),
@@ -92,6 +93,7 @@ fn an_action_is_asked_for(rt: HostRuntime) -> Result<(), Fail> {
         epmd -stop a~b -> stop <a b>
         epmd -stop \u{e9} -> stop <\u{e9}>
         epmd -dump -> dump
+        epmd -health -> health
         epmd -once -> once
         epmd -check a -> check <a>
         epmd -check -play -> check <-play>
@@ -106,6 +108,7 @@ fn an_action_is_asked_for(rt: HostRuntime) -> Result<(), Fail> {
         epmd -audit '' -> audit <>
         epmd -port 4370 -names -> names port 4370
         epmd -names -port 4370 -> names port 4370
+        epmd -health -port 4370 -> health port 4370
         epmd -once -d -workers 2 -daemon -> once workers 2 debug
         epmd -relaxed_command_check -check a -debug -> check <a> relaxed debug
         epmd -daemon -d -> serve debug
@@ -212,7 +215,7 @@ fn the_port_of_the_environment_is_digits_too(rt: HostRuntime) -> Result<(), Fail
         ERL_EPMD_PORT=4371~ epmd -> fault BadEnvPort
         ERL_EPMD_PORT=0000004371 epmd -> fault BadEnvPort
         ERL_EPMD_PORT=x epmd -> fault BadEnvPort
-        ERL_EPMD_PORT=x epmd with -names -kill -dump -once -> fault BadEnvPort
+        ERL_EPMD_PORT=x epmd with -names -kill -dump -health -once -> fault BadEnvPort
         ERL_EPMD_PORT=x epmd -stop a -> fault BadEnvPort
         ERL_EPMD_PORT=x epmd -check a -> fault BadEnvPort
         ERL_EPMD_PORT=x epmd -play a -> fault BadEnvPort

@@ -112,6 +112,7 @@ const ACTIONS: &[(&str, usize)] = &[
     ("-kill", 1),
     ("-stop a", 2),
     ("-dump", 1),
+    ("-health", 1),
     ("-once", 1),
     ("-check a", 2),
     ("-play a", 2),

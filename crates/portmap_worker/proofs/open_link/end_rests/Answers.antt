@@ -7,7 +7,7 @@ use Rattle.portmap_worker.proofs.open_link.end_rests.Goals as goal
 pub loop-preserved : goal.loop-preserved
 loop-preserved g c = record {
   ended = c.end_rest.ensures.ended ∙ ap (drop 1) c.loop.invariant.ended ∙ drop-drop 1 c.loop.counter c.args.links.now.resting;
-  quiet = λ all. c.end_rest.ensures.quiet (c.loop.invariant.quiet all);
+  links = λ fact h. c.end_rest.ensures.links fact (c.loop.invariant.links fact h);
 }
 
 pub returns-then-not-end_rest-clause-ended : goal.returns-then-not-end_rest-clause-ended

@@ -1,8 +1,8 @@
-use Rattle.std.proofs.Common.{◌≡◌, ◌⊎◌, inl, inr, true, Some, refl, sym, ap, ◌∙◌, rules}
+use Rattle.std.proofs.Common.{◌≡◌, ◌⊎◌, inl, inr, true, Some, sym, ap, ◌∙◌, rules}
 use Rattle.std.specs.Option.{option_copied_mut}
 use Rattle.portmap_ready.specs.Links.{link_at, place_at, written}
 use Rattle.portmap_ready.specs.declared.Place.TheVariants.{Resting}
-use Rattle.portmap_worker.proofs.Idle.{reported_so, rests_on, rests_so, then_reported, then_written, wakes}
+use Rattle.portmap_worker.proofs.Idle.{itself, reported_so, rests_on, rests_so, then_reported, then_written, wakes}
 use Rattle.portmap_worker.proofs.open_link.report.Goals as goal
 
 pub returns-then-is_closed-clause-told : goal.returns-then-is_closed-clause-told
@@ -23,10 +23,12 @@ returns-then-is_closed-clause-others g c = λ q d.
     let k = c.args.key in
     let r = c.args.links.now in
     let v = record c.in-Some.held.now { link = c.note_event.new.self } in
-    ap (λ r. link_at r q) c.report.ensures ∙ then_reported k r (written k r v) (then_written k v r r (λ q d. refl)) q d
+    ap (λ r. link_at r q) c.report.ensures ∙ (then_reported k r (written k r v) (then_written k v r r (itself k r))).others q d
 
-pub returns-then-is_closed-clause-quiet : goal.returns-then-is_closed-clause-quiet
-returns-then-is_closed-clause-quiet g c = wakes c.args.key _ c.args.links.now c.args.links.now _ (λ q d. refl) c.report.ensures
+pub returns-then-is_closed-clause-links : goal.returns-then-is_closed-clause-links
+returns-then-is_closed-clause-links g c =
+    wakes c.args.key _ c.args.links.now c.args.links.now _ (itself c.args.key c.args.links.now) (λ q most h. h)
+    c.report.ensures
 
 pub returns-else-not-rests-clause-told : goal.returns-else-not-rests-clause-told
 returns-else-not-rests-clause-told g c =
@@ -41,9 +43,9 @@ pub returns-else-not-rests-clause-others : goal.returns-else-not-rests-clause-ot
 returns-else-not-rests-clause-others g c =
     let r = c.args.links.now in
     let v = record c.in-Some.held.now { link = c.note_event.new.self } in
-    then_written c.args.key v r r (λ q d. refl)
+    (then_written c.args.key v r r (itself c.args.key r)).others
 
-pub returns-else-not-rests-clause-quiet : goal.returns-else-not-rests-clause-quiet
-returns-else-not-rests-clause-quiet g c =
+pub returns-else-not-rests-clause-links : goal.returns-else-not-rests-clause-links
+returns-else-not-rests-clause-links g c =
     let resting : place_at c.args.links.now c.args.key ≡ Some Resting = search rules in
     rests_on c.args.key _ c.args.links.now resting

@@ -1,14 +1,14 @@
 use Rattle.std.proofs.Common.{refl, ap, inl, inr}
 use Rattle.portmap_ready.specs.declared.Place.TheVariants.{Queued}
-use Rattle.portmap_worker.proofs.Idle.{sent}
+use Rattle.portmap_worker.proofs.Idle.{seen, sent}
 use Rattle.portmap_worker.proofs.pending.resume.Goals.{in-Some, in_default}
 use Rattle.portmap_worker.proofs.pending.resume.Goals as goal
 
-pub returns-clause-quiet : goal.returns-clause-quiet
-returns-clause-quiet g c =
+pub returns-clause-links : goal.returns-clause-links
+returns-clause-links g c =
     sent Queued c.args.key c.args.links.now c.match-get_mut.links _
     (elim c.match-get_mut.branch [
       | in-Some w ↦ inl (_, w.links-is)
       | in_default w ↦ inr w.links-is
     ])
-    (ap (λ r. r.links) c.put_back.ensures) (λ v. refl)
+    (ap seen c.put_back.ensures) (λ v. refl)

@@ -1,6 +1,9 @@
 use Rattle.std.proofs.Common.{◌≤◌}
+use Rattle.portmap_worker.specs.Keys.{Agree}
 use Rattle.portmap_worker.proofs.serving.Worker.look_round.Given as goal
 
--- the seat only rises
 abbrev pub invariant-loop-key : goal.invariant-loop-key
-invariant-loop-key g l = l.fn.self.seat.count ≤ l.self.seat.count
+invariant-loop-key g l = record {
+  count : l.fn.self.holder.seat.count ≤ l.self.holder.seat.count;
+  agree : Agree l.fn.self.holder.held (g.S.LinkSource.has l.fn.self.source) → Agree l.self.holder.held (g.S.LinkSource.has l.self.source);
+}

@@ -1,5 +1,9 @@
-use Rattle.portmap_worker.proofs.Idle.{after_insert}
+use Rattle.portmap_worker.proofs.Idle.{after_insert, refused}
 use Rattle.portmap_worker.proofs.socket_source.SocketSource.hold.Goals as goal
 
-pub returns-clause-quiet : goal.returns-clause-quiet
-returns-clause-quiet g c = after_insert c.insert.result c.args.self.now.ready _ _ c.insert.ensures.inserted c.insert.ensures.err
+pub returns-clause-links : goal.returns-clause-links
+returns-clause-links g c =
+    after_insert _ c.args.self.now.ready _ _ (rw c.in-Ok.is at c.insert.ensures.fresh) (rw c.in-Ok.is at c.insert.ensures.inserted)
+
+pub returns-in_default-clause-links : goal.returns-in_default-clause-links
+returns-in_default-clause-links g c = refused c.args.self.now.ready _ (rw c.in_default.is at c.insert.ensures.err)

@@ -10,7 +10,7 @@ loop-place-preserved g c = record {
       (more_noted_if c.loop-place.place c.in-Some.event c.args.links.now c.loop-place.links c.take_event.new.links
       (g.S.System.reports c.loop-place.self.system) (rw c.in-Some.is at c.report.ensures) c.loop-place.invariant.noted
       c.take_event.ensures.noted);
-  quiet = λ all. c.take_event.ensures.quiet (c.loop-place.invariant.quiet all);
+  links = λ fact h. c.take_event.ensures.links fact (c.loop-place.invariant.links fact h);
 }
 
 pub returns-in_default-clause-noted : goal.returns-in_default-clause-noted

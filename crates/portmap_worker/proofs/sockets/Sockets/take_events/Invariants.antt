@@ -8,5 +8,5 @@ abbrev pub invariant-loop-place : goal.invariant-loop-place
 invariant-loop-place g l = record {
   system : l.self.system ≡ l.fn.self.system;
   noted : IfSome (g.S.System.reports l.self.system) (λ reports. AreNoted (take l.place reports) l.fn.links l.links);
-  quiet : Keeps l.fn.links l.links;
+  links : Keeps l.fn.links l.links;
 }

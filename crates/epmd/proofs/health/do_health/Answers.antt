@@ -1,0 +1,11 @@
+use Rattle.epmd.proofs.health.do_health.Goals as goal
+
+pub returns-in-Err-check-clause-told : goal.returns-in-Err-check-clause-told
+returns-in-Err-check-clause-told g c =
+    let said = c.report-in-Err-check.ensures in (
+      c.check.result,
+      c.check-2.result,
+      c.check.ensures,
+      rw c.in_default.is (λ has. c.check-2.ensures),
+      rw (c.in_default.is, c.if-not-has_ipv6.false, c.in-Err-check.is) (said.status, said.line),
+    )

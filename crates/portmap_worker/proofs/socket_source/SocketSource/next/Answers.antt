@@ -1,0 +1,28 @@
+use Rattle.std.proofs.Common.{sym, ◌∙◌}
+use Rattle.portmap_worker.proofs.Idle.{nothing_told, stays_of, then_told, weaker}
+use Rattle.portmap_worker.proofs.Turns.{accepts_so, passes_so, spent_so}
+use Rattle.portmap_worker.proofs.socket_source.SocketSource.next.Goals as goal
+
+pub returns-then-is_some-clause-links : goal.returns-then-is_some-clause-links
+returns-then-is_some-clause-links g c = weaker _ _ _ c.accept-accepted.ensures.links
+
+pub returns-then-is_some-clause-nears : goal.returns-then-is_some-clause-nears
+returns-then-is_some-clause-nears g c =
+    accepts_so _ _ _ _ c.take_turn.new.self _ (c.take_turn.ensures.most.0 c.if-not-take_turn.false)
+    (c.take_turn.ensures.counted c.if-not-take_turn.false) c.accept-accepted.ensures.links c.accept-accepted.ensures.some
+
+pub returns-clause-links : goal.returns-clause-links
+returns-clause-links g c =
+    then_told _ _ _ _ (nothing_told _ _ _ (sym c.is_some.ensures ∙ c.if-is_some.false) c.accept-accepted.ensures.links) c.pop.ensures.links
+
+pub returns-clause-nears : goal.returns-clause-nears
+returns-clause-nears g c =
+    let before = nothing_told _ _ _ (sym c.is_some.ensures ∙ c.if-is_some.false) c.accept-accepted.ensures.links in
+    passes_so _ c.accept-accepted.new.self.ready c.pop.new.self.ready _ _ _ (stays_of _ _ before)
+    c.pop.ensures.passes
+
+pub returns-clause-spent : goal.returns-clause-spent
+returns-clause-spent g c =
+    let before = nothing_told _ _ _ (sym c.is_some.ensures ∙ c.if-is_some.false) c.accept-accepted.ensures.links in
+    spent_so _ c.accept-accepted.new.self.ready c.pop.new.self.ready _ _ _ _ (stays_of _ _ before)
+    c.pop.ensures.none

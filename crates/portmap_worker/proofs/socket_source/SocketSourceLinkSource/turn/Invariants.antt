@@ -1,0 +1,11 @@
+use Rattle.std.proofs.Common.{◌≡◌, ◌⊎◌}
+use Rattle.portmap_worker.specs.{IdleLinks.Keeps, Schedule.{IsPast, scene}}
+use Rattle.portmap_worker.proofs.socket_source.SocketSourceLinkSource.turn.Given as goal
+
+-- either no step was made, or each that is queued is a turn nearer
+abbrev pub invariant-loop : goal.invariant-loop
+invariant-loop g l = record {
+  links : Keeps l.fn.self.ready l.self.ready;
+  nears : ((l.counter ≡ 0) × (scene l.self.ready l.self.schedule ≡ scene l.fn.self.ready l.fn.self.schedule))
+      ⊎ IsPast (scene l.fn.self.ready l.fn.self.schedule) (scene l.self.ready l.self.schedule);
+}
