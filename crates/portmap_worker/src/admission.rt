@@ -173,11 +173,12 @@ impl<'a, L: Ledger, S: System, R: Host + Wait + Clock> SocketSource<'a, L, S, R>
         ensures schedule { self.new.schedule ≡ self.old.schedule }
     {
         let local = newcomer.is_local;
+        let now = self.time_us() / 1000;
         if !self.ready.has_room() && !self.rt.has_memory(self.alloc) {
             return None;
         }
         let held = OpenLink {
-            link: Link::new(self.alloc, newcomer.stream, local, self.rounds.time),
+            link: Link::new(self.alloc, newcomer.stream, local, now),
             waiting: Waiting::Come,
             permit,
             unsent: Unsent::new(&self.shared.unsent, local, self.rounds.time),

@@ -56,6 +56,11 @@ impl FirstPiece {
         }
     }
 
+    /// Whether it is kept back.
+    pub(crate) fn is_kept(&self) -> bool {
+        matches!(self, FirstPiece::Kept(..))
+    }
+
     /// Whether it asks for a list, while it is kept back.
     pub(crate) fn asks_list(&self) -> bool {
         matches!(self, FirstPiece::Kept(Asks::List, _))

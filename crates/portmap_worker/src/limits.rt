@@ -42,7 +42,7 @@ pub(crate) const RESTS_MOST: u32 = 4;
 /// many rounds.
 pub(crate) const NAME_TIMEOUT_MS: u64 = 50;
 
-pub(crate) const EPOCH_TIMEOUT_MS: u64 = 1000;
+pub(crate) const EPOCH_TIMEOUT_MS: u64 = 5000;
 
 pub(crate) const EPOCH_ROUNDS_MOST: u32 = 500;
 

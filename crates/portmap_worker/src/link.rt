@@ -55,6 +55,8 @@ pub struct Link<S: Read + Write> {
     /// It was answered and goes on sending: what it sends is of no use, and is read piece by piece with rests in
     /// between. Or it asks for a list while many bytes wait to be written, or the poll has refused to report it.
     is_resting: bool,
+    /// The poll has refused to report it, so it is asked each time that it has rested.
+    is_refused: bool,
     /// Many bytes wait to be written, over all connections.
     is_crowded: bool,
     /// How many bytes wait to be written.
@@ -100,6 +102,7 @@ impl<S: Read + Write> Link<S> {
             is_local,
             came: now,
             is_resting: false,
+            is_refused: false,
             is_crowded: false,
             unsent_bytes: 0,
             moved_bytes: 0,
@@ -261,11 +264,12 @@ impl<S: Read + Write> Link<S> {
     {
         let is_timed = self.is_timed();
         self.timer.begin(is_timed, self.is_local, rounds.time);
-        if self.may_move() {
+        let is_asked = self.is_refused && !self.is_resting && !self.first.is_kept();
+        if self.may_move() && !is_asked {
             // One that rests goes on when its rest is over: all of them at once would be hundreds of lists.
             return !self.is_resting;
         }
-        if self.readiness.is_watched() {
+        if !is_asked && self.readiness.is_watched() {
             return self.timer.expire(rounds.time, timeout);
         }
         // The poll has refused to report it, so it was asked after the look before, and no more is known of it than up
@@ -370,9 +374,8 @@ impl<S: Stream> Link<S> {
             let interest = self.readiness.wanted();
             let was_watched = self.readiness.is_known();
             let told = system.watch(&mut self.stream, key, interest, was_watched);
-            if !self.readiness.note_watch(told) {
-                self.is_resting = true;
-            }
+            self.is_refused = !self.readiness.note_watch(told);
+            self.is_resting = self.is_resting || self.is_refused;
         }
         if self.is_resting {
             Fate::Rests
