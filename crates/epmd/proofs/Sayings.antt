@@ -85,9 +85,9 @@ says_all f words (x ∷ xs) plan none s = absurd (omega arith)
 
 -- ---- the words that are left
 
-pub in_front : {X : Type 0} (f : X → List ℕ) (xs : List X) (x : X) → 1 ≤ length xs → x ≡ get_or xs 0 x
+pub in_prefix : {X : Type 0} (f : X → List ℕ) (xs : List X) (x : X) → 1 ≤ length xs → x ≡ get_or xs 0 x
     → f x ∷ map f (take (length xs - 1) (drop 1 xs)) ≡ map f xs
-in_front f [] x some e = absurd (omega arith)
-in_front f (y ∷ ys) x some e =
+in_prefix f [] x some e = absurd (omega arith)
+in_prefix f (y ∷ ys) x some e =
     let whole = take_all (length (y ∷ ys) - 1) ys (omega arith) in
     λ i. f (e i) ∷ map f (whole i)

@@ -8,7 +8,7 @@ use Rattle.std.specs.declared.io.ErrorKind.TheVariants.{NetworkUnreachable, OutO
 use Rattle.std.specs.declared.vec.Vec.{Vec}
 use Rattle.portmap_wire.specs.{List.names_line, declared.list.Line.Line}
 use Rattle.portmap_wire.specs.declared.request.Request.TheVariants as request
-use Rattle.portmap_link.specs.{Once.Telling, declared.single.OnceFault.OnceFault}
+use Rattle.portmap_link.specs.{Once.WritesReply, declared.single.OnceFault.OnceFault}
 use Rattle.portmap_worker.specs.Showing.{shown}
 use Rattle.portmap_client.specs.{Answer.{SaysNames, SaysDump, SaysKill, SaysStop}, Exchange.{StreamView, Calls}}
 use Rattle.portmap_client.specs.{declared.fault.ClientFault.ClientFault, declared.outcome.Kill.Kill}
@@ -54,21 +54,21 @@ names_text port lines = head_line port ++ flat_map names_line lines
 abbrev pub dump_text : ℕ → List ℕ → List ℕ
 dump_text port text = head_line port ++ text
 
-abbrev pub kill_told : Kill → Result (List ℕ × ℕ) Failure
-kill_told kill.Killed = Ok (codes "Killed" ++ 10 ∷ [], the.DONE)
-kill_told kill.NotAllowed = Err KillRefused
+abbrev pub kill_text : Kill → Result (List ℕ × ℕ) Failure
+kill_text kill.Killed = Ok (codes "Killed" ++ 10 ∷ [], the.DONE)
+kill_text kill.NotAllowed = Err KillRefused
 
-abbrev pub stop_told : Stop → Result (List ℕ × ℕ) Failure
-stop_told stop.Stopped = Ok (codes "STOPPED" ++ 10 ∷ [], the.DONE)
-stop_told stop.NoExist = Ok (codes "NOEXIST" ++ 10 ∷ [], the.NOT_DONE)
-stop_told stop.NotAllowed = Err StopRefused
+abbrev pub stop_text : Stop → Result (List ℕ × ℕ) Failure
+stop_text stop.Stopped = Ok (codes "STOPPED" ++ 10 ∷ [], the.DONE)
+stop_text stop.NoExist = Ok (codes "NOEXIST" ++ 10 ∷ [], the.NOT_DONE)
+stop_text stop.NotAllowed = Err StopRefused
 
 -- a text for standard output and the status, or a failure; names stand in it so that no terminal obeys them
-abbrev pub answer_told : Answer → Result (List ℕ × ℕ) Failure
-answer_told (answer.Names list) = Ok (shown (names_text list.0 list.1.items), the.DONE)
-answer_told (answer.Dump dump) = Ok (shown (dump_text dump.0 dump.1.items), the.DONE)
-answer_told (answer.Kill said) = kill_told said
-answer_told (answer.Stop said) = stop_told said
+abbrev pub answer_text : Answer → Result (List ℕ × ℕ) Failure
+answer_text (answer.Names list) = Ok (shown (names_text list.0 list.1.items), the.DONE)
+answer_text (answer.Dump dump) = Ok (shown (dump_text dump.0 dump.1.items), the.DONE)
+answer_text (answer.Kill said) = kill_text said
+answer_text (answer.Stop said) = stop_text said
 
 abbrev pub failure_of_client : ClientFault → Failure
 failure_of_client client.NoMemory = Memory
@@ -89,27 +89,27 @@ tries_ipv6 AddrNotAvailable = true
 tries_ipv6 kind = false
 
 -- the page of a text and a status, or the failure, or there was no memory for the page
-abbrev pub IsTold : Result (List ℕ × ℕ) Failure → Result Page Failure → Type 0
-IsTold told (Ok page) = told ≡ Ok (page.text.items, page.status)
-IsTold told (Err failure) = (told ≡ Err failure) ⊎ (failure ≡ Memory)
+abbrev pub IsPage : Result (List ℕ × ℕ) Failure → Result Page Failure → Type 0
+IsPage printed (Ok page) = printed ≡ Ok (page.text.items, page.status)
+IsPage printed (Err failure) = (printed ≡ Err failure) ⊎ (failure ≡ Memory)
 
 -- what is told of a call
-abbrev pub IsToldOf : Result Answer ClientFault → Result Page Failure → Type 0
-IsToldOf (Ok a) told = IsTold (answer_told a) told
-IsToldOf (Err fault) told = told ≡ Err (failure_of_client fault)
+abbrev pub IsPageOf : Result Answer ClientFault → Result Page Failure → Type 0
+IsPageOf (Ok a) printed = IsPage (answer_text a) printed
+IsPageOf (Err fault) printed = printed ≡ Err (failure_of_client fault)
 
 -- ---- how it ends
 
 -- a text was written whole and passed on, or a front of it, as the output failed, of which errors are told
-pub record Prints (text : List ℕ) (told status : ℕ) (old new : Option (List ℕ)) (broken : Bool) (silent : Type 0)
+pub record Prints (text : List ℕ) (printed status : ℕ) (old new : Option (List ℕ)) (broken : Bool) (silent : Type 0)
     (fails : Failure → Type 0) : Type 0 where
   pub written : Result Unit OnceFault
-  pub telling : Telling text old new written
-  pub ends : EndsWith (λ _. told) failure_of_once status written broken (λ _. silent) fails
+  pub telling : WritesReply text old new written
+  pub ends : EndsWith (λ _. printed) failure_of_once status written broken (λ _. silent) fails
 
 -- by what is to be told: a page is printed, and then errors get a line only where the output failed; or they are told a failure,
 -- and the output is left alone
-abbrev pub Tells : Result Page Failure → ℕ → Option (List ℕ) → Option (List ℕ) → Bool → Type 0 → Type 0 → (Failure → Type 0) → Type 0
-Tells (Ok page) status old new broken untouched silent fails = Prints page.text.items page.status status old new broken silent fails
+abbrev pub PrintsPage : Result Page Failure → ℕ → Option (List ℕ) → Option (List ℕ) → Bool → Type 0 → Type 0 → (Failure → Type 0) → Type 0
+PrintsPage (Ok page) status old new broken untouched silent fails = Prints page.text.items page.status status old new broken silent fails
     × (status ≢ the.FAILED → silent)
-Tells (Err failure) status old new broken untouched silent fails = (status ≡ status_of failure) × untouched × fails failure
+PrintsPage (Err failure) status old new broken untouched silent fails = (status ≡ status_of failure) × untouched × fails failure

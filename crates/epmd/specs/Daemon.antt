@@ -43,8 +43,8 @@ status_of_recorded true = actions.DONE
 -- the status that tells the end
 abbrev pub status_of_end : Result RunEnd RunFault → ℕ
 status_of_end (Ok end) = status_of_recorded end.recorded
-status_of_end (Err (Listen place)) = actions.NOT_DONE
-status_of_end (Err (ListenBeside place)) = actions.NOT_DONE
+status_of_end (Err (Listen index)) = actions.NOT_DONE
+status_of_end (Err (ListenBeside index)) = actions.NOT_DONE
 status_of_end (Err Poll) = actions.FAILED
 status_of_end (Err NoMemory) = actions.FAILED
 
@@ -61,7 +61,7 @@ served_lines worker (count ∷ counts) = served_line worker count ++ served_line
 -- four numbers with dots between, and the port
 abbrev pub unheard_line : List ℕ → ℕ → List ℕ
 unheard_line address port =
-    let number = λ (place : ℕ). decimal (slice_index address place) in
+    let number = λ (index : ℕ). decimal (slice_index address index) in
     concat (the.UNHEARD.now ∷ number 0 ∷ codes "." ∷ number 1 ∷ codes "." ∷ number 2 ∷ codes "." ∷ number 3 ∷ codes ":" ∷ decimal port ∷
     (10 ∷ []) ∷ [])
 
@@ -75,9 +75,9 @@ unheard_beside address port = concat (the.UNHEARD.now ∷ beside address ∷ dec
 -- with debug output what each worker served; else why it did not serve
 abbrev pub text_of_end : Command → Result RunEnd RunFault → Option (List ℕ)
 text_of_end command (Ok end) = if command.debug then Some (served_lines 1 end.served.items) else None
-text_of_end command (Err (Listen place)) =
-    option_map (λ address. unheard_line address command.port) (slice_get command.addresses.items place)
-text_of_end command (Err (ListenBeside place)) =
-    option_map (λ address. unheard_beside address command.port) (slice_get command.addresses.items place)
+text_of_end command (Err (Listen index)) =
+    option_map (λ address. unheard_line address command.port) (slice_get command.addresses.items index)
+text_of_end command (Err (ListenBeside index)) =
+    option_map (λ address. unheard_beside address command.port) (slice_get command.addresses.items index)
 text_of_end command (Err Poll) = Some (line_of Polling)
 text_of_end command (Err NoMemory) = Some (line_of Memory)

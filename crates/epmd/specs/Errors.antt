@@ -7,9 +7,9 @@ use Rattle.portmap_link.specs.declared.adapters.writer.Writing.{Writing}
 use Rattle.epmd.specs.declared.errors.TheConstants.{PUTS_MOST}
 
 -- all of a text was taken, or else a front of it
-abbrev pub IsTaken : List ℕ → Bool → Option (List ℕ) → Option (List ℕ) → Type 0
-IsTaken text true old new = Appends old new text
-IsTaken text false old new = (count : ℕ) × (count < length text) × Appends old new (take count text)
+abbrev pub IsWritten : List ℕ → Bool → Option (List ℕ) → Option (List ℕ) → Type 0
+IsWritten text true old new = Appends old new text
+IsWritten text false old new = (count : ℕ) × (count < length text) × Appends old new (take count text)
 
 -- it takes no more: it has failed, or was asked so often
 abbrev pub IsSpent : {E : Type 0} → Writing E → Type 0
@@ -17,7 +17,7 @@ IsSpent errors = (writing_broken errors ≡ true) ⊎ (PUTS_MOST ≤ length (wri
 
 -- this text was said and nothing else: all of it, or a front where no more was taken
 abbrev pub IsSaid : {E : Type 0} → (E → Option (List ℕ)) → List ℕ → Writing E → Writing E → Type 0
-IsSaid contents text old new = (whole : Bool) × IsTaken text whole (contents (writing_inner old)) (contents (writing_inner new))
+IsSaid contents text old new = (whole : Bool) × IsWritten text whole (contents (writing_inner old)) (contents (writing_inner new))
     × (whole ≡ false → IsSpent new)
 
 -- ---- files that are named behind the line of a failure

@@ -70,12 +70,12 @@ pub record CanServe (command : Command) : Type 0 where
 -- why the word at this place, with so many behind it, says nothing: one of the word, or of the value behind it; and two actions were
 -- asked for only where one was before
 abbrev pub IsFaultAt : ℕ → ℕ → Bool → WordFault → Type 0
-IsFaultAt place behind has_action (Unknown at) = at ≡ place
-IsFaultAt place behind has_action (MissingValue at) = (at ≡ place) × (behind ≡ 0)
-IsFaultAt place behind has_action (BadValue at) = (at ≡ place + 1) × (0 < behind)
-IsFaultAt place behind has_action (TwoCommands at) = (at ≡ place) × (has_action ≡ true)
-IsFaultAt place behind has_action BadEnvPort = ⊥
-IsFaultAt place behind has_action NoMemory = Unit {0}
+IsFaultAt index behind has_action (Unknown at) = at ≡ index
+IsFaultAt index behind has_action (MissingValue at) = (at ≡ index) × (behind ≡ 0)
+IsFaultAt index behind has_action (BadValue at) = (at ≡ index + 1) × (0 < behind)
+IsFaultAt index behind has_action (TwoCommands at) = (at ≡ index) × (has_action ≡ true)
+IsFaultAt index behind has_action BadEnvPort = ⊥
+IsFaultAt index behind has_action NoMemory = Unit {0}
 
 -- the word that a fault names is there, of so many
 abbrev pub NamesWord : ℕ → WordFault → Type 0
@@ -92,14 +92,14 @@ status_of_fault NoMemory = actions.FAILED
 status_of_fault fault = actions.REFUSED
 
 abbrev bad_word : ℕ → List ℕ
-bad_word place = words.BAD_WORD.now ++ decimal place ++ 10 ∷ []
+bad_word index = words.BAD_WORD.now ++ decimal index ++ 10 ∷ []
 
 -- the line that tells it
 abbrev pub line_of_fault : WordFault → List ℕ
-line_of_fault (Unknown place) = bad_word place
-line_of_fault (MissingValue place) = bad_word place
-line_of_fault (BadValue place) = bad_word place
-line_of_fault (TwoCommands place) = bad_word place
+line_of_fault (Unknown index) = bad_word index
+line_of_fault (MissingValue index) = bad_word index
+line_of_fault (BadValue index) = bad_word index
+line_of_fault (TwoCommands index) = bad_word index
 line_of_fault BadEnvPort = words.BAD_PORT.now
 line_of_fault NoMemory = actions.MEMORY_RAN_OUT.now
 

@@ -6,10 +6,10 @@ ghost use Rattle.portmap_link.specs.Adapters.{writing_inner, writing_puts, writi
 ghost use Rattle.portmap_link.specs.Asking.{MakesTurns};
 ghost use Rattle.portmap_link.specs.Once.{Did};
 ghost use Rattle.portmap_link.specs.declared.single.OnceFault.{OnceFault};
-ghost use Rattle.portmap_record.specs.Playing.{IsRefused, TellsFound, text_of};
+ghost use Rattle.portmap_record.specs.Playing.{IsRefused, PrintsFound, text_of};
 ghost use Rattle.portmap_record.specs.declared.verdict.Verdict.{Verdict};
 ghost use Rattle.portmap_record.specs.declared.playing.PlayFault.{PlayFault};
-ghost use Rattle.epmd.specs.Actions.{once_config, status_of, line_of, Fails, TellsErrors, Passes};
+ghost use Rattle.epmd.specs.Actions.{once_config, status_of, line_of, Fails, PrintsErrors, Passes};
 ghost use Rattle.epmd.specs.Actions.{EndsWith, failure_of_once, failure_of_play, status_of_found, IsSilent};
 
 use crate::errors::{say, say_number};
@@ -234,7 +234,7 @@ fn end_found<W: Write, E: Write>(
     found: Verdict,
 ) -> u8
     ensures passes { Passes (status_of_found found) result (writing_broken output.new)
-        (TellsErrors text E.contents errors.old errors.new found) (Fails E.contents errors.old errors.new) }
+        (PrintsErrors text E.contents errors.old errors.new found) (Fails E.contents errors.old errors.new) }
     ensures silent { IsSilent text result → errors.new ≡ errors.old }
     ensures held { Keeps (W.contents (writing_inner output.old)) (W.contents (writing_inner output.new)) }
     ensures puts { writing_puts output.new ≡ writing_puts output.old }
@@ -270,11 +270,11 @@ pub fn do_file<R: Read, W: Write, E: Write>(
     // What was read and written, in how many turns, why the status is so, and what errors are told.
     ensures shown { (ended : Result Verdict PlayFault)
         × (let seen = streams R.remaining W.contents in
-        TellsFound (text_of text) (IsRefused text) (seen input.old output.old) (seen input.new output.new) ended
+        PrintsFound (text_of text) (IsRefused text) (seen input.old output.old) (seen input.new output.new) ended
         × MakesTurns FILE_TURNS (seen input.old output.old) (seen input.new output.new) ended
         (λ sent. Err (PlayFault.TooManyTurns sent)))
         × EndsWith status_of_found failure_of_play result ended (writing_broken output.new)
-        (TellsErrors text E.contents errors.old errors.new) (Fails E.contents errors.old errors.new) }
+        (PrintsErrors text E.contents errors.old errors.new) (Fails E.contents errors.old errors.new) }
 {
     match show(alloc, input, output, FILE_TURNS, text) {
         Ok(found) => end_found(output, errors, text, found),

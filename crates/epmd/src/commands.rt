@@ -4,8 +4,8 @@ ghost use Rattle.portmap_link.specs.Adapters.{writing_inner, writing_broken};
 ghost use Rattle.portmap_client.specs.Exchange.{view};
 ghost use Rattle.portmap_client.specs.declared.fault.ClientFault.{ClientFault};
 ghost use Rattle.epmd.specs.Actions.{Fails};
-ghost use Rattle.epmd.specs.Commands.{Asks, head_line, names_text, dump_text, kill_told, stop_told};
-ghost use Rattle.epmd.specs.Commands.{answer_told, IsTold, IsToldOf, Prints, Tells};
+ghost use Rattle.epmd.specs.Commands.{Asks, head_line, names_text, dump_text, kill_text, stop_text};
+ghost use Rattle.epmd.specs.Commands.{answer_text, IsPage, IsPageOf, Prints, PrintsPage};
 ghost use Rattle.epmd.specs.declared.actions.Failure.{Failure};
 ghost use Rattle.epmd.specs.declared.commands.Answer.{Answer};
 ghost use Rattle.epmd.specs.declared.commands.Page.{Page};
@@ -119,14 +119,14 @@ fn dump_text(alloc: Global, port: u32, lines: &[u8]) -> Result<Vec<u8>, NoMemory
 
 /// The page of this text.
 fn made_page(alloc: Global, text: &[u8], status: u8) -> Result<Page, Failure>
-    ensures { IsTold (Ok (text.now, status)) result }
+    ensures { IsPage (Ok (text.now, status)) result }
 {
     let text = Vec::from_slice(alloc, text)?;
     Ok(Page { text, status })
 }
 
 fn kill_page(alloc: Global, said: Kill) -> Result<Page, Failure>
-    ensures { IsTold (kill_told said) result }
+    ensures { IsPage (kill_text said) result }
 {
     match said {
         Kill::Killed => made_page(alloc, b"Killed\n", DONE),
@@ -135,7 +135,7 @@ fn kill_page(alloc: Global, said: Kill) -> Result<Page, Failure>
 }
 
 fn stop_page(alloc: Global, said: Stop) -> Result<Page, Failure>
-    ensures { IsTold (stop_told said) result }
+    ensures { IsPage (stop_text said) result }
 {
     match said {
         Stop::Stopped => made_page(alloc, b"STOPPED\n", DONE),
@@ -146,7 +146,7 @@ fn stop_page(alloc: Global, said: Stop) -> Result<Page, Failure>
 
 /// What is printed of an answer, made whole.
 fn page_of(alloc: Global, answer: &Answer) -> Result<Page, Failure>
-    ensures { IsTold (answer_told answer.now) result }
+    ensures { IsPage (answer_text answer.now) result }
 {
     match answer {
         Answer::Names((port, lines)) => Ok(Page {
@@ -167,7 +167,7 @@ fn learn<S: Input + Output>(alloc: Global, asked: &Ask, stream: &mut S) -> Resul
     ensures { (ended : Result Answer ClientFault)
         × (let seen = view S.left S.held S.pulls S.puts S.broken in
         Asks asked.now (seen stream.old) (seen stream.new) ended)
-        × IsToldOf ended result }
+        × IsPageOf ended result }
 {
     let answer = ask(alloc, asked, stream)?;
     page_of(alloc, &answer)
@@ -207,11 +207,11 @@ pub fn do_client<S: Input + Output, W: Write, E: Write>(
 ) -> u8
     ensures silent { result ≡ DONE → errors.new ≡ errors.old }
     // What was asked and answered, what is to be told of it, and that it is told so.
-    ensures told { (ended : Result Answer ClientFault) × (told : Result Page Failure)
+    ensures printed { (ended : Result Answer ClientFault) × (printed : Result Page Failure)
         × (let seen = view S.left S.held S.pulls S.puts S.broken in
         Asks asked.now (seen stream.old) (seen stream.new) ended)
-        × IsToldOf ended told
-        × Tells told result (W.contents (writing_inner output.old)) (W.contents (writing_inner output.new))
+        × IsPageOf ended printed
+        × PrintsPage printed result (W.contents (writing_inner output.old)) (W.contents (writing_inner output.new))
         (writing_broken output.new)
         (output.new ≡ output.old) (errors.new ≡ errors.old) (Fails E.contents errors.old errors.new) }
 {

@@ -3,7 +3,7 @@ ghost use Rattle.std.specs.Prelude.{◌≡◌, false, IfOk, IfSome, None};
 ghost use Rattle.portmap_link.specs.Adapters.{writing_inner};
 ghost use Rattle.epmd.specs.Daemon.{SetsAs, beside, first_by, status_of_end, served_line, served_lines, unheard_beside};
 ghost use Rattle.epmd.specs.Daemon.{unheard_line, text_of_end};
-ghost use Rattle.epmd.specs.Errors.{IsTaken, IsSpent, IsSaid};
+ghost use Rattle.epmd.specs.Errors.{IsWritten, IsSpent, IsSaid};
 
 use crate::actions::{CONNECTIONS_MOST, DONE, FAILED, Failure, NAMES_MOST, NOT_DONE, fail};
 use crate::errors::say_all;
@@ -61,7 +61,7 @@ pub fn settings(
 
 /// Tells how many acts of the port mapper this worker made.
 fn report_worker<E: Write>(errors: &mut Writing<E>, worker: usize, count: u64) -> bool
-    ensures taken { IsTaken (served_line worker count) result (E.contents (writing_inner errors.old))
+    ensures taken { IsWritten (served_line worker count) result (E.contents (writing_inner errors.old))
         (E.contents (writing_inner errors.new)) }
     ensures spent { result ≡ false → IsSpent errors.new }
 {
@@ -81,8 +81,8 @@ fn report_worker<E: Write>(errors: &mut Writing<E>, worker: usize, count: u64) -
 fn report_served<E: Write>(errors: &mut Writing<E>, served: &[u64])
     ensures { IsSaid E.contents (served_lines 1 served.now) errors.old errors.new }
 {
-    for (place, count) in served.iter().enumerate() {
-        if !report_worker(errors, place + 1, *count) {
+    for (index, count) in served.iter().enumerate() {
+        if !report_worker(errors, index + 1, *count) {
             return;
         }
     }
@@ -119,7 +119,7 @@ fn beside(address: [u8; 4]) -> &'static [u8]
 }
 
 /// Tells that the daemon can't listen at the IPv6 address beside this one.
-fn tell_unheard_beside<E: Write>(errors: &mut Writing<E>, address: [u8; 4], port: u16)
+fn print_without_ipv6<E: Write>(errors: &mut Writing<E>, address: [u8; 4], port: u16)
     ensures { IsSaid E.contents (unheard_beside address port) errors.old errors.new }
 {
     let mut digits = Buffer::new();
@@ -148,15 +148,15 @@ pub fn end_daemon<E: Write>(
             }
             if end.recorded { DONE } else { FAILED }
         }
-        Err(RunFault::Listen(place)) => {
-            if let Some(address) = command.addresses.get(*place) {
+        Err(RunFault::Listen(index)) => {
+            if let Some(address) = command.addresses.get(*index) {
                 report_unheard(errors, *address, command.port);
             }
             NOT_DONE
         }
-        Err(RunFault::ListenBeside(place)) => {
-            if let Some(address) = command.addresses.get(*place) {
-                tell_unheard_beside(errors, *address, command.port);
+        Err(RunFault::ListenBeside(index)) => {
+            if let Some(address) = command.addresses.get(*index) {
+                print_without_ipv6(errors, *address, command.port);
             }
             NOT_DONE
         }

@@ -3,7 +3,7 @@ ghost use Rattle.std.specs.Prelude.{◌≡◌, ◌<◌, ◌≤◌, ◌++◌, tru
 ghost use Rattle.std.specs.Fmt.{decimal};
 ghost use Rattle.std.specs.List.{flat_map};
 ghost use Rattle.portmap_link.specs.Adapters.{writing_inner};
-ghost use Rattle.epmd.specs.Errors.{IsSaid, IsTaken, IsSpent, file_line, reason_line};
+ghost use Rattle.epmd.specs.Errors.{IsSaid, IsWritten, IsSpent, file_line, reason_line};
 ghost use Rattle.epmd.specs.declared.actions.TheConstants.{REFUSED};
 
 use crate::actions::REFUSED;
@@ -16,7 +16,7 @@ const PUTS_MOST: u64 = 1000;
 
 /// Writes a text, and says whether all of it was taken. A failure of `errors` changes nothing else.
 pub fn say<E: Write>(errors: &mut Writing<E>, text: &[u8]) -> bool
-    ensures taken { IsTaken text.now result (E.contents (writing_inner errors.old))
+    ensures taken { IsWritten text.now result (E.contents (writing_inner errors.old))
         (E.contents (writing_inner errors.new)) }
     ensures spent { result ≡ false → IsSpent errors.new }
 {
@@ -28,7 +28,7 @@ pub fn say<E: Write>(errors: &mut Writing<E>, text: &[u8]) -> bool
 
 /// The same, of a text in pieces.
 pub fn say_all<E: Write>(errors: &mut Writing<E>, pieces: &[&[u8]]) -> bool
-    ensures taken { IsTaken (flat_map (λ piece. piece.now) pieces.now) result (E.contents (writing_inner errors.old))
+    ensures taken { IsWritten (flat_map (λ piece. piece.now) pieces.now) result (E.contents (writing_inner errors.old))
         (E.contents (writing_inner errors.new)) }
     ensures spent { result ≡ false → IsSpent errors.new }
 {
@@ -47,7 +47,7 @@ pub fn say_number<E: Write>(
     number: u64,
     behind: &[u8],
 ) -> bool
-    ensures taken { IsTaken (front.now ++ decimal number ++ behind.now) result (E.contents (writing_inner errors.old))
+    ensures taken { IsWritten (front.now ++ decimal number ++ behind.now) result (E.contents (writing_inner errors.old))
         (E.contents (writing_inner errors.new)) }
     ensures spent { result ≡ false → IsSpent errors.new }
 {

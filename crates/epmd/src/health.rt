@@ -154,7 +154,7 @@ pub fn do_health<P: Checked, E: Write>(
     errors: &mut Writing<E>,
 ) -> u8
     ensures silent { result ≡ DONE → errors.new ≡ errors.old }
-    ensures told { (first second : Result Unit Made)
+    ensures printed { (first second : Result Unit Made)
         × Grows (Ends plan first) (P.steps four.old) (P.steps four.new)
         × IfOk first (λ _. has_ipv6 ≡ true → Grows (Ends plan second) (P.steps six.old) (P.steps six.new))
         × TellsHealth (failing first has_ipv6 second) port result E.contents errors.old errors.new }

@@ -112,37 +112,37 @@ fn read_action(alloc: Global, word: &str, value: &str) -> Result<Option<Action>,
     Ok(Some(Action::Inspect(text, String::from_str(alloc, value)?)))
 }
 
-/// What is said by this word and, where it takes a value, by the one behind it; and the words that are left. `place` is
+/// What is said by this word and, where it takes a value, by the one behind it; and the words that are left. `index` is
 /// the first word's number, and a second action is refused.
 pub fn read_word<'a>(
     alloc: Global,
     first: &String,
     behind: &'a [String],
-    place: usize,
+    index: usize,
     has_action: bool,
 ) -> Result<(Word, &'a [String]), WordFault>
-    requires { place < 2 ^ 63 }
+    requires { index < 2 ^ 63 }
     ensures spelled { IfOk result (λ read. Begins read.0
         (string_bytes first.now ∷ map string_bytes behind.now)
         (map string_bytes read.1.now)) }
     ensures fewer { IfOk result (λ read. length read.1.now ≤ length behind.now) }
     ensures one { IfOk result (λ read. is_action read.0 ≡ true → has_action ≡ false) }
-    ensures fault { IfErr result (λ fault. IsFaultAt place (length behind.now) has_action fault) }
+    ensures fault { IfErr result (λ fault. IsFaultAt index (length behind.now) has_action fault) }
 {
     if let Some(said) = read_plain(first.as_str()) {
         if has_action && matches!(said, Word::Act(_)) {
-            return Err(WordFault::TwoCommands(place));
+            return Err(WordFault::TwoCommands(index));
         }
         return Ok((said, behind));
     }
     let Some(for_what) = use_of(first.as_str()) else {
-        return Err(WordFault::Unknown(place));
+        return Err(WordFault::Unknown(index));
     };
     if has_action && matches!(for_what, Use::Action) {
-        return Err(WordFault::TwoCommands(place));
+        return Err(WordFault::TwoCommands(index));
     }
     let [value, rest @ ..] = behind else {
-        return Err(WordFault::MissingValue(place));
+        return Err(WordFault::MissingValue(index));
     };
     let said = match for_what {
         Use::Setting => read_setting(alloc, first.as_str(), value.as_str())?,
@@ -152,6 +152,6 @@ pub fn read_word<'a>(
     };
     match said {
         Some(said) => Ok((said, rest)),
-        None => Err(WordFault::BadValue(place + 1)),
+        None => Err(WordFault::BadValue(index + 1)),
     }
 }

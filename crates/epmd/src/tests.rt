@@ -35,13 +35,13 @@ fn bytes_of(alloc: Global, text: &str) -> Result<Vec<u8>, AllocError> {
 /// How an action ends: the status, behind `out` what is written and behind `err` what is told of errors, where there is
 /// any. `|` is an end of line, and `\u{a6}` a `|`.
 fn ending(alloc: Global, status: u8, output: &[u8], errors: &[u8]) -> Result<String, AllocError> {
-    let mut told = format!(in alloc; "{status}")?;
+    let mut printed = format!(in alloc; "{status}")?;
     for (word, bytes) in [("out", output), ("err", errors)] {
         if !bytes.is_empty() {
             let text = String::from_utf8_lossy(alloc, bytes)?;
-            write!(told, " {word} {text}")?;
+            write!(printed, " {word} {text}")?;
         }
     }
-    let told = told.as_str().replace(alloc, "|", "\u{a6}")?;
-    told.as_str().replace(alloc, "\n", "|")
+    let printed = printed.as_str().replace(alloc, "|", "\u{a6}")?;
+    printed.as_str().replace(alloc, "\n", "|")
 }

@@ -146,10 +146,10 @@ pub fn refuse<E: Write>(errors: &mut Writing<E>, fault: WordFault) -> u8
     ensures line { IsSaid E.contents (line_of_fault fault) errors.old errors.new }
 {
     let _ = match fault {
-        WordFault::Unknown(place)
-        | WordFault::MissingValue(place)
-        | WordFault::BadValue(place)
-        | WordFault::TwoCommands(place) => say_number(errors, BAD_WORD, place as u64, b"\n"),
+        WordFault::Unknown(index)
+        | WordFault::MissingValue(index)
+        | WordFault::BadValue(index)
+        | WordFault::TwoCommands(index) => say_number(errors, BAD_WORD, index as u64, b"\n"),
         WordFault::BadEnvPort => say(errors, BAD_PORT),
         WordFault::NoMemory => say(errors, MEMORY_RAN_OUT),
     };
@@ -165,8 +165,8 @@ fn read_all(alloc: Global, words: &[String]) -> Result<Plan, WordFault>
     let mut plan = Plan::new();
     let mut rest = words;
     while let [first, behind @ ..] = rest {
-        let place = words.len() - rest.len();
-        let (said, after) = read_word(alloc, first, behind, place, plan.has_action())?;
+        let index = words.len() - rest.len();
+        let (said, after) = read_word(alloc, first, behind, index, plan.has_action())?;
         plan.add(said);
         rest = after;
     }

@@ -4,7 +4,7 @@ use Rattle.std.proofs.Common.{◌≡◌, ℕ, List, Err, rules}
 use Rattle.portmap_wire.specs.ReplyReading.{GivesReply, alive_answer, port2_answer}
 use Rattle.portmap_wire.specs.declared.reply_reading.ReplyFault.{ReplyFault}
 use Rattle.portmap_client.specs.{Answer.{SaysCreation, SaysFound}, Fault.of_reply}
-use Rattle.portmap_client.specs.declared.fault.GivenUp.TheVariants.{NoMemory}
+use Rattle.portmap_client.specs.declared.fault.Aborted.TheVariants.{NoMemory}
 
 -- of that to a registration
 pub creation_fault : (read bytes : List ℕ) (f : ReplyFault) → bytes ≡ read → Err f ≡ alive_answer bytes

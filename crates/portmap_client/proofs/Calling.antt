@@ -2,30 +2,30 @@
 use Rattle.std.specs.{Io.KnownBytes.{Appends, Keeps}, Prelude.{Result, IsErrAnd, IfErr, MatchResult}}
 use Rattle.std.proofs.Common.{◌≡◌, ◌≢◌, ℕ, ◌+◌, true, List, length, Option, Ok, Err, sym, subst, arith, rules}
 use Rattle.std.proofs.{KnownBytes.Appends-kept, lemmas.Bool.false≢true, lemmas.List.take_all}
-use Rattle.portmap_client.specs.Exchange.{Answers, Exchanges, StreamView, Writes, WritesAt, WritesFront}
-use Rattle.portmap_client.specs.{Exchange.is_device_fault, Fault.{split, told, told_fault}}
+use Rattle.portmap_client.specs.Exchange.{Answers, Exchanges, StreamView, Writes, WritesAt, WritesPrefix}
+use Rattle.portmap_client.specs.{Exchange.is_device_fault, Fault.{split, client_result, client_fault}}
 use Rattle.portmap_client.specs.{Laters.{laters, Waits, WaitsAt}, declared.exchange.Awaited.Awaited}
 use Rattle.portmap_client.specs.{declared.fault.AnswerFault.AnswerFault, declared.fault.ClientFault.ClientFault}
-use Rattle.portmap_client.specs.declared.fault.GivenUp.{GivenUp, TheVariants.{NoMemory, Write}}
+use Rattle.portmap_client.specs.declared.fault.Aborted.{Aborted, TheVariants.{NoMemory, Write}}
 
 -- ---- the parts of an exchange
 
-whole_front : (bytes : List ℕ) (old new : Option (List ℕ)) → Appends old new bytes → WritesFront bytes old new
-whole_front bytes old new whole = record {
+whole_prefix : (bytes : List ℕ) (old new : Option (List ℕ)) → Appends old new bytes → WritesPrefix bytes old new
+whole_prefix bytes old new whole = record {
   count = length bytes;
   writes = subst (λ (t : List ℕ). Appends old new t) (sym (take_all (length bytes) bytes (omega arith))) whole;
 }
 
 -- all was written, by a call that is not given up in writing
-writes_all : {X : Type 0} (bytes : List ℕ) (old new : Option (List ℕ)) (result : Result X GivenUp) → result ≢ Err Write
+writes_all : {X : Type 0} (bytes : List ℕ) (old new : Option (List ℕ)) (result : Result X Aborted) → result ≢ Err Write
     → Appends old new bytes → Writes bytes old new result
-writes_all bytes old new result reads whole = search (rules, whole_front)
+writes_all bytes old new result reads whole = search (rules, whole_prefix)
 
-never_write : {X : Type 0} (P : Type 0) (result : Result X GivenUp) → result ≢ Err Write → IfErr result (λ f. f ≡ Write → P)
+never_write : {X : Type 0} (P : Type 0) (result : Result X Aborted) → result ≢ Err Write → IfErr result (λ f. f ≡ Write → P)
 never_write o result reads = search rules
 
 -- Laters that were met before count
-waits_longer : {X : Type 0} (old mid new met : ℕ) (result : Result X GivenUp) → mid ≡ old + met → Waits mid (met + new) result
+waits_longer : {X : Type 0} (old mid new met : ℕ) (result : Result X Aborted) → mid ≡ old + met → Waits mid (met + new) result
     → Waits old new result
 waits_longer old mid new met result before waits = search rules
 
@@ -33,8 +33,8 @@ no_write : NoMemory ≡ Write → ⊥
 no_write e = cc
 
 -- the request was not written whole, so nothing was asked for
-pub not_asked : {X : Type 0} (bytes : List ℕ) (awaited : Awaited) (Says : List ℕ → X → Type 0) (old new : StreamView) (f : GivenUp)
-    (result : Result X GivenUp) → IsErrAnd result (λ e. e ≡ f)
+pub not_asked : {X : Type 0} (bytes : List ℕ) (awaited : Awaited) (Says : List ℕ → X → Type 0) (old new : StreamView) (f : Aborted)
+    (result : Result X Aborted) → IsErrAnd result (λ e. e ≡ f)
     → WritesAt bytes old.held new.held f → WaitsAt (laters old.pulls old.puts) (laters new.pulls new.puts) f
     → (is_device_fault f ≡ true → new.broken ≡ true) → Keeps old.left new.left → new.pulls ≡ old.pulls
     → Exchanges bytes awaited Says old new result
@@ -42,7 +42,7 @@ not_asked bytes awaited o old new f result failed asked waits broken keeps unrea
 
 -- the request was written whole, and its answer read so far
 pub heard : {X : Type 0} (bytes : List ℕ) (awaited : Awaited) (Says : List ℕ → X → Type 0) (old mid new : StreamView) (met : ℕ)
-    (result : Result X GivenUp) → Appends old.held mid.held bytes → Keeps mid.held new.held
+    (result : Result X Aborted) → Appends old.held mid.held bytes → Keeps mid.held new.held
     → result ≢ Err Write → Keeps old.left mid.left → mid.pulls ≡ old.pulls
     → Answers awaited Says mid.left new.left mid.pulls new.pulls result
     → laters mid.pulls mid.puts ≡ laters old.pulls old.puts + met
@@ -59,27 +59,27 @@ heard bytes awaited Says old mid new met result wrote held reads left pulls answ
 
 -- ---- what a call makes of an exchange
 
-told_from : {X : Type 0} (result : Result X ClientFault) (s : Result AnswerFault GivenUp) → IsErrAnd result (λ e. split e ≡ s)
-    → told_fault s ≡ told result
+told_from : {X : Type 0} (result : Result X ClientFault) (s : Result AnswerFault Aborted) → IsErrAnd result (λ e. split e ≡ s)
+    → client_fault s ≡ client_result result
 told_from result s failed = search rules
 
 -- the exchange was given up
 pub gave_up : {X Y : Type 0} {bytes sent : List ℕ} {awaited : Awaited} {SaysX : List ℕ → X → Type 0}
-    {Says : List ℕ → Result Y AnswerFault → Type 0} {old new : StreamView} {f : GivenUp} (result : Result Y ClientFault)
+    {Says : List ℕ → Result Y AnswerFault → Type 0} {old new : StreamView} {f : Aborted} (result : Result Y ClientFault)
     → bytes ≡ sent → Exchanges bytes awaited SaysX old new (Err f) → IsErrAnd result (λ e. split e ≡ Err f)
-    → Exchanges sent awaited Says old new (told result)
+    → Exchanges sent awaited Says old new (client_result result)
 gave_up {X} {Y} {bytes} {sent} {awaited} {SaysX} {Says} {old} {new} {f} result same exchange failed = search rules
 
 -- its answer says so, or there was no memory to say it
 pub says : {X Y : Type 0} {bytes sent : List ℕ} {awaited : Awaited} {SaysX : List ℕ → X → Type 0} {Says : List ℕ → Y → Type 0}
-    {old new : StreamView} {x : X} (y : Result Y GivenUp)
+    {old new : StreamView} {x : X} (y : Result Y Aborted)
     → bytes ≡ sent → Exchanges bytes awaited SaysX old new (Ok x)
     → ((read : List ℕ) → SaysX read x → MatchResult y (Says read) (λ f. f ≡ NoMemory)) → Exchanges sent awaited Says old new y
 says {X} {Y} {bytes} {sent} {awaited} {SaysX} {Says} {old} {new} {x} (Ok y) same exchange tells = search rules
 says {X} {Y} {bytes} {sent} {awaited} {SaysX} {Says} {old} {new} {x} (Err f) same exchange tells =
     let memory : NoMemory ≡ f = sym (tells exchange.answered.read exchange.answered.says) in
     let forgot : Exchanges bytes awaited Says old new (Err NoMemory) = record {
-      asked = whole_front bytes old.held new.held exchange.asked;
+      asked = whole_prefix bytes old.held new.held exchange.asked;
       unread = λ e. absurd (no_write e);
       answered = record {
         read = exchange.answered.read;
@@ -91,15 +91,15 @@ says {X} {Y} {bytes} {sent} {awaited} {SaysX} {Says} {old} {new} {x} (Err f) sam
       broken = λ fails. absurd (false≢true fails);
     } in
     subst (λ (bs : List ℕ). Exchanges bs awaited Says old new (Err f)) same
-    (subst (λ (g : GivenUp). Exchanges bytes awaited Says old new (Err g)) memory forgot)
+    (subst (λ (g : Aborted). Exchanges bytes awaited Says old new (Err g)) memory forgot)
 
 -- the same, where the answer has a fault
 pub says_fault : {X Y : Type 0} {bytes sent : List ℕ} {awaited : Awaited} {SaysX : List ℕ → X → Type 0}
-    {Says : List ℕ → Result Y AnswerFault → Type 0} {old new : StreamView} {x : X} (s : Result AnswerFault GivenUp)
+    {Says : List ℕ → Result Y AnswerFault → Type 0} {old new : StreamView} {x : X} (s : Result AnswerFault Aborted)
     (result : Result Y ClientFault)
     → bytes ≡ sent → Exchanges bytes awaited SaysX old new (Ok x) → IsErrAnd result (λ e. split e ≡ s)
     → ((read : List ℕ) → SaysX read x → MatchResult s (λ f. Says read (Err f)) (λ f. f ≡ NoMemory))
-    → Exchanges sent awaited Says old new (told result)
+    → Exchanges sent awaited Says old new (client_result result)
 says_fault {Says = Says} (Ok f) result same exchange failed tells = search rules
 says_fault {Says = Says} (Err f) result same exchange failed tells =
     subst (Exchanges _ _ Says _ _) (told_from result (Err f) failed) (says (Err f) same exchange tells)

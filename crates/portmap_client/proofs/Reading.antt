@@ -5,7 +5,7 @@ use Rattle.std.proofs.{Common.{inr, rules}, KnownBytes.Consumes-trans, Math.Seq.
 use Rattle.std.proofs.lemmas.List.{length-append, length-take, take-append-le}
 use Rattle.portmap_link.specs.declared.device.Pull.{Pull}
 use Rattle.portmap_client.specs.{Exchange.{Answers, HasRead, IsUnfinished}, declared.exchange.Awaited.Awaited}
-use Rattle.portmap_client.specs.declared.fault.GivenUp.{GivenUp}
+use Rattle.portmap_client.specs.declared.fault.Aborted.{Aborted}
 
 -- a front of what was read and of a piece more is unfinished
 front_unfinished : (awaited : Awaited) (read piece : List ℕ) (most n : ℕ)
@@ -41,5 +41,5 @@ reads_front awaited a b c read bytes buffer count most so_far one small same mis
 
 -- a call that is given up says nothing of what was read
 pub stops : {X : Type 0} (awaited : Awaited) (Says : List ℕ → X → Type 0) (a b : Option (List ℕ)) (asked answered : List Pull)
-    (read : List ℕ) (result : Result X GivenUp) → IsErr result → HasRead awaited a b read → Answers awaited Says a b asked answered result
+    (read : List ℕ) (result : Result X Aborted) → IsErr result → HasRead awaited a b read → Answers awaited Says a b asked answered result
 stops awaited o a b asked answered read result failed has_read = search rules

@@ -7,10 +7,10 @@ use Rattle.portmap_wire.specs.{ReplyReading.{alive_answer, port2_answer}, Reques
 use Rattle.portmap_wire.specs.declared.request.Request.{Request, TheVariants.{Alive, Dump, Kill, Names, Port, Stop}}
 use Rattle.portmap_wire.specs.declared.reply_reading.ReplyFault.TheVariants as reply
 use Rattle.portmap_link.specs.{Asking.IsEnded, declared.device.Pull.Pull, declared.device.Put.Put}
-use Rattle.portmap_client.specs.{Fault.told, Laters.{laters, Waits}, declared.exchange.Awaited.Awaited}
+use Rattle.portmap_client.specs.{Fault.client_result, Laters.{laters, Waits}, declared.exchange.Awaited.Awaited}
 use Rattle.portmap_client.specs.{declared.exchange.TheConstants.LIST_MOST, declared.fault.AnswerFault.AnswerFault}
 use Rattle.portmap_client.specs.declared.fault.ClientFault.{ClientFault}
-use Rattle.portmap_client.specs.declared.fault.GivenUp.{GivenUp, TheVariants.{Read, Write}}
+use Rattle.portmap_client.specs.declared.fault.Aborted.{Aborted, TheVariants.{Read, Write}}
 use Rattle.portmap_client.specs.declared.exchange.Awaited.TheVariants as awaited
 
 -- ---- the stream
@@ -31,23 +31,23 @@ view left held pulls puts broken stream =
 -- ---- what is written
 
 -- a front of the bytes was written
-pub record WritesFront (bytes : List ℕ) (old new : Option (List ℕ)) : Type 0 where
+pub record WritesPrefix (bytes : List ℕ) (old new : Option (List ℕ)) : Type 0 where
   pub count : ℕ
   pub writes : Appends old new (take count bytes)
 
 -- the same, and not all of them
 pub record WritesPart (bytes : List ℕ) (old new : Option (List ℕ)) : Type 0 where
-  pub front : WritesFront bytes old new
-  pub part : front.count < length bytes
+  pub prefix : WritesPrefix bytes old new
+  pub part : prefix.count < length bytes
 
 -- what was written of a request's bytes by a call that was given up so
-abbrev pub WritesAt : List ℕ → Option (List ℕ) → Option (List ℕ) → GivenUp → Type 0
+abbrev pub WritesAt : List ℕ → Option (List ℕ) → Option (List ℕ) → Aborted → Type 0
 WritesAt bytes old new Write = WritesPart bytes old new
 WritesAt bytes old new Read = Appends old new bytes
-WritesAt bytes old new f = WritesFront bytes old new
+WritesAt bytes old new f = WritesPrefix bytes old new
 
 -- what was written, and nothing else, by a call with this result
-abbrev pub Writes : {X : Type 0} → List ℕ → Option (List ℕ) → Option (List ℕ) → Result X GivenUp → Type 0
+abbrev pub Writes : {X : Type 0} → List ℕ → Option (List ℕ) → Option (List ℕ) → Result X Aborted → Type 0
 Writes bytes old new (Ok x) = Appends old new bytes
 Writes bytes old new (Err f) = WritesAt bytes old new f
 
@@ -78,7 +78,7 @@ pub record HasRead (awaited : Awaited) (old new : Option (List ℕ)) (read : Lis
 -- what was read for a call with this result, by the bytes that were left and the answers of the pulls before and after
 -- it. Unless it was given up, the answer was read whole or up to the end, and says so
 pub record Answers {X : Type 0} (awaited : Awaited) (Says : List ℕ → X → Type 0) (old new : Option (List ℕ)) (asked answered : List Pull)
-    (result : Result X GivenUp) : Type 0 where
+    (result : Result X Aborted) : Type 0 where
   pub read : List ℕ
   pub has_read : HasRead awaited old new read
   pub ended : IsOk result → IsUnfinished awaited read → IsEnded new asked answered
@@ -91,14 +91,14 @@ IsRead read bytes = bytes.items ≡ read
 -- ---- a call
 
 -- the stream failed
-abbrev pub is_device_fault : GivenUp → Bool
+abbrev pub is_device_fault : Aborted → Bool
 is_device_fault Write = true
 is_device_fault Read = true
 is_device_fault f = false
 
 -- these bytes out and such an answer in, and nothing is asked for before they are out
 pub record Exchanges {X : Type 0} (bytes : List ℕ) (awaited : Awaited) (Says : List ℕ → X → Type 0) (old new : StreamView)
-    (result : Result X GivenUp) : Type 0 where
+    (result : Result X Aborted) : Type 0 where
   pub asked : Writes bytes old.held new.held result
   pub unread : IfErr result (λ f. f ≡ Write → new.pulls ≡ old.pulls)
   pub answered : Answers awaited Says old.left new.left old.pulls new.pulls result
@@ -108,4 +108,4 @@ pub record Exchanges {X : Type 0} (bytes : List ℕ) (awaited : Awaited) (Says :
 -- a request out and its answer in
 abbrev pub Calls : {X : Type 0} → Request → (List ℕ → Result X AnswerFault → Type 0) → StreamView → StreamView → Result X ClientFault
     → Type 0
-Calls request Says old new result = Exchanges (sent request) (awaited_by request) Says old new (told result)
+Calls request Says old new result = Exchanges (sent request) (awaited_by request) Says old new (client_result result)

@@ -4,12 +4,12 @@ use Rattle.portmap_wire.specs.{declared.list_reading.ListFault.ListFault, declar
 use Rattle.portmap_wire.specs.declared.reply_reading.ReplyFault.TheVariants as reply
 use Rattle.portmap_wire.specs.declared.list_reading.ListFault.TheVariants as list
 use Rattle.portmap_client.specs.{declared.fault.AnswerFault.AnswerFault, declared.fault.ClientFault.ClientFault}
-use Rattle.portmap_client.specs.declared.fault.GivenUp.{GivenUp, TheVariants.{NoMemory, Read, TooManyTurns, Write}}
+use Rattle.portmap_client.specs.declared.fault.Aborted.{Aborted, TheVariants.{NoMemory, Read, TooManyTurns, Write}}
 use Rattle.portmap_client.specs.declared.fault.AnswerFault.TheVariants as answer
 use Rattle.portmap_client.specs.declared.fault.ClientFault.TheVariants as fault
 
 -- what the answer's bytes tell, or why the call was given up
-abbrev pub split : ClientFault → Result AnswerFault GivenUp
+abbrev pub split : ClientFault → Result AnswerFault Aborted
 split fault.Write = Err Write
 split fault.Read = Err Read
 split fault.TooManyTurns = Err TooManyTurns
@@ -20,23 +20,23 @@ split fault.Strange = Ok answer.Strange
 split fault.TooLong = Ok answer.TooLong
 split fault.NoMemory = Err NoMemory
 
-abbrev pub told_fault : {X : Type 0} → Result AnswerFault GivenUp → Result (Result X AnswerFault) GivenUp
-told_fault (Ok f) = Ok (Err f)
-told_fault (Err f) = Err f
+abbrev pub client_fault : {X : Type 0} → Result AnswerFault Aborted → Result (Result X AnswerFault) Aborted
+client_fault (Ok f) = Ok (Err f)
+client_fault (Err f) = Err f
 
 -- the same of a call's result: what the answer's bytes tell, a value or a fault, or why the call was given up
-abbrev pub told : {X : Type 0} → Result X ClientFault → Result (Result X AnswerFault) GivenUp
-told (Ok x) = Ok (Ok x)
-told (Err f) = told_fault (split f)
+abbrev pub client_result : {X : Type 0} → Result X ClientFault → Result (Result X AnswerFault) Aborted
+client_result (Ok x) = Ok (Ok x)
+client_result (Err f) = client_fault (split f)
 
 -- the same of a fault of a reply, and of a list
-abbrev pub of_reply : ReplyFault → Result AnswerFault GivenUp
+abbrev pub of_reply : ReplyFault → Result AnswerFault Aborted
 of_reply reply.Short = Ok answer.Short
 of_reply (reply.BadTag tag) = Ok (answer.BadTag tag)
 of_reply reply.Strange = Ok answer.Strange
 of_reply reply.NoMemory = Err NoMemory
 
-abbrev pub of_list : ListFault → Result AnswerFault GivenUp
+abbrev pub of_list : ListFault → Result AnswerFault Aborted
 of_list list.Short = Ok answer.Short
 of_list (list.StrangeLine at) = Ok answer.Strange
 of_list list.NoMemory = Err NoMemory

@@ -6,7 +6,7 @@ ghost use Rattle.portmap_client.specs.Exchange.{is_device_fault};
 ghost use Rattle.portmap_client.specs.Laters.{laters, Waits, Waited};
 ghost use Rattle.portmap_client.specs.declared.exchange.TheConstants.{LATERS_MOST, LIST_MOST};
 
-use crate::fault::GivenUp;
+use crate::fault::Aborted;
 use crate::outcome::{OK, STOPPED};
 use portmap_link::{Flush, Input, Limit, Output, Pull, send_all};
 use portmap_wire::{alive_missing, port2_missing};
@@ -55,9 +55,9 @@ fn missing(awaited: Awaited, read: &[u8]) -> usize
 }
 
 /// Writes the bytes, and says how many Laters were met.
-fn ask<S: Output>(stream: &mut S, bytes: &[u8]) -> Result<u64, GivenUp>
+fn ask<S: Output>(stream: &mut S, bytes: &[u8]) -> Result<u64, Aborted>
     ensures writes { Writes bytes.now (S.held stream.old) (S.held stream.new) result }
-    ensures memory { result ≢ Err GivenUp.NoMemory }
+    ensures memory { result ≢ Err Aborted.NoMemory }
     ensures waited { Waited (laters (S.pulls stream.old) (S.puts stream.old))
         (laters (S.pulls stream.new) (S.puts stream.new)) result }
     ensures broken { IfErr result (λ f. is_device_fault f ≡ true → S.broken stream.new ≡ true) }
@@ -67,8 +67,8 @@ fn ask<S: Output>(stream: &mut S, bytes: &[u8]) -> Result<u64, GivenUp>
     let sent = send_all(stream, bytes, Limit::Laters(LATERS_MOST));
     match sent.flush {
         Flush::Empty => Ok(sent.laters),
-        Flush::Later => Err(GivenUp::TooManyTurns),
-        Flush::Fault => Err(GivenUp::Write),
+        Flush::Later => Err(Aborted::TooManyTurns),
+        Flush::Fault => Err(Aborted::Write),
     }
 }
 
@@ -78,11 +78,11 @@ fn hear<S: Input>(
     stream: &mut S,
     awaited: Awaited,
     met: u64,
-) -> Result<Vec<u8>, GivenUp>
+) -> Result<Vec<u8>, Aborted>
     requires { met < LATERS_MOST }
     ensures heard { Answers awaited IsRead (S.left stream.old) (S.left stream.new) (S.pulls stream.old)
         (S.pulls stream.new) result }
-    ensures reads { result ≢ Err GivenUp.Write }
+    ensures reads { result ≢ Err Aborted.Write }
     ensures waits { Waits (laters (S.pulls stream.old) (S.puts stream.old))
         (met + laters (S.pulls stream.new) (S.puts stream.new)) result }
     ensures broken { IfErr result (λ f. is_device_fault f ≡ true → S.broken stream.new ≡ true) }
@@ -100,10 +100,10 @@ fn hear<S: Input>(
             Pull::Piece(count) => read.extend_from_slice(&buffer[..count])?,
             Pull::End => return Ok(read),
             Pull::Later => laters += 1,
-            Pull::Fault => return Err(GivenUp::Read),
+            Pull::Fault => return Err(Aborted::Read),
         }
     }
-    Err(GivenUp::TooManyTurns)
+    Err(Aborted::TooManyTurns)
 }
 
 /// Writes a request and reads its answer: the bytes of all of it, or of what there is up to the end.
@@ -112,7 +112,7 @@ pub(crate) fn exchange<S: Input + Output>(
     stream: &mut S,
     request: &[u8],
     awaited: Awaited,
-) -> Result<Vec<u8>, GivenUp>
+) -> Result<Vec<u8>, Aborted>
     ensures { let seen = view S.left S.held S.pulls S.puts S.broken in
         Exchanges request.now awaited IsRead (seen stream.old) (seen stream.new) result }
 {

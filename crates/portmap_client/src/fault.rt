@@ -1,7 +1,7 @@
 //! Why a call failed.
 ghost use Rattle.std.specs.Prelude.{◌≡◌, Ok, Err};
 ghost use Rattle.portmap_client.specs.Fault.{split, of_reply, of_list};
-ghost use Rattle.portmap_client.specs.declared.fault.GivenUp.TheVariants as given_up;
+ghost use Rattle.portmap_client.specs.declared.fault.Aborted.TheVariants as given_up;
 
 use portmap_wire::{ListFault, NoMemory, ReplyFault};
 
@@ -29,7 +29,7 @@ pub enum ClientFault {
 
 /// Why a call was given up, so that nothing is said of the answer.
 #[derive(Clone, Copy)]
-pub(crate) enum GivenUp {
+pub(crate) enum Aborted {
     Write,
     Read,
     TooManyTurns,
@@ -46,15 +46,15 @@ pub(crate) enum AnswerFault {
     TooLong,
 }
 
-impl From<GivenUp> for ClientFault {
+impl From<Aborted> for ClientFault {
     ghost from_gives = { λ f e. split e ≡ Err f };
 
-    fn from(fault: GivenUp) -> ClientFault {
+    fn from(fault: Aborted) -> ClientFault {
         match fault {
-            GivenUp::Write => ClientFault::Write,
-            GivenUp::Read => ClientFault::Read,
-            GivenUp::TooManyTurns => ClientFault::TooManyTurns,
-            GivenUp::NoMemory => ClientFault::NoMemory,
+            Aborted::Write => ClientFault::Write,
+            Aborted::Read => ClientFault::Read,
+            Aborted::TooManyTurns => ClientFault::TooManyTurns,
+            Aborted::NoMemory => ClientFault::NoMemory,
         }
     }
 }
@@ -98,11 +98,11 @@ impl From<ListFault> for ClientFault {
     }
 }
 
-impl From<NoMemory> for GivenUp {
+impl From<NoMemory> for Aborted {
     ghost from_gives = { λ _ e. e ≡ given_up.NoMemory };
 
-    fn from(_: NoMemory) -> GivenUp {
-        GivenUp::NoMemory
+    fn from(_: NoMemory) -> Aborted {
+        Aborted::NoMemory
     }
 }
 

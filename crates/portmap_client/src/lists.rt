@@ -3,7 +3,7 @@ ghost use Rattle.portmap_wire.specs.Request.{sent};
 ghost use Rattle.portmap_wire.specs.declared.request.Request.TheVariants as request;
 ghost use Rattle.portmap_client.specs.Answer.{SaysList, SaysNames, SaysDump};
 ghost use Rattle.portmap_client.specs.Exchange.{view, Calls, Exchanges};
-ghost use Rattle.portmap_client.specs.Fault.{told};
+ghost use Rattle.portmap_client.specs.Fault.{client_result};
 
 use crate::ClientFault;
 use crate::exchange::{Awaited, LIST_MOST, exchange};
@@ -18,7 +18,7 @@ fn list<S: Input + Output>(
     request: &Request,
 ) -> Result<Vec<u8>, ClientFault>
     ensures { let seen = view S.left S.held S.pulls S.puts S.broken in
-        Exchanges (sent request.now) Awaited.List SaysList (seen stream.old) (seen stream.new) (told result) }
+        Exchanges (sent request.now) Awaited.List SaysList (seen stream.old) (seen stream.new) (client_result result) }
 {
     let request = write_request(alloc, request)?;
     let bytes = exchange(alloc, stream, &request, Awaited::List)?;

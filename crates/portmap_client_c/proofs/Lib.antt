@@ -1,3 +1,3 @@
-mod Places
+mod Offsets
 mod NextLine
 pub mod ListSizes

@@ -5,8 +5,8 @@ use Rattle.portmap_wire.specs.{ListReading.{Lists, ListsTo}, Reply.be4, declared
 -- there are no more lines than bytes
 lines_are_fewer : (text : List ℕ) (lines : List Line) (rest : List ℕ) → ListsTo text lines rest → length lines ≤ length text
 lines_are_fewer text [] rest l = omega arith
-lines_are_fewer text (line ∷ lines) rest (front, after, is, reads, more) =
-    omega (arith, lines_are_fewer after lines rest more, ap length is, length-append front (10 ∷ after))
+lines_are_fewer text (line ∷ lines) rest (prefix, after, is, reads, more) =
+    omega (arith, lines_are_fewer after lines rest more, ap length is, length-append prefix (10 ∷ after))
 
 pub list_is_short : (list : List ℕ) (port : ℕ) (lines : List Line) → Lists list port lines → length lines ≤ length list
 list_is_short list port lines l =

@@ -11,7 +11,7 @@ use Rattle.portmap_wire.specs.declared.list_reading.ListFault.TheVariants as fau
 use Rattle.portmap_client_c.specs.{Answers.text_in, Lists.{IsLineFault, IsNextLine, IsOneLine, IsReadingFault}}
 use Rattle.portmap_client_c.specs.{Status.line_status, declared.node.EpmdText.EpmdText}
 use Rattle.portmap_client_c.specs.declared.status.TheConstants.{EPMD_STRANGE_LINE, EPMD_NO_MEMORY}
-use Rattle.portmap_client_c.proofs.Places.{lies_at}
+use Rattle.portmap_client_c.proofs.Offsets.{lies_at}
 
 -- ---- a text of one line
 
@@ -25,40 +25,40 @@ only_cut (x ∷ a) b (y ∷ c) plain e =
     let rest = only_cut a b c (λ k d lt. plain (suc k) d (omega arith)) cc in
     λ i. first i ∷ rest i
 
-first_reads : (text front : List ℕ) (line : Line) (lines : List Line) → ListsTo text (line ∷ lines) [] → IsOneLine text front
-    → ReadsLine front line
-first_reads text front line lines l one =
-    subst (λ (t : List ℕ). ReadsLine t line) (only_cut l.0 l.1 front one.front_is (sym l.2 ∙ one.text_is)) l.3
+first_reads : (text prefix : List ℕ) (line : Line) (lines : List Line) → ListsTo text (line ∷ lines) [] → IsOneLine text prefix
+    → ReadsLine prefix line
+first_reads text prefix line lines l one =
+    subst (λ (t : List ℕ). ReadsLine t line) (only_cut l.0 l.1 prefix one.front_is (sym l.2 ∙ one.text_is)) l.3
 
 behind_head : (list : List ℕ) (port : ℕ) (lines : List Line) (l : Lists list port lines) → ListsTo (drop 4 list) lines []
 behind_head list port lines l = subst (λ (t : List ℕ). ListsTo t lines []) (sym (ap (λ (t : List ℕ). drop 4 t) l.bytes_are)) l.lines_are
 
-not_empty : (text front : List ℕ) → text ≡ [] → IsOneLine text front → ⊥
-not_empty text front e one = omega (arith, ap length e, ap length one.text_is, length-append front (10 ∷ []))
+not_empty : (text prefix : List ℕ) → text ≡ [] → IsOneLine text prefix → ⊥
+not_empty text prefix e one = omega (arith, ap length e, ap length one.text_is, length-append prefix (10 ∷ []))
 
 -- the first line of a list is read
-pub reads_first : (list front : List ℕ) (port : ℕ) (lines : List Line) (line : Line) → Lists list port lines → 0 < length lines
-    → line ≡ slice_index_or lines 0 line → IsOneLine (drop 4 list) front → ReadsLine front line
-reads_first list front port [] line l some is one = absurd (omega (arith, some))
-reads_first list front port (m ∷ lines) line l some is one =
-    subst (ReadsLine front) (sym is) (first_reads (drop 4 list) front m lines (behind_head list port (m ∷ lines) l) one)
+pub reads_first : (list prefix : List ℕ) (port : ℕ) (lines : List Line) (line : Line) → Lists list port lines → 0 < length lines
+    → line ≡ slice_index_or lines 0 line → IsOneLine (drop 4 list) prefix → ReadsLine prefix line
+reads_first list prefix port [] line l some is one = absurd (omega (arith, some))
+reads_first list prefix port (m ∷ lines) line l some is one =
+    subst (ReadsLine prefix) (sym is) (first_reads (drop 4 list) prefix m lines (behind_head list port (m ∷ lines) l) one)
 
 -- or why it isn't
-reads_list : (list front : List ℕ) (port : ℕ) (lines : List Line) → Lists list port lines → IsOneLine (drop 4 list) front
-    → (line : Line) × ReadsLine front line
-reads_list list front port [] l one = absurd (not_empty (drop 4 list) front (behind_head list port [] l) one)
-reads_list list front port (m ∷ lines) l one = (m, first_reads (drop 4 list) front m lines (behind_head list port (m ∷ lines) l) one)
+reads_list : (list prefix : List ℕ) (port : ℕ) (lines : List Line) → Lists list port lines → IsOneLine (drop 4 list) prefix
+    → (line : Line) × ReadsLine prefix line
+reads_list list prefix port [] l one = absurd (not_empty (drop 4 list) prefix (behind_head list port [] l) one)
+reads_list list prefix port (m ∷ lines) l one = (m, first_reads (drop 4 list) prefix m lines (behind_head list port (m ∷ lines) l) one)
 
-pub reads_none : (list front : List ℕ) (f : ListFault) → 4 ≤ length list → IsListFault list f → (f ≡ fault.NoMemory → IsList list)
-    → IsOneLine (drop 4 list) front → IsReadingFault front f
-reads_none list front fault.Short long h memory one = absurd (omega (arith, long, h))
-reads_none list front (fault.StrangeLine at) long h memory one = λ line r.
-    let text_is : h.text ≡ front ++ 10 ∷ [] = sym (ap (λ (t : List ℕ). drop 4 t) h.bytes_are) ∙ one.text_is in
+pub reads_none : (list prefix : List ℕ) (f : ListFault) → 4 ≤ length list → IsListFault list f → (f ≡ fault.NoMemory → IsList list)
+    → IsOneLine (drop 4 list) prefix → IsReadingFault prefix f
+reads_none list prefix fault.Short long h memory one = absurd (omega (arith, long, h))
+reads_none list prefix (fault.StrangeLine at) long h memory one = λ line r.
+    let text_is : h.text ≡ prefix ++ 10 ∷ [] = sym (ap (λ (t : List ℕ). drop 4 t) h.bytes_are) ∙ one.text_is in
     let lists : Lists list h.port (line ∷ []) =
-    record { port_is = h.port_is; text = h.text; bytes_are = h.bytes_are; lines_are = (front, [], text_is, r, refl) } in
+    record { port_is = h.port_is; text = h.text; bytes_are = h.bytes_are; lines_are = (prefix, [], text_is, r, refl) } in
     let never : fault.StrangeLine at ≡ fault.NoMemory = (lists_once list h.port (line ∷ []) lists).faultless (fault.StrangeLine at) h in
     cc
-reads_none list front fault.NoMemory long h memory one = let l = memory refl in reads_list list front l.0 l.1 l.2 one
+reads_none list prefix fault.NoMemory long h memory one = let l = memory refl in reads_list list prefix l.0 l.1 l.2 one
 
 -- ---- the line at a place
 
@@ -84,10 +84,10 @@ module _ (bytes : List ℕ) (at size : ℕ) (found : Some size ≡ position is_n
 
   one_more : take (size + 1) (drop at bytes) ≡ take size (drop at bytes) ++ 10 ∷ []
   one_more =
-      let front = take size (drop at bytes) in
+      let prefix = take size (drop at bytes) in
       let after = drop 1 (drop size (drop at bytes)) in
-      ap (λ (t : List ℕ). take (size + 1) t) cut.text_is ∙ ap (λ (n : ℕ). take (n + 1) (front ++ 10 ∷ after)) (sym size_is)
-      ∙ take-append-add front (10 ∷ after) 1
+      ap (λ (t : List ℕ). take (size + 1) t) cut.text_is ∙ ap (λ (n : ℕ). take (n + 1) (prefix ++ 10 ∷ after)) (sym size_is)
+      ∙ take-append-add prefix (10 ∷ after) 1
 
   -- with four bytes in front of it, it is a list of one line
   pub window : 4 ≤ at → IsOneLine (drop 4 (take (at + size + 1 - (at - 4)) (drop (at - 4) bytes))) (take size (drop at bytes))
@@ -146,7 +146,7 @@ module _ (bytes : List ℕ) (at size : ℕ) (found : Some size ≡ position is_n
         (record { name = record { at = at + 5; size = length line.name }; port = line.port })
     unfolding name_of
     next_line = record {
-      front = take size (drop at bytes);
+      prefix = take size (drop at bytes);
       text_is = cut.text_is ∙ ap (λ (t : List ℕ). take size (drop at bytes) ++ 10 ∷ t) behind;
       reads = subst (λ (n : List ℕ). ReadsLine (take size (drop at bytes)) (record { name = n; port = line.port })) (sym named_in) reads;
       next_is = omega (arith, size_is);
@@ -166,16 +166,16 @@ strange_fault text s = record {
 pub uncut_fault : (text : List ℕ) → 0 < length text → None ≡ position is_newline text → IsLineFault text EPMD_STRANGE_LINE
 uncut_fault text some e = strange_fault text (strange_uncut text some (not_cut text e))
 
-cut_fault : (text front after : List ℕ) → IsCut text front after → HasNoReading front → IsLineFault text EPMD_STRANGE_LINE
-cut_fault text front after cut unread = strange_fault text (strange_cut text front after cut unread)
+cut_fault : (text prefix after : List ℕ) → IsCut text prefix after → HasNoReading prefix → IsLineFault text EPMD_STRANGE_LINE
+cut_fault text prefix after cut unread = strange_fault text (strange_cut text prefix after cut unread)
 
-pub line_fault : (text front after : List ℕ) (f : ListFault) → IsCut text front after → IsReadingFault front f
+pub line_fault : (text prefix after : List ℕ) (f : ListFault) → IsCut text prefix after → IsReadingFault prefix f
     → IsLineFault text (line_status f)
-line_fault text front after fault.Short cut unread = cut_fault text front after cut unread
-line_fault text front after (fault.StrangeLine at) cut unread = cut_fault text front after cut unread
-line_fault text front after fault.NoMemory cut read =
+line_fault text prefix after fault.Short cut unread = cut_fault text prefix after cut unread
+line_fault text prefix after (fault.StrangeLine at) cut unread = cut_fault text prefix after cut unread
+line_fault text prefix after fault.NoMemory cut read =
     record {
       strange = λ e. absurd (let other : EPMD_NO_MEMORY ≡ EPMD_STRANGE_LINE = e in cc);
-      memory = λ _. (front, after, read.0, cut.text_is, read.1);
+      memory = λ _. (prefix, after, read.0, cut.text_is, read.1);
       no_other = λ _. refl;
     }

@@ -7,10 +7,10 @@ use Rattle.portmap_client_c.specs.{declared.node.EpmdFound.EpmdFound, declared.n
 use Rattle.portmap_client_c.specs.declared.status.TheConstants.{EPMD_OK, EPMD_REFUSED, EPMD_NOT_REGISTERED}
 
 -- what was said to a registration
-abbrev pub TellsAlive : Result AliveReply ReplyFault → EpmdAlive → EpmdAlive → ℤ → Type 0
-TellsAlive (Ok (Given creation)) old new status = (status ≡ EPMD_OK) × (new ≡ record { creation = creation; code = 0 })
-TellsAlive (Ok (Refused code)) old new status = (status ≡ EPMD_REFUSED) × (new ≡ record { creation = 0; code = code })
-TellsAlive (Err fault) old new status = (status ≡ reply_status fault) × (new ≡ old)
+abbrev pub ReportsAlive : Result AliveReply ReplyFault → EpmdAlive → EpmdAlive → ℤ → Type 0
+ReportsAlive (Ok (Given creation)) old new status = (status ≡ EPMD_OK) × (new ≡ record { creation = creation; code = 0 })
+ReportsAlive (Ok (Refused code)) old new status = (status ≡ EPMD_REFUSED) × (new ≡ record { creation = 0; code = code })
+ReportsAlive (Err fault) old new status = (status ≡ reply_status fault) × (new ≡ old)
 
 -- ---- texts in bytes
 
@@ -19,7 +19,7 @@ abbrev pub text_in : List ℕ → EpmdText → List ℕ
 text_in bytes text = take text.size (drop text.at bytes)
 
 -- a node whose name begins at a place, and whose extra bytes begin so many behind its name
-pub record PlacesIn (at between : ℕ) (g : Node) (found : EpmdFound) : Type 0 where
+pub record OffsetsIn (at between : ℕ) (g : Node) (found : EpmdFound) : Type 0 where
   pub node : g ≡ node_of found.node g.name g.extra
   pub name_at : found.name.at ≡ at
   pub name_size : found.name.size ≡ length g.name
@@ -33,7 +33,7 @@ pub record IsFoundIn (bytes : List ℕ) (g : Node) (found : EpmdFound) : Type 0 
   pub extra : found.extra.at + found.extra.size ≤ length bytes
 
 -- what was said to a look-up
-abbrev pub TellsFound : List ℕ → Result (Option Node) ReplyFault → EpmdFound → EpmdFound → ℤ → Type 0
-TellsFound bytes (Ok (Some g)) old new status = (status ≡ EPMD_OK) × IsFoundIn bytes g new
-TellsFound bytes (Ok None) old new status = (status ≡ EPMD_NOT_REGISTERED) × (new ≡ old)
-TellsFound bytes (Err fault) old new status = (status ≡ reply_status fault) × (new ≡ old)
+abbrev pub ReportsFound : List ℕ → Result (Option Node) ReplyFault → EpmdFound → EpmdFound → ℤ → Type 0
+ReportsFound bytes (Ok (Some g)) old new status = (status ≡ EPMD_OK) × IsFoundIn bytes g new
+ReportsFound bytes (Ok None) old new status = (status ≡ EPMD_NOT_REGISTERED) × (new ≡ old)
+ReportsFound bytes (Err fault) old new status = (status ≡ reply_status fault) × (new ≡ old)

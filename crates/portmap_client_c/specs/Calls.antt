@@ -10,7 +10,7 @@ use Rattle.portmap_client.specs.{declared.outcome.Kill.Kill, declared.outcome.St
 use Rattle.portmap_client.specs.declared.fault.ClientFault.TheVariants as client
 use Rattle.portmap_client.specs.declared.outcome.Kill.TheVariants as kill
 use Rattle.portmap_client.specs.declared.outcome.Stop.TheVariants as stop
-use Rattle.portmap_client_c.specs.{Answers.PlacesIn, Status.client_status, Writing.{Puts, PutsList}}
+use Rattle.portmap_client_c.specs.{Answers.OffsetsIn, Status.client_status, Writing.{Puts, PutsList}}
 use Rattle.portmap_client_c.specs.{declared.node.EpmdAlive.EpmdAlive, declared.node.EpmdFound.EpmdFound}
 use Rattle.portmap_client_c.specs.declared.status.TheConstants.{EPMD_OK, EPMD_NOT_REGISTERED, EPMD_NO_EXIST}
 use Rattle.portmap_client_c.specs.declared.status.TheConstants.{EPMD_NOT_ALLOWED, EPMD_NO_MEMORY}
@@ -74,25 +74,25 @@ abbrev pub alive_after : ClientFault → EpmdAlive → EpmdAlive
 alive_after (client.Refused code) alive = record { creation = 0; code = code }
 alive_after fault alive = alive
 
-abbrev pub TellsCreation : Result ℕ ClientFault → EpmdAlive → EpmdAlive → ℤ → Type 0
-TellsCreation (Ok creation) old new status = (status ≡ EPMD_OK) × (new ≡ record { creation = creation; code = 0 })
-TellsCreation (Err fault) old new status = (status ≡ client_status fault) × (new ≡ alive_after fault old)
+abbrev pub ReportsCreation : Result ℕ ClientFault → EpmdAlive → EpmdAlive → ℤ → Type 0
+ReportsCreation (Ok creation) old new status = (status ≡ EPMD_OK) × (new ≡ record { creation = creation; code = 0 })
+ReportsCreation (Err fault) old new status = (status ≡ client_status fault) × (new ≡ alive_after fault old)
 
 -- a node, whose texts are put into a buffer, the extra bytes behind the name
-pub record TellsNode (g : Node) (old new : List ℕ) (found : EpmdFound) (status : ℤ) : Type 0 where
-  pub places : PlacesIn 0 0 g found
+pub record ReportsNode (g : Node) (old new : List ℕ) (found : EpmdFound) (status : ℤ) : Type 0 where
+  pub places : OffsetsIn 0 0 g found
   pub texts : Puts (g.name ++ g.extra) old new (found.name.size + found.extra.size) status
 
-abbrev pub TellsLookup : Result (Option Node) ClientFault → List ℕ → List ℕ → EpmdFound → EpmdFound → ℤ → Type 0
-TellsLookup (Ok (Some g)) old new was is status = TellsNode g old new is status
-TellsLookup (Ok None) old new was is status = (status ≡ EPMD_NOT_REGISTERED) × (new ≡ old) × (is ≡ was)
-TellsLookup (Err fault) old new was is status = (status ≡ client_status fault) × (new ≡ old) × (is ≡ was)
+abbrev pub ReportsLookup : Result (Option Node) ClientFault → List ℕ → List ℕ → EpmdFound → EpmdFound → ℤ → Type 0
+ReportsLookup (Ok (Some g)) old new was is status = ReportsNode g old new is status
+ReportsLookup (Ok None) old new was is status = (status ≡ EPMD_NOT_REGISTERED) × (new ≡ old) × (is ≡ was)
+ReportsLookup (Err fault) old new was is status = (status ≡ client_status fault) × (new ≡ old) × (is ≡ was)
 
 -- a list, as a port mapper spells it
-abbrev pub TellsNames : Result (ℕ × Vec Line Global) ClientFault → List ℕ → List ℕ → ℕ → ℤ → Type 0
-TellsNames (Ok list) old new size status = PutsList list.0 list.1.items old new size status
-TellsNames (Err fault) old new size status = (status ≡ client_status fault) × (new ≡ old) × (size ≡ 0)
+abbrev pub ReportsNames : Result (ℕ × Vec Line Global) ClientFault → List ℕ → List ℕ → ℕ → ℤ → Type 0
+ReportsNames (Ok list) old new size status = PutsList list.0 list.1.items old new size status
+ReportsNames (Err fault) old new size status = (status ≡ client_status fault) × (new ≡ old) × (size ≡ 0)
 
-abbrev pub TellsDump : Result (ℕ × Vec ℕ Global) ClientFault → List ℕ → List ℕ → ℕ → ℤ → Type 0
-TellsDump (Ok dump) old new size status = Puts (be4 dump.0 ++ dump.1.items) old new size status × (status ≢ EPMD_NO_MEMORY)
-TellsDump (Err fault) old new size status = (status ≡ client_status fault) × (new ≡ old) × (size ≡ 0)
+abbrev pub ReportsDump : Result (ℕ × Vec ℕ Global) ClientFault → List ℕ → List ℕ → ℕ → ℤ → Type 0
+ReportsDump (Ok dump) old new size status = Puts (be4 dump.0 ++ dump.1.items) old new size status × (status ≢ EPMD_NO_MEMORY)
+ReportsDump (Err fault) old new size status = (status ≡ client_status fault) × (new ≡ old) × (size ≡ 0)

@@ -12,27 +12,27 @@ line_in bytes line = record { name = text_in bytes line.name; port = line.port }
 
 -- a line, ended by byte 10, stands between these places
 pub record IsNextLine (bytes : List ℕ) (at next : ℕ) (line : EpmdLine) : Type 0 where
-  pub front : List ℕ
-  pub text_is : drop at bytes ≡ front ++ 10 ∷ drop next bytes
-  pub reads : ReadsLine front (line_in bytes line)
-  pub next_is : next ≡ at + length front + 1
+  pub prefix : List ℕ
+  pub text_is : drop at bytes ≡ prefix ++ 10 ∷ drop next bytes
+  pub reads : ReadsLine prefix (line_in bytes line)
+  pub next_is : next ≡ at + length prefix + 1
   pub name_from : at ≤ line.name.at
   pub name_to : line.name.at + line.name.size ≤ next
 
 -- a text is this one, ended by its only byte 10
-pub record IsOneLine (text front : List ℕ) : Type 0 where
-  pub text_is : text ≡ front ++ 10 ∷ []
-  pub front_is : HasNoNewline front
+pub record IsOneLine (text prefix : List ℕ) : Type 0 where
+  pub text_is : text ≡ prefix ++ 10 ∷ []
+  pub front_is : HasNoNewline prefix
 
 -- why a text is not read as a line
 abbrev pub IsReadingFault : List ℕ → ListFault → Type 0
-IsReadingFault front fault.NoMemory = (line : Line) × ReadsLine front line
-IsReadingFault front fault.Short = HasNoReading front
-IsReadingFault front (fault.StrangeLine at) = HasNoReading front
+IsReadingFault prefix fault.NoMemory = (line : Line) × ReadsLine prefix line
+IsReadingFault prefix fault.Short = HasNoReading prefix
+IsReadingFault prefix (fault.StrangeLine at) = HasNoReading prefix
 
 -- a text begins with a line, ended by byte 10
 abbrev pub HasLine : List ℕ → Type 0
-HasLine text = (front : List ℕ) × (after : List ℕ) × (line : Line) × (text ≡ front ++ 10 ∷ after) × ReadsLine front line
+HasLine text = (prefix : List ℕ) × (after : List ℕ) × (line : Line) × (text ≡ prefix ++ 10 ∷ after) × ReadsLine prefix line
 
 -- why no line was read
 pub record IsLineFault (text : List ℕ) (status : ℤ) : Type 0 where

@@ -2,7 +2,7 @@
 //! at.
 ghost use Rattle.std.specs.Prelude.{◌≡◌, ◌≢◌, ◌+◌, ◌<◌, ◌≤◌, List, ℕ, ◌++◌, length, Err, IsOk};
 ghost use Rattle.portmap_wire.specs.ReplyReading.{alive_answer, port2_answer};
-ghost use Rattle.portmap_client_c.specs.Answers.{PlacesIn, TellsAlive, TellsFound};
+ghost use Rattle.portmap_client_c.specs.Answers.{OffsetsIn, ReportsAlive, ReportsFound};
 
 use crate::node::{EpmdAlive, EpmdFound, EpmdNode, EpmdText};
 use crate::status::{EPMD_NO_MEMORY, EPMD_NOT_REGISTERED, EPMD_OK, EPMD_REFUSED, reply_status};
@@ -35,7 +35,7 @@ pub extern "C" fn epmd_port2_missing(bytes: &[u8]) -> usize
 /// Reads the answer to a registration.
 #[unsafe(no_mangle)]
 pub extern "C" fn epmd_read_alive(bytes: &[u8], alive: &mut EpmdAlive) -> i32
-    ensures { TellsAlive (alive_answer bytes.now) alive.old alive.new result }
+    ensures { ReportsAlive (alive_answer bytes.now) alive.old alive.new result }
 {
     match read_alive(bytes) {
         Ok(AliveReply::Given(creation)) => {
@@ -72,7 +72,7 @@ pub(crate) fn numbers_of(reg: &Reg) -> EpmdNode
 /// What is registered, with its name at this place and its extra bytes so many bytes behind the name.
 pub(crate) fn found_at(reg: &Reg, at: usize, between: usize) -> EpmdFound
     requires { at + between ≤ 1000 }
-    ensures { PlacesIn at between reg.now result }
+    ensures { OffsetsIn at between reg.now result }
 {
     let name = EpmdText {
         at,
@@ -92,7 +92,7 @@ pub(crate) fn found_at(reg: &Reg, at: usize, between: usize) -> EpmdFound
 /// Reads the answer to a look-up. The texts of what is found lie in these bytes.
 #[unsafe(no_mangle)]
 pub extern "C" fn epmd_read_port2(alloc: Global, bytes: &[u8], found: &mut EpmdFound) -> i32
-    ensures told { result ≢ EPMD_NO_MEMORY → TellsFound bytes.now (port2_answer bytes.now) found.old found.new result }
+    ensures told { result ≢ EPMD_NO_MEMORY → ReportsFound bytes.now (port2_answer bytes.now) found.old found.new result }
     // Memory is asked for last, and none is kept.
     ensures memory { result ≡ EPMD_NO_MEMORY → IsOk (port2_answer bytes.now) }
     ensures unchanged { result ≢ EPMD_OK → found.new ≡ found.old }

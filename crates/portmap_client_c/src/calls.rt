@@ -3,7 +3,7 @@ ghost use Rattle.std.specs.Prelude.{◌≡◌, ◌≢◌, ◌++◌, List, ℕ, �
 ghost use Rattle.portmap_wire.specs.RequestReading.{name_in};
 ghost use Rattle.portmap_client.specs.Exchange.{view};
 ghost use Rattle.portmap_client_c.specs.Calls.{Asks, Dumps, IfSaid, Kills, ListsNames, LooksUp, Registers, Stops};
-ghost use Rattle.portmap_client_c.specs.Calls.{TellsCreation, TellsDump, TellsLookup, TellsNames, TellsNode};
+ghost use Rattle.portmap_client_c.specs.Calls.{ReportsCreation, ReportsDump, ReportsLookup, ReportsNames, ReportsNode};
 ghost use Rattle.portmap_client_c.specs.Calls.{alive_after, kill_status, stop_status};
 ghost use Rattle.portmap_client_c.specs.Writing.{node_said, with_name};
 ghost use Rattle.portmap_client_c.specs.declared.status.TheConstants.{EPMD_NO_MEMORY};
@@ -49,7 +49,7 @@ pub(crate) fn register<S: Input + Output>(
     ensures told { let seen = view S.left S.held S.pulls S.puts S.broken in
         result.0 ≢ EPMD_NO_MEMORY → IfSaid (node_said node.now name.now extra.now)
         (λ g. Asks (Registers g) (seen stream) (seen result.1)
-        (λ answer. TellsCreation answer alive.old alive.new result.0))
+        (λ answer. ReportsCreation answer alive.old alive.new result.0))
         (λ status. (result.0 ≡ status) × (alive.new ≡ alive.old)) }
     ensures memory { result.0 ≡ EPMD_NO_MEMORY → IsOk (node_said node.now name.now extra.now)
         × (alive.new ≡ alive.old) }
@@ -75,7 +75,7 @@ pub(crate) fn register<S: Input + Output>(
 
 /// Puts the texts of a node into a buffer, and tells where they lie there.
 fn put_node(reg: &Reg, texts: &mut [u8], found: &mut EpmdFound) -> i32
-    ensures told { TellsNode reg.now texts.old texts.new found.new result }
+    ensures told { ReportsNode reg.now texts.old texts.new found.new result }
     ensures memory { result ≢ EPMD_NO_MEMORY }
 {
     *found = found_at(reg, 0, 0);
@@ -93,7 +93,7 @@ pub(crate) fn lookup<S: Input + Output>(
     ensures told { let seen = view S.left S.held S.pulls S.puts S.broken in
         result ≢ EPMD_NO_MEMORY → IfSaid (with_name (λ n. Ok n) (name_in name.now))
         (λ n. Asks (LooksUp n) (seen stream.old) (seen stream.new)
-        (λ answer. TellsLookup answer texts.old texts.new found.old found.new result))
+        (λ answer. ReportsLookup answer texts.old texts.new found.old found.new result))
         (λ status. (result ≡ status) × (texts.new ≡ texts.old) × (found.new ≡ found.old)) }
     ensures memory { result ≡ EPMD_NO_MEMORY →
         IsOk (with_name (λ n. Ok n) (name_in name.now)) × (texts.new ≡ texts.old) × (found.new ≡ found.old) }
@@ -119,7 +119,7 @@ pub(crate) fn names<S: Input + Output>(
 ) -> i32
     ensures told { let seen = view S.left S.held S.pulls S.puts S.broken in
         Asks ListsNames (seen stream.old) (seen stream.new)
-        (λ answer. TellsNames answer out.old out.new size.new result) }
+        (λ answer. ReportsNames answer out.old out.new size.new result) }
     ensures memory { result ≡ EPMD_NO_MEMORY → (out.new ≡ out.old) × (size.new ≡ 0) }
 {
     *size = 0;
@@ -138,7 +138,7 @@ pub(crate) fn dump<S: Input + Output>(
     size: &mut usize,
 ) -> i32
     ensures told { let seen = view S.left S.held S.pulls S.puts S.broken in
-        Asks Dumps (seen stream.old) (seen stream.new) (λ answer. TellsDump answer out.old out.new size.new result) }
+        Asks Dumps (seen stream.old) (seen stream.new) (λ answer. ReportsDump answer out.old out.new size.new result) }
     ensures memory { result ≡ EPMD_NO_MEMORY → (out.new ≡ out.old) × (size.new ≡ 0) }
 {
     *size = 0;

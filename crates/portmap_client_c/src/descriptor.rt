@@ -3,7 +3,7 @@ ghost use Rattle.std.specs.Prelude.{◌≡◌, ◌<◌, [], None, Some, false, l
 ghost use Rattle.std.specs.IoError.{error_kind, os_error_kind, raw_os_error};
 ghost use Rattle.portmap_link.specs.Device.{PullConsumes, PutAppends};
 
-use portmap_link::{Device, Input, Output, Past, Pull, Put, pull_from, put_from};
+use portmap_link::{Device, GhostList, Input, Output, Pull, Put, pull_from, put_from};
 use std::io;
 
 /// A connected socket of the caller's, by its number. It stays open.
@@ -11,8 +11,8 @@ use std::io;
 pub(crate) struct Descriptor {
     number: i32,
     failed: bool,
-    pulls: Past<Pull>,
-    puts: Past<Put>,
+    pulls: GhostList<Pull>,
+    puts: GhostList<Put>,
 }
 
 /// What a call of the system told that moved so many bytes, or that failed with this number where it moved fewer than
@@ -55,8 +55,8 @@ impl Descriptor {
         Descriptor {
             number,
             failed: false,
-            pulls: Past::new(),
-            puts: Past::new(),
+            pulls: GhostList::new(),
+            puts: GhostList::new(),
         }
     }
 }

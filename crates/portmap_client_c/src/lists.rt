@@ -55,9 +55,9 @@ fn first_line(lines: Vec<Line>) -> Option<Line>
 /// The one line of a list, which is all of it but for its first four bytes.
 fn one_line(alloc: Global, list: &[u8]) -> Result<Line, ListFault>
     requires { 4 ≤ length list.now }
-    ensures found { IfOk result (λ line. (front : List ℕ) → IsOneLine (drop 4 list.now) front → ReadsLine front line) }
-    ensures fault { IfErr result (λ fault. (front : List ℕ) → IsOneLine (drop 4 list.now) front
-        → IsReadingFault front fault) }
+    ensures found { IfOk result (λ line. (prefix : List ℕ) → IsOneLine (drop 4 list.now) prefix → ReadsLine prefix line) }
+    ensures fault { IfErr result (λ fault. (prefix : List ℕ) → IsOneLine (drop 4 list.now) prefix
+        → IsReadingFault prefix fault) }
 {
     match read_names(alloc, list) {
         Ok((_, lines)) => match first_line(lines) {

@@ -4,7 +4,7 @@
 ghost use Rattle.std.specs.Prelude.{◌≡◌, ◌≢◌, Ok, IsOk};
 ghost use Rattle.portmap_wire.specs.RequestReading.{name_in};
 ghost use Rattle.portmap_client_c.specs.Calls.{AsksOnce, Dumps, IfSaid, Kills, ListsNames, LooksUp, Registers, Stops};
-ghost use Rattle.portmap_client_c.specs.Calls.{TellsCreation, TellsDump, TellsLookup, TellsNames, kill_status};
+ghost use Rattle.portmap_client_c.specs.Calls.{ReportsCreation, ReportsDump, ReportsLookup, ReportsNames, kill_status};
 ghost use Rattle.portmap_client_c.specs.Calls.{stop_status};
 ghost use Rattle.portmap_client_c.specs.Writing.{node_said, with_name};
 ghost use Rattle.portmap_client_c.specs.declared.status.TheConstants.{EPMD_NO_MEMORY};
@@ -25,7 +25,7 @@ pub extern "C" fn epmd_register(
     alive: &mut EpmdAlive,
 ) -> i32
     ensures told { result ≢ EPMD_NO_MEMORY → IfSaid (node_said node.now name.now extra.now)
-        (λ g. AsksOnce (Registers g) (λ answer. TellsCreation answer alive.old alive.new result))
+        (λ g. AsksOnce (Registers g) (λ answer. ReportsCreation answer alive.old alive.new result))
         (λ status. (result ≡ status) × (alive.new ≡ alive.old)) }
     ensures memory { result ≡ EPMD_NO_MEMORY → IsOk (node_said node.now name.now extra.now) × (alive.new ≡ alive.old) }
 {
@@ -43,7 +43,7 @@ pub extern "C" fn epmd_lookup(
     found: &mut EpmdFound,
 ) -> i32
     ensures told { result ≢ EPMD_NO_MEMORY → IfSaid (with_name (λ n. Ok n) (name_in name.now))
-        (λ n. AsksOnce (LooksUp n) (λ answer. TellsLookup answer texts.old texts.new found.old found.new result))
+        (λ n. AsksOnce (LooksUp n) (λ answer. ReportsLookup answer texts.old texts.new found.old found.new result))
         (λ status. (result ≡ status) × (texts.new ≡ texts.old) × (found.new ≡ found.old)) }
     ensures memory { result ≡ EPMD_NO_MEMORY →
         IsOk (with_name (λ n. Ok n) (name_in name.now)) × (texts.new ≡ texts.old) × (found.new ≡ found.old) }
@@ -55,7 +55,7 @@ pub extern "C" fn epmd_lookup(
 /// front of `out`.
 #[unsafe(no_mangle)]
 pub extern "C" fn epmd_names(alloc: Global, socket: i32, out: &mut [u8], size: &mut usize) -> i32
-    ensures told { AsksOnce ListsNames (λ answer. TellsNames answer out.old out.new size.new result) }
+    ensures told { AsksOnce ListsNames (λ answer. ReportsNames answer out.old out.new size.new result) }
     ensures memory { result ≡ EPMD_NO_MEMORY → (out.new ≡ out.old) × (size.new ≡ 0) }
 {
     names(alloc, &mut Descriptor::new(socket), out, size)
@@ -65,7 +65,7 @@ pub extern "C" fn epmd_names(alloc: Global, socket: i32, out: &mut [u8], size: &
 /// of `out`.
 #[unsafe(no_mangle)]
 pub extern "C" fn epmd_dump(alloc: Global, socket: i32, out: &mut [u8], size: &mut usize) -> i32
-    ensures told { AsksOnce Dumps (λ answer. TellsDump answer out.old out.new size.new result) }
+    ensures told { AsksOnce Dumps (λ answer. ReportsDump answer out.old out.new size.new result) }
     ensures memory { result ≡ EPMD_NO_MEMORY → (out.new ≡ out.old) × (size.new ≡ 0) }
 {
     dump(alloc, &mut Descriptor::new(socket), out, size)

@@ -6,7 +6,7 @@ use Rattle.std.specs.FinMap as map
 use Rattle.portmap_feed.specs.Stream.{More, first_request}
 use Rattle.portmap_core.specs.{Config.Configuration, Connections.ConnectionMap, Run.{Hears, waiting_state}}
 use Rattle.portmap_core.specs.{Serving.Served, State.{State, empty_state, phase_at, phase_of_stage, state_of}}
-use Rattle.portmap_core.specs.Step.{Opens, Outcome, Says, Settles, halted_by, outcome_of}
+use Rattle.portmap_core.specs.Step.{Opens, Effect, Says, Settles, halted_by, outcome_of}
 use Rattle.portmap_core.specs.{declared.connection.Connection.Connection, declared.connection.Stage.TheVariants.Waiting}
 use Rattle.portmap_core.specs.declared.event.Fate.{Fate}
 use Rattle.portmap_core.proofs.{Slots.{get_inserted, insert_again, stopped_alike}, Waits.said}
@@ -19,7 +19,7 @@ sender read = record { local = true; stage = Waiting read }
 -- what is told does not depend on what was read before
 alike : (slot : ℕ) (a b : List ℕ) (o : Served)
     → outcome_of (waiting_state slot a) slot (sender a) o ≡ outcome_of (waiting_state slot b) slot (sender b) o
-alike slot a b o = ap (λ (m : ConnectionMap). let x : Outcome =
+alike slot a b o = ap (λ (m : ConnectionMap). let x : Effect =
     record { reply = o.reply; fate = o.fate; state = state_of o.names m (halted_by o.fate false) } in x)
     (stopped_alike map.empty o.stopped slot (sender a) (sender b) (record { local = true; stage = o.stage }))
 
@@ -54,7 +54,7 @@ module _ {cfg : Configuration} {s s' : State} {slot : ℕ} {piece reply : List �
       let heard : Says cfg (waiting_state slot []) slot (read ++ piece) reply fate s' = record {
         connection = sender [];
         is_open = get_inserted map.empty slot (sender []);
-        told = search (rules, alike, settles);
+        response = search (rules, alike, settles);
       } in
       record {
         slot = slot;

@@ -238,23 +238,23 @@ bytes_kept (stage.Waiting bytes) = bytes
 bytes_kept other = []
 
 -- what is held, of its entry
-abbrev told_by : ℕ × Connection → HeldValue
-told_by e = record { slot = e.0; local = e.1.local; phase = phase_of_stage e.1.stage; bytes = bytes_kept e.1.stage }
+abbrev response_by : ℕ × Connection → HeldValue
+response_by e = record { slot = e.0; local = e.1.local; phase = phase_of_stage e.1.stage; bytes = bytes_kept e.1.stage }
 
-told_stage : (p : Phase) (a : List ℕ) → IsKeptFor p a → (phase_of_stage (stage_held p a) ≡ p) × (bytes_kept (stage_held p a) ≡ a)
-told_stage p a empty = search rules
+response_stage : (p : Phase) (a : List ℕ) → IsKeptFor p a → (phase_of_stage (stage_held p a) ≡ p) × (bytes_kept (stage_held p a) ≡ a)
+response_stage p a empty = search rules
 
-told_all : (held : List HeldValue) → All IsHeld held → list_map told_by (entries_held held) ≡ held
-told_all [] each = refl
-told_all (x ∷ held) each =
-    let first = told_stage x.phase x.bytes (All-head IsHeld x held each) in
-    λ i. record { slot = x.slot; local = x.local; phase = first.0 i; bytes = first.1 i } ∷ told_all held (All-tail IsHeld x held each) i
+response_all : (held : List HeldValue) → All IsHeld held → list_map response_by (entries_held held) ≡ held
+response_all [] each = refl
+response_all (x ∷ held) each =
+    let first = response_stage x.phase x.bytes (All-head IsHeld x held each) in
+    λ i. record { slot = x.slot; local = x.local; phase = first.0 i; bytes = first.1 i } ∷ response_all held (All-tail IsHeld x held each) i
 
 -- a map of open connections is told by one list alone
 pub same_held : (held other : List HeldValue) → AreHeld held → AreHeld other → connections_held held ≡ connections_held other → held ≡ other
 same_held held other are be e =
-    sym (told_all held are.each) ∙ ap (λ (es : List (ℕ × Connection)). list_map told_by es)
-    (sym (entries_of held are.rise) ∙ ap tree.entries e ∙ entries_of other be.rise) ∙ told_all other be.each
+    sym (response_all held are.each) ∙ ap (λ (es : List (ℕ × Connection)). list_map response_by es)
+    (sym (entries_of held are.rise) ∙ ap tree.entries e ∙ entries_of other be.rise) ∙ response_all other be.each
 
 pub are_none : AreHeld []
 are_none = record { rise = tt; each = λ k d lt. absurd (omega arith) }

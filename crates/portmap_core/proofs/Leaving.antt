@@ -7,16 +7,16 @@ use Rattle.std.proofs.lemmas.{Bool.{cases_Bool, cond_both, eq-eqb, false_from_ne
 use Rattle.portmap_wire.specs.{Node.Node, Reply.{alive_reply, port2_reply}, Request.Spells}
 use Rattle.portmap_wire.specs.declared.request.Request.{Request, TheVariants.{Alive, Dump, Kill, Port, Stop}}
 use Rattle.portmap_wire.specs.declared.request.Request.TheVariants as request
-use Rattle.portmap_feed.specs.Stream.{Sight, More, Zero, TooLarge, Whole, first_request}
+use Rattle.portmap_feed.specs.Stream.{Framing, More, Zero, TooLarge, Whole, first_request}
 use Rattle.portmap_table.specs.{Laws.row_of, Rows.{AreKept, Names, active_row, is_active, is_full_for, registered}}
 use Rattle.portmap_table.specs.{Rows.{retired_of, same_name, slot_of, with_room}, declared.row.Row.Row}
-use Rattle.portmap_table.proofs.{Finding.{find-push_other, is_none}, Kept.has_name}
+use Rattle.portmap_table.proofs.{Finding.{find-push_other, is_none}, NameEntry.has_name}
 use Rattle.portmap_table.proofs.NameLaws.{active_names_stay, names_outlive_connections, others_stay_at_retirement}
 use Rattle.portmap_core.specs.{Config.Configuration, Entry.{Closed, Connected, Entry, Faulted, Late, Piece}}
-use Rattle.portmap_core.specs.Laws.{AbsentNamesAreNotFound, EndsRetire, IsTold, NoneRegisters, Retires, StopsRetire}
-use Rattle.portmap_core.specs.{Run.Run, Serving.{Served, ToldAt, alive_served, closed, registers}}
+use Rattle.portmap_core.specs.Laws.{AbsentNamesAreNotFound, EndsRetire, IsReplied, NoneRegisters, Retires, StopsRetire}
+use Rattle.portmap_core.specs.{Run.Run, Serving.{Served, ServesReceived, alive_served, closed, registers}}
 use Rattle.portmap_core.specs.{Serving.{replied, served, stops}, State.State}
-use Rattle.portmap_core.specs.Step.{Outcome, Says, Step, Told, outcome_of}
+use Rattle.portmap_core.specs.Step.{Effect, Says, Step, AnswersPiece, outcome_of}
 use Rattle.portmap_core.specs.declared.connection.{Stage.{Stage, TheVariants.{Done, Holding, Waiting}}}
 use Rattle.portmap_core.specs.declared.event.Fate.{Fate, TheVariants.Stay}
 use Rattle.portmap_core.proofs.{LocalPeers.concluded, Shown.answered, Taken.retired_at_none, Waits.said}
@@ -80,9 +80,9 @@ ends_retire cfg s s' name row e owned step ends found =
 pub stops_retire : StopsRetire
 stops_retire cfg s s' name row reply fate owned relaxed t found =
     let o = concluded t (stops s.names (Some row.slot)) (λ creation. rw (relaxed, found) refl) in (
-      ap (λ (x : Outcome). x.reply) o,
-      ap (λ (x : Outcome). x.fate) o,
-      subst (λ (n : Names). Retires name s.names n) (sym (ap (λ (x : Outcome). x.state.names) o))
+      ap (λ (x : Effect). x.reply) o,
+      ap (λ (x : Effect). x.fate) o,
+      subst (λ (n : Names). Retires name s.names n) (sym (ap (λ (x : Effect). x.state.names) o))
           (slot_retires cfg.known_max s.names owned.names name row found),
     )
 
@@ -125,22 +125,22 @@ module _ (name : List ℕ) (cfg : Configuration) (names : Names) (local : Bool) 
 -- and so does each step
 module _ (name : List ℕ) (cfg : Configuration) (s s' : State) where
   abbrev NoneTakes : Type 0
-  NoneTakes = (g : Node) (reply : List ℕ) → IsTold cfg s (Alive g) reply Stay s' → g.name ≢ name
+  NoneTakes = (g : Node) (reply : List ℕ) → IsReplied cfg s (Alive g) reply Stay s' → g.name ≢ name
 
   piece_spares : (slot : ℕ) (piece reply : List ℕ) (fate : Fate) → Says cfg s slot piece reply fate s' → NoneTakes → Absent name s.names
       → Absent name s'.names
-  piece_spares slot piece reply fate says none absent = by says.connection.stage refl says.told
+  piece_spares slot piece reply fate says none absent = by says.connection.stage refl says.response
     where
-      out : (o : Outcome) → said reply fate s' ≡ o → Absent name o.state.names → Absent name s'.names
-      out o is h = subst (λ (o : Outcome). Absent name o.state.names) (sym is) h
+      out : (o : Effect) → said reply fate s' ≡ o → Absent name o.state.names → Absent name s'.names
+      out o is h = subst (λ (o : Effect). Absent name o.state.names) (sym is) h
 
-      by : (stage : Stage) → says.connection.stage ≡ stage → Told cfg s slot says.connection piece stage (said reply fate s')
+      by : (stage : Stage) → says.connection.stage ≡ stage → AnswersPiece cfg s slot says.connection piece stage (said reply fate s')
           → Absent name s'.names
-      by (Waiting received) waits told =
-          out (outcome_of s slot says.connection told.served) told.outcome (sight (first_request (received ++ piece)) refl told.told)
+      by (Waiting received) waits response =
+          out (outcome_of s slot says.connection response.served) response.outcome (sight (first_request (received ++ piece)) refl response.response)
         where
-          sight : (x : Sight) → first_request (received ++ piece) ≡ x
-              → ToldAt cfg s.names says.connection.local slot (received ++ piece) x told.served → Absent name told.served.names
+          sight : (x : Framing) → first_request (received ++ piece) ≡ x
+              → ServesReceived cfg s.names says.connection.local slot (received ++ piece) x response.served → Absent name response.served.names
           sight More whole is = rw is absent
           sight Zero whole is = rw is absent
           sight (TooLarge n) whole is = rw is absent
@@ -160,12 +160,12 @@ module _ (name : List ℕ) (cfg : Configuration) (s s' : State) where
                   whole = whole;
                   says = says;
                 };
-                fate_is = ap (λ (o : Outcome). o.fate) told.outcome ∙ ap (λ (o : Served). o.fate) p.serves.is ∙ stays;
+                fate_is = ap (λ (o : Effect). o.fate) response.outcome ∙ ap (λ (o : Served). o.fate) p.serves.is ∙ stays;
                 local = local;
                 spells = subst (λ (r : Request). Spells body r) is p.spells;
               })) absent)
-      by Holding waits told = out _ told absent
-      by Done waits told = out _ told absent
+      by Holding waits response = out _ response absent
+      by Done waits response = out _ response absent
 
   step_spares : (e : Entry) → Step cfg s e s' → NoneTakes → Absent name s.names → Absent name s'.names
   step_spares (Connected local slot) step none absent = rw step.moves.after absent

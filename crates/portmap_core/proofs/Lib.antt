@@ -1,6 +1,6 @@
 pub mod Waits
 pub mod Determined
-pub mod Fronts
+pub mod Prefixes
 pub mod Runs
 pub mod Ends
 pub mod Shown

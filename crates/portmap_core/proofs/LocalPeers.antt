@@ -4,30 +4,30 @@ use Rattle.std.proofs.Common.{◌≡◌, ℕ, Bool, true, List, refl, sym, ap, �
 use Rattle.std.proofs.{lemmas.Bool.{le-leb, ne_eqb, or_parts}, lemmas.List.nil_from_length}
 use Rattle.portmap_wire.specs.declared.request.Request.{Request}
 use Rattle.portmap_table.specs.Rows.{is_active, retired_row}
-use Rattle.portmap_core.specs.{Config.Configuration, Laws.{ActiveNamesAreTaken, IsRefused, IsTold, KillsAreRefused}}
+use Rattle.portmap_core.specs.{Config.Configuration, Laws.{ActiveNamesAreTaken, IsRefused, IsReplied, KillsAreRefused}}
 use Rattle.portmap_core.specs.{Laws.{KillsEnd, NewNamesWantRoom, refusal}, Serving.{Served, halts, replied, served}}
-use Rattle.portmap_core.specs.{State.State, Step.{Outcome, outcome_of}, declared.event.Fate.Fate}
+use Rattle.portmap_core.specs.{State.State, Step.{Effect, outcome_of}, declared.event.Fate.Fate}
 use Rattle.portmap_core.proofs.{Shown.completed, Waits.said}
 
 -- what comes of a request that is told one thing whatever creation it would have
 pub concluded : {cfg : Configuration} {s s' : State} {request : Request} {reply : List ℕ} {fate : Fate}
-    (t : IsTold cfg s request reply fate s') (o : Served) → ((creation : ℕ) → served cfg s.names true t.slot request creation ≡ o)
+    (t : IsReplied cfg s request reply fate s') (o : Served) → ((creation : ℕ) → served cfg s.names true t.slot request creation ≡ o)
     → said reply fate s' ≡ outcome_of s t.slot t.connection o
 concluded {cfg} {s} {s'} {request} {reply} {fate} t o is =
     let by = completed t.completes request t.spells in
     let local = ap (λ (b : Bool). served cfg s.names b t.slot request by.0) t.local in
     ap (λ (f : Fate). said reply f s') (sym t.fate_is) ∙ by.1 ∙ ap (outcome_of s t.slot t.connection) (local ∙ is by.0)
 
-refuses : {cfg : Configuration} {s s' : State} {request : Request} {reply : List ℕ} {fate : Fate} (t : IsTold cfg s request reply fate s')
+refuses : {cfg : Configuration} {s s' : State} {request : Request} {reply : List ℕ} {fate : Fate} (t : IsReplied cfg s request reply fate s')
     (text : List ℕ) → ((creation : ℕ) → served cfg s.names true t.slot request creation ≡ replied s.names text)
     → IsRefused s text reply fate s'
 refuses {cfg} {s} t text is =
     let o = concluded t (replied s.names text) is in
     record {
-      reply_is = ap (λ (x : Outcome). x.reply) o;
-      closes = ap (λ (x : Outcome). x.fate) o;
-      names = ap (λ (x : Outcome). x.state.names) o;
-      halted = ap (λ (x : Outcome). x.state.halted) o;
+      reply_is = ap (λ (x : Effect). x.reply) o;
+      closes = ap (λ (x : Effect). x.fate) o;
+      names = ap (λ (x : Effect). x.state.names) o;
+      halted = ap (λ (x : Effect). x.state.halted) o;
     }
 
 pub active_names_are_taken : ActiveNamesAreTaken
@@ -44,7 +44,7 @@ pub kills_end : KillsEnd
 kills_end cfg s s' reply fate t may =
     let ends : (length s.names.active == 0 || cfg.relaxed) ≡ true = search rules in
     let o = concluded t (halts s.names) (λ creation. rw ends refl) in
-    (ap (λ (x : Outcome). x.reply) o, ap (λ (x : Outcome). x.fate) o, ap (λ (x : Outcome). x.state.halted) o)
+    (ap (λ (x : Effect). x.reply) o, ap (λ (x : Effect). x.fate) o, ap (λ (x : Effect). x.state.halted) o)
 
 pub kills_are_refused : KillsAreRefused
 kills_are_refused cfg s s' reply fate t some strict =

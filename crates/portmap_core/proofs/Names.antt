@@ -3,7 +3,7 @@ use Rattle.std.specs.Prelude.{◌&&◌, ◌||◌, nat_le, find, position, is_som
 use Rattle.std.proofs.Common.{◌≡◌, ℕ, Bool, true, false, cond, List, [], ◌∷◌, ◌++◌, Option, Some, None, refl, rules}
 use Rattle.portmap_table.specs.Rows.{Names, RetiredName, is_active, known_len, registered, with_room, without_oldest}
 use Rattle.portmap_table.specs.declared.row.Row.{Row}
-use Rattle.portmap_table.proofs.{First.{finds_none, no_place, none_at, none_found}, Kept.had_name}
+use Rattle.portmap_table.proofs.{First.{finds_none, no_index, none_at, none_found}, NameEntry.had_name}
 use Rattle.portmap_core.specs.Names.{left_by}
 
 pub enters : (known_max : ℕ) (names : Names) (row : Row) → is_active row.reg.name names ≡ false
@@ -31,7 +31,7 @@ enters known_max names row inactive = by (position had names.retired) refl
     new b e = search rules
 
     known : (at : ℕ) → position had names.retired ≡ Some at → (b : Bool) → is_some (find had names.retired) ≡ b → b ≡ true
-    known at e b f = search (rules, no_place, none_found)
+    known at e b f = search (rules, no_index, none_found)
 
     by : (o : Option ℕ) → position had names.retired ≡ o
         → entered (left_by o many names.retired) ≡ enter (with_room known_max row.reg.name names)

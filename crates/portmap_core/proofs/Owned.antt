@@ -8,19 +8,19 @@ use Rattle.portmap_wire.specs.declared.request.Request.{Request, TheVariants.{Al
 use Rattle.portmap_wire.specs.declared.request.Request.TheVariants as request
 use Rattle.portmap_feed.specs.Stream.{first_request}
 use Rattle.portmap_table.specs.Rows.{AreKept, owns_name, is_active, is_full_for, registered, retired_of, with_room}
-use Rattle.portmap_table.proofs.{Kept.{IsNew, kept_empty, kept_enters, kept_retired}, Owners.owns_in_room}
+use Rattle.portmap_table.proofs.{NameEntry.{IsNew, kept_empty, kept_enters, kept_retired}, Owners.owns_in_room}
 use Rattle.portmap_table.proofs.Owners.{owns_registered, owns_registered_other, owns_retired, owns_retired_other}
 use Rattle.portmap_table.specs.Rows as rows
 use Rattle.portmap_core.specs.{Config.Configuration, Connections.{ConnectionMap, at_stage, ended_at}}
 use Rattle.portmap_core.specs.{Entry.{Closed, Connected, Faulted, Late, Piece}, Laws.StepsKeepOwned}
 use Rattle.portmap_core.specs.Owned.{IsStageFor, IsSlotFor, IsOwned}
-use Rattle.portmap_core.specs.Serving.{MayTake, Served, ToldAt, closed, if_local, registers, served, stops}
+use Rattle.portmap_core.specs.Serving.{MayGet, Served, ServesReceived, closed, if_local, registers, served, stops}
 use Rattle.portmap_core.specs.State.{State, empty_state, state_of}
-use Rattle.portmap_core.specs.Step.{Leaves, Opens, Outcome, Told, late_at, settled}
+use Rattle.portmap_core.specs.Step.{Leaves, Opens, Effect, AnswersPiece, late_at, settled}
 use Rattle.portmap_core.specs.declared.connection.Connection.{Connection}
 use Rattle.portmap_core.specs.declared.connection.Stage.{Stage, TheVariants.{Done, Holding, Waiting}}
 use Rattle.portmap_core.proofs.Slots.{cut_other, cut_same, ended_open, put_other, put_same}
-use Rattle.portmap_core.proofs.Waits.{WaitsAt, said, told_by}
+use Rattle.portmap_core.proofs.Waits.{WaitsAt, said, response_by}
 
 -- ---- one slot
 
@@ -134,7 +134,7 @@ module _ (w : WaitsAt) (owned : IsOwned w.config w.state) where
   closed_owned = stays_owned Done s.halted refl
 
   register_owned : (g : Node) (creation : ℕ) → connection.local ≡ true → is_active g.name s.names ≡ false
-      → is_full_for cfg.known_max g.name s.names ≡ false → MayTake s.names (Alive g) creation
+      → is_full_for cfg.known_max g.name s.names ≡ false → MayGet s.names (Alive g) creation
       → IsOwned cfg (settled s slot connection (registers cfg.known_max s.names slot g creation))
   register_owned g creation local inactive fits legal =
       let room = with_room cfg.known_max g.name s.names in
@@ -171,12 +171,12 @@ module _ (w : WaitsAt) (owned : IsOwned w.config w.state) where
   keeps_by : (P : Type 0) (b : Bool) (x y : Served) → (b ≡ true → KeepsBy P x) → (b ≡ false → KeepsBy P y) → KeepsBy P (cond b x y)
   keeps_by o b x y f g = search rules
 
-  local_owned : (P : Type 0) (told : Served) → (connection.local ≡ true → KeepsBy P told)
-      → KeepsBy P (if_local connection.local s.names told)
-  local_owned P told f = search (rules, closed_owned)
+  local_owned : (P : Type 0) (response : Served) → (connection.local ≡ true → KeepsBy P response)
+      → KeepsBy P (if_local connection.local s.names response)
+  local_owned P response f = search (rules, closed_owned)
 
   served_owned : (request : Request) (creation : ℕ)
-      → KeepsBy (MayTake s.names request creation) (served cfg s.names connection.local slot request creation)
+      → KeepsBy (MayGet s.names request creation) (served cfg s.names connection.local slot request creation)
   served_owned request.Names creation = λ _. closed_owned
   served_owned (Port name) creation = λ _. closed_owned
   served_owned Dump creation = local_owned _ _ (λ _ _. closed_owned)
@@ -186,13 +186,13 @@ module _ (w : WaitsAt) (owned : IsOwned w.config w.state) where
 
   -- ---- what a piece does
 
-  sight_owned : (received : List ℕ) (o : Served) → ToldAt cfg s.names connection.local slot received (first_request received) o
+  sight_owned : (received : List ℕ) (o : Served) → ServesReceived cfg s.names connection.local slot received (first_request received) o
       → IsOwned cfg (settled s slot connection o)
-  sight_owned received o = told_by cfg s.names connection.local slot (λ x. IsOwned cfg (settled s slot connection x)) received
+  sight_owned received o = response_by cfg s.names connection.local slot (λ x. IsOwned cfg (settled s slot connection x)) received
       (first_request received) o (λ more. stays_owned (Waiting received) s.halted (refl, more)) closed_owned served_owned
 
-by_outcome : (cfg : Configuration) (o p : Outcome) → o ≡ p → IsOwned cfg p.state → IsOwned cfg o.state
-by_outcome cfg o p e owned = subst (λ (x : Outcome). IsOwned cfg x.state) (sym e) owned
+by_outcome : (cfg : Configuration) (o p : Effect) → o ≡ p → IsOwned cfg p.state → IsOwned cfg o.state
+by_outcome cfg o p e owned = subst (λ (x : Effect). IsOwned cfg x.state) (sym e) owned
 
 -- a connection that is open
 module _ {cfg : Configuration} {s : State} (owned : IsOwned cfg s) (slot : ℕ) {connection : Connection}
@@ -200,11 +200,11 @@ module _ {cfg : Configuration} {s : State} (owned : IsOwned cfg s) (slot : ℕ) 
   abbrev waits : (received : List ℕ) → connection.stage ≡ Waiting received → WaitsAt
   waits received stage = search rules
 
-  told_owned : (piece : List ℕ) (stage : Stage) (o : Outcome) → connection.stage ≡ stage → Told cfg s slot connection piece stage o
+  response_owned : (piece : List ℕ) (stage : Stage) (o : Effect) → connection.stage ≡ stage → AnswersPiece cfg s slot connection piece stage o
       → IsOwned cfg o.state
-  told_owned piece (Waiting received) o stage told =
-      by_outcome cfg o _ told.outcome (sight_owned (waits received stage) owned (received ++ piece) told.served told.told)
-  told_owned piece stage o is told = by_outcome cfg o _ told owned
+  response_owned piece (Waiting received) o stage response =
+      by_outcome cfg o _ response.outcome (sight_owned (waits received stage) owned (received ++ piece) response.served response.response)
+  response_owned piece stage o is response = by_outcome cfg o _ response owned
 
   late_owned : (stage : Stage) → connection.stage ≡ stage → IsOwned cfg (late_at s slot connection stage).state
   late_owned (Waiting received) stage = closed_owned (waits received stage) owned
@@ -237,8 +237,8 @@ leave_owned cfg s s' slot owned leaves =
 
 pub steps_keep : StepsKeepOwned
 steps_keep cfg s s' (Connected local slot) owned step = open_owned cfg s s' local slot owned step.moves
-steps_keep cfg s s' (Piece slot piece reply fate) owned step = search (rules, told_owned)
+steps_keep cfg s s' (Piece slot piece reply fate) owned step = search (rules, response_owned)
 steps_keep cfg s s' (Closed slot) owned step = leave_owned cfg s s' slot owned step.moves
 steps_keep cfg s s' (Faulted slot) owned step = leave_owned cfg s s' slot owned step.moves
 steps_keep cfg s s' (Late slot fate) owned step =
-    by_outcome cfg (said [] fate s') _ step.moves.told (late_owned owned slot step.moves.is_open step.moves.connection.stage refl)
+    by_outcome cfg (said [] fate s') _ step.moves.response (late_owned owned slot step.moves.is_open step.moves.connection.stage refl)

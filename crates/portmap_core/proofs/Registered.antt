@@ -11,13 +11,13 @@ use Rattle.portmap_wire.proofs.RequestLaws.{one_request}
 use Rattle.portmap_table.specs.{Creation.IsLegalCreation, Rows.{Names, active_row, is_active, is_full_for, is_known}}
 use Rattle.portmap_table.specs.Rows.{registered, remembered, retired_at, retired_last, retired_of, with_room}
 use Rattle.portmap_table.specs.declared.row.Row.{Row}
-use Rattle.portmap_table.proofs.{Kept.has_name, NameLaws.{active_names_stay, registered_names_are_active}}
+use Rattle.portmap_table.proofs.{NameEntry.has_name, NameLaws.{active_names_stay, registered_names_are_active}}
 use Rattle.portmap_core.specs.{Config.Configuration, Entry.{Closed, Connected, Entry, Faulted, Late, Piece}}
-use Rattle.portmap_core.specs.Laws.{Completes, FreeNamesRegister, IsTold, MayEnd, NamesStay, NoneEnds}
+use Rattle.portmap_core.specs.Laws.{Completes, FreeNamesRegister, IsReplied, MayEnd, NamesStay, NoneEnds}
 use Rattle.portmap_core.specs.Laws.{RegisteredAreAlone, RegisteredAreFound}
 use Rattle.portmap_core.specs.Run.{Run}
 use Rattle.portmap_core.specs.Serving.{Served, Serves, ServesBody, alive_served, closed, dump_served, if_local, registers, replied}
-use Rattle.portmap_core.specs.{Serving.{kill_served, served, stops}, State.State, Step.{Outcome, Step, outcome_of}}
+use Rattle.portmap_core.specs.{Serving.{kill_served, served, stops}, State.State, Step.{Effect, Step, outcome_of}}
 use Rattle.portmap_core.specs.{declared.connection.Connection.Connection, declared.connection.Stage.TheVariants.Holding}
 use Rattle.portmap_core.specs.{declared.event.Fate.{Fate, TheVariants.{Close, Stay}}}
 use Rattle.portmap_core.proofs.{LocalPeers.active_names_are_taken, Shown.active_names_are_found, Waits.{WaitsAt, said, settles_at}}
@@ -55,8 +55,8 @@ retired_last_stays name row names at (Some y) e other found = find_without (has_
 
 has_its : (names : Names) (slot at : ℕ) (y : Row) → position (λ (r : Row). eqb r.slot slot) names.active ≡ Some at
     → slice_get names.active at ≡ Some y → y.slot ≡ slot
-has_its names slot at y place there =
-    let passes = (position-Some (λ (r : Row). eqb r.slot slot) names.active at y place).1 in
+has_its names slot at y index_of_slot there =
+    let passes = (position-Some (λ (r : Row). eqb r.slot slot) names.active at y index_of_slot).1 in
     eqb-true y.slot slot (subst (λ (r : Row). eqb r.slot slot ≡ true) (get_or_from_slice_get names.active at y y there) passes)
 
 retired_at_stays : (name : List ℕ) (row : Row) (names : Names) (slot : ℕ) (o : Option ℕ)
@@ -81,9 +81,9 @@ registers_stay name row known_max names slot g creation found =
 abbrev StaysBy : List ℕ → Row → Names → Served → Type 0
 StaysBy name row names o = (o.reply ≡ codes "STOPPED" → ⊥) → Stays name row names o.names
 
-if_near : (name : List ℕ) (row : Row) (local : Bool) (names : Names) (told : Served) → StaysBy name row names told
-    → StaysBy name row names (if_local local names told)
-if_near name row local names told h = cond_both (not local) (closed names) told (StaysBy name row names) (λ _ _ found. found) (λ _. h)
+if_near : (name : List ℕ) (row : Row) (local : Bool) (names : Names) (response : Served) → StaysBy name row names response
+    → StaysBy name row names (if_local local names response)
+if_near name row local names response h = cond_both (not local) (closed names) response (StaysBy name row names) (λ _ _ found. found) (λ _. h)
 
 stops_stay : (name : List ℕ) (row : Row) (names : Names) (owner : Option ℕ) → StaysBy name row names (stops names owner)
 stops_stay name row names None h found = found
@@ -132,15 +132,15 @@ serves_at {cfg} {s} {s'} {slot} {connection} {body} {reply} c request spells =
     by o (inr p) = absurd (p.malformed request spells)
 
 -- what is served of a local registration, with its creation
-serves_alive : {cfg : Configuration} {s s' : State} {g : Node} {reply : List ℕ} {fate : Fate} (t : IsTold cfg s (Alive g) reply fate s')
+serves_alive : {cfg : Configuration} {s s' : State} {g : Node} {reply : List ℕ} {fate : Fate} (t : IsReplied cfg s (Alive g) reply fate s')
     → (creation : ℕ)
     × ((alive_served cfg s.names t.slot g creation).stage ≡ Holding → IsLegalCreation g.high (remembered g.name s.names) creation)
     × (said reply fate s' ≡ outcome_of s t.slot t.connection (alive_served cfg s.names t.slot g creation))
 serves_alive {cfg} {s} {s'} {g} {reply} {fate} t =
     let (o, serves, is) = serves_at t.completes (Alive g) t.spells in
-    let told : served cfg s.names t.connection.local t.slot (Alive g) serves.creation ≡ alive_served cfg s.names t.slot g serves.creation =
+    let response : served cfg s.names t.connection.local t.slot (Alive g) serves.creation ≡ alive_served cfg s.names t.slot g serves.creation =
     ap (λ (b : Bool). served cfg s.names b t.slot (Alive g) serves.creation) t.local in
-    let same : o ≡ alive_served cfg s.names t.slot g serves.creation = serves.is ∙ told in (
+    let same : o ≡ alive_served cfg s.names t.slot g serves.creation = serves.is ∙ response in (
       serves.creation,
       λ h. serves.legal (ap (λ (x : Served). x.stage) same ∙ h),
       ap (λ (f : Fate). said reply f s') (sym t.fate_is) ∙ is ∙ ap (outcome_of s t.slot t.connection) same,
@@ -158,7 +158,7 @@ becomes_active known_max names slot g creation new =
     (rw (active_names_stay known_max names g.name) new)
 
 -- where it registers
-registers_so : {cfg : Configuration} {s s' : State} {g : Node} {reply : List ℕ} {fate : Fate} (t : IsTold cfg s (Alive g) reply fate s')
+registers_so : {cfg : Configuration} {s s' : State} {g : Node} {reply : List ℕ} {fate : Fate} (t : IsReplied cfg s (Alive g) reply fate s')
     → is_active g.name s.names ≡ false → is_full_for cfg.known_max g.name s.names ≡ false
     → (creation : ℕ) × IsLegalCreation g.high (remembered g.name s.names) creation × (reply ≡ alive_reply g.high 0 creation) × (fate ≡ Stay)
     × (active_row g.name s'.names ≡ Some (record { reg = g; creation = creation; slot = t.slot }))
@@ -169,9 +169,9 @@ registers_so {cfg} {s} {s'} {g} {reply} {fate} t new room =
     let o = is ∙ ap (outcome_of s t.slot t.connection) so in (
       creation,
       legal (ap (λ (x : Served). x.stage) so),
-      ap (λ (x : Outcome). x.reply) o,
-      ap (λ (x : Outcome). x.fate) o,
-      ap (λ (n : Names). active_row g.name n) (ap (λ (x : Outcome). x.state.names) o)
+      ap (λ (x : Effect). x.reply) o,
+      ap (λ (x : Effect). x.fate) o,
+      ap (λ (n : Names). active_row g.name n) (ap (λ (x : Effect). x.state.names) o)
           ∙ becomes_active cfg.known_max s.names t.slot g creation new,
     )
 
@@ -179,12 +179,12 @@ first : {X : Type 0} (b : Bool) (x y : X) → b ≡ true → cond b x y ≡ x
 first b x y e = search rules
 
 -- who is told to stay has registered
-took : {cfg : Configuration} {s s' : State} {g : Node} {reply : List ℕ} (t : IsTold cfg s (Alive g) reply Stay s')
+took : {cfg : Configuration} {s s' : State} {g : Node} {reply : List ℕ} (t : IsReplied cfg s (Alive g) reply Stay s')
     → (creation : ℕ) × (active_row g.name s'.names ≡ Some (record { reg = g; creation = creation; slot = t.slot }))
 took {cfg} {s} {s'} {g} {reply} t =
     let (creation, legal, is) = serves_alive t in
     let close : (o : Served) → alive_served cfg s.names t.slot g creation ≡ o → o.fate ≡ Close → ⊥ =
-    λ o e closes. let wrong : Stay ≡ Close = ap (λ (x : Outcome). x.fate) is ∙ ap (λ (x : Served). x.fate) e ∙ closes in cc in
+    λ o e closes. let wrong : Stay ≡ Close = ap (λ (x : Effect). x.fate) is ∙ ap (λ (x : Served). x.fate) e ∙ closes in cc in
     elim (cases_Bool (is_active g.name s.names)) [
       | inl taken ↦ absurd (close (replied s.names (alive_reply g.high 1 0)) (first (is_active g.name s.names) _ _ taken) refl)
       | inr new ↦ elim (cases_Bool (is_full_for cfg.known_max g.name s.names)) [

@@ -5,16 +5,16 @@ use Rattle.std.proofs.{Common.{Result, rules}, lemmas.Result.IfOk-weaker}
 use Rattle.portmap_wire.specs.{Node.Node, Reply.alive_reply, Request.Spells}
 use Rattle.portmap_wire.specs.declared.request.Request.{Request, TheVariants.Alive}
 use Rattle.portmap_wire.proofs.RequestLaws.{one_request}
-use Rattle.portmap_feed.specs.Stream.{Sight, More, Zero, TooLarge, Whole, body_in, first_request, kept}
+use Rattle.portmap_feed.specs.Stream.{Framing, More, Zero, TooLarge, Whole, body_in, first_request, kept}
 use Rattle.portmap_feed.proofs.StreamLaws.{first_request-kept, kept_more}
 use Rattle.portmap_table.specs.Creation.{IsLegalCreation, choice}
-use Rattle.portmap_table.specs.Rows.{Names, is_active, is_full_for, registered, remembered, standing, with_room}
-use Rattle.portmap_table.specs.declared.standing.Standing.{Standing}
-use Rattle.portmap_table.specs.declared.standing.Standing.TheVariants as how
+use Rattle.portmap_table.specs.Rows.{Names, is_active, is_full_for, registered, remembered, name_status, with_room}
+use Rattle.portmap_table.specs.declared.name_status.NameStatus.{NameStatus}
+use Rattle.portmap_table.specs.declared.name_status.NameStatus.TheVariants as how
 use Rattle.portmap_core.specs.{Config.Configuration, Held.stage_held}
-use Rattle.portmap_core.specs.Serving.{Served, Serves, ServesBody, ToldAt, alive_served, registers, replied}
-use Rattle.portmap_core.specs.Telling.{AnswersAll, IsAllTold, IsChosen, MayChange, MayRegister, TellsAll, names_after}
-use Rattle.portmap_core.specs.{Telling.{served_by, stopped_by}, declared.asked.Asked.Asked}
+use Rattle.portmap_core.specs.Serving.{Served, Serves, ServesBody, ServesReceived, alive_served, registers, replied}
+use Rattle.portmap_core.specs.Responding.{RespondsAtAnySlot, IsOnlyResponse, IsChosen, MayChange, MayRegister, IsResponseAtAnySlot, names_after}
+use Rattle.portmap_core.specs.{Responding.{served_by, stopped_by}, declared.asked.RequestContext.RequestContext}
 use Rattle.portmap_core.specs.declared.connection.Stage.TheVariants.{Holding}
 use Rattle.portmap_core.specs.{declared.event.Fate.TheVariants.{Close, Stay}, declared.serve.Change.TheVariants.Nothing}
 use Rattle.portmap_core.specs.declared.serve.Response.{Response}
@@ -25,7 +25,7 @@ use Rattle.portmap_core.specs.declared.connection.Phase.TheVariants as phase
 second : {X : Type 0} (b : Bool) (x y : X) → b ≡ false → cond b x y ≡ y
 second b x y e = search rules
 
-abbrev stands : Bool → Bool → Option ℕ → Standing
+abbrev stands : Bool → Bool → Option ℕ → NameStatus
 stands taken full last = if taken then how.Active else if full then how.NoRoom else how.Free last
 
 -- ---- a request
@@ -33,9 +33,9 @@ stands taken full last = if taken then how.Active else if full then how.NoRoom e
 module _ (cfg : Configuration) (names : Names) (local : Bool) (slot : ℕ) where
   -- so is the body that spells it
   all_spelled : {wanted : Option ℕ} {o : Served} (body : List ℕ) (request : Request) → Spells body request
-      → IsAllTold (Serves cfg names local slot request) wanted o → IsAllTold (ServesBody cfg names local slot body) wanted o
+      → IsOnlyResponse (Serves cfg names local slot request) wanted o → IsOnlyResponse (ServesBody cfg names local slot body) wanted o
   all_spelled body request spells all = record {
-    told = inl (record { request = request; spells = spells; serves = all.told });
+    response = inl (record { request = request; spells = spells; serves = all.response });
     only = λ other p e. elim p [
       | inl q ↦ all.only other (subst (λ (r : Request). Serves cfg names local slot r other)
           (one_request body q.request request q.spells spells) q.serves) e
@@ -43,33 +43,33 @@ module _ (cfg : Configuration) (names : Names) (local : Bool) (slot : ℕ) where
     ];
   }
 
-module _ {E : Type 0} (asked : Asked) where
+module _ {E : Type 0} (asked : RequestContext) where
   -- where it is local, as one that is
   pub near : (request : Request) (result : Result Response E) → asked.local ≡ true
-      → AnswersAll asked result (λ cfg names slot. Serves cfg names true slot request)
-      → AnswersAll asked result (λ cfg names slot. Serves cfg names asked.local slot request)
+      → RespondsAtAnySlot asked result (λ cfg names slot. Serves cfg names true slot request)
+      → RespondsAtAnySlot asked result (λ cfg names slot. Serves cfg names asked.local slot request)
   near request result e h =
-      subst (λ (l : Bool). AnswersAll asked result (λ cfg names slot. Serves cfg names l slot request)) (sym e) h
+      subst (λ (l : Bool). RespondsAtAnySlot asked result (λ cfg names slot. Serves cfg names l slot request)) (sym e) h
 
 -- a registration for which there is no room
 is_full : (taken full : Bool) (last : Option ℕ) → stands taken full last ≡ how.NoRoom → (taken ≡ false) × (full ≡ true)
 is_full taken full last e = search rules
 
 -- what is told so
-pub record Refuses (asked : Asked) (g : Node) (told : Response) : Type 0 where
-  pub stands : standing asked.config.known_max g.name asked.table.now.names ≡ how.NoRoom
-  pub text : told.reply.items ≡ alive_reply g.high 2 0
-  pub fate : told.fate ≡ Close
-  pub phase : told.phase ≡ phase.Done
-  pub change : told.change ≡ Nothing
+pub record Refuses (asked : RequestContext) (g : Node) (response : Response) : Type 0 where
+  pub stands : name_status asked.config.known_max g.name asked.table.now.names ≡ how.NoRoom
+  pub text : response.reply.items ≡ alive_reply g.high 2 0
+  pub fate : response.fate ≡ Close
+  pub phase : response.phase ≡ phase.Done
+  pub change : response.change ≡ Nothing
 
-pub no_room : {asked : Asked} {g : Node} {told : Response} → Refuses asked g told → (bytes : List ℕ)
-    → TellsAll (λ slot. Serves asked.config asked.table.now.names true slot (Alive g)) asked bytes told
-no_room {asked} {g} {told} r bytes =
+pub no_room : {asked : RequestContext} {g : Node} {response : Response} → Refuses asked g response → (bytes : List ℕ)
+    → IsResponseAtAnySlot (λ slot. Serves asked.config asked.table.now.names true slot (Alive g)) asked bytes response
+no_room {asked} {g} {response} r bytes =
     let cfg = asked.config in
     let names = asked.table.now.names in
     let full = is_full (is_active g.name names) (is_full_for cfg.known_max g.name names) (remembered g.name names) r.stands in
-    let said : (slot : ℕ) → served_by cfg names slot bytes told ≡ replied names (alive_reply g.high 2 0) =
+    let said : (slot : ℕ) → served_by cfg names slot bytes response ≡ replied names (alive_reply g.high 2 0) =
     λ slot i. record {
       reply = r.text i;
       fate = r.fate i;
@@ -83,12 +83,12 @@ no_room {asked} {g} {told} r bytes =
     record {
       all = search rules;
       may = subst (MayChange cfg.known_max names) (sym r.change) tt;
-      chosen = subst (IsChosen cfg.port asked.table.now asked.wanted told.reply.items) (sym r.change) tt;
+      chosen = subst (IsChosen cfg.port asked.table.now asked.wanted response.reply.items) (sym r.change) tt;
     }
 
 -- a registration of a name that is free
-module _ (asked : Asked) (g : Node) {last : Option ℕ}
-    (stands : standing asked.config.known_max g.name asked.table.now.names ≡ how.Free last) where
+module _ (asked : RequestContext) (g : Node) {last : Option ℕ}
+    (stands : name_status asked.config.known_max g.name asked.table.now.names ≡ how.Free last) where
   frees : (is_active g.name asked.table.now.names ≡ false) × (is_full_for asked.config.known_max g.name asked.table.now.names ≡ false)
       × (last ≡ remembered g.name asked.table.now.names)
   frees = search rules
@@ -104,7 +104,7 @@ module _ (asked : Asked) (g : Node) {last : Option ℕ}
   pub all_free : (slot creation : ℕ) (reply : List ℕ) → IsLegalCreation g.high last creation
       → ((other : ℕ) → asked.wanted ≡ Some other → IsLegalCreation g.high last other → other ≡ creation)
       → reply ≡ alive_reply g.high 0 creation
-      → IsAllTold (Serves asked.config asked.table.now.names true slot (Alive g)) asked.wanted
+      → IsOnlyResponse (Serves asked.config asked.table.now.names true slot (Alive g)) asked.wanted
       (record {
         reply = reply;
         fate = Stay;
@@ -116,15 +116,15 @@ module _ (asked : Asked) (g : Node) {last : Option ℕ}
 
 -- ---- a body
 
-pub tells_spelled : {E : Type 0} (asked : Asked) (body : List ℕ) (request : Request) (result : Result Response E) → Spells body request
-    → AnswersAll asked result (λ cfg names slot. Serves cfg names asked.local slot request)
-    → AnswersAll asked result (λ cfg names slot. ServesBody cfg names asked.local slot body)
-tells_spelled asked body request result spells =
+pub responds_to_spelled : {E : Type 0} (asked : RequestContext) (body : List ℕ) (request : Request) (result : Result Response E) → Spells body request
+    → RespondsAtAnySlot asked result (λ cfg names slot. Serves cfg names asked.local slot request)
+    → RespondsAtAnySlot asked result (λ cfg names slot. ServesBody cfg names asked.local slot body)
+responds_to_spelled asked body request result spells =
     let cfg = asked.config in
     let names = asked.table.now.names in
-    IfOk-weaker result (λ told. (bytes : List ℕ) → TellsAll (λ slot. Serves cfg names asked.local slot request) asked bytes told)
-    (λ told. (bytes : List ℕ) → TellsAll (λ slot. ServesBody cfg names asked.local slot body) asked bytes told)
-    (λ told h bytes. record {
+    IfOk-weaker result (λ response. (bytes : List ℕ) → IsResponseAtAnySlot (λ slot. Serves cfg names asked.local slot request) asked bytes response)
+    (λ response. (bytes : List ℕ) → IsResponseAtAnySlot (λ slot. ServesBody cfg names asked.local slot body) asked bytes response)
+    (λ response h bytes. record {
       all = λ slot. all_spelled cfg names asked.local slot body request spells ((h bytes).all slot);
       may = (h bytes).may;
       chosen = (h bytes).chosen;
@@ -132,24 +132,24 @@ tells_spelled asked body request result spells =
 
 -- ---- all that was sent
 
-pub tells_whole : {E : Type 0} (asked : Asked) (received body : List ℕ) (sight : Sight) (result : Result Response E)
+pub responds_to_whole : {E : Type 0} (asked : RequestContext) (received body : List ℕ) (sight : Framing) (result : Result Response E)
     → Some body ≡ body_in sight
-    → AnswersAll asked result (λ cfg names slot. ServesBody cfg names asked.local slot body)
-    → IfOk result (λ told. TellsAll (λ slot. ToldAt asked.config asked.table.now.names asked.local slot received sight) asked received told)
-tells_whole asked received body More result is = absurd cc
-tells_whole asked received body Zero result is = absurd cc
-tells_whole asked received body (TooLarge n) result is = absurd cc
-tells_whole asked received body (Whole whole) result is =
+    → RespondsAtAnySlot asked result (λ cfg names slot. ServesBody cfg names asked.local slot body)
+    → IfOk result (λ response. IsResponseAtAnySlot (λ slot. ServesReceived asked.config asked.table.now.names asked.local slot received sight) asked received response)
+responds_to_whole asked received body More result is = absurd cc
+responds_to_whole asked received body Zero result is = absurd cc
+responds_to_whole asked received body (TooLarge n) result is = absurd cc
+responds_to_whole asked received body (Whole whole) result is =
     let one : body ≡ whole = cc in
     let cfg = asked.config in
     let names = asked.table.now.names in
-    IfOk-weaker result (λ told. (bytes : List ℕ) → TellsAll (λ slot. ServesBody cfg names asked.local slot body) asked bytes told)
-    (λ told. TellsAll (λ slot. ToldAt cfg names asked.local slot received (Whole whole)) asked received told)
-    (λ told h. subst (λ (b : List ℕ). TellsAll (λ slot. ServesBody cfg names asked.local slot b) asked received told) one (h received))
+    IfOk-weaker result (λ response. (bytes : List ℕ) → IsResponseAtAnySlot (λ slot. ServesBody cfg names asked.local slot body) asked bytes response)
+    (λ response. IsResponseAtAnySlot (λ slot. ServesReceived cfg names asked.local slot received (Whole whole)) asked received response)
+    (λ response h. subst (λ (b : List ℕ). IsResponseAtAnySlot (λ slot. ServesBody cfg names asked.local slot b) asked received response) one (h received))
 
 -- what a feed keeps of it tells as much
 module _ (cfg : Configuration) (names : Names) {near local : Bool} (alike : near ≡ local) (slot : ℕ) where
   pub all_kept : {wanted : Option ℕ} {o : Served} (feed all : List ℕ) → feed ≡ kept all
-      → IsAllTold (ToldAt cfg names near slot feed (first_request feed)) wanted o
-      → IsAllTold (ToldAt cfg names local slot all (first_request all)) wanted o
-  all_kept {wanted} {o} feed all is told = search (rules, first_request-kept, kept_more)
+      → IsOnlyResponse (ServesReceived cfg names near slot feed (first_request feed)) wanted o
+      → IsOnlyResponse (ServesReceived cfg names local slot all (first_request all)) wanted o
+  all_kept {wanted} {o} feed all is response = search (rules, first_request-kept, kept_more)

@@ -9,9 +9,9 @@ use Rattle.portmap_wire.specs.declared.request.Request.TheVariants as request
 use Rattle.portmap_table.specs.{Rows.{Names, same_name}, declared.row.Row.Row}
 use Rattle.portmap_core.specs.Config.{Configuration}
 use Rattle.portmap_core.specs.Laws.{ActiveNamesAreFound, ActiveNamesAreListed, Completes, ListsAreExact}
-use Rattle.portmap_core.specs.Laws.{OthersAreToldNothing}
+use Rattle.portmap_core.specs.Laws.{RemotePeersMayOnlyLookUp}
 use Rattle.portmap_core.specs.{Serving.{Served, ServesBody, names_line_of, served}, State.State}
-use Rattle.portmap_core.specs.{Step.{Outcome, outcome_of}, declared.connection.Connection.Connection}
+use Rattle.portmap_core.specs.{Step.{Effect, outcome_of}, declared.connection.Connection.Connection}
 use Rattle.portmap_core.proofs.Waits.{WaitsAt, said, settles_at}
 
 -- ---- what a request is told that is whole
@@ -40,7 +40,7 @@ completed {cfg} {s} {s'} {slot} {connection} {body} {reply} c request spells =
 pub answered : {cfg : Configuration} {s s' : State} {slot : ℕ} {connection : Connection} {body reply : List ℕ}
     → Completes cfg s slot connection body reply s' → (request : Request) → Spells body request
     → (creation : ℕ) × (reply ≡ (served cfg s.names connection.local slot request creation).reply)
-answered c request spells = let by = completed c request spells in (by.0, ap (λ (x : Outcome). x.reply) by.1)
+answered c request spells = let by = completed c request spells in (by.0, ap (λ (x : Effect). x.reply) by.1)
 
 pub active_names_are_found : ActiveNamesAreFound
 active_names_are_found cfg s s' slot connection body reply name row c spells active =
@@ -83,5 +83,5 @@ lists_are_exact cfg s s' slot connection body reply c spells = (answered c reque
 
 -- ---- other hosts
 
-pub others_are_told_nothing : OthersAreToldNothing
-others_are_told_nothing cfg s s' slot connection piece reply fate here far says = search rules
+pub remote_peers_may_only_look_up : RemotePeersMayOnlyLookUp
+remote_peers_may_only_look_up cfg s s' slot connection piece reply fate here far says = search rules

@@ -8,10 +8,10 @@ use Rattle.portmap_wire.specs.declared.request.Request.TheVariants as request
 use Rattle.portmap_table.specs.{Creation.IsLegalCreation, Rows.{Names, active_row, registered, remembered, retired_at}}
 use Rattle.portmap_table.specs.{Rows.{retired_last, retired_of, same_name, with_room}, declared.row.Row.Row}
 use Rattle.portmap_table.proofs.{Finding.{find-push, find-push_other}, First.{NonePass, finds_none, none_found}}
-use Rattle.portmap_table.proofs.Kept.{has_name}
+use Rattle.portmap_table.proofs.NameEntry.{has_name}
 use Rattle.portmap_core.specs.{Config.Configuration, Entry.{Closed, Connected, Entry, Faulted, Late, Piece}}
 use Rattle.portmap_core.specs.Laws.{TakenCreationsAreNew}
-use Rattle.portmap_core.specs.{Serving.{MayTake, Served, closed, dump_served, if_local, served, stops}, State.State}
+use Rattle.portmap_core.specs.{Serving.{MayGet, Served, closed, dump_served, if_local, served, stops}, State.State}
 use Rattle.portmap_core.specs.{Step.Step, declared.connection.Stage.TheVariants.Holding}
 
 -- each name that becomes active between the two has another creation than was remembered for it
@@ -64,19 +64,19 @@ takes known_max names slot g creation legal name row last none some old =
 abbrev TakesBy : Type 0 → Names → Served → Type 0
 TakesBy P names o = (o.stage ≡ Holding → P) → TakesNew names o.names
 
-if_near : (P : Type 0) (local : Bool) (names : Names) (told : Served) → TakesBy P names told → TakesBy P names (if_local local names told)
-if_near P local names told h = cond_both (not local) (closed names) told (TakesBy P names) (λ _ _. stays names) (λ _. h)
+if_near : (P : Type 0) (local : Bool) (names : Names) (response : Served) → TakesBy P names response → TakesBy P names (if_local local names response)
+if_near P local names response h = cond_both (not local) (closed names) response (TakesBy P names) (λ _ _. stays names) (λ _. h)
 
 stops_new : (P : Type 0) (names : Names) (owner : Option ℕ) → TakesBy P names (stops names owner)
 stops_new o names owner = search (rules, retires)
 
 module _ (cfg : Configuration) (names : Names) (local : Bool) (slot : ℕ) where
   serves_new : (request : Request) (creation : ℕ)
-      → TakesBy (MayTake names request creation) names (served cfg names local slot request creation)
+      → TakesBy (MayGet names request creation) names (served cfg names local slot request creation)
   serves_new (Alive g) creation = search (rules, takes)
   serves_new (Port name) creation = λ _. stays names
   serves_new request.Names creation = λ _. stays names
-  serves_new Dump creation = if_near (MayTake names Dump creation) local names (dump_served cfg names) (λ _. stays names)
+  serves_new Dump creation = if_near (MayGet names Dump creation) local names (dump_served cfg names) (λ _. stays names)
   serves_new Kill creation = search rules
   serves_new (Stop name) creation = search (rules, if_near, stops_new)
 

@@ -2,14 +2,14 @@
 use Rattle.std.proofs.Common.{◌≡◌, ℕ, Bool, List, ◌++◌, Some, rules}
 use Rattle.std.specs.FinMap as map
 use Rattle.portmap_wire.specs.declared.request.Request.{Request}
-use Rattle.portmap_feed.specs.Stream.{Sight, More}
+use Rattle.portmap_feed.specs.Stream.{Framing, More}
 use Rattle.portmap_table.specs.Rows.{Names}
-use Rattle.portmap_core.specs.{Config.Configuration, Serving.{MayTake, Served, ToldAt, awaits, closed, served}}
-use Rattle.portmap_core.specs.{State.State, Step.{Expires, Outcome, Says, Settles, settled}}
+use Rattle.portmap_core.specs.{Config.Configuration, Serving.{MayGet, Served, ServesReceived, awaits, closed, served}}
+use Rattle.portmap_core.specs.{State.State, Step.{Expires, Effect, Says, Settles, settled}}
 use Rattle.portmap_core.specs.declared.connection.Connection.{Connection}
 use Rattle.portmap_core.specs.{declared.connection.Stage.TheVariants.{Waiting, Holding}, declared.event.Fate.Fate}
 
-abbrev pub said : List ℕ → Fate → State → Outcome
+abbrev pub said : List ℕ → Fate → State → Effect
 said reply fate after = record { reply = reply; fate = fate; state = after }
 
 -- a machine in a state, and the connection in a slot, which has sent these bytes
@@ -30,12 +30,12 @@ settles_at w {after} {piece} {reply} {fate} says = search rules
 
 -- what holds of each answer that may be told holds of what is told
 module _ (cfg : Configuration) (names : Names) (local : Bool) (slot : ℕ) (P : Served → Type 0) where
-  pub told_by : (received : List ℕ) (sight : Sight) (o : Served) → (sight ≡ More → P (awaits names received)) → P (closed names)
+  pub response_by : (received : List ℕ) (sight : Framing) (o : Served) → (sight ≡ More → P (awaits names received)) → P (closed names)
       → ((request : Request) (creation : ℕ)
-      → ((served cfg names local slot request creation).stage ≡ Holding → MayTake names request creation)
+      → ((served cfg names local slot request creation).stage ≡ Holding → MayGet names request creation)
       → P (served cfg names local slot request creation))
-      → ToldAt cfg names local slot received sight o → P o
-  told_by received sight o waits refused each told = search rules
+      → ServesReceived cfg names local slot received sight o → P o
+  response_by received sight o waits refused each response = search rules
 
 -- what holds of a state, and where a connection was told something, holds after a piece, and after a time-out
 module _ (P : State → Type 0) where

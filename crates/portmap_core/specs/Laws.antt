@@ -6,7 +6,7 @@ use Rattle.portmap_wire.specs.{List.{names_line, names_reply}, Node.Node, Reply.
 use Rattle.portmap_wire.specs.Request.{body_of, sent, IsRequest, IsMalformed, Spells}
 use Rattle.portmap_wire.specs.declared.request.Request.{Request}
 use Rattle.portmap_wire.specs.declared.request.Request.TheVariants as request
-use Rattle.portmap_feed.specs.Stream.{Sight, More, Zero, TooLarge, Whole, first_request}
+use Rattle.portmap_feed.specs.Stream.{Framing, More, Zero, TooLarge, Whole, first_request}
 use Rattle.portmap_table.specs.Rows.{Names, active_row, is_known, known_len, known_names, remembered, same_name}
 use Rattle.portmap_table.specs.{Creation.IsLegalCreation, declared.row.Row.Row}
 use Rattle.portmap_core.specs.Entry.{Entry, Connected, Piece, Closed, Faulted, Late}
@@ -51,7 +51,7 @@ NamesBelongToConnections = (cfg : Configuration) (es : List Entry) (s : State) �
     → NamesBelong s
 
 -- what was received amounts to a malformed request: a length that none has, or a body that spells none
-abbrev pub IsBad : Sight → Type 0
+abbrev pub IsBad : Framing → Type 0
 IsBad More = ⊥
 IsBad Zero = Unit {0}
 IsBad (TooLarge n) = Unit {0}
@@ -140,8 +140,8 @@ IsLook request.Kill = ⊥
 IsLook (request.Stop name) = ⊥
 
 -- peers of other hosts are told nothing else
-abbrev pub OthersAreToldNothing : Type 0
-OthersAreToldNothing =
+abbrev pub RemotePeersMayOnlyLookUp : Type 0
+RemotePeersMayOnlyLookUp =
     (cfg : Configuration) (s s' : State) (slot : ℕ) (connection : Connection) (piece reply : List ℕ) (fate : Fate)
     → map.get s.connections slot ≡ Some connection → connection.local ≡ false → Says cfg s slot piece reply fate s'
     → (reply ≡ []) ⊎ ((received : List ℕ) × (body : List ℕ) × (request : Request) × (connection.stage ≡ Waiting received)
@@ -150,7 +150,7 @@ OthersAreToldNothing =
 -- ---- what a local peer is told
 
 -- a request of one, whole by a piece of a connection that waits, and what comes of it
-pub record IsTold (cfg : Configuration) (s : State) (request : Request) (reply : List ℕ) (fate : Fate) (s' : State) : Type 0 where
+pub record IsReplied (cfg : Configuration) (s : State) (request : Request) (reply : List ℕ) (fate : Fate) (s' : State) : Type 0 where
   pub slot : ℕ
   pub connection : Connection
   pub body : List ℕ
@@ -174,24 +174,24 @@ refusal high result = if nat_lt high 6 then 121 ∷ result ∷ 0 ∷ 0 ∷ [] el
 abbrev pub ActiveNamesAreTaken : Type 0
 ActiveNamesAreTaken =
     (cfg : Configuration) (s s' : State) (g : Node) (row : Row) (reply : List ℕ) (fate : Fate)
-    → IsTold cfg s (request.Alive g) reply fate s' → active_row g.name s.names ≡ Some row → IsRefused s (refusal g.high 1) reply fate s'
+    → IsReplied cfg s (request.Alive g) reply fate s' → active_row g.name s.names ≡ Some row → IsRefused s (refusal g.high 1) reply fate s'
 
 -- and one that is not known with result 2, where as many are active as may be known
 abbrev pub NewNamesWantRoom : Type 0
 NewNamesWantRoom =
-    (cfg : Configuration) (s s' : State) (g : Node) (reply : List ℕ) (fate : Fate) → IsTold cfg s (request.Alive g) reply fate s'
+    (cfg : Configuration) (s s' : State) (g : Node) (reply : List ℕ) (fate : Fate) → IsReplied cfg s (request.Alive g) reply fate s'
     → is_known g.name s.names ≡ false → cfg.known_max ≤ length s.names.active → IsRefused s (refusal g.high 2) reply fate s'
 
 -- KILL ends the port mapper where no name is active, or its checks are relaxed
 abbrev pub KillsEnd : Type 0
 KillsEnd =
-    (cfg : Configuration) (s s' : State) (reply : List ℕ) (fate : Fate) → IsTold cfg s request.Kill reply fate s'
+    (cfg : Configuration) (s s' : State) (reply : List ℕ) (fate : Fate) → IsReplied cfg s request.Kill reply fate s'
     → (s.names.active ≡ []) ⊎ (cfg.relaxed ≡ true) → (reply ≡ codes "OK") × (fate ≡ Halt) × (s'.halted ≡ true)
 
 -- and is refused elsewhere
 abbrev pub KillsAreRefused : Type 0
 KillsAreRefused =
-    (cfg : Configuration) (s s' : State) (reply : List ℕ) (fate : Fate) → IsTold cfg s request.Kill reply fate s'
+    (cfg : Configuration) (s s' : State) (reply : List ℕ) (fate : Fate) → IsReplied cfg s request.Kill reply fate s'
     → s.names.active ≢ [] → cfg.relaxed ≡ false → IsRefused s (codes "NO") reply fate s'
 
 -- ---- how long a name stays registered
@@ -199,7 +199,7 @@ KillsAreRefused =
 -- a registration of a name that is not active, and known or one for which there is room, succeeds
 abbrev pub FreeNamesRegister : Type 0
 FreeNamesRegister =
-    (cfg : Configuration) (s s' : State) (g : Node) (reply : List ℕ) (fate : Fate) (t : IsTold cfg s (request.Alive g) reply fate s')
+    (cfg : Configuration) (s s' : State) (g : Node) (reply : List ℕ) (fate : Fate) (t : IsReplied cfg s (request.Alive g) reply fate s')
     → active_row g.name s.names ≡ None → (is_known g.name s.names ≡ true) ⊎ (length s.names.active < cfg.known_max)
     → (creation : ℕ) × IsLegalCreation g.high (remembered g.name s.names) creation × (reply ≡ alive_reply g.high 0 creation) × (fate ≡ Stay)
     × (active_row g.name s'.names ≡ Some (record { reg = g; creation = creation; slot = t.slot }))
@@ -225,7 +225,7 @@ NamesStay =
 abbrev pub RegisteredAreFound : Type 0
 RegisteredAreFound =
     (cfg : Configuration) (es : List Entry) (s first last s' : State) (g : Node) (reply : List ℕ)
-    (t : IsTold cfg s (request.Alive g) reply Stay first) (asker : ℕ) (connection : Connection) (body answer : List ℕ)
+    (t : IsReplied cfg s (request.Alive g) reply Stay first) (asker : ℕ) (connection : Connection) (body answer : List ℕ)
     → Run cfg first es last → NoneEnds t.slot es → Completes cfg last asker connection body answer s'
     → Spells body (request.Port g.name) → answer ≡ port2_reply (Some g)
 
@@ -233,8 +233,8 @@ RegisteredAreFound =
 abbrev pub RegisteredAreAlone : Type 0
 RegisteredAreAlone =
     (cfg : Configuration) (es : List Entry) (s first last s' : State) (g other : Node) (reply answer : List ℕ) (fate : Fate)
-    (t : IsTold cfg s (request.Alive g) reply Stay first) → Run cfg first es last → NoneEnds t.slot es
-    → IsTold cfg last (request.Alive other) answer fate s' → other.name ≡ g.name → IsRefused last (refusal other.high 1) answer fate s'
+    (t : IsReplied cfg s (request.Alive g) reply Stay first) → Run cfg first es last → NoneEnds t.slot es
+    → IsReplied cfg last (request.Alive other) answer fate s' → other.name ≡ g.name → IsRefused last (refusal other.high 1) answer fate s'
 
 -- ---- how a name leaves
 
@@ -253,14 +253,14 @@ EndsRetire =
 abbrev pub StopsRetire : Type 0
 StopsRetire =
     (cfg : Configuration) (s s' : State) (name : List ℕ) (row : Row) (reply : List ℕ) (fate : Fate) → IsOwned cfg s → cfg.relaxed ≡ true
-    → IsTold cfg s (request.Stop name) reply fate s' → active_row name s.names ≡ Some row
+    → IsReplied cfg s (request.Stop name) reply fate s' → active_row name s.names ≡ Some row
     → (reply ≡ codes "STOPPED") × (fate ≡ Close) × Retires name s.names s'.names
 
 -- no step of this run registers the name
 abbrev pub NoneRegisters : (name : List ℕ) (cfg : Configuration) (es : List Entry) (s s' : State) → Run cfg s es s' → Type 0
 NoneRegisters name cfg [] s s' run = Unit {0}
 NoneRegisters name cfg (e ∷ es) s s' run =
-    ((g : Node) (reply : List ℕ) → IsTold cfg s (request.Alive g) reply Stay run.0 → g.name ≢ name)
+    ((g : Node) (reply : List ℕ) → IsReplied cfg s (request.Alive g) reply Stay run.0 → g.name ≢ name)
     × NoneRegisters name cfg es run.0 s' run.2
 
 -- a name that is not active is found by nobody until it is registered

@@ -2,7 +2,7 @@ pub mod Config
 pub mod Connections
 pub mod State
 pub mod Serving
-pub mod Telling
+pub mod Responding
 pub mod Entry
 pub mod Step
 pub mod Run

@@ -4,13 +4,13 @@ use Rattle.std.specs.Prelude.{ℕ, Bool, List, [], ◌∷◌, ◌==◌, ◌||◌
 use Rattle.portmap_core.specs.declared.locality.Ip.{Ip, TheVariants.{V4, V6}}
 
 -- the first twelve bytes of `::ffff:a.b.c.d`, an IPv4 address among IPv6 ones
-abbrev pub mapped_front : List ℕ
-mapped_front = 0 ∷ 0 ∷ 0 ∷ 0 ∷ 0 ∷ 0 ∷ 0 ∷ 0 ∷ 0 ∷ 0 ∷ 255 ∷ 255 ∷ []
+abbrev pub mapped_prefix : List ℕ
+mapped_prefix = 0 ∷ 0 ∷ 0 ∷ 0 ∷ 0 ∷ 0 ∷ 0 ∷ 0 ∷ 0 ∷ 0 ∷ 255 ∷ 255 ∷ []
 
 -- the address's bytes: 4 of an IPv4 address, also of one among IPv6 ones, else 16
 abbrev pub plain : Ip → List ℕ
 plain (V4 bytes) = bytes
-plain (V6 bytes) = if pointwise ◌==◌ (take 12 bytes) mapped_front then drop 12 bytes else bytes
+plain (V6 bytes) = if pointwise ◌==◌ (take 12 bytes) mapped_prefix then drop 12 bytes else bytes
 
 abbrev pub loopback6 : List ℕ
 loopback6 = 0 ∷ 0 ∷ 0 ∷ 0 ∷ 0 ∷ 0 ∷ 0 ∷ 0 ∷ 0 ∷ 0 ∷ 0 ∷ 0 ∷ 0 ∷ 0 ∷ 0 ∷ 1 ∷ []

@@ -7,7 +7,7 @@ use Rattle.std.specs.Prelude.{None, option_map, codes, ◌⊎◌, if◌then◌el
 use Rattle.portmap_wire.specs.{List.{names_reply, dump_reply}, Node.Node, Reply.{alive_reply, port2_reply}}
 use Rattle.portmap_wire.specs.{Request.{Spells, IsMalformed}, declared.list.DumpLine.DumpLine, declared.list.Line.Line}
 use Rattle.portmap_wire.specs.declared.request.Request.{Request, TheVariants.{Alive, Dump, Kill, Names, Port, Stop}}
-use Rattle.portmap_feed.specs.Stream.{Sight, More, Zero, TooLarge, Whole}
+use Rattle.portmap_feed.specs.Stream.{Framing, More, Zero, TooLarge, Whole}
 use Rattle.portmap_table.specs.{Creation.IsLegalCreation, declared.row.Row.Row}
 use Rattle.portmap_table.specs.Rows as rows
 use Rattle.portmap_core.specs.Config.{Configuration}
@@ -52,7 +52,7 @@ port_served names name = replied names (port2_reply (option_map (λ row. row.reg
 -- ---- the others, of which a remote peer hears nothing
 
 abbrev pub if_local : Bool → rows.Names → Served → Served
-if_local local names told = if not local then closed names else told
+if_local local names response = if not local then closed names else response
 
 -- ---- DUMP
 
@@ -125,18 +125,18 @@ served cfg names local slot (Stop name) creation = if_local local names (stop_se
 served cfg names local slot (Alive g) creation = if_local local names (alive_served cfg names slot g creation)
 
 -- the creation is one that the name may get
-abbrev pub MayTake : rows.Names → Request → ℕ → Type 0
-MayTake names (Alive g) creation = IsLegalCreation g.high (rows.remembered g.name names) creation
-MayTake names (Port name) creation = Unit {0}
-MayTake names Names creation = Unit {0}
-MayTake names Dump creation = Unit {0}
-MayTake names Kill creation = Unit {0}
-MayTake names (Stop name) creation = Unit {0}
+abbrev pub MayGet : rows.Names → Request → ℕ → Type 0
+MayGet names (Alive g) creation = IsLegalCreation g.high (rows.remembered g.name names) creation
+MayGet names (Port name) creation = Unit {0}
+MayGet names Names creation = Unit {0}
+MayGet names Dump creation = Unit {0}
+MayGet names Kill creation = Unit {0}
+MayGet names (Stop name) creation = Unit {0}
 
 -- a request is served so. One thing is left open: a connection that is to hold its name has any legal creation
 pub record Serves (cfg : Configuration) (names : rows.Names) (local : Bool) (slot : ℕ) (request : Request) (o : Served) : Type 0 where
   pub creation : ℕ
-  pub legal : o.stage ≡ Holding → MayTake names request creation
+  pub legal : o.stage ≡ Holding → MayGet names request creation
   pub is : o ≡ served cfg names local slot request creation
 
 -- ---- every body
@@ -156,8 +156,8 @@ abbrev pub ServesBody : Configuration → rows.Names → Bool → ℕ → List �
 ServesBody cfg names local slot body o = ServesSpelled cfg names local slot body o ⊎ ServesMalformed names body o
 
 -- what a waiting connection is told, by what all that it sent amounts to
-abbrev pub ToldAt : Configuration → rows.Names → Bool → ℕ → List ℕ → Sight → Served → Type 0
-ToldAt cfg names local slot received More o = o ≡ awaits names received
-ToldAt cfg names local slot received Zero o = o ≡ closed names
-ToldAt cfg names local slot received (TooLarge n) o = o ≡ closed names
-ToldAt cfg names local slot received (Whole body) o = ServesBody cfg names local slot body o
+abbrev pub ServesReceived : Configuration → rows.Names → Bool → ℕ → List ℕ → Framing → Served → Type 0
+ServesReceived cfg names local slot received More o = o ≡ awaits names received
+ServesReceived cfg names local slot received Zero o = o ≡ closed names
+ServesReceived cfg names local slot received (TooLarge n) o = o ≡ closed names
+ServesReceived cfg names local slot received (Whole body) o = ServesBody cfg names local slot body o

@@ -8,7 +8,7 @@ use portmap_table::Table;
 
 /// Of whom a waiting connection asks, and whether it comes from this host.
 #[derive(Drop)]
-pub(crate) struct Asked<'a> {
+pub(crate) struct RequestContext<'a> {
     pub(crate) config: Config,
     pub(crate) table: &'a Table,
     /// The list of the active names, where it was kept.

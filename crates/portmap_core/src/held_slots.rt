@@ -37,7 +37,7 @@ impl Model for Slots {
 }
 
 /// Where a slot stands, or where it would.
-fn place(held: &[Held], slot: u64) -> Result<usize, usize>
+fn index_of_slot(held: &[Held], slot: u64) -> Result<usize, usize>
     requires { SlotsRise (entries_held held.now) }
     ensures { MatchResult result (IsAt held.now slot) (IsGapFor held.now slot) }
 {
@@ -80,7 +80,7 @@ impl Slots {
     pub(crate) fn get(&self, slot: u64) -> Option<&Held>
         ensures { option_map (λ h. connection_held h.now) result ≡ map.get self.now slot }
     {
-        let at = place(self.held.as_slice(), slot).ok()?;
+        let at = index_of_slot(self.held.as_slice(), slot).ok()?;
         Some(&self.held[at])
     }
 
@@ -111,7 +111,7 @@ impl Slots {
             (record { local = local; stage = stage.Waiting [] })) }
         ensures err { OnErr result (self.new ≡ self.old) }
     {
-        let Err(at) = place(self.held.as_slice(), slot) else {
+        let Err(at) = index_of_slot(self.held.as_slice(), slot) else {
             unreachable!()
         };
         self.held.insert(
@@ -130,7 +130,7 @@ impl Slots {
     pub(crate) fn remove(&mut self, slot: u64)
         ensures { self.new ≡ map.remove self.old slot }
     {
-        if let Ok(at) = place(self.held.as_slice(), slot) {
+        if let Ok(at) = index_of_slot(self.held.as_slice(), slot) {
             self.held.remove(at);
         }
     }
@@ -141,7 +141,7 @@ impl Slots {
             → self.new ≡ map.insert self.old slot (at_stage connection stage) }
         ensures free { map.get self.old slot ≡ None → self.new ≡ self.old }
     {
-        if let Ok(at) = place(self.held.as_slice(), slot) {
+        if let Ok(at) = index_of_slot(self.held.as_slice(), slot) {
             self.held[at].turn(stage);
         }
     }

@@ -2,7 +2,7 @@
 ghost use Rattle.portmap_core.specs.Laws.{ActiveNamesAreFound, ActiveNamesAreListed, ActiveNamesAreTaken, EndsAreFinal};
 ghost use Rattle.portmap_core.specs.Laws.{EndsLeaveNoName, EntriesDetermine, HoldersOutlastTheirTime, KillsAreRefused};
 ghost use Rattle.portmap_core.specs.Laws.{KillsEnd, MalformedChangesNoName, NamesBelongToConnections, NewNamesWantRoom};
-ghost use Rattle.portmap_core.specs.Laws.{OthersAreToldNothing, RunsKeepLimits, StepsKeepOwned, TakenCreationsAreNew};
+ghost use Rattle.portmap_core.specs.Laws.{RemotePeersMayOnlyLookUp, RunsKeepLimits, StepsKeepOwned, TakenCreationsAreNew};
 ghost use Rattle.portmap_core.specs.Laws.{WrittenIsWhole};
 ghost use Rattle.portmap_core.specs.Laws.{AbsentNamesAreNotFound, EndsRetire, ListsAreExact, StopsRetire};
 ghost use Rattle.portmap_core.specs.Laws.{FreeNamesRegister, NamesStay, RegisteredAreAlone, RegisteredAreFound};
@@ -68,13 +68,13 @@ pub fn active_names_are_shown()
 {}
 
 /// Peers of other hosts are told where names are and which there are, and nothing else.
-pub fn others_are_told_nothing()
-    ensures { OthersAreToldNothing }
+pub fn remote_peers_may_only_look_up()
+    ensures { RemotePeersMayOnlyLookUp }
 {}
 
 /// A local peer whose registration is refused is told why: result 1 where the name is active, and 2 where it is not
 /// known and as many are active as may be known.
-pub fn refused_names_are_told_why()
+pub fn refusals_give_the_right_result()
     ensures taken { ActiveNamesAreTaken }
     ensures full { NewNamesWantRoom }
 {}

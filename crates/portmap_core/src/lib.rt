@@ -53,13 +53,13 @@ pub use held::Held;
 pub use laws::{
     active_names_are_shown, ends_are_final, ends_leave_no_name, entries_determine,
     holders_outlast_their_time, kills_end_where_they_may, malformed_changes_no_name,
-    names_belong_to_connections, names_that_left_are_not_found, others_are_told_nothing,
-    refused_names_are_told_why, registered_names_stay, runs_keep_limits, steps_keep_owned,
+    names_belong_to_connections, names_that_left_are_not_found, refusals_give_the_right_result,
+    registered_names_stay, remote_peers_may_only_look_up, runs_keep_limits, steps_keep_owned,
     taken_creations_are_new, written_is_whole,
 };
 pub use locality::{Ip, is_local};
 pub use machine::Core;
-pub use past::Past;
+pub use past::GhostList;
 pub use portmap_table::{Old, Row};
 pub use portmap_wire::{Name, NoMemory};
 pub use registering::name_to_register;

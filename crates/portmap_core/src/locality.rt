@@ -10,7 +10,7 @@ pub enum Ip {
 }
 
 /// The first twelve bytes of an IPv4 address among IPv6 ones.
-const MAPPED_FRONT: [u8; 12] = [0, 0, 0, 0, 0, 0, 0, 0, 0, 0, 255, 255];
+const MAPPED_PREFIX: [u8; 12] = [0, 0, 0, 0, 0, 0, 0, 0, 0, 0, 255, 255];
 
 /// The address ::1.
 const LOOPBACK_V6: [u8; 16] = [0, 0, 0, 0, 0, 0, 0, 0, 0, 0, 0, 0, 0, 0, 0, 1];
@@ -22,7 +22,7 @@ fn plain(ip: &Ip) -> &[u8]
     match ip {
         Ip::V4(bytes) => bytes.as_slice(),
         Ip::V6(bytes) => {
-            if &bytes[..12] == MAPPED_FRONT.as_slice() {
+            if &bytes[..12] == MAPPED_PREFIX.as_slice() {
                 &bytes[12..]
             } else {
                 bytes.as_slice()

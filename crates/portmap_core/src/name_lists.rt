@@ -29,14 +29,14 @@ impl Model for NameLists {
 }
 
 /// Where the name of a slot stands.
-fn slot_place(rows: &[Row], slot: u64) -> Option<usize>
+fn slot_index(rows: &[Row], slot: u64) -> Option<usize>
     ensures { result ≡ position (λ row. row.slot == slot) rows.now }
 {
     rows.iter().position(|row| row.slot == slot)
 }
 
 /// Where a retired name stands.
-fn retired_place(names: &[Old], name: &Name) -> Option<usize>
+fn retired_index(names: &[Old], name: &Name) -> Option<usize>
     ensures { result ≡ position (λ old. same_name old.name name.now) names.now }
 {
     names.iter().position(|old| old.name == *name)
@@ -44,7 +44,7 @@ fn retired_place(names: &[Old], name: &Name) -> Option<usize>
 
 /// The active name at this place becomes the last retired one.
 fn leave(active: &mut Vec<Row>, retired: &mut Vec<Old>, at: usize)
-    requires place { at < vec_len active.old }
+    requires index_of_slot { at < vec_len active.old }
     requires room { vec_len retired.old < vec_capacity retired.old }
     ensures { retired_at (Some at) (record { active = active.old.items; retired = retired.old.items })
         ≡ record { active = active.new.items; retired = retired.new.items } }
@@ -59,7 +59,7 @@ fn make_way(retired: &mut Vec<Old>, name: &Name, is_full: bool)
     ensures { retired.new.items ≡ left_by
         (position (λ old. same_name old.name name.now) retired.old.items) is_full retired.old.items }
 {
-    match retired_place(retired.as_slice(), name) {
+    match retired_index(retired.as_slice(), name) {
         Some(at) => drop(retired.remove(at)),
         None if is_full && !retired.is_empty() => drop(retired.remove(0)),
         None => {}
@@ -145,7 +145,7 @@ impl NameLists {
         ensures ok { OnOk result (self.new ≡ retired_of slot self.old) }
         ensures err { OnErr result (self.new ≡ self.old) }
     {
-        let Some(at) = slot_place(self.active.as_slice(), slot) else {
+        let Some(at) = slot_index(self.active.as_slice(), slot) else {
             return Ok(());
         };
         self.retired.reserve(1)?;

@@ -4,19 +4,19 @@ ghost use Rattle.portmap_feed.specs.Stream.{first_request};
 ghost use Rattle.portmap_feed.specs.Seen.{seen_of};
 ghost use Rattle.portmap_wire.specs.List.{dump_reply};
 ghost use Rattle.portmap_wire.specs.declared.request.Request.TheVariants.{Alive};
-ghost use Rattle.portmap_table.specs.Rows.{owns_name, standing};
+ghost use Rattle.portmap_table.specs.Rows.{owns_name, name_status};
 ghost use Rattle.portmap_core.specs.declared.connection.Phase.TheVariants.{Done};
 ghost use Rattle.portmap_core.specs.declared.event.Fate.TheVariants.{Close};
 ghost use Rattle.portmap_core.specs.declared.serve.Change.TheVariants.{Nothing};
-ghost use Rattle.portmap_core.specs.Serving.{Serves, ServesBody, ToldAt, dump_lines, dump_served, kill_served, list_of};
+ghost use Rattle.portmap_core.specs.Serving.{Serves, ServesBody, ServesReceived, dump_lines, dump_served, kill_served, list_of};
 ghost use Rattle.portmap_core.specs.Serving.{names_served, port_served, stop_served};
-ghost use Rattle.portmap_core.specs.Telling.{Answers, AnswersAll, MayChange, TellsAll, names_after, stopped_by};
+ghost use Rattle.portmap_core.specs.Responding.{Answers, RespondsAtAnySlot, MayChange, IsResponseAtAnySlot, names_after, stopped_by};
 
-use crate::asked::Asked;
+use crate::asked::RequestContext;
 use crate::connection::Phase;
 use crate::event::Fate;
 use portmap_feed::{Feed, Seen};
-use portmap_table::{Standing, Table, creation_for};
+use portmap_table::{NameStatus, Table, creation_for};
 use portmap_wire::{
     DUMP_LINE_REST, ListReply, Malformed, NAMES_LINE_REST, Name, NoMemory, Reg, Request,
     read_request, write_alive, write_port2,
@@ -145,7 +145,7 @@ fn dump_text(alloc: Global, port: u16, table: &Table) -> Result<Vec<u8>, NoMemor
     Ok(reply.into_bytes())
 }
 
-impl Asked<'_> {
+impl RequestContext<'_> {
     /// NAMES_REQ: the list as it was kept, where it was, else as it is made.
     fn list(&self, alloc: Global) -> Result<Response, NoMemory>
         ensures { Answers self.now result names_served }
@@ -211,20 +211,20 @@ impl Asked<'_> {
     }
 
     /// How a name stands, where as many may be known as the configuration says.
-    fn standing(&self, name: &Name) -> Standing
-        ensures { result ≡ standing self.now.config.known_max name.now self.now.table.now.names }
+    fn name_status(&self, name: &Name) -> NameStatus
+        ensures { result ≡ name_status self.now.config.known_max name.now self.now.table.now.names }
     {
-        self.table.standing(name)
+        self.table.name_status(name)
     }
 
     /// ALIVE2_REQ of a local peer.
     fn alive(&self, alloc: Global, reg: Reg) -> Result<Response, NoMemory>
-        ensures { AnswersAll self.now result (λ cfg names slot. Serves cfg names true slot (Alive reg)) }
+        ensures { RespondsAtAnySlot self.now result (λ cfg names slot. Serves cfg names true slot (Alive reg)) }
     {
-        let last = match self.standing(&reg.name) {
-            Standing::Active => return Ok(replied(write_alive(alloc, reg.high, 1, 0)?)),
-            Standing::NoRoom => return Ok(replied(write_alive(alloc, reg.high, 2, 0)?)),
-            Standing::Free(last) => last,
+        let last = match self.name_status(&reg.name) {
+            NameStatus::Active => return Ok(replied(write_alive(alloc, reg.high, 1, 0)?)),
+            NameStatus::NoRoom => return Ok(replied(write_alive(alloc, reg.high, 2, 0)?)),
+            NameStatus::Free(last) => last,
         };
         let creation = creation_for(self.wanted, self.table.counter(), reg.high, last);
         Ok(Response {
@@ -235,8 +235,8 @@ impl Asked<'_> {
         })
     }
 
-    fn tell_request(&self, alloc: Global, request: Request) -> Result<Response, NoMemory>
-        ensures { AnswersAll self.now result (λ cfg names slot. Serves cfg names self.now.local slot request) }
+    fn respond_to_request(&self, alloc: Global, request: Request) -> Result<Response, NoMemory>
+        ensures { RespondsAtAnySlot self.now result (λ cfg names slot. Serves cfg names self.now.local slot request) }
     {
         match request {
             Request::Names => self.list(alloc),
@@ -251,11 +251,11 @@ impl Asked<'_> {
         }
     }
 
-    fn tell_body(&self, alloc: Global, body: &[u8]) -> Result<Response, NoMemory>
-        ensures { AnswersAll self.now result (λ cfg names slot. ServesBody cfg names self.now.local slot body.now) }
+    fn respond_to_body(&self, alloc: Global, body: &[u8]) -> Result<Response, NoMemory>
+        ensures { RespondsAtAnySlot self.now result (λ cfg names slot. ServesBody cfg names self.now.local slot body.now) }
     {
         match read_request(alloc, body) {
-            Ok(request) => self.tell_request(alloc, request),
+            Ok(request) => self.respond_to_request(alloc, request),
             Err(Malformed::NoMemory) => Err(NoMemory),
             Err(
                 Malformed::Short
@@ -267,11 +267,16 @@ impl Asked<'_> {
     }
 
     /// What is told by what was sent in all, and what is seen of that. Nothing is changed yet.
-    pub(crate) fn tell(&self, alloc: Global, feed: &Feed, seen: Seen) -> Result<Response, NoMemory>
+    pub(crate) fn respond(
+        &self,
+        alloc: Global,
+        feed: &Feed,
+        seen: Seen,
+    ) -> Result<Response, NoMemory>
         requires { seen ≡ seen_of (first_request feed.now) }
-        ensures { IfOk result (λ told. TellsAll
-            (λ slot. ToldAt self.now.config self.now.table.now.names self.now.local slot feed.now
-            (first_request feed.now)) self.now feed.now told) }
+        ensures { IfOk result (λ response. IsResponseAtAnySlot
+            (λ slot. ServesReceived self.now.config self.now.table.now.names self.now.local slot feed.now
+            (first_request feed.now)) self.now feed.now response) }
     {
         match seen {
             Seen::More => Ok(Response {
@@ -285,7 +290,7 @@ impl Asked<'_> {
                 let Some(body) = feed.body() else {
                     unreachable!()
                 };
-                self.tell_body(alloc, body)
+                self.respond_to_body(alloc, body)
             }
         }
     }

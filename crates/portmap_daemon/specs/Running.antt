@@ -1,7 +1,7 @@
 -- How a daemon fails: profile.
 use Rattle.std.specs.Prelude.{ℕ, ◌<◌}
-use Rattle.portmap_worker.specs.declared.ending.Failure.{Failure}
-use Rattle.portmap_worker.specs.declared.ending.Failure.TheVariants as failure
+use Rattle.portmap_worker.specs.declared.ending.ShutdownCause.{ShutdownCause}
+use Rattle.portmap_worker.specs.declared.ending.ShutdownCause.TheVariants as failure
 use Rattle.portmap_daemon.specs.declared.daemon.RunFault.{RunFault, TheVariants.{Listen, ListenBeside, NoMemory, Poll}}
 
 -- where an address can't be listened on, it is one of so many
@@ -12,6 +12,6 @@ IsOfAddresses count Poll = Unit {0}
 IsOfAddresses count NoMemory = Unit {0}
 
 -- what a daemon tells whose workers end so
-abbrev pub fault_by : Failure → RunFault
+abbrev pub fault_by : ShutdownCause → RunFault
 fault_by failure.Poll = Poll
 fault_by failure.NoMemory = NoMemory

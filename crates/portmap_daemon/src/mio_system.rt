@@ -14,7 +14,7 @@ use mio::event::Event;
 use mio::net::{TcpListener, TcpStream};
 use mio::{Events, Poll, Token, Waker};
 use os::FromRawFd;
-use portmap_link::Past;
+use portmap_link::GhostList;
 use portmap_worker::{EVENTS_MOST, Interest, Report, Stream, System, Wake};
 use std::alloc::Global;
 use std::io::{Read, Write};
@@ -119,7 +119,7 @@ pub struct MioSystem {
     events: Events,
     listeners: Vec<TcpListener>,
     /// What the poll has taken. Only proofs read it.
-    watched: Past<(usize, Interest)>,
+    watched: GhostList<(usize, Interest)>,
 }
 
 impl MioSystem {
@@ -142,7 +142,7 @@ impl MioSystem {
             poll,
             events,
             listeners,
-            watched: Past::new(),
+            watched: GhostList::new(),
         };
         Ok((system, MioWaker { inner }))
     }

@@ -4,14 +4,14 @@ use Rattle.std.specs.Prelude.{ℕ, ◌+◌, ◌*◌, List, [], ◌∷◌, length
 use Rattle.portmap_wire.specs.declared.request.TheConstants.{BODY_MOST}
 
 -- what is seen of the first request: not whole yet, a length that none may have, or its body
-pub data Sight : Type 0 where
-  More : Sight
-  Zero : Sight
-  TooLarge : ℕ → Sight
-  Whole : List ℕ → Sight
+pub data Framing : Type 0 where
+  More : Framing
+  Zero : Framing
+  TooLarge : ℕ → Framing
+  Whole : List ℕ → Framing
 
 -- what is seen when `behind` follows a length of n
-abbrev pub sight_behind : ℕ → List ℕ → Sight
+abbrev pub sight_behind : ℕ → List ℕ → Framing
 sight_behind n behind =
     if n == 0 then Zero
     else if nat_lt BODY_MOST n then TooLarge n
@@ -19,7 +19,7 @@ sight_behind n behind =
     else Whole (take n behind)
 
 -- what is seen of the first request in all the bytes received
-unfoldable pub first_request : List ℕ → Sight
+unfoldable pub first_request : List ℕ → Framing
 first_request [] = More
 first_request (high ∷ []) = More
 first_request (high ∷ low ∷ behind) = sight_behind (high * 256 + low) behind
@@ -41,7 +41,7 @@ room (high ∷ []) = 1
 room (high ∷ low ∷ behind) = 2 + awaited (high * 256 + low)
 
 -- the body, where the request is whole
-abbrev pub body_in : Sight → Option (List ℕ)
+abbrev pub body_in : Framing → Option (List ℕ)
 body_in More = None
 body_in Zero = None
 body_in (TooLarge n) = None

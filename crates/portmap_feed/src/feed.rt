@@ -152,7 +152,7 @@ impl Feed {
         ensures more { result ≡ Ok Seen.More → self.new ≡ self.old ++ piece.now }
 
         // A `cut` to the length before the push undoes it.
-        ensures front { OnOk result (take (length self.old) self.new ≡ self.old) }
+        ensures prefix { OnOk result (take (length self.old) self.new ≡ self.old) }
         ensures longer { length self.old ≤ length self.new }
 
         ensures err { OnErr result (self.new ≡ self.old) }

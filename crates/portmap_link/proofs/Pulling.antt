@@ -9,4 +9,4 @@ use Rattle.portmap_link.specs.{declared.device.Pull.{Pull, TheVariants.Piece}, d
 pub just_read : (read piece : List ℕ) (asked earlier answered : List Pull) → first_request read ≡ More → length piece ≤ PULL_MOST
     → GoesOn IsAskedAgain asked earlier → answered ≡ earlier ++ Piece (length piece) ∷ [] → first_request (read ++ piece) ≢ More
     → IsJustRead (read ++ piece) asked answered
-just_read read piece asked earlier answered more small goes_on told decided = search (rules, length-append, take_at)
+just_read read piece asked earlier answered more small goes_on outcome decided = search (rules, length-append, take_at)

@@ -243,7 +243,7 @@ pub record SendsEnd (n : ℕ) (old new : List Put) (flush : Flush) : Type 0 wher
   pub before : List Put
   pub goes_on : GoesOn IsPutAgain old before
   pub few : count_by is_put_later before < count_by is_put_later old + n
-  pub told : new ≡ before ++ ending_of flush
+  pub outcome : new ≡ before ++ ending_of flush
 
 -- all puts but a failed one
 before_fault : {n size : ℕ} {old new : List Put} {count laters : ℕ} (flush : Flush) → SendsOn (Laters n) size old new count laters flush
@@ -253,7 +253,7 @@ before_fault {n} {size} {old} {count = count} flush on few same = record {
   before = old ++ on.added;
   goes_on = record { added = on.added; grows = refl; again = puts_again (Laters n) size on.added on.left (size - count) on.puts_on };
   few = omega (arith, both_laters old on.added, on.met, few);
-  told = on.answers ∙ ap (λ (t : List Put). old ++ on.added ++ t) same;
+  outcome = on.answers ∙ ap (λ (t : List Put). old ++ on.added ++ t) same;
 }
 
 pub sends_end : {n size : ℕ} {old new : List Put} {count laters : ℕ} (flush : Flush) → 0 < n
@@ -271,5 +271,5 @@ sends_end {n} {size} {old} {new} {count} Later some on =
         again = puts_again (Laters n) size last.before last.left (size - count) last.puts_on;
       };
       few = omega (arith, both_laters old last.before, last.few);
-      told = ends_later old new on.added last.before on.answers last.last;
+      outcome = ends_later old new on.added last.before on.answers last.last;
     }

@@ -2,7 +2,7 @@
 use Rattle.std.specs.Io.KnownBytes.{Appends}
 use Rattle.std.proofs.Common.{◌≡◌, ℕ, ◌<◌, List, length, take, Err, inl, refl}
 use Rattle.portmap_core.specs.{Config.Configuration, declared.event.Fate.Fate}
-use Rattle.portmap_link.specs.{Asking.{Devices, GoesOn, IsPutAgain}, Once.{IsHeard, RepliesInPart, Telling, Did}}
+use Rattle.portmap_link.specs.{Asking.{Devices, GoesOn, IsPutAgain}, Once.{IsHeard, RepliesInPart, WritesReply, Did}}
 use Rattle.portmap_link.specs.declared.single.OnceFault.{OnceFault}
 use Rattle.portmap_link.specs.declared.single.OnceFault.TheVariants.{NoMemory, ReadFault, TooManyTurns, WriteFault}
 
@@ -16,10 +16,10 @@ in_part cfg old new reply fate sent heard rest writes = record {
 }
 
 pub did_part : (cfg : Configuration) (old new : Devices) (reply : List ℕ) (fate : Fate) (fault : OnceFault)
-    → IsHeard cfg old.left new.left old.pulls new.pulls reply fate → Telling reply old.held new.held (Err fault)
+    → IsHeard cfg old.left new.left old.pulls new.pulls reply fate → WritesReply reply old.held new.held (Err fault)
     → ((sent : ℕ) → fault ≡ TooManyTurns sent → GoesOn IsPutAgain old.puts new.puts) → Did cfg old new (Err fault)
-did_part cfg old new reply fate ReadFault heard told due = absurd told
-did_part cfg old new reply fate NoMemory heard told due = absurd told
-did_part cfg old new reply fate (WriteFault sent) heard told due = in_part cfg old new reply fate sent heard told.0 told.1
-did_part cfg old new reply fate (TooManyTurns sent) heard told due =
-    inl (in_part cfg old new reply fate sent heard told.0 told.1, due sent refl)
+did_part cfg old new reply fate ReadFault heard outcome due = absurd outcome
+did_part cfg old new reply fate NoMemory heard outcome due = absurd outcome
+did_part cfg old new reply fate (WriteFault sent) heard outcome due = in_part cfg old new reply fate sent heard outcome.0 outcome.1
+did_part cfg old new reply fate (TooManyTurns sent) heard outcome due =
+    inl (in_part cfg old new reply fate sent heard outcome.0 outcome.1, due sent refl)

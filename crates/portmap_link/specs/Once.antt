@@ -6,7 +6,7 @@ use Rattle.portmap_feed.specs.Stream.{More, first_request}
 use Rattle.portmap_core.specs.{Config.Configuration, Run.{Hears, waiting_state}, State.State}
 use Rattle.portmap_core.specs.declared.event.Fate.{Fate, TheVariants.Close}
 use Rattle.portmap_link.specs.Asking.{Devices, WritesNothing, GoesOn, IsAskedAgain, IsPutAgain, IsEnded}
-use Rattle.portmap_link.specs.{declared.device.Pull.{Pull, TheVariants.Piece}, declared.single.Heard.Heard}
+use Rattle.portmap_link.specs.{declared.device.Pull.{Pull, TheVariants.Piece}, declared.single.Received.Received}
 use Rattle.portmap_link.specs.declared.single.OnceFault.{OnceFault}
 use Rattle.portmap_link.specs.declared.single.OnceFault.TheVariants.{NoMemory, ReadFault, TooManyTurns, WriteFault}
 use Rattle.portmap_link.specs.declared.single.TheConstants.{PULL_MOST}
@@ -21,7 +21,7 @@ pub record IsJustRead (read : List ℕ) (asked answered : List Pull) : Type 0 wh
   pub before : first_request (take (length read - last) read) ≡ More
   pub earlier : List Pull
   pub goes_on : GoesOn IsAskedAgain asked earlier
-  pub told : answered ≡ earlier ++ Piece last ∷ []
+  pub outcome : answered ≡ earlier ++ Piece last ∷ []
 
 -- a request was read, is told so, and this much of the reply was written and nothing else
 pub record Replies (cfg : Configuration) (old new : Devices) (written : List ℕ → List ℕ) (fate : Fate) : Type 0 where
@@ -96,7 +96,7 @@ HearsReply cfg old new asked answered None = Awaits old new × IsEnded new asked
 HearsReply cfg old new asked answered (Some said) = IsHeard cfg old new asked answered said.0.items said.1
 
 -- by the bytes that were left and the answers of the pulls, before and after
-abbrev pub Hearing : Configuration → Option (List ℕ) → Option (List ℕ) → List Pull → List Pull → Result Heard OnceFault → Type 0
+abbrev pub Hearing : Configuration → Option (List ℕ) → Option (List ℕ) → List Pull → List Pull → Result Received OnceFault → Type 0
 Hearing cfg old new asked answered (Ok heard) = HearsReply cfg old new asked answered heard.reply
 Hearing cfg old new asked answered (Err ReadFault) = Awaits old new
 Hearing cfg old new asked answered (Err NoMemory) = Unit {0}
@@ -104,9 +104,9 @@ Hearing cfg old new asked answered (Err (WriteFault sent)) = ⊥
 Hearing cfg old new asked answered (Err (TooManyTurns sent)) = (sent ≡ 0) × Awaits old new
 
 -- a reply was written, or a front of it
-abbrev pub Telling : List ℕ → Option (List ℕ) → Option (List ℕ) → Result Unit OnceFault → Type 0
-Telling reply old new (Ok done) = Appends old new reply
-Telling reply old new (Err ReadFault) = ⊥
-Telling reply old new (Err NoMemory) = ⊥
-Telling reply old new (Err (WriteFault sent)) = (sent < length reply) × Appends old new (take sent reply)
-Telling reply old new (Err (TooManyTurns sent)) = (sent < length reply) × Appends old new (take sent reply)
+abbrev pub WritesReply : List ℕ → Option (List ℕ) → Option (List ℕ) → Result Unit OnceFault → Type 0
+WritesReply reply old new (Ok done) = Appends old new reply
+WritesReply reply old new (Err ReadFault) = ⊥
+WritesReply reply old new (Err NoMemory) = ⊥
+WritesReply reply old new (Err (WriteFault sent)) = (sent < length reply) × Appends old new (take sent reply)
+WritesReply reply old new (Err (TooManyTurns sent)) = (sent < length reply) × Appends old new (take sent reply)

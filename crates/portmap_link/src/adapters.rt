@@ -49,10 +49,10 @@ fn write_once<W: Write>(inner: &mut W, failed: &mut bool, bytes: &[u8]) -> Put
 
 /// What a device answers to a pull, by what a read into a buffer with room told: one that gave nothing has found the
 /// end.
-pub fn pull_from(told: io::Result<usize>) -> Pull
-    ensures { result ≡ pull_of told }
+pub fn pull_from(outcome: io::Result<usize>) -> Pull
+    ensures { result ≡ pull_of outcome }
 {
-    match told {
+    match outcome {
         Ok(0) => Pull::End,
         Ok(n) => Pull::Piece(n),
         Err(error) if is_passing(&error) => Pull::Later,
@@ -61,10 +61,10 @@ pub fn pull_from(told: io::Result<usize>) -> Pull
 }
 
 /// What a device answers to a put, by what a write of some bytes told: one that took none will never take any.
-pub fn put_from(told: io::Result<usize>) -> Put
-    ensures { result ≡ put_of told }
+pub fn put_from(outcome: io::Result<usize>) -> Put
+    ensures { result ≡ put_of outcome }
 {
-    match told {
+    match outcome {
         Ok(0) => Put::Fault,
         Ok(n) => Put::Wrote(n),
         Err(error) if is_passing(&error) => Put::Later,

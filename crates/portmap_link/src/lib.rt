@@ -29,4 +29,4 @@ pub use crate::device::{Device, Input, Output, Pull, Put};
 pub use crate::outbox::{Flush, Outbox, send};
 pub use crate::putting::{Limit, Sent, send_all};
 pub use crate::single::{OnceFault, numbers_are_the_profiles, once, write_reply};
-pub use portmap_core::{NoMemory, Past};
+pub use portmap_core::{GhostList, NoMemory};

@@ -6,17 +6,17 @@ use Rattle.std.proofs.{Common.rules, lemmas.List.Sums.{count_by-le-length, lengt
 use Rattle.std.specs.FinMap as map
 use Rattle.slab.specs.Slab.{Slab, get, slab_len, Updates, with_value}
 use Rattle.slab.proofs.SlabLemmas.{ContainsKey-within, Updates-with_value}
-use Rattle.portmap_ready.specs.Held.{Moves, is_free, one, link_of, is_live, rests, marks_of, may_stand, is_fine, placed}
-use Rattle.portmap_ready.specs.{Held.{is_out, taken, unlisted, cleared, tidied}, Links.{Links, IsButForRoom, IsReady}}
-use Rattle.portmap_ready.specs.Links.{at_place, first_at, inserted, is_queued, is_pending, is_resting, is_told, link_at}
-use Rattle.portmap_ready.specs.Links.{moved, not_key, one_at, place_at, pushed, put_at, removed, rest_ended, taken_next}
-use Rattle.portmap_ready.specs.Links.{times, told_next, without, write_at, written}
+use Rattle.portmap_ready.specs.Tracked.{Moves, is_free, one, link_of, is_live, is_paused_in, marks_of, may_be_in, is_fine, with_link_state}
+use Rattle.portmap_ready.specs.{Tracked.{is_out, taken, unlisted, cleared, tidied}, Links.{Links, IsButForRoom, IsConsistent}}
+use Rattle.portmap_ready.specs.Links.{with_state, first_at, inserted, is_queued, is_pending, is_paused, is_current, link_at}
+use Rattle.portmap_ready.specs.Links.{moved, not_key, one_at, state_at, pushed, put_at, removed, after_resume, after_next_pending}
+use Rattle.portmap_ready.specs.Links.{times, after_next, without, write_at, written}
 use Rattle.portmap_ready.specs.Whole.{IsWhole, links_of, kept, room, has_room, seen, marks, is_key}
-use Rattle.portmap_ready.specs.{declared.Held.Held, declared.Place.{Place, TheVariants.{Idle, Queued, Resting, Told}}}
-use Rattle.portmap_ready.specs.declared.Ready.TheInside.{Inside}
+use Rattle.portmap_ready.specs.{declared.Tracked.Tracked, declared.LinkState.{LinkState, TheVariants.{Idle, Queued, Paused, Current}}}
+use Rattle.portmap_ready.specs.declared.Scheduler.TheInside.{Inside}
 use Rattle.portmap_ready.proofs.Steps.{whole_step, seen_is, kept_same, kept_absent, kept_pushed, kept_others, kept_out}
 use Rattle.portmap_ready.proofs.Steps.{get-links_of, links_put, links_cut, links_same, links_to, counted_to, len_most}
-use Rattle.portmap_ready.proofs.Tables.{marks_is, held_as, some_map, to_place, wake, shows-placed, shows-taken}
+use Rattle.portmap_ready.proofs.Tables.{marks_is, held_as, some_map, to_state, wake, shows-with_link_state, shows-taken}
 use Rattle.portmap_ready.proofs.Tables.{shows-unlisted, shows-cleared, free_marks}
 use Rattle.portmap_ready.proofs.Times.{first_left, first_left_other, front, joined, joined_other, times-filter}
 
@@ -30,13 +30,13 @@ less : (b : Bool) (n : ℕ) → cond b (n - 1) n ≡ n - one b
 less b n = search rules
 
 module _ {T : Type 0} where
-  slab_len-with_value : (s : Slab (Held T)) (k : ℕ) (h : Held T) → is_some (get s k) ≡ true → slab_len (with_value s k h) ≡ slab_len s
+  slab_len-with_value : (s : Slab (Tracked T)) (k : ℕ) (h : Tracked T) → is_some (get s k) ≡ true → slab_len (with_value s k h) ≡ slab_len s
   slab_len-with_value s k h e = search (rules, ContainsKey-within, sum_by-set)
 
-  pub some_live : (o : Option (Held T)) → is_live o ≡ true → is_some o ≡ true
+  pub some_live : (o : Option (Tracked T)) → is_live o ≡ true → is_some o ≡ true
   some_live o e = search rules
 
-  no_link : (o : Option (Held T)) → is_live o ≡ false → link_of o ≡ None
+  no_link : (o : Option (Tracked T)) → is_live o ≡ false → link_of o ≡ None
   no_link o e = search rules
 
   -- ---- a link goes to another place
@@ -48,10 +48,10 @@ module _ {T : Type 0} where
     pub live : is_live (get r.held k) ≡ true
     pub within : k < room r
 
-  pub free_at : {r : Inside T} {v : Links T} (k : ℕ) → IsWhole r → seen r ≡ v → is_free (place_at v k) ≡ true → IsFree r k
+  pub free_at : {r : Inside T} {v : Links T} (k : ℕ) → IsWhole r → seen r ≡ v → is_free (state_at v k) ≡ true → IsFree r k
   free_at {r} k i e f =
-      let place = ap (option_map (λ (l : T × Place). l.1)) (get-links_of r.held k) in
-      let free = free_marks (get r.held k) (ap is_free (sym place ∙ ap (λ v. place_at v k) e) ∙ f) in
+      let state = ap (option_map (λ (l : T × LinkState). l.1)) (get-links_of r.held k) in
+      let free = free_marks (get r.held k) (ap is_free (sym state ∙ ap (λ v. state_at v k) e) ∙ f) in
       record {
         queue = ap (λ m. m.queue) (i.marks k) ∙ free.0;
         pending = ap (λ m. m.pending) (i.marks k) ∙ free.1;
@@ -59,78 +59,78 @@ module _ {T : Type 0} where
         within = i.fits k (some_live _ free.2);
       }
 
-  out_absent : (p : Place) (o : Option (Held T)) → is_out p o ≡ true → (marks_of o).resting ≡ 0
+  out_absent : (p : LinkState) (o : Option (Tracked T)) → is_out p o ≡ true → (marks_of o).paused ≡ 0
   out_absent p o e = search rules
 
-  pub out_room : {r : Inside T} (p : Place) (k : ℕ) → IsWhole r → is_out p (get r.held k) ≡ true → times k r.resting.items ≡ 0
-  out_room {r} p k i e = ap (λ m. m.resting) (i.marks k) ∙ out_absent p (get r.held k) e
+  pub out_room : {r : Inside T} (p : LinkState) (k : ℕ) → IsWhole r → is_out p (get r.held k) ≡ true → times k r.paused.items ≡ 0
+  out_room {r} p k i e = ap (λ m. m.paused) (i.marks k) ∙ out_absent p (get r.held k) e
 
-  pub record Puts (p : Place) (k : ℕ) (old new : Inside T) : Type 0 where
-    pub held : Updates old.held new.held k (placed p (get old.held k))
+  pub record Puts (p : LinkState) (k : ℕ) (old new : Inside T) : Type 0 where
+    pub held : Updates old.held new.held k (with_link_state p (get old.held k))
     pub len : slab_len new.held ≡ slab_len old.held
     pub capacity : new.held.capacity ≡ old.held.capacity
     pub queue : new.queue.items ≡ pushed (is_queued p) k old.queue.items
     pub pending : new.pending.items ≡ pushed (is_pending p) k old.pending.items
-    pub resting : new.resting.items ≡ pushed (is_out p (get old.held k)) k old.resting.items
-    pub told : new.told ≡ not_key k old.told
+    pub paused : new.paused.items ≡ pushed (is_out p (get old.held k)) k old.paused.items
+    pub current : new.current ≡ not_key k old.current
     pub count : new.count ≡ old.count
     pub rooms : room new ≡ room old
 
-  module _ (p : Place) {k : ℕ} {old new : Inside T} (i : IsWhole old) (free : IsFree old k) (puts : Puts p k old new) where
-    abbrev o : Option (Held T)
+  module _ (p : LinkState) {k : ℕ} {old new : Inside T} (i : IsWhole old) (free : IsFree old k) (puts : Puts p k old new) where
+    abbrev o : Option (Tracked T)
     o = get old.held k
 
     abbrev out : Bool
     out = is_out p o
 
-    pub put_whole : is_told p ≡ false → IsWhole new
+    pub put_whole : is_current p ≡ false → IsWhole new
     put_whole to =
-        let shows = shows-placed p o free.live in
+        let shows = shows-with_link_state p o free.live in
         let queue : times k new.queue.items ≡ one (is_queued p) = search (rules, joined) in
         let pending : times k new.pending.items ≡ one (is_pending p) = search (rules, joined) in
-        let resting : times k new.resting.items ≡ (marks_of o).resting + one out =
-        omega (arith, joined out k old.resting.items puts.resting, ap (λ m. m.resting) (i.marks k)) in
+        let paused : times k new.paused.items ≡ (marks_of o).paused + one out =
+        omega (arith, joined out k old.paused.items puts.paused, ap (λ m. m.paused) (i.marks k)) in
         whole_step i (record {
           held = puts.held;
-          here = marks_is _ _ queue pending resting (ap (λ t. is_key t k) puts.told ∙ not_key_here k old.told ∙ sym to) ∙ sym shows.marks;
+          here = marks_is _ _ queue pending paused (ap (λ t. is_key t k) puts.current ∙ not_key_here k old.current ∙ sym to) ∙ sym shows.marks;
           others = λ j d.
               marks_is _ _ (joined_other (is_queued p) k old.queue.items puts.queue j d)
               (joined_other (is_pending p) k old.pending.items puts.pending j d)
-              (joined_other out k old.resting.items puts.resting j d) (ap (λ t. is_key t j) puts.told ∙ not_key_other k j old.told d);
+              (joined_other out k old.paused.items puts.paused j d) (ap (λ t. is_key t j) puts.current ∙ not_key_other k j old.current d);
           fine = shows.fine;
           within = λ x. free.within;
           rooms = puts.rooms;
           counted = puts.count ∙ counted_to p k new.held i (links_to puts.held p shows.link);
         })
 
-    put_seen : seen new ≡ record (moved p k (seen old)) { resting = kept rests new.held new.resting.items }
+    put_seen : seen new ≡ record (moved p k (seen old)) { paused = kept is_paused_in new.held new.paused.items }
     put_seen =
-        let shows = shows-placed p o free.live in
-        let live : is_live (placed p o) ≡ true = ap is_some shows.link ∙ some_map _ (link_of o) ∙ free.live in
+        let shows = shows-with_link_state p o free.live in
+        let live : is_live (with_link_state p o) ≡ true = ap is_some shows.link ∙ some_map _ (link_of o) ∙ free.live in
         seen_is _ _ (links_to puts.held p shows.link)
         (ap (kept is_live new.held) puts.queue ∙ kept_pushed puts.held is_live (is_queued p) old.queue.items free.queue live)
         (ap (kept is_live new.held) puts.pending
-        ∙ kept_pushed puts.held is_live (is_pending p) old.pending.items free.pending live) refl puts.told
+        ∙ kept_pushed puts.held is_live (is_pending p) old.pending.items free.pending live) refl puts.current
         (λ x. nat_lt (puts.len x) (puts.capacity x) && nat_le (puts.capacity x) (puts.rooms x))
 
-    put_resting : is_resting p ≡ false → kept rests new.held new.resting.items ≡ without k (kept rests old.held old.resting.items)
+    put_resting : is_paused p ≡ false → kept is_paused_in new.held new.paused.items ≡ without k (kept is_paused_in old.held old.paused.items)
     put_resting e =
-        ap (kept rests new.held) (puts.resting ∙ ap (λ b. pushed b k old.resting.items) (not_out o))
-        ∙ kept_out puts.held rests old.resting.items ((shows-placed p o free.live).rests ∙ e)
+        ap (kept is_paused_in new.held) (puts.paused ∙ ap (λ b. pushed b k old.paused.items) (not_out o))
+        ∙ kept_out puts.held is_paused_in old.paused.items ((shows-with_link_state p o free.live).is_paused_in ∙ e)
       where
-        not_out : (o : Option (Held T)) → is_out p o ≡ false
+        not_out : (o : Option (Tracked T)) → is_out p o ≡ false
         not_out None = refl
         not_out (Some h) = rw e refl
 
-    put_others : without k (kept rests new.held new.resting.items) ≡ without k (kept rests old.held old.resting.items)
-    put_others = ap (λ xs. without k (kept rests new.held xs)) puts.resting ∙ kept_others puts.held rests out old.resting.items
+    put_others : without k (kept is_paused_in new.held new.paused.items) ≡ without k (kept is_paused_in old.held old.paused.items)
+    put_others = ap (λ xs. without k (kept is_paused_in new.held xs)) puts.paused ∙ kept_others puts.held is_paused_in out old.paused.items
 
-  pub put_moves : (p : Place) {k : ℕ} {old new : Inside T} → IsWhole old → IsFree old k → Puts p k old new → is_told p ≡ false
+  pub put_moves : (p : LinkState) {k : ℕ} {old new : Inside T} → IsWhole old → IsFree old k → Puts p k old new → is_current p ≡ false
       → Moves p k (seen old) (seen new)
-  put_moves Told i free puts to = absurd (cc)
-  put_moves Resting i free puts to = record { moved = put_seen Resting i free puts; others = put_others Resting i free puts }
+  put_moves Current i free puts to = absurd (cc)
+  put_moves Paused i free puts to = record { moved = put_seen Paused i free puts; others = put_others Paused i free puts }
   put_moves p {k} {old} i free puts to =
-      put_seen p i free puts ∙ ap (λ xs. record (moved p k (seen old)) { resting = xs }) (put_resting p i free puts refl)
+      put_seen p i free puts ∙ ap (λ xs. record (moved p k (seen old)) { paused = xs }) (put_resting p i free puts refl)
 
   -- ---- the first of the queue, or of those that are pending
 
@@ -139,28 +139,28 @@ module _ {T : Type 0} where
     pub held : Updates old.held new.held k (tidied (taken (get old.held k)))
     pub queue : old.queue.items ≡ front b k new.queue.items
     pub pending : old.pending.items ≡ front (not b) k new.pending.items
-    pub none : old.told ≡ None
-    pub told : new.told ≡ cond (is_live (get old.held k)) (Some k) None
+    pub none : old.current ≡ None
+    pub current : new.current ≡ cond (is_live (get old.held k)) (Some k) None
     pub rooms : room new ≡ room old
-    pub same : new ≡ record old { held = new.held; queue = new.queue; pending = new.pending; told = new.told }
+    pub same : new ≡ record old { held = new.held; queue = new.queue; pending = new.pending; current = new.current }
 
   -- it stood in no other list, and stands in none now
-  pub record WasFirst (o : Option (Held T)) (x y : ℕ) : Type 0 where
+  pub record WasFirst (o : Option (Tracked T)) (x y : ℕ) : Type 0 where
     pub queue : x ≡ 0
     pub pending : y ≡ 0
-    pub rests : rests o ≡ false
+    pub is_paused_in : is_paused_in o ≡ false
     pub some : is_some o ≡ true
 
-  was_first : (b : Bool) (o : Option (Held T)) {x y : ℕ} → one b + x ≡ (marks_of o).queue → one (not b) + y ≡ (marks_of o).pending
+  was_first : (b : Bool) (o : Option (Tracked T)) {x y : ℕ} → one b + x ≡ (marks_of o).queue → one (not b) + y ≡ (marks_of o).pending
       → WasFirst o x y
   was_first b o e f = search rules
 
-  kept-front : (b c : Bool) {s s' : Slab (Held T)} {k : ℕ} {o : Option (Held T)} (xs : List ℕ) → Updates s s' k o → times k xs ≡ 0
+  kept-front : (b c : Bool) {s s' : Slab (Tracked T)} {k : ℕ} {o : Option (Tracked T)} (xs : List ℕ) → Updates s s' k o → times k xs ≡ 0
       → is_live (get s k) ≡ c → kept is_live s (front b k xs) ≡ front (b && c) k (kept is_live s' xs)
   kept-front b c xs u e l = search (rules, kept_absent)
 
   module _ (b : Bool) {k : ℕ} {old new : Inside T} (i : IsWhole old) (takes : Takes b k old new) where
-    abbrev first_held : Option (Held T)
+    abbrev first_held : Option (Tracked T)
     first_held = get old.held k
 
     was : WasFirst first_held (times k new.queue.items) (times k new.pending.items)
@@ -168,33 +168,33 @@ module _ {T : Type 0} where
         was_first b first_held (first_left b k new.queue.items takes.queue ∙ ap (λ m. m.queue) (i.marks k))
         (first_left (not b) k new.pending.items takes.pending ∙ ap (λ m. m.pending) (i.marks k))
 
-    told_here : (c : Bool) → is_key (cond c (Some k) None) k ≡ c
-    told_here c = search rules
+    current_here : (c : Bool) → is_key (cond c (Some k) None) k ≡ c
+    current_here c = search rules
 
-    told_other : (j : ℕ) → j ≢ k → (c : Bool) → is_key (cond c (Some k) None) j ≡ false
-    told_other j d c = search rules
+    current_other : (j : ℕ) → j ≢ k → (c : Bool) → is_key (cond c (Some k) None) j ≡ false
+    current_other j d c = search rules
 
     pub take_whole : IsWhole new
     take_whole =
         let shows = shows-taken first_held in
-        let told = ap (λ t. is_key t k) takes.told ∙ told_here (is_live first_held) in
-        let others = λ (j : ℕ) (d : j ≢ k). ap (λ t. is_key t j) takes.told ∙ told_other j d (is_live first_held)
+        let current = ap (λ t. is_key t k) takes.current ∙ current_here (is_live first_held) in
+        let others = λ (j : ℕ) (d : j ≢ k). ap (λ t. is_key t j) takes.current ∙ current_other j d (is_live first_held)
         ∙ ap (λ t. is_key t j) (sym takes.none) in
         subst IsWhole (sym takes.same) (whole_step i (record {
           held = takes.held;
-          here = marks_is _ _ was.queue was.pending (ap (λ m. m.resting) (i.marks k)) told ∙ sym shows.marks;
+          here = marks_is _ _ was.queue was.pending (ap (λ m. m.paused) (i.marks k)) current ∙ sym shows.marks;
           others = λ j d.
               marks_is _ _ (first_left_other b k new.queue.items takes.queue j d)
               (first_left_other (not b) k new.pending.items takes.pending j d) refl (others j d);
           fine = shows.fine;
           within = λ x. i.fits k was.some;
           rooms = ap room (sym takes.same) ∙ takes.rooms;
-          counted = counted_to Told k new.held i (links_to takes.held Told shows.link);
+          counted = counted_to Current k new.held i (links_to takes.held Current shows.link);
         }))
 
     -- what is seen then, if its link is there, or if that is gone
-    take_links : links_of new.held.slots ≡ at_place Told k (links_of old.held.slots)
-    take_links = links_to takes.held Told (shows-taken first_held).link
+    take_links : links_of new.held.slots ≡ with_state Current k (links_of old.held.slots)
+    take_links = links_to takes.held Current (shows-taken first_held).link
 
     take_queue : (c : Bool) → is_live first_held ≡ c
         → front (b && c) k (kept is_live new.held new.queue.items) ≡ kept is_live old.held old.queue.items
@@ -204,43 +204,43 @@ module _ {T : Type 0} where
         → front (not b && c) k (kept is_live new.held new.pending.items) ≡ kept is_live old.held old.pending.items
     take_pending c l = sym (ap (kept is_live old.held) takes.pending ∙ kept-front (not b) c new.pending.items takes.held was.pending l)
 
-    take_resting : kept rests new.held new.resting.items ≡ kept rests old.held old.resting.items
-    take_resting =
-        ap (λ r. kept rests new.held r.resting.items) takes.same
-        ∙ kept_same takes.held rests old.resting.items (λ _. (shows-taken first_held).rests ∙ sym was.rests)
+    take_paused : kept is_paused_in new.held new.paused.items ≡ kept is_paused_in old.held old.paused.items
+    take_paused =
+        ap (λ r. kept is_paused_in new.held r.paused.items) takes.same
+        ∙ kept_same takes.held is_paused_in old.paused.items (λ _. (shows-taken first_held).is_paused_in ∙ sym was.is_paused_in)
 
-    take_told : (c : Bool) → is_live first_held ≡ c → new.told ≡ cond c (Some k) None
-    take_told c l = takes.told ∙ ap (λ c. cond c (Some k) None) l
+    take_current : (c : Bool) → is_live first_held ≡ c → new.current ≡ cond c (Some k) None
+    take_current c l = takes.current ∙ ap (λ c. cond c (Some k) None) l
 
   -- the first of the queue is told
-  pub told_seen : {k : ℕ} {old new : Inside T} (v : Links T) → IsWhole old → Takes true k old new → is_live (get old.held k) ≡ true
-      → IsButForRoom (seen old) v → IsButForRoom (seen new) (told_next v)
-  told_seen {k} {old} {new} v i takes l e =
+  pub current_seen : {k : ℕ} {old new : Inside T} (v : Links T) → IsWhole old → Takes true k old new → is_live (get old.held k) ≡ true
+      → IsButForRoom (seen old) v → IsButForRoom (seen new) (after_next v)
+  current_seen {k} {old} {new} v i takes l e =
       let first = take_queue true i takes true l in
-      let links = ap (λ xs. first_at Told (slice_get xs 0) (links_of old.held.slots)) first in
-      seen_is (seen new) (record (told_next (seen old)) { has_room = has_room new }) (take_links true i takes ∙ links) (ap (drop 1) first)
-      (take_pending true i takes true l) (take_resting true i takes) (take_told true i takes true l ∙ ap (λ xs. slice_get xs 0) first) refl
-      ∙ ap (λ w. record (told_next w) { has_room = has_room new }) e
+      let links = ap (λ xs. first_at Current (slice_get xs 0) (links_of old.held.slots)) first in
+      seen_is (seen new) (record (after_next (seen old)) { has_room = has_room new }) (take_links true i takes ∙ links) (ap (drop 1) first)
+      (take_pending true i takes true l) (take_paused true i takes) (take_current true i takes true l ∙ ap (λ xs. slice_get xs 0) first) refl
+      ∙ ap (λ w. record (after_next w) { has_room = has_room new }) e
 
   -- the first of those that are pending is told
   pub taken_seen : {k : ℕ} {old new : Inside T} (v : Links T) → IsWhole old → Takes false k old new → is_live (get old.held k) ≡ true
-      → IsButForRoom (seen old) v → IsButForRoom (seen new) (taken_next v)
+      → IsButForRoom (seen old) v → IsButForRoom (seen new) (after_next_pending v)
   taken_seen {k} {old} {new} v i takes l e =
       let first = take_pending false i takes true l in
-      let links = ap (λ xs. first_at Told (slice_get xs 0) (links_of old.held.slots)) first in
-      seen_is (seen new) (record (taken_next (seen old)) { has_room = has_room new }) (take_links false i takes ∙ links)
-      (take_queue false i takes true l) (ap (drop 1) first) (take_resting false i takes)
-      (take_told false i takes true l ∙ ap (λ xs. slice_get xs 0) first) refl
-      ∙ ap (λ w. record (taken_next w) { has_room = has_room new }) e
+      let links = ap (λ xs. first_at Current (slice_get xs 0) (links_of old.held.slots)) first in
+      seen_is (seen new) (record (after_next_pending (seen old)) { has_room = has_room new }) (take_links false i takes ∙ links)
+      (take_queue false i takes true l) (ap (drop 1) first) (take_paused false i takes)
+      (take_current false i takes true l ∙ ap (λ xs. slice_get xs 0) first) refl
+      ∙ ap (λ w. record (after_next_pending w) { has_room = has_room new }) e
 
   -- of one that is gone nothing was seen
   pub gone_seen : (b : Bool) {k : ℕ} {old new : Inside T} (v : Links T) → IsWhole old → Takes b k old new → is_live (get old.held k) ≡ false
       → IsButForRoom (seen old) v → IsButForRoom (seen new) v
   gone_seen b {k} {old} {new} v i takes l e =
-      let links = ap (λ o. put_at Told k o (links_of old.held.slots)) (get-links_of old.held k ∙ no_link (get old.held k) l) in
+      let links = ap (λ o. put_at Current k o (links_of old.held.slots)) (get-links_of old.held k ∙ no_link (get old.held k) l) in
       seen_is (seen new) (record (seen old) { has_room = has_room new }) (take_links b i takes ∙ links)
       (none b _ ∙ take_queue b i takes false l)
-      (none (not b) _ ∙ take_pending b i takes false l) (take_resting b i takes) (take_told b i takes false l ∙ sym takes.none) refl
+      (none (not b) _ ∙ take_pending b i takes false l) (take_paused b i takes) (take_current b i takes false l ∙ sym takes.none) refl
       ∙ ap (λ (w : Links T). record w { has_room = has_room new }) e
     where
       none : (b : Bool) (xs : List ℕ) → xs ≡ front (b && false) k xs
@@ -251,39 +251,39 @@ module _ {T : Type 0} where
 
   pub record Ends (k : ℕ) (old new : Inside T) : Type 0 where
     pub held : Updates old.held new.held k (tidied (unlisted (get old.held k)))
-    pub resting : old.resting.items ≡ k ∷ new.resting.items
+    pub paused : old.paused.items ≡ k ∷ new.paused.items
     pub rooms : room new ≡ room old
-    pub same : new ≡ record old { held = new.held; resting = new.resting }
+    pub same : new ≡ record old { held = new.held; paused = new.paused }
 
-  end_mark : (o : Option (Held T)) (x : ℕ) → 1 + x ≡ (marks_of o).resting → (x ≡ 0) × (is_some o ≡ true)
+  end_mark : (o : Option (Tracked T)) (x : ℕ) → 1 + x ≡ (marks_of o).paused → (x ≡ 0) × (is_some o ≡ true)
   end_mark o x e = search rules
 
   -- it is idle, if it rested
-  abbrev end_link : Bool → Option (T × Place) → Option (T × Place)
-  end_link b l = cond b (option_map (to_place Idle) l) l
+  abbrev end_link : Bool → Option (T × LinkState) → Option (T × LinkState)
+  end_link b l = cond b (option_map (to_state Idle) l) l
 
-  end_link_is : (o : Option (Held T)) → option_map wake (link_of o) ≡ end_link (rests o) (link_of o)
+  end_link_is : (o : Option (Tracked T)) → option_map wake (link_of o) ≡ end_link (is_paused_in o) (link_of o)
   end_link_is o = search rules
 
   module _ {k : ℕ} {old new : Inside T} (i : IsWhole old) (ends : Ends k old new) where
-    abbrev rested : Option (Held T)
+    abbrev rested : Option (Tracked T)
     rested = get old.held k
 
-    abbrev links : map.FinMap nat_cmp (T × Place)
+    abbrev links : map.FinMap nat_cmp (T × LinkState)
     links = links_of old.held.slots
 
-    ended : (times k new.resting.items ≡ 0) × (is_some rested ≡ true)
-    ended = end_mark rested (times k new.resting.items) (first_left true k new.resting.items ends.resting ∙ ap (λ m. m.resting) (i.marks k))
+    ended : (times k new.paused.items ≡ 0) × (is_some rested ≡ true)
+    ended = end_mark rested (times k new.paused.items) (first_left true k new.paused.items ends.paused ∙ ap (λ m. m.paused) (i.marks k))
 
-    end_links : (b : Bool) → rests rested ≡ b → links_of new.held.slots ≡ cond b (at_place Idle k links) links
+    end_links : (b : Bool) → is_paused_in rested ≡ b → links_of new.held.slots ≡ cond b (with_state Idle k links) links
     end_links b e = go b ((shows-unlisted rested (i.fine k)).link ∙ end_link_is rested ∙ ap (λ b. end_link b (link_of rested)) e)
       where
         go : (b : Bool) → link_of (tidied (unlisted rested)) ≡ end_link b (link_of rested)
-            → links_of new.held.slots ≡ cond b (at_place Idle k links) links
+            → links_of new.held.slots ≡ cond b (with_state Idle k links) links
         go true e = links_to ends.held Idle e
         go false e = links_same ends.held e
 
-    end_counted : (b : Bool) → rests rested ≡ b → old.count ≡ map.len (links_of new.held.slots)
+    end_counted : (b : Bool) → is_paused_in rested ≡ b → old.count ≡ map.len (links_of new.held.slots)
     end_counted true e = counted_to Idle k new.held i (end_links true e)
     end_counted false e = i.counted ∙ sym (ap map.len (end_links false e))
 
@@ -292,32 +292,32 @@ module _ {T : Type 0} where
         let shows = shows-unlisted rested (i.fine k) in
         subst IsWhole (sym ends.same) (whole_step i (record {
           held = ends.held;
-          here = (λ x. record (i.marks k x) { resting = ended.0 x }) ∙ sym shows.marks;
-          others = λ j d. marks_is _ _ refl refl (first_left_other true k new.resting.items ends.resting j d) refl;
+          here = (λ x. record (i.marks k x) { paused = ended.0 x }) ∙ sym shows.marks;
+          others = λ j d. marks_is _ _ refl refl (first_left_other true k new.paused.items ends.paused j d) refl;
           fine = shows.fine;
           within = λ x. i.fits k ended.1;
           rooms = ap room (sym ends.same) ∙ ends.rooms;
-          counted = end_counted (rests rested) refl;
+          counted = end_counted (is_paused_in rested) refl;
         }))
 
     end_live : (xs : List ℕ) → kept is_live new.held xs ≡ kept is_live old.held xs
     end_live xs = kept_same ends.held is_live xs (λ _. ap is_some (shows-unlisted rested (i.fine k)).link ∙ some_map wake (link_of rested))
 
-    end_resting : (b : Bool) → rests rested ≡ b → front b k (kept rests new.held new.resting.items) ≡ kept rests old.held old.resting.items
-    end_resting true e = sym (ap (kept rests old.held) ends.resting ∙ rw (e, kept_absent ends.held rests new.resting.items ended.0) refl)
-    end_resting false e = sym (ap (kept rests old.held) ends.resting ∙ rw (e, kept_absent ends.held rests new.resting.items ended.0) refl)
+    end_resting : (b : Bool) → is_paused_in rested ≡ b → front b k (kept is_paused_in new.held new.paused.items) ≡ kept is_paused_in old.held old.paused.items
+    end_resting true e = sym (ap (kept is_paused_in old.held) ends.paused ∙ rw (e, kept_absent ends.held is_paused_in new.paused.items ended.0) refl)
+    end_resting false e = sym (ap (kept is_paused_in old.held) ends.paused ∙ rw (e, kept_absent ends.held is_paused_in new.paused.items ended.0) refl)
 
-    pub ended_seen : (v : Links T) → rests rested ≡ true → IsButForRoom (seen old) v → IsButForRoom (seen new) (rest_ended v)
+    pub ended_seen : (v : Links T) → is_paused_in rested ≡ true → IsButForRoom (seen old) v → IsButForRoom (seen new) (after_resume v)
     ended_seen v l e =
         let first = end_resting true l in
         ap seen ends.same
-        ∙ seen_is _ (record (rest_ended (seen old)) { has_room = has_room new })
+        ∙ seen_is _ (record (after_resume (seen old)) { has_room = has_room new })
         (end_links true l ∙ ap (λ xs. first_at Idle (slice_get xs 0) links) first)
         (end_live old.queue.items) (end_live old.pending.items) (ap (drop 1) first) refl (ap has_room (sym ends.same))
-        ∙ ap (λ w. record (rest_ended w) { has_room = has_room new }) e
+        ∙ ap (λ w. record (after_resume w) { has_room = has_room new }) e
 
     -- of one that does not rest now nothing was seen
-    pub stale_seen : (v : Links T) → rests rested ≡ false → IsButForRoom (seen old) v → IsButForRoom (seen new) v
+    pub stale_seen : (v : Links T) → is_paused_in rested ≡ false → IsButForRoom (seen old) v → IsButForRoom (seen new) v
     stale_seen v l e =
         ap seen ends.same
         ∙ seen_is _ (record (seen old) { has_room = has_room new }) (end_links false l) (end_live old.queue.items)
@@ -329,11 +329,11 @@ module _ {T : Type 0} where
 
   pub record Clears (k : ℕ) (old new : Inside T) : Type 0 where
     pub held : Updates old.held new.held k (tidied (cleared (get old.held k)))
-    pub told : new.told ≡ not_key k old.told
+    pub current : new.current ≡ not_key k old.current
     pub count : new.count ≡ old.count - one (is_live (get old.held k))
-    pub same : new ≡ record old { held = new.held; told = new.told; count = new.count }
+    pub same : new ≡ record old { held = new.held; current = new.current; count = new.count }
 
-  some_cleared : (o : Option (Held T)) → is_some (tidied (cleared o)) ≡ true → is_some o ≡ true
+  some_cleared : (o : Option (Tracked T)) → is_some (tidied (cleared o)) ≡ true → is_some o ≡ true
   some_cleared o e = search rules
 
   module _ {k : ℕ} {old new : Inside T} (i : IsWhole old) (clears : Clears k old new) where
@@ -344,11 +344,11 @@ module _ {T : Type 0} where
         let has : map.contains_key links k ≡ is_live (get old.held k) = ap is_some (get-links_of old.held k) in
         let one_less : map.len (map.remove links k) ≡ old.count - one (is_live (get old.held k)) =
         map.len-remove nat_cmp_total links k ∙ rw (has, i.counted) (less (is_live (get old.held k)) _) in
-        let told = ap (λ t. is_key t k) clears.told ∙ not_key_here k old.told in
+        let current = ap (λ t. is_key t k) clears.current ∙ not_key_here k old.current in
         subst IsWhole (sym clears.same) (whole_step i (record {
           held = clears.held;
-          here = (λ x. record (i.marks k x) { told = told x }) ∙ sym shows.marks;
-          others = λ j d. marks_is _ _ refl refl refl (ap (λ t. is_key t j) clears.told ∙ not_key_other k j old.told d);
+          here = (λ x. record (i.marks k x) { current = current x }) ∙ sym shows.marks;
+          others = λ j d. marks_is _ _ refl refl refl (ap (λ t. is_key t j) clears.current ∙ not_key_other k j old.current d);
           fine = shows.fine;
           within = λ x. i.fits k (some_cleared (get old.held k) x);
           rooms = refl;
@@ -361,9 +361,9 @@ module _ {T : Type 0} where
         let out = λ (xs : List ℕ). kept_out clears.held is_live xs (ap is_some shows.link) in
         ap seen clears.same
         ∙ seen_is _ (record (removed k (seen old)) { has_room = has_room new }) (links_cut clears.held shows.link) (out old.queue.items)
-        (out old.pending.items) (kept_out clears.held rests old.resting.items shows.rests) clears.told (ap has_room (sym clears.same))
+        (out old.pending.items) (kept_out clears.held is_paused_in old.paused.items shows.is_paused_in) clears.current (ap has_room (sym clears.same))
 
-  pub live_taken : (s : Slab (Held T)) (k : ℕ) {v : Option T} → v ≡ option_map (λ link. link.0) (link_of (get s k))
+  pub live_taken : (s : Slab (Tracked T)) (k : ℕ) {v : Option T} → v ≡ option_map (λ link. link.0) (link_of (get s k))
       → is_some v ≡ is_live (get s k)
   live_taken s k e = ap is_some e ∙ some_map (λ link. link.0) (link_of (get s k))
 
@@ -411,39 +411,39 @@ module _ {T : Type 0} where
         ∙ seen_is _ (record (inserted k value (seen old)) { has_room = has_room new }) insert_links
         (ap (kept is_live new.held) inserts.queue ∙ queue)
         (kept_absent inserts.held is_live old.pending.items (ap (λ m. m.pending) vacant))
-        (kept_absent inserts.held rests old.resting.items (ap (λ m. m.resting) vacant)) refl (ap has_room (sym inserts.same))
+        (kept_absent inserts.held is_paused_in old.paused.items (ap (λ m. m.paused) vacant)) refl (ap has_room (sym inserts.same))
 
   pub link_vacant : (r : Inside T) (k : ℕ) → get r.held k ≡ None → link_at (seen r) k ≡ None
   link_vacant r k e = get-links_of r.held k ∙ ap link_of e
 
   -- ---- a link is written
 
-  pub value_live : (h : Held T) → is_live (Some h) ≡ true → is_some h.value ≡ true
-  value_live h e = sym (some_map (λ x. (x, h.place)) h.value) ∙ e
+  pub value_live : (h : Tracked T) → is_live (Some h) ≡ true → is_some h.value ≡ true
+  value_live h e = sym (some_map (λ x. (x, h.state)) h.value) ∙ e
 
-  module _ (r : Inside T) (k : ℕ) {h : Held T} {v : T} (i : IsWhole r) (here : get r.held k ≡ Some h) (is : h.value ≡ Some v) where
-    abbrev with_item : T → Slab (Held T)
+  module _ (r : Inside T) (k : ℕ) {h : Tracked T} {v : T} (i : IsWhole r) (here : get r.held k ≡ Some h) (is : h.value ≡ Some v) where
+    abbrev with_item : T → Slab (Tracked T)
     with_item w = with_value r.held k (record h { value = Some w })
 
     write_held : (w : T) → Updates r.held (with_item w) k (Some (record h { value = Some w }))
     write_held w = Updates-with_value r.held k (record h { value = Some w }) (rw here refl)
 
-    pub link_written : link_at (seen r) k ≡ Some (v, h.place)
-    link_written = get-links_of r.held k ∙ ap link_of here ∙ ap (option_map (λ x. (x, h.place))) is
+    pub link_written : link_at (seen r) k ≡ Some (v, h.state)
+    link_written = get-links_of r.held k ∙ ap link_of here ∙ ap (option_map (λ x. (x, h.state))) is
 
-    write_links : (w : T) → links_of (with_item w).slots ≡ map.insert (links_of r.held.slots) k (w, h.place)
-    write_links w = links_put (write_held w) (w, h.place) refl
+    write_links : (w : T) → links_of (with_item w).slots ≡ map.insert (links_of r.held.slots) k (w, h.state)
+    write_links w = links_put (write_held w) (w, h.state) refl
 
     pub write_whole : (w : T) → IsWhole (record r { held = with_item w })
     write_whole w =
         let links = links_of r.held.slots in
-        let len : map.len (map.insert links k (w, h.place)) ≡ map.len links =
-        map.len-insert nat_cmp_total links k (w, h.place) ∙ rw (ap is_some link_written) refl in
+        let len : map.len (map.insert links k (w, h.state)) ≡ map.len links =
+        map.len-insert nat_cmp_total links k (w, h.state) ∙ rw (ap is_some link_written) refl in
         whole_step i (record {
           held = write_held w;
           here = i.marks k ∙ ap marks_of here;
           others = λ j d. refl;
-          fine = ap (λ o. may_stand h.place (is_some o) h.is_listed) (sym is) ∙ ap is_fine (sym here) ∙ i.fine k;
+          fine = ap (λ o. may_be_in h.state (is_some o) h.is_listed) (sym is) ∙ ap is_fine (sym here) ∙ i.fine k;
           within = λ x. i.fits k (rw here refl);
           rooms = refl;
           counted = i.counted ∙ sym (ap map.len (write_links w) ∙ len);
@@ -455,38 +455,38 @@ module _ {T : Type 0} where
         (λ _. sym (ap is_some (sym (get-links_of r.held k) ∙ link_written))) in
         let len = slab_len-with_value r.held k (record h { value = Some w }) (rw here refl) in
         seen_is _ _ (write_links w ∙ sym (ap (λ o. write_at k w o (links_of r.held.slots)) link_written)) (live r.queue.items)
-        (live r.pending.items) (kept_same (write_held w) rests r.resting.items (λ _. ap rests (sym here))) refl
+        (live r.pending.items) (kept_same (write_held w) is_paused_in r.paused.items (λ _. ap is_paused_in (sym here))) refl
         (ap (λ n. nat_lt n r.held.capacity && nat_le r.held.capacity (room r)) len)
 
   -- ---- none is forgotten
 
   -- what is held stands where the place of its link says
-  pub record Agrees (o : Option (Held T)) : Type 0 where
+  pub record Agrees (o : Option (Tracked T)) : Type 0 where
     pub queue : cond (is_live o) (marks_of o).queue 0 ≡ one_at is_queued (link_of o)
     pub pending : cond (is_live o) (marks_of o).pending 0 ≡ one_at is_pending (link_of o)
-    pub resting : cond (rests o) (marks_of o).resting 0 ≡ one_at is_resting (link_of o)
-    pub told : ((marks_of o).told ≡ true) ↔ (option_map (λ link. link.1) (link_of o) ≡ Some Told)
+    pub paused : cond (is_paused_in o) (marks_of o).paused 0 ≡ one_at is_paused (link_of o)
+    pub current : ((marks_of o).current ≡ true) ↔ (option_map (λ link. link.1) (link_of o) ≡ Some Current)
 
-  agrees : (o : Option (Held T)) → is_fine o ≡ true → Agrees o
+  agrees : (o : Option (Tracked T)) → is_fine o ≡ true → Agrees o
   agrees o f = search rules
 
-  pub whole_ready : {r : Inside T} → IsWhole r → IsReady (seen r)
+  pub whole_ready : {r : Inside T} → IsWhole r → IsConsistent (seen r)
   whole_ready {r} i =
       let link = get-links_of r.held in
       let at = λ (k : ℕ). agrees (get r.held k) (i.fine k) in
       let live = λ (k n : ℕ). cond (is_live (get r.held k)) n 0 in
-      let place = λ (k : ℕ). ap (option_map (λ (l : T × Place). l.1)) (link k) in
-      let mark = λ (k : ℕ). ap (λ m. m.told) (i.marks k) in
+      let state = λ (k : ℕ). ap (option_map (λ (l : T × LinkState). l.1)) (link k) in
+      let mark = λ (k : ℕ). ap (λ m. m.current) (i.marks k) in
       record {
         queue = λ k. times-filter _ k r.queue.items ∙ ap (λ m. live k m.queue) (i.marks k) ∙ (at k).queue
             ∙ ap (one_at is_queued) (sym (link k));
         pending = λ k.
             times-filter _ k r.pending.items ∙ ap (λ m. live k m.pending) (i.marks k) ∙ (at k).pending
             ∙ ap (one_at is_pending) (sym (link k));
-        resting = λ k.
-            times-filter _ k r.resting.items ∙ ap (λ m. cond (rests (get r.held k)) m.resting 0) (i.marks k) ∙ (at k).resting
-            ∙ ap (one_at is_resting) (sym (link k));
-        told = search rules;
+        paused = λ k.
+            times-filter _ k r.paused.items ∙ ap (λ m. cond (is_paused_in (get r.held k)) m.paused 0) (i.marks k) ∙ (at k).paused
+            ∙ ap (one_at is_paused) (sym (link k));
+        current = search rules;
       }
 
   -- ---- what the fields say of what callers see
@@ -505,7 +505,7 @@ module _ {T : Type 0} where
       let live = λ (q : ℕ). sym (ap is_some (get-links_of r.held q)) in
       rw i.counted (len_most (room r) (links_of r.held.slots) (λ q h. i.fits q (some_live (get r.held q) (live q ∙ h))))
 
-  pub length-kept : (f : Option (Held T) → Bool) (s : Slab (Held T)) (xs : List ℕ) {ys : List ℕ} → kept f s xs ≡ ys → length ys ≤ length xs
+  pub length-kept : (f : Option (Tracked T) → Bool) (s : Slab (Tracked T)) (xs : List ℕ) {ys : List ℕ} → kept f s xs ≡ ys → length ys ≤ length xs
   length-kept f s xs e = rw (← e, length-filter) (count_by-le-length (λ k. f (get s k)) xs)
 
 pub ruleset looks = (

@@ -5,7 +5,7 @@ use Rattle.std.proofs.Common.{sym, ap, ◌∙◌, inl, inr, arith, filter, rules
 use Rattle.std.proofs.{lemmas.Bool.{cases_eq, cases_Bool, false≢true}, lemmas.Bool.Decides.nat_tests}
 use Rattle.std.proofs.{lemmas.Grind.common_steps, lemmas.List.Elements.{All-nil, filter-append, recursion_from_All}}
 use Rattle.std.proofs.{lemmas.List.Sums.{sum_by-append, sum_by-cons}, lemmas.Map.Steps.length-le_from_distinct_below}
-use Rattle.portmap_ready.specs.{Held.one, Links.{pushed, times, without}}
+use Rattle.portmap_ready.specs.{Tracked.one, Links.{pushed, times, without}}
 
 pub times-cons : (k x : ℕ) (xs : List ℕ) → times k (x ∷ xs) ≡ one (eqb x k) + times k xs
 times-cons k x xs = sum_by-cons (λ j. cond (eqb j k) 1 0) x xs

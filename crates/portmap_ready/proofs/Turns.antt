@@ -4,8 +4,8 @@ use Rattle.std.proofs.Common.{◌≡◌, ◌≢◌, ℕ, ◌+◌, ◌<◌, ◌�
 use Rattle.std.proofs.{Common.{refl, ap, ◌∙◌, inl, inr, arith, rules}, lemmas.Bool.cases_eq}
 use Rattle.std.proofs.{lemmas.Bool.Decides.nat_tests, lemmas.Grind.common_steps}
 use Rattle.std.proofs.lemmas.List.Sums.{count_by-le-length, length-filter, sum_by-append}
-use Rattle.portmap_ready.specs.{Held.one, Links.{Links, pushed, times, without}, Runs.{AllSpare, Call, Change}}
-use Rattle.portmap_ready.specs.Runs.{ComesInOrder, ComesInTurn, Does, Line, Run, Spares, all_taken, before, change}
+use Rattle.portmap_ready.specs.{Tracked.one, Links.{Links, pushed, times, without}, Runs.{AllSpare, Call, Change}}
+use Rattle.portmap_ready.specs.Runs.{QueueIsFifo, WaitIsBounded, Does, Line, Run, Spares, all_taken, before, change}
 use Rattle.portmap_ready.specs.Runs.{first_taken, keys_of, turn, turns, Stays, Joins, Takes, Leaves}
 use Rattle.portmap_ready.proofs.Times.{times-cons, times-filter}
 
@@ -88,10 +88,10 @@ module _ {T : Type 0} where
         );
       }
 
-  pub comes_in_turn : (line : Line) → ComesInTurn T line
-  comes_in_turn line k calls old new d h s = let c = comes line k calls old new d h s in (c.there, c.nearer)
+  pub wait_is_bounded : (line : Line) → WaitIsBounded T line
+  wait_is_bounded line k calls old new d h s = let c = comes line k calls old new d h s in (c.there, c.nearer)
 
-  pub comes_in_order : (line : Line) → ComesInOrder T line
+  pub comes_in_order : (line : Line) → QueueIsFifo T line
   comes_in_order line k calls old new d h s j = let c = (comes line k calls old new d h s).ordered j in omega arith
 
-pub ruleset laws = (comes_in_turn, comes_in_order)
+pub ruleset laws = (wait_is_bounded, comes_in_order)

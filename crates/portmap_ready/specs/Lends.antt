@@ -1,13 +1,13 @@
 -- What the links are, once a link is no longer lent.
 use Rattle.std.specs.{Borrow.{Lends, LendsIf, Fml, RattleType, MutBor}, Prelude.{ℕ, Option, Some}}
-use Rattle.portmap_ready.specs.{Links.{Links, written}, contracts.Held.the_row as held_row, contracts.Ready.the_row}
-use Rattle.portmap_ready.specs.declared.Held.{Held}
+use Rattle.portmap_ready.specs.{Links.{Links, written}, contracts.Tracked.the_row as held_row, contracts.Scheduler.the_row}
+use Rattle.portmap_ready.specs.declared.Tracked.{Tracked}
 
 module _ (T : RattleType) where
-  abbrev pub with_item : Held T.Denot → T.Denot → Held T.Denot
+  abbrev pub with_item : Tracked T.Denot → T.Denot → Tracked T.Denot
   with_item h w = record h { value = Some w }
 
-  abbrev pub lends_item : MutBor (Held T.Denot) → MutBor T.Denot → Fml
+  abbrev pub lends_item : MutBor (Tracked T.Denot) → MutBor T.Denot → Fml
   lends_item h r = Lends (held_row T) T h r (with_item h.now)
 
   module _ (s : MutBor (Links T.Denot)) (key : ℕ) where

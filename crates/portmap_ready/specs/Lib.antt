@@ -1,5 +1,5 @@
 pub mod Links
 pub mod Runs
 pub mod Lends
-pub mod Held
+pub mod Tracked
 pub mod Whole

@@ -1,10 +1,10 @@
 -- Calls in a row, and what comes of those that wait in a list: profile.
 use Rattle.std.specs.Prelude.{◌≡◌, ◌≢◌, ℕ, ◌+◌, ◌<◌, ◌≤◌, cond, ◌==◌, List, [], ◌∷◌, ◌++◌, length, slice_get, Option}
 use Rattle.std.specs.Prelude.{Some, option_to_list}
-use Rattle.portmap_ready.specs.declared.Place.TheVariants.{Idle, Queued, Pending}
-use Rattle.portmap_ready.specs.Links.{Links, IsButForRoom, Rests, inserted, moved, removed, reported, rest_ended}
-use Rattle.portmap_ready.specs.Links.{taken_next, times}
-use Rattle.portmap_ready.specs.Links.{told_next, written}
+use Rattle.portmap_ready.specs.declared.LinkState.TheVariants.{Idle, Queued, Pending}
+use Rattle.portmap_ready.specs.Links.{Links, IsButForRoom, Pauses, inserted, moved, removed, reported, after_resume}
+use Rattle.portmap_ready.specs.Links.{after_next_pending, times}
+use Rattle.portmap_ready.specs.Links.{after_next, written}
 
 -- a call, with what comes of it
 pub data Call (T : Type 0) : Type 0 where
@@ -24,7 +24,7 @@ pub data Call (T : Type 0) : Type 0 where
 -- the lists from which links are taken in turn
 pub data Line : Type 0 where
   Queue : Line
-  Held : Line
+  Tracked : Line
 
 -- what a call does to a list: nothing; a key joins it, if any does; its first is taken; or a key leaves it, wherever it stands
 pub data Change : Type 0 where
@@ -58,13 +58,13 @@ module _ {T : Type 0} where
   Does (Insert k value) old new = IsButForRoom new (inserted k value old)
   Does Refuse old new = IsButForRoom new old
   Does (Report k) old new = new ≡ reported k old
-  Does (Next told) old new = (told ≡ slice_get old.queue 0) × IsButForRoom new (told_next old)
-  Does (NextPending told) old new = (told ≡ slice_get old.pending 0) × IsButForRoom new (taken_next old)
+  Does (Next current) old new = (current ≡ slice_get old.queue 0) × IsButForRoom new (after_next old)
+  Does (NextPending current) old new = (current ≡ slice_get old.pending 0) × IsButForRoom new (after_next_pending old)
   Does (PutBack k) old new = new ≡ moved Queued k old
   Does (Leave k) old new = new ≡ moved Idle k old
   Does (Hold k) old new = new ≡ moved Pending k old
-  Does (Rest k) old new = Rests k old new
-  Does EndRest old new = IsButForRoom new (rest_ended old)
+  Does (Rest k) old new = Pauses k old new
+  Does EndRest old new = IsButForRoom new (after_resume old)
   Does (Remove k) old new = IsButForRoom new (removed k old)
   Does (Write k value) old new = new ≡ written k old value
 
@@ -74,15 +74,15 @@ module _ {T : Type 0} where
 
   abbrev pub keys_of : Line → Links T → List ℕ
   keys_of Queue r = r.queue
-  keys_of Held r = r.pending
+  keys_of Tracked r = r.pending
 
   abbrev pub change : Line → Call T → Change
   change Queue (Insert k value) = Joins k
   change Queue (Report k) = Joins k
-  change Queue (Next told) = Takes told
+  change Queue (Next current) = Takes current
   change Queue (PutBack k) = Joins k
-  change Held (NextPending told) = Takes told
-  change Held (Hold k) = Joins k
+  change Tracked (NextPending current) = Takes current
+  change Tracked (Hold k) = Joins k
   change line (Remove k) = Leaves k
   change line call = Stays
 
@@ -101,13 +101,13 @@ module _ {T : Type 0} where
   all_taken line (call ∷ calls) = first_taken (change line call) ++ all_taken line calls
 
 -- while a key waits it stands in the list, and each turn brings it one further to the front
-abbrev pub ComesInTurn : (T : Type 0) → Line → Type 0
-ComesInTurn T line =
+abbrev pub WaitIsBounded : (T : Type 0) → Line → Type 0
+WaitIsBounded T line =
     (k : ℕ) (calls : List (Call T)) (old new : Links T) → Run calls old new → 0 < times k (keys_of line old) → AllSpare line k calls
     → (0 < times k (keys_of line new)) × (turns line calls + length (before k (keys_of line new)) ≤ length (before k (keys_of line old)))
 
 -- while a key waits none is taken but those that stood before it, each as often as it stood there
-abbrev pub ComesInOrder : (T : Type 0) → Line → Type 0
-ComesInOrder T line =
+abbrev pub QueueIsFifo : (T : Type 0) → Line → Type 0
+QueueIsFifo T line =
     (k : ℕ) (calls : List (Call T)) (old new : Links T) → Run calls old new → 0 < times k (keys_of line old) → AllSpare line k calls
     → (j : ℕ) → times j (all_taken line calls) ≤ times j (before k (keys_of line old))

@@ -3,24 +3,24 @@ use Rattle.std.specs.{Ordering.nat_cmp, Prelude.{◌≡◌, ℕ, ◌<◌, Bool, 
 use Rattle.std.specs.{Prelude.{filter, map as list_map, Option, Some, None, IsSome}, VecDeque.deque_capacity}
 use Rattle.std.specs.FinMap as map
 use Rattle.slab.specs.Slab.{Slab, get, slab_len, entries_from}
-use Rattle.portmap_ready.specs.{Held.{Marks, link_of, is_live, rests, marks_of, is_fine}, Links.{Links, times}}
-use Rattle.portmap_ready.specs.{declared.Held.Held, declared.Place.Place, declared.Ready.TheInside.Inside}
+use Rattle.portmap_ready.specs.{Tracked.{Marks, link_of, is_live, is_paused_in, marks_of, is_fine}, Links.{Links, times}}
+use Rattle.portmap_ready.specs.{declared.Tracked.Tracked, declared.LinkState.LinkState, declared.Scheduler.TheInside.Inside}
 
 abbrev pub is_key : Option ℕ → ℕ → Bool
 is_key None k = false
 is_key (Some j) k = j == k
 
 module _ {T : Type 0} where
-  abbrev pub links_of : List (Option (Held T)) → map.FinMap nat_cmp (T × Place)
+  abbrev pub links_of : List (Option (Tracked T)) → map.FinMap nat_cmp (T × LinkState)
   links_of slots = map.from_entries (entries_from 0 (list_map link_of slots))
 
   -- the keys of a list under which such is held
-  abbrev pub kept : (Option (Held T) → Bool) → Slab (Held T) → List ℕ → List ℕ
+  abbrev pub kept : (Option (Tracked T) → Bool) → Slab (Tracked T) → List ℕ → List ℕ
   kept test held keys = filter (λ k. test (get held k)) keys
 
   -- each list has room for the keys below this one
   abbrev pub room : Inside T → ℕ
-  room r = min (deque_capacity r.queue) (min (deque_capacity r.pending) (deque_capacity r.resting))
+  room r = min (deque_capacity r.queue) (min (deque_capacity r.pending) (deque_capacity r.paused))
 
   abbrev pub has_room : Inside T → Bool
   has_room r = nat_lt (slab_len r.held) r.held.capacity && nat_le r.held.capacity (room r)
@@ -31,14 +31,14 @@ module _ {T : Type 0} where
         links = links_of r.held.slots;
         queue = kept is_live r.held r.queue.items;
         pending = kept is_live r.held r.pending.items;
-        resting = kept rests r.held r.resting.items;
-        told = r.told;
+        paused = kept is_paused_in r.held r.paused.items;
+        current = r.current;
         has_room = has_room r;
       }
 
   abbrev pub marks : Inside T → ℕ → Marks
   marks r k =
-      record { queue = times k r.queue.items; pending = times k r.pending.items; resting = times k r.resting.items; told = is_key r.told k }
+      record { queue = times k r.queue.items; pending = times k r.pending.items; paused = times k r.paused.items; current = is_key r.current k }
 
   -- each key stands where what is held under it says, once in a list or not at all; there is room for all keys in each list; and so many
   -- links are there

@@ -1,12 +1,12 @@
 //! A scheduler for the links of one worker: a run queue, a list of pending links and a list of paused links.
 //!
 //! # Guarantees
-//! - No link is lost (`none_is_forgotten`, always): each link is in exactly one state, and is idle, queued, pending,
-//!   paused (`Resting`) or current (`Told`). The queue has each queued link once and no other key. The same holds for
-//!   pending and for paused links. At most one link is current, and `told` names it.
-//! - The wait is bounded (`told_in_turn`): a link with `n` other links ahead in the queue is served within `n + 1`
-//!   turns, whatever is called in between, unless it is removed. `taken_in_turn` says so for pending links.
-//! - The queue is FIFO (`in_order`): no link is served before a link that was queued earlier. The same holds for
+//! - No link is lost (`no_link_is_lost`, always): each link is in exactly one state, and is idle, queued, pending,
+//!   paused (`Paused`) or current (`Current`). The queue has each queued link once and no other key. The same holds for
+//!   pending and for paused links. At most one link is current, and `current` names it.
+//! - The wait is bounded (`queue_wait_is_bounded`): a link with `n` other links ahead in the queue is served within `n + 1`
+//!   turns, whatever is called in between, unless it is removed. `pending_wait_is_bounded` says so for pending links.
+//! - The queue is FIFO (`queue_is_fifo`): no link is served before a link that was queued earlier. The same holds for
 //!   pending links.
 //! - Each call leaves exactly what its clause says. After `rest` the link is paused, and the others keep their order.
 //! - Only `insert` may allocate. If it is refused, no link changes. If `has_room` holds, it is not refused.
@@ -25,10 +25,10 @@ ghost use Rattle.std.specs.Borrow.{sem};
 ghost use Rattle.std.specs.FinMap as map;
 ghost use Rattle.std.specs.VecDeque.{deque_capacity};
 ghost use Rattle.slab.specs.Slab.{Updates, get, slab_len};
-ghost use Rattle.portmap_ready.specs.Links.{is_pending, is_queued, is_resting, is_told, not_key, pushed};
-ghost use Rattle.portmap_ready.specs.declared.Place.TheVariants.{Idle, Pending, Queued};
-ghost use Rattle.portmap_ready.specs.Held.{cleared, is_live, is_out, left, link_of, placed, rests, taken, tidied};
-ghost use Rattle.portmap_ready.specs.Held.{unlisted, woken};
+ghost use Rattle.portmap_ready.specs.Links.{is_pending, is_queued, is_paused, is_current, not_key, pushed};
+ghost use Rattle.portmap_ready.specs.declared.LinkState.TheVariants.{Idle, Pending, Queued};
+ghost use Rattle.portmap_ready.specs.Tracked.{cleared, is_live, is_out, left, link_of, with_link_state, is_paused_in, taken, tidied};
+ghost use Rattle.portmap_ready.specs.Tracked.{unlisted, woken};
 
 #[cfg(test)]
 mod tests;
@@ -40,7 +40,7 @@ use std::marker::Model;
 
 /// Where a link stands.
 #[derive(Clone, Copy, Debug, PartialEq, Eq)]
-pub enum Place {
+pub enum LinkState {
     /// There is nothing to tell of it until it is reported.
     Idle,
     /// There is something to tell of it.
@@ -48,39 +48,39 @@ pub enum Place {
     /// It waits for something else than a report, and is asked about in turn.
     Pending,
     /// It is told nothing until it has rested.
-    Resting,
+    Paused,
     /// It was told or taken last, and is in the caller's hands.
-    Told,
+    Current,
 }
 
 /// What is held under a key: a link, or none where it was removed and its key still stands in a list.
 #[derive(Drop)]
-struct Held<T> {
+struct Tracked<T> {
     value: Option<T>,
-    place: Place,
+    state: LinkState,
     /// Its key stands among those that rest. It may have been queued since.
     is_listed: bool,
 }
 
 /// Links by key, each at one place.
 #[derive(Drop)]
-pub struct Ready<T> {
-    held: Slab<Held<T>>,
+pub struct Scheduler<T> {
+    held: Slab<Tracked<T>>,
     queue: VecDeque<usize>,
     pending: VecDeque<usize>,
-    resting: VecDeque<usize>,
-    told: Option<usize>,
+    paused: VecDeque<usize>,
+    current: Option<usize>,
     /// How many links are there.
     count: usize,
 }
 
-impl<T> Model for Ready<T> {
+impl<T> Model for Scheduler<T> {
     ghost use Rattle.portmap_ready.specs.Links.{Links, links_code};
-    ghost use Rattle.portmap_ready.specs.contracts.Place as place;
+    ghost use Rattle.portmap_ready.specs.contracts.LinkState as state;
 
     ghost Value = { Links T };
 
-    ghost coded = { links_code T.code place.the_row.coded };
+    ghost coded = { links_code T.code state.the_row.coded };
 
     ghost use Rattle.portmap_ready.specs.Whole.{IsWhole, seen};
 
@@ -89,47 +89,47 @@ impl<T> Model for Ready<T> {
     ghost invariant = { IsWhole };
 }
 
-impl Place {
+impl LinkState {
     fn is_queued(self) -> bool
         ensures { result ≡ is_queued self }
     {
-        matches!(self, Place::Queued)
+        matches!(self, LinkState::Queued)
     }
 
     fn is_pending(self) -> bool
         ensures { result ≡ is_pending self }
     {
-        matches!(self, Place::Pending)
+        matches!(self, LinkState::Pending)
     }
 
-    fn is_resting(self) -> bool
-        ensures { result ≡ is_resting self }
+    fn is_paused(self) -> bool
+        ensures { result ≡ is_paused self }
     {
-        matches!(self, Place::Resting)
+        matches!(self, LinkState::Paused)
     }
 
     /// Where a key stands whose link is gone: it stays in the queue, or among those that are pending.
-    fn left(self) -> Place
+    fn left(self) -> LinkState
         ensures { result ≡ left self }
     {
         match self {
-            Place::Queued | Place::Pending => self,
-            Place::Idle | Place::Resting | Place::Told => Place::Idle,
+            LinkState::Queued | LinkState::Pending => self,
+            LinkState::Idle | LinkState::Paused | LinkState::Current => LinkState::Idle,
         }
     }
 
     /// Where a link stands that rests no more: what has been queued since stays there.
-    fn woken(self) -> Place
+    fn woken(self) -> LinkState
         ensures { result ≡ woken self }
     {
         match self {
-            Place::Resting => Place::Idle,
-            Place::Idle | Place::Queued | Place::Pending | Place::Told => self,
+            LinkState::Paused => LinkState::Idle,
+            LinkState::Idle | LinkState::Queued | LinkState::Pending | LinkState::Current => self,
         }
     }
 }
 
-impl<T> Held<T> {
+impl<T> Tracked<T> {
     ghost use Rattle.portmap_ready.specs.Lends.{lends_item};
 
     fn value_mut(&mut self) -> &mut T
@@ -145,12 +145,12 @@ impl<T> Held<T> {
 }
 
 /// No key, where it was this one.
-fn forget(told: Option<usize>, key: usize) -> Option<usize>
-    ensures { result ≡ not_key key told }
+fn forget(current: Option<usize>, key: usize) -> Option<usize>
+    ensures { result ≡ not_key key current }
 {
-    match told {
+    match current {
         Some(other) if other == key => None,
-        _ => told,
+        _ => current,
     }
 }
 
@@ -175,48 +175,48 @@ fn push_if(keys: &mut VecDeque<usize>, key: usize, is_wanted: bool)
     }
 }
 
-fn place_in<T>(held: &Slab<Held<T>>, key: usize) -> Option<Place>
+fn state_in<T>(held: &Slab<Tracked<T>>, key: usize) -> Option<LinkState>
     ensures { result ≡ option_map (λ link. link.1) (link_of (get held.now key)) }
 {
     match held.get(key) {
-        Some(kept) if kept.value.is_some() => Some(kept.place),
+        Some(kept) if kept.value.is_some() => Some(kept.state),
         _ => None,
     }
 }
 
-fn value_in<T>(held: &Slab<Held<T>>, key: usize) -> Option<&T>
+fn value_in<T>(held: &Slab<Tracked<T>>, key: usize) -> Option<&T>
     ensures { option_copied result ≡ option_map (λ link. link.0) (link_of (get held.now key)) }
 {
     match held.get(key) {
-        Some(Held { value, .. }) => value.as_ref(),
+        Some(Tracked { value, .. }) => value.as_ref(),
         None => None,
     }
 }
 
 /// A link goes to another place. True if it rests there and its key is not listed yet.
-fn set_place<T>(held: &mut Slab<Held<T>>, key: usize, place: Place) -> bool
-    ensures held { Updates held.old held.new key (placed place (get held.old key)) }
+fn set_state<T>(held: &mut Slab<Tracked<T>>, key: usize, state: LinkState) -> bool
+    ensures held { Updates held.old held.new key (with_link_state state (get held.old key)) }
     ensures len { slab_len held.new ≡ slab_len held.old }
     ensures capacity { held.new.capacity ≡ held.old.capacity }
-    ensures out { result ≡ is_out place (get held.old key) }
+    ensures out { result ≡ is_out state (get held.old key) }
 {
     let Some(kept) = held.get_mut(key) else {
         return false;
     };
-    let is_out = place.is_resting() && !kept.is_listed;
-    kept.place = place;
+    let is_out = state.is_paused() && !kept.is_listed;
+    kept.state = state;
     kept.is_listed = kept.is_listed || is_out;
     is_out
 }
 
 /// Gives back what is held under a key, if it is no link and the key stands in no list.
-fn tidy<T: Drop>(held: &mut Slab<Held<T>>, key: usize)
+fn tidy<T: Drop>(held: &mut Slab<Tracked<T>>, key: usize)
     ensures { Updates held.old held.new key (tidied (get held.old key)) }
 {
     if let Some(
-        Held {
+        Tracked {
             value: None,
-            place: Place::Idle,
+            state: LinkState::Idle,
             is_listed: false,
         },
     ) = held.get(key)
@@ -226,7 +226,7 @@ fn tidy<T: Drop>(held: &mut Slab<Held<T>>, key: usize)
 }
 
 /// The key was taken from the queue, or from those that are pending. True if its link is there: it is told now.
-fn take<T: Drop>(held: &mut Slab<Held<T>>, key: usize) -> bool
+fn take<T: Drop>(held: &mut Slab<Tracked<T>>, key: usize) -> bool
     ensures held { Updates held.old held.new key (tidied (taken (get held.old key))) }
     ensures live { result ≡ is_live (get held.old key) }
 {
@@ -234,80 +234,84 @@ fn take<T: Drop>(held: &mut Slab<Held<T>>, key: usize) -> bool
         return false;
     };
     let is_live = kept.value.is_some();
-    kept.place = if is_live { Place::Told } else { Place::Idle };
+    kept.state = if is_live {
+        LinkState::Current
+    } else {
+        LinkState::Idle
+    };
     tidy(held, key);
     is_live
 }
 
 /// The key was taken from those that rest. True if its link rested.
-fn unlist<T: Drop>(held: &mut Slab<Held<T>>, key: usize) -> bool
+fn unlist<T: Drop>(held: &mut Slab<Tracked<T>>, key: usize) -> bool
     ensures held { Updates held.old held.new key (tidied (unlisted (get held.old key))) }
-    ensures rests { result ≡ rests (get held.old key) }
+    ensures is_paused_in { result ≡ is_paused_in (get held.old key) }
 {
     let Some(kept) = held.get_mut(key) else {
         return false;
     };
-    let rests = kept.place.is_resting();
+    let is_paused_in = kept.state.is_paused();
     kept.is_listed = false;
-    kept.place = kept.place.woken();
+    kept.state = kept.state.woken();
     tidy(held, key);
-    rests
+    is_paused_in
 }
 
 /// Takes a link. Its key stays in the lists where it stands.
-fn clear<T: Drop>(held: &mut Slab<Held<T>>, key: usize) -> Option<T>
+fn clear<T: Drop>(held: &mut Slab<Tracked<T>>, key: usize) -> Option<T>
     ensures held { Updates held.old held.new key (tidied (cleared (get held.old key))) }
     ensures value { result ≡ option_map (λ link. link.0) (link_of (get held.old key)) }
 {
     let kept = held.get_mut(key)?;
     let value = kept.value.take();
-    kept.place = kept.place.left();
+    kept.state = kept.state.left();
     tidy(held, key);
     value
 }
 
 #[tactic(auto, using(crate::proofs::Calls::looks, crate::proofs::Turns::laws))]
-impl<T: Drop> Ready<T> {
+impl<T: Drop> Scheduler<T> {
     ghost use Rattle.portmap_ready.specs.Lends.{lends_link, lends_value};
-    ghost use Rattle.portmap_ready.specs.Runs.{ComesInOrder, ComesInTurn};
+    ghost use Rattle.portmap_ready.specs.Runs.{QueueIsFifo, WaitIsBounded};
     ghost use Rattle.portmap_ready.specs.Runs as line;
-    ghost use Rattle.portmap_ready.specs.Links.{IsButForRoom, IsReady, Rests, inserted, link_at, moved, place_at};
-    ghost use Rattle.portmap_ready.specs.Links.{removed, reported, rest_ended, taken_next, told_next};
-    ghost use Rattle.portmap_ready.specs.Held.{Moves, is_free};
+    ghost use Rattle.portmap_ready.specs.Links.{IsButForRoom, IsConsistent, Pauses, inserted, link_at, moved, state_at};
+    ghost use Rattle.portmap_ready.specs.Links.{removed, reported, after_resume, after_next_pending, after_next};
+    ghost use Rattle.portmap_ready.specs.Tracked.{Moves, is_free};
 
     /// No link.
-    pub fn new(alloc: Global) -> Ready<T>
+    pub fn new(alloc: Global) -> Scheduler<T>
         ensures links { result.links ≡ map.empty }
         ensures queue { result.queue ≡ [] }
         ensures pending { result.pending ≡ [] }
-        ensures resting { result.resting ≡ [] }
-        ensures told { result.told ≡ None }
+        ensures paused { result.paused ≡ [] }
+        ensures current { result.current ≡ None }
     {
-        Ready {
+        Scheduler {
             held: Slab::new(alloc),
             queue: VecDeque::new(alloc),
             pending: VecDeque::new(alloc),
-            resting: VecDeque::new(alloc),
-            told: None,
+            paused: VecDeque::new(alloc),
+            current: None,
             count: 0,
         }
     }
 
     /// Each link is idle, queued, pending, resting or told, and in no two of these: in the queue stand, each once, the
     /// links whose place is `Queued`, and no other key; so it is with those that are pending, and with those that rest;
-    /// and the link whose place is `Told` is the one that `told` names. So no link of which there is something to tell
+    /// and the link whose place is `Current` is the one that `current` names. So no link of which there is something to tell
     /// is forgotten, and none waits twice. It holds of every value of this type, between any calls, and costs nothing.
-    pub fn none_is_forgotten(&self)
-        ensures { IsReady self.now }
+    pub fn no_link_is_lost(&self)
+        ensures { IsConsistent self.now }
     {
-        let _ = &self.told;
+        let _ = &self.current;
     }
 
     /// The link that was told or taken last, until it stands elsewhere.
-    pub fn told(&self) -> Option<usize>
-        ensures { result ≡ self.now.told }
+    pub fn current(&self) -> Option<usize>
+        ensures { result ≡ self.now.current }
     {
-        self.told
+        self.current
     }
 
     /// How many links are there.
@@ -339,10 +343,10 @@ impl<T: Drop> Ready<T> {
     }
 
     /// No fewer than the links that rest.
-    pub fn resting(&self) -> usize
-        ensures { length self.now.resting ≤ result }
+    pub fn paused(&self) -> usize
+        ensures { length self.now.paused ≤ result }
     {
-        self.resting.len()
+        self.paused.len()
     }
 
     /// All links are under keys below this one.
@@ -357,15 +361,15 @@ impl<T: Drop> Ready<T> {
         ensures { result ≡ self.now.has_room }
     {
         let most = self.held.capacity();
-        let others = self.pending.capacity().min(self.resting.capacity());
+        let others = self.pending.capacity().min(self.paused.capacity());
         self.held.len() < most && most <= self.queue.capacity().min(others)
     }
 
     /// Where a link stands.
-    pub fn place(&self, key: usize) -> Option<Place>
-        ensures { result ≡ place_at self.now key }
+    pub fn state(&self, key: usize) -> Option<LinkState>
+        ensures { result ≡ state_at self.now key }
     {
-        place_in(&self.held, key)
+        state_in(&self.held, key)
     }
 
     /// A link.
@@ -391,7 +395,7 @@ impl<T: Drop> Ready<T> {
     pub fn contains(&self, key: usize) -> bool
         ensures { result ≡ is_some (link_at self.now key) }
     {
-        self.place(key).is_some()
+        self.state(key).is_some()
     }
 
     fn value_mut(&mut self, key: usize) -> &mut T
@@ -412,7 +416,7 @@ impl<T: Drop> Ready<T> {
         let most = self.held.capacity();
         widen(&mut self.queue, most)?;
         widen(&mut self.pending, most)?;
-        widen(&mut self.resting, most)
+        widen(&mut self.paused, most)
     }
 
     fn insert_reserved(&mut self, value: T) -> usize
@@ -420,9 +424,9 @@ impl<T: Drop> Ready<T> {
         ensures fresh { link_at self.old result ≡ None }
         ensures inserted { IsButForRoom self.new (inserted result value self.old) }
     {
-        let key = self.held.insert_reserved(Held {
+        let key = self.held.insert_reserved(Tracked {
             value: Some(value),
-            place: Place::Queued,
+            state: LinkState::Queued,
             is_listed: false,
         });
         self.queue.push_back_reserved(key);
@@ -445,36 +449,36 @@ impl<T: Drop> Ready<T> {
     }
 
     /// A link that is neither queued nor pending goes to another place.
-    fn put(&mut self, key: usize, place: Place)
-        requires from { is_free (place_at self.old key) ≡ true }
-        requires to { is_told place ≡ false }
-        ensures { Moves place key self.old self.new }
+    fn put(&mut self, key: usize, state: LinkState)
+        requires from { is_free (state_at self.old key) ≡ true }
+        requires to { is_current state ≡ false }
+        ensures { Moves state key self.old self.new }
     {
-        let is_out = set_place(&mut self.held, key, place);
-        push_if(&mut self.queue, key, place.is_queued());
-        push_if(&mut self.pending, key, place.is_pending());
-        push_if(&mut self.resting, key, is_out);
-        self.told = forget(self.told, key);
+        let is_out = set_state(&mut self.held, key, state);
+        push_if(&mut self.queue, key, state.is_queued());
+        push_if(&mut self.pending, key, state.is_pending());
+        push_if(&mut self.paused, key, is_out);
+        self.current = forget(self.current, key);
     }
 
     /// There is something to tell of a link that is idle or rests.
     pub fn report(&mut self, key: usize)
         ensures { self.new ≡ reported key self.old }
     {
-        if let Some(Place::Idle | Place::Resting) = self.place(key) {
-            self.put(key, Place::Queued);
+        if let Some(LinkState::Idle | LinkState::Paused) = self.state(key) {
+            self.put(key, LinkState::Queued);
         }
     }
 
     /// The first link of the queue. The one that was told before stands elsewhere by now.
     pub fn next(&mut self) -> Option<usize>
-        requires { self.old.told ≡ None }
+        requires { self.old.current ≡ None }
         ensures key { result ≡ slice_get self.old.queue 0 }
-        ensures told { IsButForRoom self.new (told_next self.old) }
+        ensures current { IsButForRoom self.new (after_next self.old) }
     {
         while let Some(key) = self.queue.pop_front() {
             if take(&mut self.held, key) {
-                self.told = Some(key);
+                self.current = Some(key);
                 return Some(key);
             }
         }
@@ -484,13 +488,13 @@ impl<T: Drop> Ready<T> {
     /// The first link of those that are pending, for the caller to say whether it goes on to wait. The one that was
     /// told before stands elsewhere by now.
     pub fn next_pending(&mut self) -> Option<usize>
-        requires { self.old.told ≡ None }
+        requires { self.old.current ≡ None }
         ensures key { result ≡ slice_get self.old.pending 0 }
-        ensures told { IsButForRoom self.new (taken_next self.old) }
+        ensures current { IsButForRoom self.new (after_next_pending self.old) }
     {
         while let Some(key) = self.pending.pop_front() {
             if take(&mut self.held, key) {
-                self.told = Some(key);
+                self.current = Some(key);
                 return Some(key);
             }
         }
@@ -499,47 +503,47 @@ impl<T: Drop> Ready<T> {
 
     /// There is no more to tell of the link that was told last, until it is reported.
     pub fn leave(&mut self, key: usize)
-        requires { self.old.told ≡ Some key }
+        requires { self.old.current ≡ Some key }
         ensures { self.new ≡ moved Idle key self.old }
     {
-        self.none_is_forgotten();
-        self.put(key, Place::Idle);
+        self.no_link_is_lost();
+        self.put(key, LinkState::Idle);
     }
 
     /// There is more to tell of the link that was told last: it goes to the end of the queue.
-    pub fn put_back(&mut self, key: usize)
-        requires { self.old.told ≡ Some key }
+    pub fn requeue(&mut self, key: usize)
+        requires { self.old.current ≡ Some key }
         ensures { self.new ≡ moved Queued key self.old }
     {
-        self.none_is_forgotten();
-        self.put(key, Place::Queued);
+        self.no_link_is_lost();
+        self.put(key, LinkState::Queued);
     }
 
     /// The link that was told last waits, behind the others that are pending.
     pub fn hold(&mut self, key: usize)
-        requires { self.old.told ≡ Some key }
+        requires { self.old.current ≡ Some key }
         ensures { self.new ≡ moved Pending key self.old }
     {
-        self.none_is_forgotten();
-        self.put(key, Place::Pending);
+        self.no_link_is_lost();
+        self.put(key, LinkState::Pending);
     }
 
     /// The link that was told last rests: behind the others, or, if it was reported while it rested before, where its
     /// key still stands.
     pub fn rest(&mut self, key: usize)
-        requires { self.old.told ≡ Some key }
-        ensures { Rests key self.old self.new }
+        requires { self.old.current ≡ Some key }
+        ensures { Pauses key self.old self.new }
     {
-        self.none_is_forgotten();
-        self.put(key, Place::Resting);
+        self.no_link_is_lost();
+        self.put(key, LinkState::Paused);
     }
 
     /// The link that has rested longest, which is idle then.
-    pub fn end_rest(&mut self) -> Option<usize>
-        ensures key { result ≡ slice_get self.old.resting 0 }
-        ensures ended { IsButForRoom self.new (rest_ended self.old) }
+    pub fn resume_oldest(&mut self) -> Option<usize>
+        ensures key { result ≡ slice_get self.old.paused 0 }
+        ensures ended { IsButForRoom self.new (after_resume self.old) }
     {
-        while let Some(key) = self.resting.pop_front() {
+        while let Some(key) = self.paused.pop_front() {
             if unlist(&mut self.held, key) {
                 return Some(key);
             }
@@ -552,7 +556,7 @@ impl<T: Drop> Ready<T> {
         ensures value { result ≡ option_map (λ link. link.0) (link_at self.old key) }
         ensures removed { IsButForRoom self.new (removed key self.old) }
     {
-        self.told = forget(self.told, key);
+        self.current = forget(self.current, key);
         let value = clear(&mut self.held, key);
         self.count = self.count.saturating_sub(usize::from(value.is_some()));
         value
@@ -560,21 +564,21 @@ impl<T: Drop> Ready<T> {
 
     /// A link before which so many others are queued is told within as many calls of `next`, and one more, whatever is
     /// called in between, unless it is removed. It costs nothing.
-    pub fn told_in_turn()
-        ensures { ComesInTurn T line.Queue }
+    pub fn queue_wait_is_bounded()
+        ensures { WaitIsBounded T line.Queue }
     {}
 
     /// A link before which so many others are pending is taken within as many calls of `next_pending`, and one more,
     /// whatever is called in between, unless it is removed. It costs nothing.
-    pub fn taken_in_turn()
-        ensures { ComesInTurn T line.Held }
+    pub fn pending_wait_is_bounded()
+        ensures { WaitIsBounded T line.Tracked }
     {}
 
     /// While a link is queued, and is neither told nor removed, no call tells a link that did not stand before it. So
     /// who takes a turn, puts back what was told, and does that again, tells each link that was queued before any that
     /// was queued after it. It costs nothing.
-    pub fn in_order()
-        ensures queue { ComesInOrder T line.Queue }
-        ensures pending { ComesInOrder T line.Held }
+    pub fn queue_is_fifo()
+        ensures queue { QueueIsFifo T line.Queue }
+        ensures pending { QueueIsFifo T line.Tracked }
     {}
 }

@@ -1,62 +1,65 @@
 ghost use Rattle.std.specs.Prelude.{◌≡◌, None};
 
-use crate::{Place, Ready};
+use crate::{LinkState, Scheduler};
 use std::rt::HostRuntime;
 
 /// Where the link goes that was told.
 #[derive(Clone, Copy)]
-enum Fate {
+enum AfterTurn {
     Left,
     Again,
-    Rests,
-    Held,
+    Pauses,
+    Tracked,
 }
 
 /// The link that was told last goes there.
-fn settle(ready: &mut Ready<u64>, fate: Fate)
-    ensures { ready.new.told ≡ None }
+fn settle(ready: &mut Scheduler<u64>, fate: AfterTurn)
+    ensures { ready.new.current ≡ None }
 {
-    let Some(key) = ready.told() else {
+    let Some(key) = ready.current() else {
         return;
     };
     match fate {
-        Fate::Left => ready.leave(key),
-        Fate::Again => ready.put_back(key),
-        Fate::Rests => ready.rest(key),
-        Fate::Held => ready.hold(key),
+        AfterTurn::Left => ready.leave(key),
+        AfterTurn::Again => ready.requeue(key),
+        AfterTurn::Pauses => ready.rest(key),
+        AfterTurn::Tracked => ready.hold(key),
     }
 }
 
 /// The next link, once the one that was told last went there.
-fn next(ready: &mut Ready<u64>, fate: Fate) -> Option<usize> {
+fn next(ready: &mut Scheduler<u64>, fate: AfterTurn) -> Option<usize> {
     settle(ready, fate);
     ready.next()
 }
 
 /// The next of those that are pending, once the one that was told last went there.
-fn next_pending(ready: &mut Ready<u64>, fate: Fate) -> Option<usize> {
+fn next_pending(ready: &mut Scheduler<u64>, fate: AfterTurn) -> Option<usize> {
     settle(ready, fate);
     ready.next_pending()
 }
 
 #[test]
 fn a_link_is_told_in_turn_wherever_it_stood(rt: HostRuntime) {
-    let mut ready = Ready::new(rt.alloc());
+    let mut ready = Scheduler::new(rt.alloc());
     assert!(rt; ready.is_empty());
     let first = ready.insert(10).expect(&rt, "memory");
     let second = ready.insert(20).expect(&rt, "memory");
     let third = ready.insert(30).expect(&rt, "memory");
     assert!(rt; ready.len() == 3 && ready.backlog() == 3);
     // The first is idle, the second rests, the third is pending.
-    assert!(rt; next(&mut ready, Fate::Left) == Some(first));
-    assert!(rt; next(&mut ready, Fate::Left) == Some(second));
-    assert!(rt; next(&mut ready, Fate::Rests) == Some(third));
-    assert!(rt; next(&mut ready, Fate::Held) == None);
+    assert!(rt; next(&mut ready, AfterTurn::Left) == Some(first));
+    assert!(rt; next(&mut ready, AfterTurn::Left) == Some(second));
+    assert!(rt; next(&mut ready, AfterTurn::Pauses) == Some(third));
+    assert!(rt; next(&mut ready, AfterTurn::Tracked) == None);
     assert!(rt;
-        ready.place(first) == Some(Place::Idle) && ready.place(second) == Some(Place::Resting)
+        ready.state(first) == Some(LinkState::Idle)
+            && ready.state(second) == Some(LinkState::Paused)
     );
     assert!(rt;
-        ready.place(third) == Some(Place::Pending) && ready.pending() == 1 && ready.resting() == 1
+        ready.state(third) == Some(LinkState::Pending)
+            && ready.pending() == 1
+            && ready.paused() == 1
     );
     // A report queues the first at once, but no link that is pending.
     ready.report(third);
@@ -64,29 +67,29 @@ fn a_link_is_told_in_turn_wherever_it_stood(rt: HostRuntime) {
     ready.report(first);
     assert!(rt; ready.backlog() == 1);
     // The third goes on to wait, behind the first.
-    assert!(rt; next(&mut ready, Fate::Left) == Some(first));
-    assert!(rt; next_pending(&mut ready, Fate::Held) == Some(third));
-    assert!(rt; next_pending(&mut ready, Fate::Held) == Some(first));
-    assert!(rt; next_pending(&mut ready, Fate::Again) == Some(third));
-    settle(&mut ready, Fate::Again);
+    assert!(rt; next(&mut ready, AfterTurn::Left) == Some(first));
+    assert!(rt; next_pending(&mut ready, AfterTurn::Tracked) == Some(third));
+    assert!(rt; next_pending(&mut ready, AfterTurn::Tracked) == Some(first));
+    assert!(rt; next_pending(&mut ready, AfterTurn::Again) == Some(third));
+    settle(&mut ready, AfterTurn::Again);
     // Both wait no more, and the second has rested.
-    assert!(rt; ready.end_rest() == Some(second) && ready.end_rest() == None);
+    assert!(rt; ready.resume_oldest() == Some(second) && ready.resume_oldest() == None);
     ready.report(second);
-    assert!(rt; next(&mut ready, Fate::Left) == Some(first));
-    assert!(rt; next(&mut ready, Fate::Left) == Some(third));
-    assert!(rt; ready.told() == Some(third));
-    assert!(rt; next(&mut ready, Fate::Left) == Some(second));
-    assert!(rt; next_pending(&mut ready, Fate::Left) == None);
+    assert!(rt; next(&mut ready, AfterTurn::Left) == Some(first));
+    assert!(rt; next(&mut ready, AfterTurn::Left) == Some(third));
+    assert!(rt; ready.current() == Some(third));
+    assert!(rt; next(&mut ready, AfterTurn::Left) == Some(second));
+    assert!(rt; next_pending(&mut ready, AfterTurn::Left) == None);
 }
 
 #[test]
 fn a_key_is_not_given_out_while_it_stands_in_a_list(rt: HostRuntime) {
-    let mut ready = Ready::new(rt.alloc());
+    let mut ready = Scheduler::new(rt.alloc());
     let first = ready.insert(10).expect(&rt, "memory");
     let second = ready.insert(20).expect(&rt, "memory");
-    assert!(rt; next(&mut ready, Fate::Left) == Some(first));
-    assert!(rt; next(&mut ready, Fate::Held) == Some(second));
-    settle(&mut ready, Fate::Rests);
+    assert!(rt; next(&mut ready, AfterTurn::Left) == Some(first));
+    assert!(rt; next(&mut ready, AfterTurn::Tracked) == Some(second));
+    settle(&mut ready, AfterTurn::Pauses);
     // The second is queued while its key stands among those that rest.
     ready.report(second);
     if let Some(value) = ready.get_mut(second) {
@@ -97,15 +100,15 @@ fn a_key_is_not_given_out_while_it_stands_in_a_list(rt: HostRuntime) {
     let third = ready.insert(30).expect(&rt, "memory");
     assert!(rt; third != first && third != second && ready.keys() > third);
     // Once their keys came out of all lists they are given out.
-    assert!(rt; next_pending(&mut ready, Fate::Left) == None && ready.end_rest() == None);
-    assert!(rt; next(&mut ready, Fate::Left) == Some(third));
+    assert!(rt; next_pending(&mut ready, AfterTurn::Left) == None && ready.resume_oldest() == None);
+    assert!(rt; next(&mut ready, AfterTurn::Left) == Some(third));
     let fourth = ready.insert(40).expect(&rt, "memory");
     let fifth = ready.insert(50).expect(&rt, "memory");
     assert!(rt; fourth.max(fifth) == first.max(second) && fourth.min(fifth) == first.min(second));
 }
 
 /// How many links are taken until one wants memory again; none if the first is refused.
-fn insert_with_room(ready: &mut Ready<u64>) -> Option<usize> {
+fn insert_with_room(ready: &mut Scheduler<u64>) -> Option<usize> {
     ready.insert(0).ok()?;
     for _turn in 0..64u32 {
         if !ready.has_room() {
@@ -118,7 +121,7 @@ fn insert_with_room(ready: &mut Ready<u64>) -> Option<usize> {
 
 #[test]
 fn a_refused_insert_changes_nothing_and_one_with_room_is_not_refused(rt: HostRuntime) {
-    let mut ready = Ready::new(rt.alloc());
+    let mut ready = Scheduler::new(rt.alloc());
     assert!(rt; !ready.has_room());
     let count = insert_with_room(&mut ready);
     if count.is_none() {
@@ -130,8 +133,8 @@ fn a_refused_insert_changes_nothing_and_one_with_room_is_not_refused(rt: HostRun
     } else {
         assert!(rt; count == Some(ready.len()) && !ready.has_room());
         // A link that is given up, and whose key came out of the queue, makes room for one.
-        let told = next(&mut ready, Fate::Left);
-        assert!(rt; told.is_some_and(|key| ready.remove(key).is_some()));
+        let current = next(&mut ready, AfterTurn::Left);
+        assert!(rt; current.is_some_and(|key| ready.remove(key).is_some()));
         assert!(rt; ready.has_room() && ready.insert(1).is_ok() && !ready.has_room());
     }
 }

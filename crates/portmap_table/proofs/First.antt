@@ -36,8 +36,8 @@ module _ {X : Type 0} (p : X → Bool) where
   pub first_place : (xs : List X) (at : ℕ) → IsFirst xs at → position p xs ≡ Some at
   first_place xs at f = search (rules, len_first, within)
 
-  pub no_place : (xs : List X) → NonePass xs → position p xs ≡ None
-  no_place xs none = search (rules, len_none)
+  pub no_index : (xs : List X) → NonePass xs → position p xs ≡ None
+  no_index xs none = search (rules, len_none)
 
   either_with : (x : X) (xs : List X) (b : Bool) → p x ≡ b → NonePass xs ⊎ ((at : ℕ) × IsFirst xs at)
       → NonePass (x ∷ xs) ⊎ ((at : ℕ) × IsFirst (x ∷ xs) at)
@@ -62,7 +62,7 @@ module _ {X : Type 0} (p : X → Bool) where
   any_none (x ∷ xs) none = rw none.0 (any_none xs none.1)
 
   pub any_place : (xs : List X) → is_some (position p xs) ≡ list_any p xs
-  any_place xs = search (rules, any_first, any_none, either, first_place, no_place)
+  any_place xs = search (rules, any_first, any_none, either, first_place, no_index)
 
   -- ---- what `find` says
 

@@ -1,8 +1,8 @@
 pub mod Finding
-pub mod Kept
+pub mod NameEntry
 pub mod NameLaws
 pub mod Owners
 pub mod First
-pub mod Places
-pub mod InPlace
+pub mod Indexes
+pub mod IndexProofs
 pub mod Comparing

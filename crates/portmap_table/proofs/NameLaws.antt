@@ -21,7 +21,7 @@ use Rattle.portmap_table.specs.Rows.{without_oldest, AreKept, and_retired, owns_
 use Rattle.portmap_table.specs.declared.row.Row.{Row}
 use Rattle.portmap_table.proofs.Finding.{keys_moved, is_none, find-push, find-push_other, find-remove, keys_pass_not}
 use Rattle.portmap_table.proofs.Finding.{parts, position-find, both_parts, distinct_with, key_is_new}
-use Rattle.portmap_table.proofs.{First.{finds_none, no_place, none_found}, Kept.{has_name, had_name, old_name_of}}
+use Rattle.portmap_table.proofs.{First.{finds_none, no_index, none_found}, NameEntry.{has_name, had_name, old_name_of}}
 use Rattle.portmap_table.proofs.Owners.{has_slot}
 
 pub registered_names_are_active : RegisteredNamesAreActive
@@ -48,12 +48,12 @@ pub record Leaves (names : Names) (slot : ℕ) (row : Row) : Type 0 where
 
 leaves : (names : Names) (slot : ℕ) (row : Row) → row_of slot names ≡ Some row → Leaves names slot row
 leaves names slot row e =
-    let place = position-find (λ (row : Row). row.slot == slot) names.active row e in
+    let index = position-find (λ (row : Row). row.slot == slot) names.active row e in
     let at = position_or_len (λ (row : Row). row.slot == slot) names.active in
     record {
       at = at;
-      there = place.1;
-      after = ap (λ (o : Option ℕ). retired_at o names) place.0 ∙ ap (λ (o : Option Row). retired_last at o names) place.1;
+      there = index.1;
+      after = ap (λ (o : Option ℕ). retired_at o names) index.0 ∙ ap (λ (o : Option Row). retired_last at o names) index.1;
     }
 
 pub names_outlive_connections : NamesOutliveConnections
@@ -83,10 +83,10 @@ others_without : (olds : List RetiredName) (name other : List ℕ) (o : Option �
 others_without olds name other None e differs = refl
 others_without olds name other (Some at) e differs =
     let d : RetiredName = record { name = []; port = 0; creation = 0 } in
-    let place = position-Some (had_name name) olds at d e in
+    let index = position-Some (had_name name) olds at d e in
     let old = get_or olds at d in
-    let same : old.name ≡ name = same_text old.name name (sym place.1) in
-    find-remove (had_name other) olds at old (slice_get-get_or olds at d place.0) (ap (λ (n : List ℕ). same_name n other) same ∙ differs)
+    let same : old.name ≡ name = same_text old.name name (sym index.1) in
+    find-remove (had_name other) olds at old (slice_get-get_or olds at d index.0) (ap (λ (n : List ℕ). same_name n other) same ∙ differs)
 
 pub others_stay_at_registration : OthersStayAtRegistration
 others_stay_at_registration names reg creation slot other differs = (
@@ -191,7 +191,7 @@ module _ {known_max : ℕ} {names : Names} (k : AreKept known_max names) (i : �
   pub new_owner : (row : Row) → slice_get names.active i ≡ Some row
       → owns_name row.slot (record { active = take i names.active; retired = names.retired }) ≡ false
   new_owner row e =
-      ap is_some (no_place (has_slot row.slot) (take i names.active)
+      ap is_some (no_index (has_slot row.slot) (take i names.active)
       (keys_pass_not nat_eq_equiv slot_of row.slot (take i names.active)
       (rw append-nil at (differs_before nat_eq_equiv slot_of names.active [] i (rw append-nil k.owners) e))))
 
@@ -212,7 +212,7 @@ module _ (known_max : ℕ) (names : Names) (lt : known_len names < known_max) wh
   admitted row unknown =
       ap (registered row.reg row.creation row.slot) (room_costs_none known_max names row.reg.name lt)
       ∙ ap (λ (at : Option ℕ). record { active = names.active ++ row ∷ []; retired = without_at at names.retired })
-      (no_place (had_name row.reg.name) names.retired
+      (no_index (had_name row.reg.name) names.retired
       (none_found (had_name row.reg.name) names.retired (or_parts (is_active row.reg.name names) _ unknown).1))
 
   key_differs : (name : List ℕ) → is_known name names ≡ false

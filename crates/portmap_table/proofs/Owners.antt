@@ -8,7 +8,7 @@ use Rattle.std.proofs.lemmas.List.Sorted.{IsPermutation-remove, list_any-IsPermu
 use Rattle.std.proofs.lemmas.Map.Keys.{IsDistinct-IsPermutation, IsDistinct-head}
 use Rattle.std.proofs.lemmas.Option.{none-some, slice_get-get_or, slice_get_within, get_or_from_slice_get}
 use Rattle.portmap_wire.specs.Node.{Node}
-use Rattle.portmap_table.specs.{Places.no_row, Rows.{Names, active_row, is_known, known_len, owns_name, registered}}
+use Rattle.portmap_table.specs.{Indexes.no_row, Rows.{Names, active_row, is_known, known_len, owns_name, registered}}
 use Rattle.portmap_table.specs.Rows.{retired_last, retired_at, retired_of, same_name, slot_of, with_room}
 use Rattle.portmap_table.specs.{Rows.without_oldest, declared.row.Row.Row}
 use Rattle.portmap_table.proofs.{Finding.{keys_moved, keys_pass_not}, First.{any_none, any_place}}

@@ -1,5 +1,5 @@
 pub mod Creation
 pub mod Rows
-pub mod Places
+pub mod Indexes
 pub mod Table
 pub mod Laws

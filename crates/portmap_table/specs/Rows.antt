@@ -5,8 +5,8 @@ use Rattle.std.specs.Prelude.{◌&&◌, ◌||◌, List, [], ◌∷◌, ◌++◌,
 use Rattle.std.specs.Prelude.{None, is_some, option_map, slice_get, ◌==◌, All, if◌then◌else◌}
 use Rattle.portmap_wire.specs.Node.{Node}
 use Rattle.portmap_table.specs.{Creation.IsCreationFor, declared.row.Old.Old, declared.row.Retired.Retired}
-use Rattle.portmap_table.specs.{declared.row.Row.Row, declared.standing.Standing.Standing}
-use Rattle.portmap_table.specs.declared.standing.Standing.TheVariants as how
+use Rattle.portmap_table.specs.{declared.row.Row.Row, declared.name_status.NameStatus.NameStatus}
+use Rattle.portmap_table.specs.declared.name_status.NameStatus.TheVariants as how
 
 -- an old name, the port that it had, and its last creation
 abbrev pub RetiredName : Type 0
@@ -61,8 +61,8 @@ abbrev pub remembered : List ℕ → Names → Option ℕ
 remembered name names = option_map (λ old. old.creation) (retired_row name names)
 
 -- how a name stands: active, one too many, or free to be registered
-abbrev pub standing : ℕ → List ℕ → Names → Standing
-standing known_max name names =
+abbrev pub name_status : ℕ → List ℕ → Names → NameStatus
+name_status known_max name names =
     if is_active name names then how.Active
     else if is_full_for known_max name names then how.NoRoom
     else how.Free (remembered name names)

@@ -1,10 +1,10 @@
 //! What is kept of each name, at a place that stays the name's own for as long as it is known.
 ghost use Rattle.std.specs.Prelude.{◌≡◌, ◌<◌, ◌^◌, ℕ, length, slice_get, option_copied, option_map, Some, None, IfSome};
 ghost use Rattle.std.specs.Prelude.{IfOk, OnOk, OnErr, [], ◌++◌, ◌∷◌};
-ghost use Rattle.portmap_table.specs.declared.entries.Kept.{Kept};
+ghost use Rattle.portmap_table.specs.declared.entries.NameEntry.{NameEntry};
 ghost use Rattle.portmap_table.specs.declared.row.Row.{Row};
-ghost use Rattle.portmap_table.specs.Places.{AreNamed, IsActiveAt, IsNamed, IsNew, Puts, StandsAs, active_entry};
-ghost use Rattle.portmap_table.specs.Places.{active_in, retired_entry, retired_in};
+ghost use Rattle.portmap_table.specs.Indexes.{AreNamed, IsActiveAt, IsNamed, IsNew, Puts, StandsAs, active_entry};
+ghost use Rattle.portmap_table.specs.Indexes.{active_in, retired_entry, retired_in};
 ghost use Rattle.portmap_table.specs.Rows.{old_name, retired_name};
 
 use crate::row::{Old, Retired, Row};
@@ -15,7 +15,7 @@ use std::marker::Model;
 
 /// What is kept of a name.
 #[derive(Debug, Drop)]
-pub(crate) enum Kept {
+pub(crate) enum NameEntry {
     /// It is active.
     Active(Row),
     /// It was, with this port and this creation.
@@ -25,14 +25,14 @@ pub(crate) enum Kept {
 /// Names, each at a place of its own.
 #[derive(Debug, Drop)]
 pub(crate) struct Entries {
-    kept: IndexMap<Name, Kept>,
+    kept: IndexMap<Name, NameEntry>,
 }
 
 impl Model for Entries {
     ghost use Rattle.std.specs.Prelude.{List};
     ghost use Rattle.std.specs.Coded.{coded_list, coded_ℕ, coded×};
-    ghost use Rattle.portmap_table.specs.contracts.entries.Kept as what;
-    ghost use Rattle.portmap_table.specs.Places.{AreNamed, Entry};
+    ghost use Rattle.portmap_table.specs.contracts.entries.NameEntry as what;
+    ghost use Rattle.portmap_table.specs.Indexes.{AreNamed, Entry};
 
     ghost Value = { List Entry };
 
@@ -63,39 +63,39 @@ impl Entries {
     }
 
     /// The place of a name.
-    pub(crate) fn place(&self, name: &Name) -> Option<usize>
-        ensures found { IfSome result (λ place. StandsAs name.now self.now place) }
-        ensures within { IfSome result (λ place. place < length self.now) }
-        ensures only { (place : ℕ) (kept : Kept) → slice_get self.now place ≡ Some (name.now, kept)
-            → result ≡ Some place }
+    pub(crate) fn index(&self, name: &Name) -> Option<usize>
+        ensures found { IfSome result (λ index. StandsAs name.now self.now index) }
+        ensures within { IfSome result (λ index. index < length self.now) }
+        ensures only { (index : ℕ) (kept : NameEntry) → slice_get self.now index ≡ Some (name.now, kept)
+            → result ≡ Some index }
     {
         self.kept.get_index_of(name)
     }
 
     /// What is kept of the name at this place.
-    pub(crate) fn at(&self, place: usize) -> Option<(&Name, &Kept)>
-        ensures { option_map (λ e. (e.0.now, e.1.now)) result ≡ slice_get self.now place }
+    pub(crate) fn at(&self, index: usize) -> Option<(&Name, &NameEntry)>
+        ensures { option_map (λ e. (e.0.now, e.1.now)) result ≡ slice_get self.now index }
     {
-        self.kept.get_index(place)
+        self.kept.get_index(index)
     }
 
     /// The row of the active name at this place.
-    pub(crate) fn row(&self, place: usize) -> Option<&Row>
-        ensures { option_copied result ≡ active_in (slice_get self.now place) }
+    pub(crate) fn row(&self, index: usize) -> Option<&Row>
+        ensures { option_copied result ≡ active_in (slice_get self.now index) }
     {
-        match self.at(place)? {
-            (_, Kept::Active(row)) => Some(row),
-            (_, Kept::Retired { .. }) => None,
+        match self.at(index)? {
+            (_, NameEntry::Active(row)) => Some(row),
+            (_, NameEntry::Retired { .. }) => None,
         }
     }
 
     /// What is remembered of the retired name at this place.
-    pub(crate) fn retired(&self, place: usize) -> Option<Retired<'_>>
-        ensures { option_map retired_name result ≡ retired_in (slice_get self.now place) }
+    pub(crate) fn retired(&self, index: usize) -> Option<Retired<'_>>
+        ensures { option_map retired_name result ≡ retired_in (slice_get self.now index) }
     {
-        match self.at(place)? {
-            (_, Kept::Active(_)) => None,
-            (name, Kept::Retired { port, creation }) => Some(Retired {
+        match self.at(index)? {
+            (_, NameEntry::Active(_)) => None,
+            (name, NameEntry::Retired { port, creation }) => Some(Retired {
                 name,
                 port: *port,
                 creation: *creation,
@@ -112,7 +112,7 @@ impl Entries {
         let name = old.name.try_copy(*self.kept.allocator())?;
         self.insert(
             name,
-            Kept::Retired {
+            NameEntry::Retired {
                 port: old.port,
                 creation: old.creation,
             },
@@ -120,7 +120,7 @@ impl Entries {
     }
 
     /// A new name gets a place behind all others.
-    fn insert(&mut self, name: Name, kept: Kept) -> Result<(), NoMemory>
+    fn insert(&mut self, name: Name, kept: NameEntry) -> Result<(), NoMemory>
         requires new { IsNew name self.old }
         requires named { IsNamed (name, kept) }
         ensures ok { OnOk result (self.new ≡ self.old ++ (name, kept) ∷ []) }
@@ -139,42 +139,42 @@ impl Entries {
         ensures err { OnErr result (self.new ≡ self.old) }
     {
         let name = row.reg.name.try_copy(*self.kept.allocator())?;
-        self.insert(name, Kept::Active(row))
+        self.insert(name, NameEntry::Active(row))
     }
 
     /// A new name gets the place of another one, which is forgotten. Memory is asked for first.
-    pub(crate) fn replace(&mut self, place: usize, row: Row) -> Result<(), NoMemory>
-        requires place { place < length self.old }
+    pub(crate) fn replace(&mut self, index: usize, row: Row) -> Result<(), NoMemory>
+        requires index { index < length self.old }
         requires name { IsNew row.reg.name self.old }
-        ensures ok { OnOk result (Puts self.old self.new place (active_entry row)) }
+        ensures ok { OnOk result (Puts self.old self.new index (active_entry row)) }
         ensures len { OnOk result (length self.new ≡ length self.old) }
         ensures err { OnErr result (self.new ≡ self.old) }
     {
         self.push(row)?;
-        self.kept.swap_remove_index(place);
+        self.kept.swap_remove_index(index);
         Ok(())
     }
 
     /// The retired name at this place is active again. It takes no memory.
-    pub(crate) fn activate(&mut self, place: usize, row: Row)
-        requires { StandsAs row.reg.name self.old place }
-        ensures puts { Puts self.old self.new place (active_entry row) }
+    pub(crate) fn activate(&mut self, index: usize, row: Row)
+        requires { StandsAs row.reg.name self.old index }
+        ensures puts { Puts self.old self.new index (active_entry row) }
         ensures len { length self.new ≡ length self.old }
     {
-        self.kept[place] = Kept::Active(row);
+        self.kept[index] = NameEntry::Active(row);
     }
 
     /// The active name at this place is so no more. It takes no memory.
-    pub(crate) fn retire(&mut self, place: usize)
-        requires { IsActiveAt self.old place }
-        ensures puts { (row : Row) → slice_get self.old place ≡ Some (active_entry row)
-            → Puts self.old self.new place (retired_entry (old_name row)) }
+    pub(crate) fn retire(&mut self, index: usize)
+        requires { IsActiveAt self.old index }
+        ensures puts { (row : Row) → slice_get self.old index ≡ Some (active_entry row)
+            → Puts self.old self.new index (retired_entry (old_name row)) }
         ensures len { length self.new ≡ length self.old }
     {
-        let Kept::Active(row) = &self.kept[place] else {
+        let NameEntry::Active(row) = &self.kept[index] else {
             unreachable!()
         };
-        self.kept[place] = Kept::Retired {
+        self.kept[index] = NameEntry::Retired {
             port: row.reg.port,
             creation: row.creation,
         };

@@ -7,7 +7,7 @@
 //!   the slot owns no active name. If the name is not known and the limit is reached, the name that was retired longest
 //!   ago is forgotten.
 //! - Lookups and `retire` never allocate.
-//! - `standing` returns, by one lookup, whether a name is active, exceeds the limit, or is free, and then the creation
+//! - `name_status` returns, by one lookup, whether a name is active, exceeds the limit, or is free, and then the creation
 //!   that is remembered for it.
 //! - `Table::of` returns a table of these names if and only if they meet the first rule.
 //!
@@ -16,10 +16,10 @@
 
 mod creation;
 mod entries;
+mod inserting;
 mod laws;
+mod name_status;
 mod row;
-mod settling;
-mod standing;
 mod table;
 
 pub use creation::{COUNTER_LEAST, choice_is_legal, creation_for, numbers_are_the_profiles};
@@ -27,6 +27,6 @@ pub use laws::{
     names_outlive_connections, newest_names_stand_last, none_is_refused_for_retired_names,
     oldest_names_are_forgotten, other_names_stay, returning_names_get_another_creation,
 };
+pub use name_status::NameStatus;
 pub use row::{Old, Retired, Row};
-pub use standing::Standing;
 pub use table::{RegFault, Table};

@@ -4,14 +4,14 @@ ghost use Rattle.std.specs.Prelude.{IfSome, OnOk, OnErr, IsOk, ◌^◌, ◌<◌,
 ghost use Rattle.portmap_table.specs.Creation.{IsCounter, IsCreationFor, IsLegalCreation};
 ghost use Rattle.portmap_table.specs.Rows.{AreKept, active_row, and_retired, is_active, is_full_for, is_known};
 ghost use Rattle.portmap_table.specs.Rows.{known_len, owner_of, owns_name, registered, remembered, retired_name};
-ghost use Rattle.portmap_table.specs.Rows.{retired_of, standing, with_room};
+ghost use Rattle.portmap_table.specs.Rows.{retired_of, name_status, with_room};
 ghost use Rattle.portmap_table.specs.Table.{GivesOffer, new_table, offered, with_names, with_registration};
 
 use crate::creation::{COUNTER_LEAST, counter_after, creation_for, is_creation_for};
 use crate::entries::Entries;
+use crate::inserting::{settle, take_out};
+use crate::name_status::NameStatus;
 use crate::row::{Old, Retired, Row};
-use crate::settling::{settle, take_out};
-use crate::standing::Standing;
 use indexmap::IndexMap;
 use portmap_wire::{Name, NoMemory, Reg};
 use std::alloc::Global;
@@ -58,7 +58,7 @@ impl Model for Table {
     ghost use Rattle.std.specs.Prelude.{◌≤◌, ◌+◌, ◌^◌, ◌<◌, nat_eq, vec_len, vec_capacity};
     ghost use Rattle.indexmap.specs.IndexMap.{get};
     ghost use Rattle.portmap_table.specs.Table.{TableState};
-    ghost use Rattle.portmap_table.specs.Places.{AreInPlace, names_at};
+    ghost use Rattle.portmap_table.specs.Indexes.{IsIndex, names_at};
     ghost use Rattle.portmap_table.specs.Rows.{AreKept};
     ghost use Rattle.portmap_table.specs.Creation.{IsCounter};
 
@@ -70,7 +70,7 @@ impl Model for Table {
       counter = t.counter;
     } };
 
-    ghost invariant = { λ t. AreInPlace t.entries t.active.items t.retired.items (get nat_eq t.owners)
+    ghost invariant = { λ t. IsIndex t.entries t.active.items t.retired.items (get nat_eq t.owners)
         × (vec_len t.active + vec_len t.retired ≤ vec_capacity t.retired)
         × AreKept t.known_max (names_at t.entries t.active.items t.retired.items) × IsCounter t.counter
         × (t.known_max < 2 ^ 32) };
@@ -139,9 +139,9 @@ impl Table {
         ensures kept { AreKept self.new.known_max self.new.names }
     {
         self.retired.reserve(self.active.len() + 1)?;
-        let place = self.entries.len() as u32;
+        let index = self.entries.len() as u32;
         self.entries.append(old)?;
-        self.retired.push_reserved(place);
+        self.retired.push_reserved(index);
         Ok(())
     }
 
@@ -161,9 +161,9 @@ impl Table {
         self.active.reserve(1)?;
         self.owners.reserve(1)?;
         let slot = row.slot;
-        let place = settle(&mut self.entries, &mut self.retired, self.known_max, row)?;
-        self.active.push_reserved(place);
-        match self.owners.insert(slot, place) {
+        let index = settle(&mut self.entries, &mut self.retired, self.known_max, row)?;
+        self.active.push_reserved(index);
+        match self.owners.insert(slot, index) {
             Ok(_) => Ok(()),
             Err(_) => unreachable!(),
         }
@@ -183,10 +183,10 @@ impl Table {
         ensures legal { IfOk result (λ c. IsLegalCreation high (remembered name.now self.now.names) c) }
         ensures kept { AreKept self.now.known_max self.now.names }
     {
-        match self.standing(name) {
-            Standing::Active => Err(RegFault::Taken),
-            Standing::NoRoom => Err(RegFault::NoRoom),
-            Standing::Free(last) => Ok(creation_for(None, self.counter, high, last)),
+        match self.name_status(name) {
+            NameStatus::Active => Err(RegFault::Taken),
+            NameStatus::NoRoom => Err(RegFault::NoRoom),
+            NameStatus::Free(last) => Ok(creation_for(None, self.counter, high, last)),
         }
     }
 
@@ -234,26 +234,26 @@ impl Table {
         ensures none { result ≡ false → self.new ≡ self.old }
         ensures kept { AreKept self.new.known_max self.new.names }
     {
-        let Some(place) = self.owners.swap_remove(&slot) else {
+        let Some(index) = self.owners.swap_remove(&slot) else {
             return false;
         };
-        self.entries.retire(place as usize);
-        take_out(&mut self.active, place);
-        self.retired.push_reserved(place);
+        self.entries.retire(index as usize);
+        take_out(&mut self.active, index);
+        self.retired.push_reserved(index);
         true
     }
 
     /// How a name stands.
-    pub fn standing(&self, name: &Name) -> Standing
-        ensures { result ≡ standing self.now.known_max name.now self.now.names }
+    pub fn name_status(&self, name: &Name) -> NameStatus
+        ensures { result ≡ name_status self.now.known_max name.now self.now.names }
     {
-        match self.entries.place(name) {
-            Some(place) => match self.entries.retired(place) {
-                Some(retired) => Standing::Free(Some(retired.creation)),
-                None => Standing::Active,
+        match self.entries.index(name) {
+            Some(index) => match self.entries.retired(index) {
+                Some(retired) => NameStatus::Free(Some(retired.creation)),
+                None => NameStatus::Active,
             },
-            None if self.active.len() >= self.known_max as usize => Standing::NoRoom,
-            None => Standing::Free(None),
+            None if self.active.len() >= self.known_max as usize => NameStatus::NoRoom,
+            None => NameStatus::Free(None),
         }
     }
 
@@ -261,7 +261,10 @@ impl Table {
     fn is_known(&self, name: &Name) -> bool
         ensures { result ≡ is_known name.now self.now.names }
     {
-        !matches!(self.standing(name), Standing::NoRoom | Standing::Free(None))
+        !matches!(
+            self.name_status(name),
+            NameStatus::NoRoom | NameStatus::Free(None)
+        )
     }
 
     /// Whether a name is active.
@@ -282,7 +285,7 @@ impl Table {
     pub fn find(&self, name: &Name) -> Option<&Row>
         ensures { option_copied result ≡ active_row name.now self.now.names }
     {
-        self.entries.row(self.entries.place(name)?)
+        self.entries.row(self.entries.index(name)?)
     }
 
     /// Whether a slot owns an active name.
@@ -307,8 +310,8 @@ impl Table {
     pub fn active_at(&self, i: usize) -> Option<&Row>
         ensures { option_copied result ≡ slice_get self.now.names.active i }
     {
-        let place = self.active.get(i)?;
-        self.entries.row(*place as usize)
+        let index = self.active.get(i)?;
+        self.entries.row(*index as usize)
     }
 
     /// How many names are retired.
@@ -322,7 +325,7 @@ impl Table {
     pub fn retired_at(&self, i: usize) -> Option<Retired<'_>>
         ensures { option_map retired_name result ≡ slice_get self.now.names.retired i }
     {
-        let place = self.retired.get(i)?;
-        self.entries.retired(*place as usize)
+        let index = self.retired.get(i)?;
+        self.entries.retired(*index as usize)
     }
 }

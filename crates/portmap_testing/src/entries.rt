@@ -4,7 +4,7 @@ use std::alloc::{AllocError, Global};
 
 /// An entry, with its bytes in place.
 #[derive(Clone, Copy)]
-pub enum Kept {
+pub enum SampleEntry {
     Connected(bool, u64),
     Piece(u64, &'static [u8], &'static [u8], Fate),
     Closed(u64),
@@ -13,21 +13,21 @@ pub enum Kept {
 }
 
 /// The entry of a table.
-pub fn entry(alloc: Global, kept: &Kept) -> Result<Entry, AllocError> {
+pub fn entry(alloc: Global, kept: &SampleEntry) -> Result<Entry, AllocError> {
     Ok(match kept {
-        Kept::Connected(local, slot) => Entry::Connected {
+        SampleEntry::Connected(local, slot) => Entry::Connected {
             local: *local,
             slot: *slot,
         },
-        Kept::Piece(slot, bytes, reply, fate) => Entry::Piece {
+        SampleEntry::Piece(slot, bytes, reply, fate) => Entry::Piece {
             slot: *slot,
             bytes: bytes.to_vec(alloc)?,
             reply: reply.to_vec(alloc)?,
             fate: *fate,
         },
-        Kept::Closed(slot) => Entry::Closed { slot: *slot },
-        Kept::Faulted(slot) => Entry::Faulted { slot: *slot },
-        Kept::Late(slot, fate) => Entry::Late {
+        SampleEntry::Closed(slot) => Entry::Closed { slot: *slot },
+        SampleEntry::Faulted(slot) => Entry::Faulted { slot: *slot },
+        SampleEntry::Late(slot, fate) => Entry::Late {
             slot: *slot,
             fate: *fate,
         },

@@ -1,7 +1,7 @@
 //! Devices over memory.
 ghost use Rattle.std.specs.Prelude.{◌≡◌, true};
 
-use portmap_link::{Device, Input, Output, Past, Pull, Put};
+use portmap_link::{Device, GhostList, Input, Output, Pull, Put};
 use std::alloc::Global;
 use std::sync::atomic::{AtomicU64, Ordering};
 
@@ -25,7 +25,7 @@ pub const SINGLE: DevicePlan = DevicePlan { most: 1, ..STEADY };
 
 /// What one call is to do.
 #[derive(Clone, Copy)]
-enum Turn {
+enum TapeStep {
     Move,
     Later,
     Fault,
@@ -37,17 +37,17 @@ impl DevicePlan {
         later.any(|(from, until)| *from <= call && call < *until)
     }
 
-    fn turn(&self, calls: &mut usize, failed: bool) -> Turn
-        ensures { failed ≡ true → result ≡ Turn.Fault }
+    fn turn(&self, calls: &mut usize, failed: bool) -> TapeStep
+        ensures { failed ≡ true → result ≡ TapeStep.Fault }
     {
         let call = *calls;
         *calls = call.saturating_add(1);
         if failed || self.fault == Some(call) {
-            Turn::Fault
+            TapeStep::Fault
         } else if self.is_later(call) {
-            Turn::Later
+            TapeStep::Later
         } else {
-            Turn::Move
+            TapeStep::Move
         }
     }
 }
@@ -60,8 +60,8 @@ pub struct Tape<'a> {
     plan: DevicePlan,
     pub calls: usize,
     failed: bool,
-    pulls: Past<Pull>,
-    puts: Past<Put>,
+    pulls: GhostList<Pull>,
+    puts: GhostList<Put>,
     /// Where others see how many bytes were written.
     pub written: Option<&'a AtomicU64>,
 }
@@ -74,8 +74,8 @@ impl<'a> Tape<'a> {
             plan,
             calls: 0,
             failed: false,
-            pulls: Past::new(),
-            puts: Past::new(),
+            pulls: GhostList::new(),
+            puts: GhostList::new(),
             written: None,
         }
     }
@@ -98,8 +98,8 @@ impl<'a> Device for Tape<'a> {
 impl<'a> Input for Tape<'a> {
     fn pull(&mut self, buffer: &mut [u8]) -> Pull {
         let answer = match self.plan.turn(&mut self.calls, self.failed) {
-            Turn::Move if self.source.is_empty() => Pull::End,
-            Turn::Move => {
+            TapeStep::Move if self.source.is_empty() => Pull::End,
+            TapeStep::Move => {
                 let most = self.plan.most.max(1);
                 let n = most.min(buffer.len()).min(self.source.len());
                 let (front, rest) = self.source.split_at(n);
@@ -107,8 +107,8 @@ impl<'a> Input for Tape<'a> {
                 self.source = rest;
                 Pull::Piece(n)
             }
-            Turn::Later => Pull::Later,
-            Turn::Fault => Pull::Fault,
+            TapeStep::Later => Pull::Later,
+            TapeStep::Fault => Pull::Fault,
         };
         self.failed = answer == Pull::Fault;
         self.pulls.note(&answer);
@@ -123,15 +123,15 @@ impl<'a> Input for Tape<'a> {
 impl<'a> Output for Tape<'a> {
     fn put(&mut self, bytes: &[u8]) -> Put {
         let answer = match self.plan.turn(&mut self.calls, self.failed) {
-            Turn::Move => {
+            TapeStep::Move => {
                 let n = self.plan.most.max(1).min(bytes.len());
                 match self.sink.extend_from_slice(&bytes[..n]) {
                     Ok(()) => Put::Wrote(n),
                     Err(_) => Put::Fault,
                 }
             }
-            Turn::Later => Put::Later,
-            Turn::Fault => Put::Fault,
+            TapeStep::Later => Put::Later,
+            TapeStep::Fault => Put::Fault,
         };
         self.failed = answer == Put::Fault;
         self.puts.note(&answer);

@@ -4,13 +4,13 @@ use Rattle.std.specs.FinMap as map
 use Rattle.std.proofs.Common.{◌≡◌, ◌≢◌, ℕ, Bool, true, false, not, ◌&&◌, Option, Some, None, List, [], ◌∷◌, ◌++◌}
 use Rattle.std.proofs.Common.{refl, sym, ap, ◌∙◌, ◌⊎◌, inl, inr, arith, length, take, ◌+◌, ◌-◌, ◌≤◌}
 use Rattle.std.proofs.{Common.rules, lemmas.Bool.{cases_eq, Decides.nat_tests}, lemmas.Grind.common_steps}
-use Rattle.portmap_ready.specs.Links.{IsButForRoom, IsReady, Links, first_at, inserted, is_resting, link_at, moved, one_at}
-use Rattle.portmap_ready.specs.Links.{place_at, put_at, removed, reported, rest_ended, times, told_next, without, write_at, written}
+use Rattle.portmap_ready.specs.Links.{IsButForRoom, IsConsistent, Links, first_at, inserted, is_paused, link_at, moved, one_at}
+use Rattle.portmap_ready.specs.Links.{state_at, put_at, removed, reported, after_resume, times, after_next, without, write_at, written}
 use Rattle.std.proofs.{Math.Seq.{drop-nil, take_all}, lemmas.List.{drop-drop, Sums.fold_more}}
 use Rattle.std.proofs.lemmas.{Option.{get_or_from_slice_get, slice_get_cases, slice_get_within}}
 use Rattle.portmap_ready.{specs.Links.{is_queued, is_quiet as is_quiet_place, pushed}}
-use Rattle.portmap_ready.{specs.Runs.{Queue, PutBack, Remove}, proofs.Turns.comes_in_turn}
-use Rattle.portmap_ready.specs.declared.Place.{Place, TheVariants.{Idle, Pending, Queued, Resting, Told}}
+use Rattle.portmap_ready.{specs.Runs.{Queue, PutBack, Remove}, proofs.Turns.wait_is_bounded}
+use Rattle.portmap_ready.specs.declared.LinkState.{LinkState, TheVariants.{Idle, Pending, Queued, Paused, Current}}
 use Rattle.portmap_worker.specs.IdleLinks.{Ahead, AllQuiet, AreNoted, Changes, Fact, Has, Holds, IsReported, Keeps, KeepsLinks}
 use Rattle.portmap_worker.specs.IdleLinks.{Safe, Spares, Tells, TellsLinks, There}
 use Rattle.portmap_worker.specs.IdleLinks.{hears, is_calm, is_safe, noted_at, notes_of, place_reported}
@@ -42,54 +42,54 @@ there_still f None = refl
 there_still f (Some a) = refl
 
 module _ {S : Type 0} where
-  -- it is at another place, or is another one, or was reported
-  abbrev to : Place → OpenLink S × Place → OpenLink S × Place
-  to place l = (l.0, place)
+  -- it is at another state, or is another one, or was reported
+  abbrev to : LinkState → OpenLink S × LinkState → OpenLink S × LinkState
+  to state l = (l.0, state)
 
-  abbrev with : OpenLink S → OpenLink S × Place → OpenLink S × Place
+  abbrev with : OpenLink S → OpenLink S × LinkState → OpenLink S × LinkState
   with v l = (v, l.1)
 
-  abbrev waked : OpenLink S × Place → OpenLink S × Place
+  abbrev waked : OpenLink S × LinkState → OpenLink S × LinkState
   waked l = (l.0, place_reported true l.1)
 
   -- ---- what stands under a key, and under each other one
 
-  put_here : (place : Place) (k : ℕ) (o : Option (OpenLink S × Place)) (m : map.FinMap nat_cmp (OpenLink S × Place)) → map.get m k ≡ o
-      → map.get (put_at place k o m) k ≡ option_map (to place) o
-  put_here place k None m e = e
-  put_here place k (Some l) m e = grind (arith, nat_tests, map.gets)
+  put_here : (state : LinkState) (k : ℕ) (o : Option (OpenLink S × LinkState)) (m : map.FinMap nat_cmp (OpenLink S × LinkState)) → map.get m k ≡ o
+      → map.get (put_at state k o m) k ≡ option_map (to state) o
+  put_here state k None m e = e
+  put_here state k (Some l) m e = grind (arith, nat_tests, map.gets)
 
-  put_there : (place : Place) (k : ℕ) (o : Option (OpenLink S × Place)) (m : map.FinMap nat_cmp (OpenLink S × Place)) (q : ℕ) → q ≢ k
-      → map.get (put_at place k o m) q ≡ map.get m q
-  put_there place k None m q d = refl
-  put_there place k (Some l) m q d = grind (arith, nat_tests, map.gets, d)
+  put_there : (state : LinkState) (k : ℕ) (o : Option (OpenLink S × LinkState)) (m : map.FinMap nat_cmp (OpenLink S × LinkState)) (q : ℕ) → q ≢ k
+      → map.get (put_at state k o m) q ≡ map.get m q
+  put_there state k None m q d = refl
+  put_there state k (Some l) m q d = grind (arith, nat_tests, map.gets, d)
 
-  write_here : (k : ℕ) (v : OpenLink S) (o : Option (OpenLink S × Place)) (m : map.FinMap nat_cmp (OpenLink S × Place)) → map.get m k ≡ o
+  write_here : (k : ℕ) (v : OpenLink S) (o : Option (OpenLink S × LinkState)) (m : map.FinMap nat_cmp (OpenLink S × LinkState)) → map.get m k ≡ o
       → map.get (write_at k v o m) k ≡ option_map (with v) o
   write_here k v None m e = e
   write_here k v (Some l) m e = grind (arith, nat_tests, map.gets)
 
-  write_there : (k : ℕ) (v : OpenLink S) (o : Option (OpenLink S × Place)) (m : map.FinMap nat_cmp (OpenLink S × Place)) (q : ℕ) → q ≢ k
+  write_there : (k : ℕ) (v : OpenLink S) (o : Option (OpenLink S × LinkState)) (m : map.FinMap nat_cmp (OpenLink S × LinkState)) (q : ℕ) → q ≢ k
       → map.get (write_at k v o m) q ≡ map.get m q
   write_there k v None m q d = refl
   write_there k v (Some l) m q d = grind (arith, nat_tests, map.gets, d)
 
   -- ---- a link
 
-  pub moved_here : (place : Place) (k : ℕ) (r : Links (OpenLink S)) → link_at (moved place k r) k ≡ option_map (to place) (link_at r k)
-  moved_here place k r = put_here place k (link_at r k) r.links refl
+  pub moved_here : (state : LinkState) (k : ℕ) (r : Links (OpenLink S)) → link_at (moved state k r) k ≡ option_map (to state) (link_at r k)
+  moved_here state k r = put_here state k (link_at r k) r.links refl
 
   pub written_here : (k : ℕ) (v : OpenLink S) (r : Links (OpenLink S)) → link_at (written k r v) k ≡ option_map (with v) (link_at r k)
   written_here k v r = write_here k v (link_at r k) r.links refl
 
-  reported_at : (o : Option (OpenLink S × Place)) (k : ℕ) (r : Links (OpenLink S)) → link_at r k ≡ o
+  reported_at : (o : Option (OpenLink S × LinkState)) (k : ℕ) (r : Links (OpenLink S)) → link_at r k ≡ o
       → link_at (reported k r) k ≡ option_map waked o
   reported_at None k r h = search rules
   reported_at (Some (v, Idle)) k r h = search (rules, put_here)
-  reported_at (Some (v, Resting)) k r h = search (rules, put_here)
+  reported_at (Some (v, Paused)) k r h = search (rules, put_here)
   reported_at (Some (v, Queued)) k r h = search rules
   reported_at (Some (v, Pending)) k r h = search rules
-  reported_at (Some (v, Told)) k r h = search rules
+  reported_at (Some (v, Current)) k r h = search rules
 
   pub reported_here : (k : ℕ) (r : Links (OpenLink S)) → link_at (reported k r) k ≡ option_map waked (link_at r k)
   reported_here k r = reported_at (link_at r k) k r refl
@@ -108,10 +108,10 @@ module _ {S : Type 0} where
     there = ap is_some (written_here k v r) ∙ there_still (with v) (link_at r k) ∙ a.there;
   }
 
-  pub then_moved : (place : Place) (k : ℕ) (old r : Links (OpenLink S)) → Alike k old r → Alike k old (moved place k r)
-  then_moved place k old r a = record {
-    others = λ q d. put_there place k (link_at r k) r.links q d ∙ a.others q d;
-    there = ap is_some (moved_here place k r) ∙ there_still (to place) (link_at r k) ∙ a.there;
+  pub then_moved : (state : LinkState) (k : ℕ) (old r : Links (OpenLink S)) → Alike k old r → Alike k old (moved state k r)
+  then_moved state k old r a = record {
+    others = λ q d. put_there state k (link_at r k) r.links q d ∙ a.others q d;
+    there = ap is_some (moved_here state k r) ∙ there_still (to state) (link_at r k) ∙ a.there;
   }
 
   pub then_reported : (k : ℕ) (old r : Links (OpenLink S)) → Alike k old r → Alike k old (reported k r)
@@ -126,7 +126,7 @@ module _ {S : Type 0} where
   -- ---- those that are queued
 
   -- the links, and the queue
-  abbrev pub seen : Links (OpenLink S) → map.FinMap nat_cmp (OpenLink S × Place) × List ℕ
+  abbrev pub seen : Links (OpenLink S) → map.FinMap nat_cmp (OpenLink S × LinkState) × List ℕ
   seen r = (r.links, r.queue)
 
   -- each that is queued stays so, behind no more than before
@@ -142,14 +142,14 @@ module _ {S : Type 0} where
   joins true k old new e q most h =
       let there = h.0 in
       let near = h.1 in
-      let still = comes_in_turn Queue q (PutBack k ∷ []) old (moved Queued k old) (moved Queued k old, refl, refl) there (tt, tt) in
+      let still = wait_is_bounded Queue q (PutBack k ∷ []) old (moved Queued k old) (moved Queued k old, refl, refl) there (tt, tt) in
       let less = still.1 in
       rw e (still.0, omega (arith, near, less))
 
   pub reports_stay : (k : ℕ) (r : Links (OpenLink S)) → Stays r (reported k r)
-  reports_stay k r = at (is_quiet_place (place_at r k)) refl
+  reports_stay k r = at (is_quiet_place (state_at r k)) refl
     where
-      at : (b : Bool) → is_quiet_place (place_at r k) ≡ b → Stays r (reported k r)
+      at : (b : Bool) → is_quiet_place (state_at r k) ≡ b → Stays r (reported k r)
       at true e = joins true k r (reported k r) (search (rules, e))
       at false e = stays r (reported k r) (search (rules, e))
 
@@ -177,72 +177,72 @@ module _ {S : Type 0} where
   pub keep : (k : ℕ) (old new : Links (OpenLink S)) → Alike k old new → Stays old new → is_safe (link_at new k) ≡ true → Keeps old new
   keep k old new a queue safe = keeps_both old new (keep_so k old new a (λ _. safe)) queue
 
-  all_safe : (f : OpenLink S × Place → OpenLink S × Place) (o : Option (OpenLink S × Place))
-      → ((l : OpenLink S × Place) → o ≡ Some l → is_safe (Some (f l)) ≡ true) → is_safe (option_map f o) ≡ true
+  all_safe : (f : OpenLink S × LinkState → OpenLink S × LinkState) (o : Option (OpenLink S × LinkState))
+      → ((l : OpenLink S × LinkState) → o ≡ Some l → is_safe (Some (f l)) ≡ true) → is_safe (option_map f o) ≡ true
   all_safe f None h = refl
   all_safe f (Some l) h = h l refl
 
-  waked_safe : (o : Option (OpenLink S × Place)) → is_safe (option_map waked o) ≡ true
+  waked_safe : (o : Option (OpenLink S × LinkState)) → is_safe (option_map waked o) ≡ true
   waked_safe None = refl
   waked_safe (Some (v, Idle)) = refl
-  waked_safe (Some (v, Resting)) = refl
+  waked_safe (Some (v, Paused)) = refl
   waked_safe (Some (v, Queued)) = refl
   waked_safe (Some (v, Pending)) = refl
-  waked_safe (Some (v, Told)) = refl
+  waked_safe (Some (v, Current)) = refl
 
-  both : (v : OpenLink S) → v.link.is_resting ≡ false → is_quiet (notes_of v) ≡ true → is_calm v ≡ true
+  both : (v : OpenLink S) → v.link.is_paused ≡ false → is_quiet (notes_of v) ≡ true → is_calm v ≡ true
   both v r q = rw (r, q) refl
 
-  quiet_safe : (v : OpenLink S) (place : Place) → is_calm v ≡ true → is_safe (Some (v, place)) ≡ true
+  quiet_safe : (v : OpenLink S) (state : LinkState) → is_calm v ≡ true → is_safe (Some (v, state)) ≡ true
   quiet_safe v Idle q = q
   quiet_safe v Queued q = refl
   quiet_safe v Pending q = refl
-  quiet_safe v Resting q = refl
-  quiet_safe v Told q = refl
+  quiet_safe v Paused q = refl
+  quiet_safe v Current q = refl
 
   -- ---- changes
 
   -- a link goes elsewhere, and its key to the end of the queue, if it goes there
-  abbrev pub IsMoved : Place → ℕ → Links (OpenLink S) → Links (OpenLink S) → Type 0
-  IsMoved place k r new = seen new ≡ seen (moved place k r)
+  abbrev pub IsMoved : LinkState → ℕ → Links (OpenLink S) → Links (OpenLink S) → Type 0
+  IsMoved state k r new = seen new ≡ seen (moved state k r)
 
-  module _ (place : Place) (k : ℕ) (old r new : Links (OpenLink S)) where
-    goes : Alike k old r → Stays old r → IsMoved place k r new → ((v : OpenLink S) → is_safe (Some (v, place)) ≡ true) → Keeps old new
+  module _ (state : LinkState) (k : ℕ) (old r new : Links (OpenLink S)) where
+    goes : Alike k old r → Stays old r → IsMoved state k r new → ((v : OpenLink S) → is_safe (Some (v, state)) ≡ true) → Keeps old new
     goes others queue e safe =
-        let gone = then_moved place k old r others in
+        let gone = then_moved state k old r others in
         let links = ap (λ p. p.0) e in
         keep k old new (record {
           others = λ q d. ap (λ m. map.get m q) links ∙ gone.others q d;
           there = ap (λ m. is_some (map.get m k)) links ∙ gone.there;
-        }) (λ q most h. joins (is_queued place) k r new (ap (λ p. p.1) e) q most (queue q most h))
-        (ap is_safe (ap (λ m. map.get m k) links ∙ moved_here place k r) ∙ all_safe (to place) (link_at r k) (λ l _. safe l.0))
+        }) (λ q most h. joins (is_queued state) k r new (ap (λ p. p.1) e) q most (queue q most h))
+        (ap is_safe (ap (λ m. map.get m k) links ∙ moved_here state k r) ∙ all_safe (to state) (link_at r k) (λ l _. safe l.0))
 
   -- it has another value
-  pub placed : (place : Place) (k : ℕ) (v : OpenLink S) (old new : Links (OpenLink S)) → IsMoved place k (written k old v) new
-      → ((v : OpenLink S) → is_safe (Some (v, place)) ≡ true) → Keeps old new
-  placed place k v old new = goes place k old (written k old v) new (then_written k v old old (itself k old)) (λ q most h. h)
+  pub placed : (state : LinkState) (k : ℕ) (v : OpenLink S) (old new : Links (OpenLink S)) → IsMoved state k (written k old v) new
+      → ((v : OpenLink S) → is_safe (Some (v, state)) ≡ true) → Keeps old new
+  placed state k v old new = goes state k old (written k old v) new (then_written k v old old (itself k old)) (λ q most h. h)
 
-  module _ (place : Place) (k : ℕ) (old r new : Links (OpenLink S)) where
+  module _ (state : LinkState) (k : ℕ) (old r new : Links (OpenLink S)) where
     -- it has the value that it had, or another one
-    pub sent : ((v : OpenLink S) × (r ≡ written k old v)) ⊎ (r ≡ old) → IsMoved place k r new
-        → ((v : OpenLink S) → is_safe (Some (v, place)) ≡ true) → Keeps old new
-    sent (inl (v, h)) e = placed place k v old new (e ∙ ap (λ r. seen (moved place k r)) h)
-    sent (inr h) e = goes place k old old new (itself k old) (λ q most h. h) (e ∙ ap (λ r. seen (moved place k r)) h)
+    pub sent : ((v : OpenLink S) × (r ≡ written k old v)) ⊎ (r ≡ old) → IsMoved state k r new
+        → ((v : OpenLink S) → is_safe (Some (v, state)) ≡ true) → Keeps old new
+    sent (inl (v, h)) e = placed state k v old new (e ∙ ap (λ r. seen (moved state k r)) h)
+    sent (inr h) e = goes state k old old new (itself k old) (λ q most h. h) (e ∙ ap (λ r. seen (moved state k r)) h)
 
   -- it has another value, and is idle
   pub idles : (k : ℕ) (v : OpenLink S) (old new : Links (OpenLink S)) → new ≡ moved Idle k (written k old v)
-      → v.link.is_resting ≡ false → is_quiet (notes_of v) ≡ true → Keeps old new
+      → v.link.is_paused ≡ false → is_quiet (notes_of v) ≡ true → Keeps old new
   idles k v old new e rests quiet =
       rw e (keep k old _ (then_moved Idle k old (written k old v) (then_written k v old old (itself k old))) (λ q most h. h)
       (ap is_safe (moved_here Idle k (written k old v) ∙ ap (option_map (to Idle)) (written_here k v old)) ∙ at (link_at old k)))
     where
-      at : (o : Option (OpenLink S × Place)) → is_safe (option_map (to Idle) (option_map (with v) o)) ≡ true
+      at : (o : Option (OpenLink S × LinkState)) → is_safe (option_map (to Idle) (option_map (with v) o)) ≡ true
       at None = refl
       at (Some l) = both v rests quiet
 
   module _ (k : ℕ) (v : OpenLink S) (old r : Links (OpenLink S)) where
     -- it has another value, which is quiet
-    pub calms : Alike k old r → Stays old r → v.link.is_resting ≡ false → is_quiet (notes_of v) ≡ true → Keeps old (written k r v)
+    pub calms : Alike k old r → Stays old r → v.link.is_paused ≡ false → is_quiet (notes_of v) ≡ true → Keeps old (written k r v)
     calms others queue rests quiet =
         keep k old (written k r v) (then_written k v old r others) queue
         (ap is_safe (written_here k v r) ∙ all_safe (with v) (link_at r k) (λ l _. quiet_safe v l.1 (both v rests quiet)))
@@ -255,50 +255,50 @@ module _ {S : Type 0} where
         (ap is_safe (reported_here k (written k r v)) ∙ waked_safe (link_at (written k r v) k)))
 
   -- it has another value, which is calm if the one before was
-  pub kept_so : (k : ℕ) (r : Links (OpenLink S)) (h v : OpenLink S) → Some h ≡ option_map (λ (l : OpenLink S × Place). l.0) (link_at r k)
+  pub kept_so : (k : ℕ) (r : Links (OpenLink S)) (h v : OpenLink S) → Some h ≡ option_map (λ (l : OpenLink S × LinkState). l.0) (link_at r k)
       → (is_calm h ≡ true → is_calm v ≡ true) → Keeps r (written k r v)
   kept_so k r h v value same =
       keeps_both r (written k r v) (keep_so k r (written k r v) (then_written k v r r (itself k r)) (λ safe.
       ap is_safe (written_here k v r) ∙ at (link_at r k) value safe)) (λ q most h. h)
     where
-      at : (o : Option (OpenLink S × Place)) → Some h ≡ option_map (λ (l : OpenLink S × Place). l.0) o → is_safe o ≡ true
+      at : (o : Option (OpenLink S × LinkState)) → Some h ≡ option_map (λ (l : OpenLink S × LinkState). l.0) o → is_safe o ≡ true
           → is_safe (option_map (with v) o) ≡ true
       at None e s = refl
       at (Some (t, Idle)) e s = same (ap (λ o. is_calm (unwrap_or o h)) e ∙ s)
       at (Some (t, Queued)) e s = refl
       at (Some (t, Pending)) e s = refl
-      at (Some (t, Resting)) e s = refl
-      at (Some (t, Told)) e s = refl
+      at (Some (t, Paused)) e s = refl
+      at (Some (t, Current)) e s = refl
 
-  pub as_calm : (k : ℕ) (r : Links (OpenLink S)) (h v : OpenLink S) → Some h ≡ option_map (λ (l : OpenLink S × Place). l.0) (link_at r k)
-      → v.link.is_resting ≡ h.link.is_resting → notes_of v ≡ notes_of h → Keeps r (written k r v)
+  pub as_calm : (k : ℕ) (r : Links (OpenLink S)) (h v : OpenLink S) → Some h ≡ option_map (λ (l : OpenLink S × LinkState). l.0) (link_at r k)
+      → v.link.is_paused ≡ h.link.is_paused → notes_of v ≡ notes_of h → Keeps r (written k r v)
   as_calm k r h v value rests notes =
       kept_so k r h v value (λ calm. ap (λ b. not b && is_quiet (notes_of v)) rests
-      ∙ ap (λ n. not h.link.is_resting && is_quiet n) notes ∙ calm)
+      ∙ ap (λ n. not h.link.is_paused && is_quiet n) notes ∙ calm)
 
   -- it was looked at, and there is nothing to tell of it
-  pub looked : (k : ℕ) (r : Links (OpenLink S)) (h v : OpenLink S) → Some h ≡ option_map (λ (l : OpenLink S × Place). l.0) (link_at r k)
-      → v.link.is_resting ≡ h.link.is_resting → (h.link.is_resting ≡ false → is_quiet (notes_of v) ≡ true) → Keeps r (written k r v)
+  pub looked : (k : ℕ) (r : Links (OpenLink S)) (h v : OpenLink S) → Some h ≡ option_map (λ (l : OpenLink S × LinkState). l.0) (link_at r k)
+      → v.link.is_paused ≡ h.link.is_paused → (h.link.is_paused ≡ false → is_quiet (notes_of v) ≡ true) → Keeps r (written k r v)
   looked k r h v value rests quiet = kept_so k r h v value (λ calm.
-      let up : h.link.is_resting ≡ false = awake h.link.is_resting (is_quiet (notes_of h)) calm in
+      let up : h.link.is_paused ≡ false = awake h.link.is_paused (is_quiet (notes_of h)) calm in
       both v (rests ∙ up) (quiet up))
 
   -- it has another value, and rests
-  pub rests_on : (k : ℕ) (v : OpenLink S) (r : Links (OpenLink S)) → place_at r k ≡ Some Resting → Keeps r (written k r v)
+  pub rests_on : (k : ℕ) (v : OpenLink S) (r : Links (OpenLink S)) → state_at r k ≡ Some Paused → Keeps r (written k r v)
   rests_on k v r h =
       keep k r (written k r v) (then_written k v r r (itself k r)) (λ q most h. h)
       (ap is_safe (written_here k v r) ∙ at (link_at r k) h)
     where
-      at : (o : Option (OpenLink S × Place)) → option_map (λ (l : OpenLink S × Place). l.1) o ≡ Some Resting
+      at : (o : Option (OpenLink S × LinkState)) → option_map (λ (l : OpenLink S × LinkState). l.1) o ≡ Some Paused
           → is_safe (option_map (with v) o) ≡ true
       at None e = refl
       at (Some (t, Idle)) e = absurd (cc)
       at (Some (t, Queued)) e = refl
       at (Some (t, Pending)) e = refl
-      at (Some (t, Resting)) e = refl
-      at (Some (t, Told)) e = refl
+      at (Some (t, Paused)) e = refl
+      at (Some (t, Current)) e = refl
 
-  pub no_link : (o : Option (OpenLink S × Place)) → None ≡ option_map (λ (l : OpenLink S × Place). l.0) o → o ≡ None
+  pub no_link : (o : Option (OpenLink S × LinkState)) → None ≡ option_map (λ (l : OpenLink S × LinkState). l.0) o → o ≡ None
   no_link None e = refl
   no_link (Some l) e = absurd (cc)
 
@@ -314,19 +314,19 @@ module _ {S : Type 0} where
       keep k old (written k r v) (then_written k v old r alike) queue
       (ap is_safe (written_here k v r ∙ ap (option_map (with v)) (ap (λ r. link_at r k) e ∙ reported_here k old)) ∙ at (link_at old k))
     where
-      at : (o : Option (OpenLink S × Place)) → is_safe (option_map (with v) (option_map waked o)) ≡ true
+      at : (o : Option (OpenLink S × LinkState)) → is_safe (option_map (with v) (option_map waked o)) ≡ true
       at None = refl
       at (Some (t, Idle)) = refl
       at (Some (t, Queued)) = refl
       at (Some (t, Pending)) = refl
-      at (Some (t, Resting)) = refl
-      at (Some (t, Told)) = refl
+      at (Some (t, Paused)) = refl
+      at (Some (t, Current)) = refl
 
   -- whether it is there is whether it was
   pub there_before : (k : ℕ) (old r : Links (OpenLink S)) (o : Option (OpenLink S)) → r ≡ reported k old
-      → o ≡ option_map (λ (l : OpenLink S × Place). l.0) (link_at r k) → Has old k (is_some o)
+      → o ≡ option_map (λ (l : OpenLink S × LinkState). l.0) (link_at r k) → Has old k (is_some o)
   there_before k old r o e value =
-      sym (ap is_some value ∙ there_still (λ (l : OpenLink S × Place). l.0) (link_at r k) ∙ ap (λ r. is_some (link_at r k)) e
+      sym (ap is_some value ∙ there_still (λ (l : OpenLink S × LinkState). l.0) (link_at r k) ∙ ap (λ r. is_some (link_at r k)) e
       ∙ (then_reported k old old (itself k old)).there)
 
   pub reports : (k : ℕ) (old r : Links (OpenLink S)) → r ≡ reported k old → Keeps old r
@@ -341,15 +341,15 @@ module _ {S : Type 0} where
   same_links old new e (Ahead q most) l h = absurd l
 
   -- the first of a list goes elsewhere
-  pub first_goes : (place : Place) (o : Option ℕ) (old new : Links (OpenLink S)) → new.links ≡ first_at place o old.links
-      → ((v : OpenLink S) → is_safe (Some (v, place)) ≡ true) → KeepsLinks old new
-  first_goes place None old new e safe = same_links old new e
-  first_goes place (Some k) old new e safe =
-      let gone = then_moved place k old old (itself k old) in
+  pub first_goes : (state : LinkState) (o : Option ℕ) (old new : Links (OpenLink S)) → new.links ≡ first_at state o old.links
+      → ((v : OpenLink S) → is_safe (Some (v, state)) ≡ true) → KeepsLinks old new
+  first_goes state None old new e safe = same_links old new e
+  first_goes state (Some k) old new e safe =
+      let gone = then_moved state k old old (itself k old) in
       keep_so k old new (record {
         others = λ q d. ap (λ m. map.get m q) e ∙ gone.others q d;
         there = ap (λ m. is_some (map.get m k)) e ∙ gone.there;
-      }) (λ _. ap is_safe (ap (λ m. map.get m k) e ∙ moved_here place k old) ∙ all_safe (to place) (link_at old k) (λ l _. safe l.0))
+      }) (λ _. ap is_safe (ap (λ m. map.get m k) e ∙ moved_here state k old) ∙ all_safe (to state) (link_at old k) (λ l _. safe l.0))
 
   pub refused : (old new : Links (OpenLink S)) → IsButForRoom new old → Keeps old new
   refused old new e =
@@ -357,39 +357,39 @@ module _ {S : Type 0} where
       (stays old new (ap (λ (r : Links (OpenLink S)). r.queue) e))
 
   -- of those that are pending the first is taken
-  pub taken : (place : Place) (o : Option ℕ) (old new : Links (OpenLink S)) → seen new ≡ (first_at place o old.links, old.queue)
-      → ((v : OpenLink S) → is_safe (Some (v, place)) ≡ true) → Keeps old new
-  taken place o old new e safe =
-      keeps_both old new (first_goes place o old new (ap (λ p. p.0) e) safe) (stays old new (ap (λ p. p.1) e))
+  pub taken : (state : LinkState) (o : Option ℕ) (old new : Links (OpenLink S)) → seen new ≡ (first_at state o old.links, old.queue)
+      → ((v : OpenLink S) → is_safe (Some (v, state)) ≡ true) → Keeps old new
+  taken state o old new e safe =
+      keeps_both old new (first_goes state o old new (ap (λ p. p.0) e) safe) (stays old new (ap (λ p. p.1) e))
 
-  pub first_others : (place : Place) (k : ℕ) (o : Option ℕ) (old new : Links (OpenLink S)) → o ≡ Some k
-      → new.links ≡ first_at place o old.links → Alike k old new
-  first_others place k None old new s e = absurd (cc)
-  first_others place k (Some j) old new s e =
-      let links = e ∙ ap (λ o. first_at place o old.links) s in
-      let gone = then_moved place k old old (itself k old) in
+  pub first_others : (state : LinkState) (k : ℕ) (o : Option ℕ) (old new : Links (OpenLink S)) → o ≡ Some k
+      → new.links ≡ first_at state o old.links → Alike k old new
+  first_others state k None old new s e = absurd (cc)
+  first_others state k (Some j) old new s e =
+      let links = e ∙ ap (λ o. first_at state o old.links) s in
+      let gone = then_moved state k old old (itself k old) in
       record {
         others = λ q d. ap (λ m. map.get m q) links ∙ gone.others q d;
         there = ap (λ m. is_some (map.get m k)) links ∙ gone.there;
       }
 
   -- the first of the queue is told, and has another value
-  pub told_written : (k : ℕ) (old r : Links (OpenLink S)) (v : OpenLink S) → slice_get old.queue 0 ≡ Some k → IsButForRoom r (told_next old)
+  pub told_written : (k : ℕ) (old r : Links (OpenLink S)) (v : OpenLink S) → slice_get old.queue 0 ≡ Some k → IsButForRoom r (after_next old)
       → KeepsLinks old (written k r v)
   told_written k old r v s h =
       let links = ap (λ (r : Links (OpenLink S)). r.links) h in
-      keep_so k old (written k r v) (then_written k v old r (first_others Told k (slice_get old.queue 0) old r s links))
-      (λ _. ap is_safe (written_here k v r ∙ ap (option_map (with v)) (ap (λ m. map.get m k) (links ∙ ap (λ o. first_at Told o old.links) s)
-      ∙ put_here Told k (link_at old k) old.links refl)) ∙ at (link_at old k))
+      keep_so k old (written k r v) (then_written k v old r (first_others Current k (slice_get old.queue 0) old r s links))
+      (λ _. ap is_safe (written_here k v r ∙ ap (option_map (with v)) (ap (λ m. map.get m k) (links ∙ ap (λ o. first_at Current o old.links) s)
+      ∙ put_here Current k (link_at old k) old.links refl)) ∙ at (link_at old k))
     where
-      at : (o : Option (OpenLink S × Place)) → is_safe (option_map (with v) (option_map (to Told) o)) ≡ true
+      at : (o : Option (OpenLink S × LinkState)) → is_safe (option_map (with v) (option_map (to Current) o)) ≡ true
       at None = refl
       at (Some l) = refl
 
   -- there is none to be told
-  pub none_told : (old new : Links (OpenLink S)) → slice_get old.queue 0 ≡ None → IsButForRoom new (told_next old) → Keeps old new
+  pub none_told : (old new : Links (OpenLink S)) → slice_get old.queue 0 ≡ None → IsButForRoom new (after_next old) → Keeps old new
   none_told old new s e =
-      keeps_both old new (first_goes Told (slice_get old.queue 0) old new (ap (λ (r : Links (OpenLink S)). r.links) e) (λ v. refl))
+      keeps_both old new (first_goes Current (slice_get old.queue 0) old new (ap (λ (r : Links (OpenLink S)). r.links) e) (λ v. refl))
       (stays old new (ap (λ (r : Links (OpenLink S)). r.queue) e ∙ at old.queue s))
     where
       at : (xs : List ℕ) → slice_get xs 0 ≡ None → drop 1 xs ≡ xs
@@ -399,49 +399,49 @@ module _ {S : Type 0} where
   -- ---- what a report does to a link
 
   module _ (closed : Bool) (k : ℕ) (r new : Links (OpenLink S)) (h v : OpenLink S) where
-    pub reported_so : Some h ≡ option_map (λ (l : OpenLink S × Place). l.0) (link_at r k) → notes_of v ≡ notes_of h ++ Reported ∷ []
-        → (closed ≡ true) ⊎ (place_at r k ≡ Some Resting → ⊥) → new ≡ reported k (written k r v)
+    pub reported_so : Some h ≡ option_map (λ (l : OpenLink S × LinkState). l.0) (link_at r k) → notes_of v ≡ notes_of h ++ Reported ∷ []
+        → (closed ≡ true) ⊎ (state_at r k ≡ Some Paused → ⊥) → new ≡ reported k (written k r v)
         → IsReported closed (link_at r k) (link_at new k)
     reported_so value noted unless e =
         at (link_at r k) (link_at new k) value unless
         (ap (λ r. link_at r k) e ∙ reported_here k (written k r v) ∙ ap (option_map waked) (written_here k v r))
       where
-        same : (closed : Bool) (place : Place) → (closed ≡ true) ⊎ (Some place ≡ Some Resting → ⊥)
-            → place_reported true place ≡ place_reported closed place
-        same true place unless = refl
-        same false Resting unless = absurd (elim unless [ inl e ↦ absurd (cc) | inr n ↦ n refl ])
+        same : (closed : Bool) (state : LinkState) → (closed ≡ true) ⊎ (Some state ≡ Some Paused → ⊥)
+            → place_reported true state ≡ place_reported closed state
+        same true state unless = refl
+        same false Paused unless = absurd (elim unless [ inl e ↦ absurd (cc) | inr n ↦ n refl ])
         same false Idle unless = refl
         same false Queued unless = refl
         same false Pending unless = refl
-        same false Told unless = refl
+        same false Current unless = refl
 
-        at : (o n : Option (OpenLink S × Place)) → Some h ≡ option_map (λ (l : OpenLink S × Place). l.0) o
-            → (closed ≡ true) ⊎ (option_map (λ (l : OpenLink S × Place). l.1) o ≡ Some Resting → ⊥)
+        at : (o n : Option (OpenLink S × LinkState)) → Some h ≡ option_map (λ (l : OpenLink S × LinkState). l.0) o
+            → (closed ≡ true) ⊎ (option_map (λ (l : OpenLink S × LinkState). l.1) o ≡ Some Paused → ⊥)
             → n ≡ option_map waked (option_map (with v) o) → IsReported closed o n
         at None n value unless e = e
-        at (Some (t, place)) n value unless e =
-            rw e (same closed place unless, noted ∙ ap (λ o. notes_of (unwrap_or o h) ++ Reported ∷ []) value)
+        at (Some (t, state)) n value unless e =
+            rw e (same closed state unless, noted ∙ ap (λ o. notes_of (unwrap_or o h) ++ Reported ∷ []) value)
 
   pub rests_so : (k : ℕ) (r : Links (OpenLink S)) (h v : OpenLink S)
-      → Some h ≡ option_map (λ (l : OpenLink S × Place). l.0) (link_at r k) → notes_of v ≡ notes_of h ++ Reported ∷ []
-      → place_at r k ≡ Some Resting → IsReported false (link_at r k) (link_at (written k r v) k)
-  rests_so k r h v value noted resting = at (link_at r k) _ value resting (written_here k v r)
+      → Some h ≡ option_map (λ (l : OpenLink S × LinkState). l.0) (link_at r k) → notes_of v ≡ notes_of h ++ Reported ∷ []
+      → state_at r k ≡ Some Paused → IsReported false (link_at r k) (link_at (written k r v) k)
+  rests_so k r h v value noted paused = at (link_at r k) _ value paused (written_here k v r)
     where
-      at : (o n : Option (OpenLink S × Place)) → Some h ≡ option_map (λ (l : OpenLink S × Place). l.0) o
-          → option_map (λ (l : OpenLink S × Place). l.1) o ≡ Some Resting → n ≡ option_map (with v) o → IsReported false o n
-      at None n value resting e = e
-      at (Some (t, Resting)) n value resting e = rw e (refl, noted ∙ ap (λ o. notes_of (unwrap_or o h) ++ Reported ∷ []) value)
-      at (Some (t, Idle)) n value resting e = absurd (cc)
-      at (Some (t, Queued)) n value resting e = absurd (cc)
-      at (Some (t, Pending)) n value resting e = absurd (cc)
-      at (Some (t, Told)) n value resting e = absurd (cc)
+      at : (o n : Option (OpenLink S × LinkState)) → Some h ≡ option_map (λ (l : OpenLink S × LinkState). l.0) o
+          → option_map (λ (l : OpenLink S × LinkState). l.1) o ≡ Some Paused → n ≡ option_map (with v) o → IsReported false o n
+      at None n value paused e = e
+      at (Some (t, Paused)) n value paused e = rw e (refl, noted ∙ ap (λ o. notes_of (unwrap_or o h) ++ Reported ∷ []) value)
+      at (Some (t, Idle)) n value paused e = absurd (cc)
+      at (Some (t, Queued)) n value paused e = absurd (cc)
+      at (Some (t, Pending)) n value paused e = absurd (cc)
+      at (Some (t, Current)) n value paused e = absurd (cc)
 
   -- ---- links that come and go
 
-  is_there : (k : ℕ) (l : OpenLink S × Place) (m : map.FinMap nat_cmp (OpenLink S × Place)) → map.get (map.insert m k l) k ≡ Some l
+  is_there : (k : ℕ) (l : OpenLink S × LinkState) (m : map.FinMap nat_cmp (OpenLink S × LinkState)) → map.get (map.insert m k l) k ≡ Some l
   is_there k l m = grind (arith, nat_tests, map.gets)
 
-  others_there : (k : ℕ) (l : OpenLink S × Place) (m : map.FinMap nat_cmp (OpenLink S × Place)) (q : ℕ) → q ≢ k
+  others_there : (k : ℕ) (l : OpenLink S × LinkState) (m : map.FinMap nat_cmp (OpenLink S × LinkState)) (q : ℕ) → q ≢ k
       → map.get (map.insert m k l) q ≡ map.get m q
   others_there k l m q d = grind (arith, nat_tests, map.gets, d)
 
@@ -456,10 +456,10 @@ module _ {S : Type 0} where
     ]
     but others queue safe (Ahead q most) d h = queue q most d h
 
-  is_gone : (k : ℕ) (m : map.FinMap nat_cmp (OpenLink S × Place)) → map.get (map.remove m k) k ≡ None
+  is_gone : (k : ℕ) (m : map.FinMap nat_cmp (OpenLink S × LinkState)) → map.get (map.remove m k) k ≡ None
   is_gone k m = grind (arith, nat_tests, map.gets)
 
-  others_stay : (k : ℕ) (m : map.FinMap nat_cmp (OpenLink S × Place)) (q : ℕ) → q ≢ k → map.get (map.remove m k) q ≡ map.get m q
+  others_stay : (k : ℕ) (m : map.FinMap nat_cmp (OpenLink S × LinkState)) (q : ℕ) → q ≢ k → map.get (map.remove m k) q ≡ map.get m q
   others_stay k m q d = grind (arith, nat_tests, map.gets, d)
 
   -- one has come, under a key that had none
@@ -490,14 +490,14 @@ module _ {S : Type 0} where
           let there = h.0 in
           let near = h.1 in
           let other : k ≢ q = λ e. d (sym e) in
-          let still = comes_in_turn Queue q (Remove k ∷ []) old (removed k old) (removed k old, refl, refl) there (other, tt) in
+          let still = wait_is_bounded Queue q (Remove k ∷ []) old (removed k old) (removed k old, refl, refl) there (other, tt) in
           let less = still.1 in
           rw (ap (λ (r : Links (OpenLink S)). r.queue) e) (still.0, omega (arith, near, less))
 
   pub ends : (k : ℕ) (old new : Links (OpenLink S)) → Changes k false old new → Ends k (Has old) (Has new)
   ends k old new c = record { gone = c.now; others = λ q there d h. c.others (There q there) d h }
 
-  nothing : (k : ℕ) (m : map.FinMap nat_cmp (OpenLink S × Place)) → m ≡ map.empty → map.get m k ≡ None
+  nothing : (k : ℕ) (m : map.FinMap nat_cmp (OpenLink S × LinkState)) → m ≡ map.empty → map.get m k ≡ None
   nothing k m e = grind (arith, common_steps, map.gets, e)
 
   pub none : (new : Links (OpenLink S)) → new.links ≡ map.empty → AllQuiet new
@@ -603,18 +603,18 @@ module _ {S : Type 0} where
       → ((q : ℕ) → q ≢ key → link_at new q ≡ link_at old q) → (k : ℕ) → noted_at new k ≡ hears k (noted_at old k) (Stream key closed)
   one_noted key closed old new reported others k = elim (cases_eq k key) [
     | inl same ↦ rw same (here (link_at old key) (link_at new key) reported)
-    | inr differs ↦ ap (option_map (λ (l : OpenLink S × Place). notes_of l.0)) (others k differs) ∙ there (link_at old k) differs
+    | inr differs ↦ ap (option_map (λ (l : OpenLink S × LinkState). notes_of l.0)) (others k differs) ∙ there (link_at old k) differs
   ]
     where
-      here : (o n : Option (OpenLink S × Place)) → IsReported closed o n
-          → option_map (λ (l : OpenLink S × Place). notes_of l.0) n
-          ≡ hears key (option_map (λ (l : OpenLink S × Place). notes_of l.0) o) (Stream key closed)
+      here : (o n : Option (OpenLink S × LinkState)) → IsReported closed o n
+          → option_map (λ (l : OpenLink S × LinkState). notes_of l.0) n
+          ≡ hears key (option_map (λ (l : OpenLink S × LinkState). notes_of l.0) o) (Stream key closed)
       here None n e = rw e (grind (arith, nat_tests))
       here (Some o) None e = absurd (cc)
       here (Some o) (Some n) e = rw e.1 (grind (arith, nat_tests))
 
-      there : (o : Option (OpenLink S × Place)) → k ≢ key → option_map (λ (l : OpenLink S × Place). notes_of l.0) o
-          ≡ hears k (option_map (λ (l : OpenLink S × Place). notes_of l.0) o) (Stream key closed)
+      there : (o : Option (OpenLink S × LinkState)) → k ≢ key → option_map (λ (l : OpenLink S × LinkState). notes_of l.0) o
+          ≡ hears k (option_map (λ (l : OpenLink S × LinkState). notes_of l.0) o) (Stream key closed)
       there o d = grind (arith, nat_tests, d)
 
   module _ (n : ℕ) (event : Report) (old between new : Links (OpenLink S)) where
@@ -653,19 +653,19 @@ module _ {S : Type 0} where
 
   -- ---- rests that end
 
-  one_at_most : (test : Place → Bool) (o : Option (OpenLink S × Place)) → one_at test o ≤ 1
+  one_at_most : (test : LinkState → Bool) (o : Option (OpenLink S × LinkState)) → one_at test o ≤ 1
   one_at_most test None = omega arith
   one_at_most test (Some l) = search rules
 
-  still : (k : ℕ) (r : Links (OpenLink S)) → without k r.resting ≡ r.resting → (reported k r).resting ≡ r.resting
+  still : (k : ℕ) (r : Links (OpenLink S)) → without k r.paused ≡ r.paused → (reported k r).paused ≡ r.paused
   still k r e = search rules
 
   module _ (k : ℕ) (v : OpenLink S) (old r new : Links (OpenLink S)) where
     -- the key of a rest that has ended stands nowhere else among those that rest
-    pub rest_over : IsReady old → slice_get old.resting 0 ≡ Some k → IsButForRoom r (rest_ended old) → new ≡ reported k (written k r v)
-        → new.resting ≡ drop 1 old.resting
+    pub rest_over : IsConsistent old → slice_get old.paused 0 ≡ Some k → IsButForRoom r (after_resume old) → new ≡ reported k (written k r v)
+        → new.paused ≡ drop 1 old.paused
     rest_over ready s ended e =
-        let rest : r.resting ≡ drop 1 old.resting = ap (λ (r : Links (OpenLink S)). r.resting) ended in
-        let once : times k old.resting ≤ 1 = omega (arith, ready.resting k, one_at_most is_resting (link_at old k)) in
-        ap (λ (r : Links (OpenLink S)). r.resting) e
-        ∙ still k (written k r v) (ap (without k) rest ∙ no_more k old.resting s once ∙ sym rest) ∙ rest
+        let rest : r.paused ≡ drop 1 old.paused = ap (λ (r : Links (OpenLink S)). r.paused) ended in
+        let once : times k old.paused ≤ 1 = omega (arith, ready.paused k, one_at_most is_paused (link_at old k)) in
+        ap (λ (r : Links (OpenLink S)). r.paused) e
+        ∙ still k (written k r v) (ap (without k) rest ∙ no_more k old.paused s once ∙ sym rest) ∙ rest

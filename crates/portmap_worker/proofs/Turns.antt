@@ -3,8 +3,8 @@ use Rattle.std.specs.Prelude.{drop, slice_get, unwrap_or, is_some, IfNone, IfSom
 use Rattle.std.proofs.Common.{◌≡◌, ◌≢◌, ◌⊎◌, inl, inr, ℕ, ◌+◌, ◌<◌, ◌≤◌, true, false, List, [], ◌∷◌, length}
 use Rattle.std.proofs.Common.{refl, sym, ap, ◌∙◌, arith, Option, Some, None}
 use Rattle.std.proofs.{lemmas.Bool.{cases_Bool, cases_eq}, lemmas.Bool.Decides.nat_tests}
-use Rattle.portmap_ready.{specs.Links.{Links, reported, times, told_next, written}}
-use Rattle.portmap_ready.{specs.Runs.{before, Next, Queue}, proofs.Turns.comes_in_turn}
+use Rattle.portmap_ready.{specs.Links.{Links, reported, times, after_next, written}}
+use Rattle.portmap_ready.{specs.Runs.{before, Next, Queue}, proofs.Turns.wait_is_bounded}
 use Rattle.portmap_worker.specs.declared.limits.TheConstants.{TURNS_MOST}
 use Rattle.portmap_worker.specs.declared.schedule.Schedule.{Schedule}
 use Rattle.portmap_worker.specs.declared.{open_link.OpenLink.OpenLink, source.Turn.Turn}
@@ -117,8 +117,8 @@ module _ {S : Type 0} where
         let there = h.0 in
         let near = h.1 in
         let other : slice_get old.queue 0 ≢ Some k = λ s. differs (sym (ap (λ o. unwrap_or o key) (sym first ∙ s))) in
-        let next = told_next old in
-        let still = comes_in_turn Queue k (Next (slice_get old.queue 0) ∷ []) old next (next, (refl, refl), refl) there (other, tt) in
+        let next = after_next old in
+        let still = wait_is_bounded Queue k (Next (slice_get old.queue 0) ∷ []) old next (next, (refl, refl), refl) there (other, tt) in
         let less = still.1 in
         inr (rw e (still.0, omega (arith, near, less)))
   ]
@@ -134,7 +134,7 @@ module _ {S : Type 0} where
         inr (moves 1 (scene old s) (scene new s') (told_stays old new (Some told) tells) (accepted s taken s' turns t has) k most h)
 
     -- a turn that takes no time from those that are queued
-    pub free_so : (told : Option Turn) → is_some told ≡ true → Tells old new told → IfSome told (IsFree old.told) → s' ≡ s
+    pub free_so : (told : Option Turn) → is_some told ≡ true → Tells old new told → IfSome told (IsFree old.current) → s' ≡ s
         → IsStep (scene old s) (scene new s') told
     free_so None e tells free same = absurd (cc)
     free_so (Some told) e tells free same =

@@ -3,16 +3,16 @@ use Rattle.std.specs.Prelude.{◌≡◌, ◌≢◌, ℕ, ◌==◌, Bool, true, f
 use Rattle.std.specs.Prelude.{List, [], ◌∷◌, ◌++◌, fold, Option, Some, None, length, ◌<◌}
 use Rattle.std.specs.Prelude.{option_map, is_some}
 use Rattle.portmap_ready.specs.{Links.{Links, link_at, times}, Runs.before}
-use Rattle.portmap_ready.specs.declared.Place.{Place, TheVariants.{Idle, Queued, Resting}}
+use Rattle.portmap_ready.specs.declared.LinkState.{LinkState, TheVariants.{Idle, Queued, Paused}}
 use Rattle.portmap_worker.specs.{Quiet.is_quiet, declared.open_link.OpenLink.OpenLink}
 use Rattle.portmap_worker.specs.declared.readiness.Note.{Note, TheVariants.{Reported}}
 use Rattle.portmap_worker.specs.declared.source.Turn.{Turn, TheVariants.{Fresh, Idle as Quiet, Late, Ready, Stop}}
 use Rattle.portmap_worker.specs.declared.system.Report.{Report, TheVariants.{Stream}}
 
 -- where a link stands that was reported: in the queue, if it was idle, or rested and its peer sends no more
-abbrev pub place_reported : Bool → Place → Place
+abbrev pub place_reported : Bool → LinkState → LinkState
 place_reported closed Idle = Queued
-place_reported true Resting = Queued
+place_reported true Paused = Queued
 place_reported closed place = place
 
 -- what is noted of the link with this key, if there is one, behind a report
@@ -50,10 +50,10 @@ module _ {S : Type 0} where
 
   -- whether it doesn't rest, and no news of it can be missed
   abbrev pub is_calm : OpenLink S → Bool
-  is_calm held = not held.link.is_resting && is_quiet (notes_of held)
+  is_calm held = not held.link.is_paused && is_quiet (notes_of held)
 
   -- whether no news of a link can be missed where it stands: one that isn't idle is looked at again
-  abbrev pub is_safe : Option (OpenLink S × Place) → Bool
+  abbrev pub is_safe : Option (OpenLink S × LinkState) → Bool
   is_safe (Some (held, Idle)) = is_calm held
   is_safe other = true
 
@@ -102,7 +102,7 @@ module _ {S : Type 0} where
   TellsLinks old new (Some Stop) = KeepsLinks old new
 
   -- a link was reported
-  abbrev pub IsReported : Bool → Option (OpenLink S × Place) → Option (OpenLink S × Place) → Type 0
+  abbrev pub IsReported : Bool → Option (OpenLink S × LinkState) → Option (OpenLink S × LinkState) → Type 0
   IsReported closed (Some old) (Some new) =
       (new.1 ≡ place_reported closed old.1) × (notes_of new.0 ≡ notes_of old.0 ++ Reported ∷ [])
   IsReported closed old new = new ≡ old

@@ -6,7 +6,7 @@ use Rattle.std.specs.Prelude.{ℕ, ◌-◌, ◌≤◌, Bool, true, false, not, �
 use Rattle.std.specs.declared.io.Error.{Error}
 use Rattle.std.specs.declared.io.ErrorKind.{ErrorKind}
 use Rattle.std.specs.declared.io.ErrorKind.TheVariants as kind
-use Rattle.portmap_worker.specs.declared.link.Progress.{Progress, TheVariants.{Answered, Asked, Left}}
+use Rattle.portmap_worker.specs.declared.link.ReplyProgress.{ReplyProgress, TheVariants.{Answered, Asked, Left}}
 use Rattle.portmap_worker.specs.declared.readiness.Reading.{Reading, TheVariants.{Dry, Open}}
 use Rattle.portmap_worker.specs.declared.readiness.Writing.{Writing, TheVariants.{CutShort, Free, Waits}}
 use Rattle.portmap_worker.specs.declared.source.Turn.{Turn, TheVariants.{Fresh, Idle, Late, Ready, Stop}}
@@ -27,13 +27,13 @@ is_unsent CutShort = true
 is_unsent Waits = true
 
 -- whether bytes of an answer were ever written
-abbrev pub is_answered : Progress → Bool
+abbrev pub is_answered : ReplyProgress → Bool
 is_answered Asked = false
 is_answered Answered = true
 is_answered Left = true
 
 -- whether a peer has only so much time: one that was answered and has read the answer, as each that holds a name, has as much as it likes
-abbrev pub is_timed : Progress → Writing → Bool
+abbrev pub is_timed : ReplyProgress → Writing → Bool
 is_timed progress writing = not (is_answered progress) || is_unsent writing
 
 -- how many bytes wait to be written after so many were offered, by the answer

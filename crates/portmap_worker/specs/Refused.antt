@@ -6,13 +6,13 @@ use Rattle.portmap_core.specs.{Entry.{Entry, Connected, Piece, Closed, Faulted, 
 use Rattle.portmap_worker.specs.Showing.{shown}
 
 -- result 1, as a short answer or a wide one
-abbrev pub TellsInUse : List ℕ → Type 0
-TellsInUse reply = (reply ≡ alive_reply WIDE_VERSION 1 0) ⊎ (reply ≡ alive_reply 0 1 0)
+abbrev pub SaysInUse : List ℕ → Type 0
+SaysInUse reply = (reply ≡ alive_reply WIDE_VERSION 1 0) ⊎ (reply ≡ alive_reply 0 1 0)
 
 -- a piece asked to register a name that is in use
 abbrev pub IsInUse : Entry → Type 0
 IsInUse (Connected local slot) = ⊥
-IsInUse (Piece slot bytes reply fate) = TellsInUse reply
+IsInUse (Piece slot bytes reply fate) = SaysInUse reply
 IsInUse (Closed slot) = ⊥
 IsInUse (Faulted slot) = ⊥
 IsInUse (Late slot fate) = ⊥
@@ -20,7 +20,7 @@ IsInUse (Late slot fate) = ⊥
 -- a piece asked to register this name, which is in use
 abbrev pub Refuses : Entry → List ℕ → Type 0
 Refuses (Connected local slot) name = ⊥
-Refuses (Piece slot bytes reply fate) name = TellsInUse reply × Registers bytes name
+Refuses (Piece slot bytes reply fate) name = SaysInUse reply × Registers bytes name
 Refuses (Closed slot) name = ⊥
 Refuses (Faulted slot) name = ⊥
 Refuses (Late slot fate) name = ⊥

@@ -1,7 +1,7 @@
 -- What a peer is sent over all calls of a carrier: profile.
 use Rattle.std.specs.{List.flat_map, Prelude.{◌≡◌, ◌≢◌, ℕ, List, [], ◌∷◌, ◌++◌, All, Bool, true, false, Option, Some, None}}
 use Rattle.portmap_core.specs.declared.event.Answer.{Answer}
-use Rattle.portmap_book.specs.Told.{SaysTo}
+use Rattle.portmap_book.specs.DeskCalls.{SaysTo}
 use Rattle.portmap_link.specs.{Asking.Devices, Flush.Moves}
 use Rattle.portmap_worker.specs.Carrying.{IsRead, added, bytes_of, fate_of, is_close}
 use Rattle.portmap_worker.specs.declared.carrier.Next.{Next, TheVariants.NoMemory}

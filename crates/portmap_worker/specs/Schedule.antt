@@ -89,7 +89,7 @@ module _ {S : Type 0} where
 
   -- a turn brings each that is queued nearer, unless it is free
   abbrev pub IsTurn : Turn → Scene S → Scene S → Type 0
-  IsTurn told old new = Nears told old new ⊎ (IsFree old.links.told told × Waits told old new)
+  IsTurn told old new = Nears told old new ⊎ (IsFree old.links.current told × Waits told old new)
 
   -- the poll was asked: each that is queued is one turn nearer
   abbrev pub IsPast : Scene S → Scene S → Type 0
@@ -105,7 +105,7 @@ module _ {S : Type 0} where
 
   abbrev pub Does : Act → Scene S → Scene S → Type 0
   Does (Counts told) old new = Nears told old new
-  Does (Free told) old new = IsFree old.links.told told × Waits told old new
+  Does (Free told) old new = IsFree old.links.current told × Waits told old new
   Does Lends old new = (k most : ℕ) → Within k most old → Within k most new
   Does (Leaves j) old new = (k most : ℕ) → k ≢ j → Within k most old → Within k most new
 

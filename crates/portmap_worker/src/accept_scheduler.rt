@@ -82,7 +82,7 @@ pub(crate) struct LoadMeter {
 
 impl LoadMeter {
     /// The worker has polled. Whether it has been without a rest for so long that it may want help.
-    pub(crate) fn note_poll(&mut self, before: u64, after: u64) -> bool
+    pub(crate) fn on_poll(&mut self, before: u64, after: u64) -> bool
         ensures rest { REST_US ≤ after - before → (result ≡ false) × (self.new.since ≡ after) × (self.new.polls ≡ 0) }
         ensures loaded { result ≡ true → (LOAD_US ≤ after - self.old.since) × (LOAD_POLLS ≤ self.old.polls + 1)
             × (self.new.since ≡ after)

@@ -1,24 +1,24 @@
 //! Which connections are admitted, and which are given up for them.
 ghost use Rattle.std.specs.Prelude.{◌≡◌, ◌↔◌, ◌⊎◌, ◌+◌, ◌-◌, ◌^◌, ◌<◌, ◌≤◌, true, false, min, None, IfSome, IfNone};
-ghost use Rattle.portmap_worker.specs.declared.limits.TheConstants.{ROOM_BACKOFF_MS};
+ghost use Rattle.portmap_worker.specs.declared.limits.TheConstants.{EVICTION_BACKOFF_MS};
 ghost use Rattle.portmap_worker.specs.Listening.{IsFreshFrom};
 ghost use Rattle.portmap_worker.specs.Peers.{is_local_by};
 ghost use Rattle.portmap_worker.specs.IdleLinks.{Keeps, Tells};
 
 use crate::Turn;
 use crate::host::Host;
-use crate::limits::{PLACE_TIMEOUT_MS, ROOM_BACKOFF_MS};
+use crate::limits::{EVICTION_BACKOFF_MS, PERMIT_TIMEOUT_MS};
 use crate::link::Link;
 use crate::open_link::{Links, OpenLink};
 use crate::peer::{is_local_by, own_ip};
 use crate::pending::Waiting;
-use crate::quota::{Candidate, Permit, first_of, spares_local};
+use crate::quota::{EvictionCandidate, Permit, first_of, spares_local};
 use crate::shared::Shared;
 use crate::socket_source::SocketSource;
 use crate::sockets::Sockets;
 use crate::system::{Stream, System};
 use crate::unsent::Unsent;
-use portmap_ready::Place;
+use portmap_ready::LinkState;
 use std::net::IpAddr;
 use std::rt::Clock;
 use std::sync::Wait;
@@ -26,19 +26,19 @@ use std::sync::ledger::Ledger;
 
 /// A connection that has no place yet.
 #[derive(Drop)]
-pub(crate) struct Newcomer<S: Stream> {
+pub(crate) struct Incoming<S: Stream> {
     stream: S,
     is_local: bool,
     /// When it came.
     came: u64,
 }
 
-impl<S: Stream> Newcomer<S> {
+impl<S: Stream> Incoming<S> {
     /// One that comes now, with the addresses of its peer and, if it is known, of its own.
-    fn new(stream: S, peer: IpAddr, own: Option<IpAddr>, now: u64) -> Newcomer<S>
+    fn new(stream: S, peer: IpAddr, own: Option<IpAddr>, now: u64) -> Incoming<S>
         ensures { result.is_local ≡ is_local_by peer own }
     {
-        Newcomer {
+        Incoming {
             stream,
             is_local: is_local_by(peer, own),
             came: now,
@@ -48,19 +48,19 @@ impl<S: Stream> Newcomer<S> {
 
 /// Where connections come to a worker.
 #[derive(Drop)]
-pub(crate) struct Door<S: Stream> {
+pub(crate) struct Admission<S: Stream> {
     /// The connection that waits for a place. While it does none is accepted.
-    pub(crate) newcomer: Option<Newcomer<S>>,
+    pub(crate) newcomer: Option<Incoming<S>>,
     /// No link is looked for before this time that may be given up for another one.
     room_backoff: u64,
     /// Since when a connection waits at a listener that can't be accepted, for want of descriptors or of memory.
     lacking: Option<u64>,
 }
 
-impl<S: Stream> Door<S> {
+impl<S: Stream> Admission<S> {
     /// None has come.
-    pub(crate) fn new() -> Door<S> {
-        Door {
+    pub(crate) fn new() -> Admission<S> {
+        Admission {
             newcomer: None,
             room_backoff: 0,
             lacking: None,
@@ -92,14 +92,14 @@ impl<S: Stream> Door<S> {
         ensures early { now < self.old.room_backoff → (result ≡ None) × (self.new ≡ self.old) }
         ensures found { IfSome result (λ _. self.new ≡ self.old) }
         ensures later { self.old.room_backoff ≤ now
-            → IfNone result (self.new ≡ record self.old { room_backoff = min (now + ROOM_BACKOFF_MS) (2 ^ 64 - 1) }) }
+            → IfNone result (self.new ≡ record self.old { room_backoff = min (now + EVICTION_BACKOFF_MS) (2 ^ 64 - 1) }) }
     {
         if now < self.room_backoff {
             return None;
         }
-        let first = first_to_go(links, with_local, now);
+        let first = first_to_evict(links, with_local, now);
         if first.is_none() {
-            self.room_backoff = now.saturating_add(ROOM_BACKOFF_MS);
+            self.room_backoff = now.saturating_add(EVICTION_BACKOFF_MS);
         }
         first
     }
@@ -107,21 +107,21 @@ impl<S: Stream> Door<S> {
 
 impl<S: System> Sockets<S> {
     /// The next connection that waits at a listener.
-    fn accept(&mut self, shared: &Shared<S::Waker>, now: u64) -> Option<Newcomer<S::Stream>> {
+    fn accept(&mut self, shared: &Shared<S::Waker>, now: u64) -> Option<Incoming<S::Stream>> {
         let accepted = self.listeners.accept(&mut self.system, now);
         if self.listeners.take_idle() {
             shared.stop_accepting(self.worker);
         }
         let (stream, peer) = accepted?;
         let own = own_ip(&stream, peer);
-        Some(Newcomer::new(stream, peer, own, now))
+        Some(Incoming::new(stream, peer, own, now))
     }
 }
 
 impl<'a, L: Ledger, S: System, R: Host + Wait + Clock> SocketSource<'a, L, S, R> {
     /// The next connection: the one that waits for a place, or one that waits at a listener.
     pub(crate) fn admit(&mut self) -> Option<Turn>
-        ensures told { self.new.ready.told ≡ self.old.ready.told }
+        ensures current { self.new.ready.current ≡ self.old.ready.current }
         ensures links { Tells self.old.ready self.new.ready result }
         ensures schedule { self.new.schedule ≡ self.old.schedule }
     {
@@ -137,7 +137,7 @@ impl<'a, L: Ledger, S: System, R: Host + Wait + Clock> SocketSource<'a, L, S, R>
         self.end_lack();
         let turn = match self.shared.quota.take(newcomer.is_local) {
             Some(permit) => self.take(newcomer, permit),
-            None => self.make_room(newcomer),
+            None => self.evict_for(newcomer),
         };
         // Whoever else waits for a place wants it again within a millisecond.
         if has_waited && self.door.accepts() {
@@ -147,9 +147,9 @@ impl<'a, L: Ledger, S: System, R: Host + Wait + Clock> SocketSource<'a, L, S, R>
     }
 
     /// Takes a connection that has a place, if there is memory for it. It is closed otherwise.
-    fn take(&mut self, newcomer: Newcomer<S::Stream>, permit: Permit<'a>) -> Option<Turn>
+    fn take(&mut self, newcomer: Incoming<S::Stream>, permit: Permit<'a>) -> Option<Turn>
         ensures fresh { IfSome result (λ turn. IsFreshFrom newcomer.is_local turn) }
-        ensures told { self.new.ready.told ≡ self.old.ready.told }
+        ensures current { self.new.ready.current ≡ self.old.ready.current }
         ensures links { Tells self.old.ready self.new.ready result }
         ensures schedule { self.new.schedule ≡ self.old.schedule }
     {
@@ -159,16 +159,16 @@ impl<'a, L: Ledger, S: System, R: Host + Wait + Clock> SocketSource<'a, L, S, R>
         let fresh = self.hold(newcomer, permit);
         if fresh.is_none() {
             self.tally.news.exhausted = true;
-            self.tally.note_unanswered(self.shared);
+            self.tally.on_unanswered(self.shared);
         }
         fresh
     }
 
     /// Holds a new connection. It is looked at without waiting for the poll, since its request is most likely there.
     /// More are held at once than ever were only if memory is left that others may need.
-    fn hold(&mut self, newcomer: Newcomer<S::Stream>, permit: Permit<'a>) -> Option<Turn>
+    fn hold(&mut self, newcomer: Incoming<S::Stream>, permit: Permit<'a>) -> Option<Turn>
         ensures fresh { IfSome result (λ turn. IsFreshFrom newcomer.is_local turn) }
-        ensures told { self.new.ready.told ≡ self.old.ready.told }
+        ensures current { self.new.ready.current ≡ self.old.ready.current }
         ensures links { Tells self.old.ready self.new.ready result }
         ensures schedule { self.new.schedule ≡ self.old.schedule }
     {
@@ -194,8 +194,8 @@ impl<'a, L: Ledger, S: System, R: Host + Wait + Clock> SocketSource<'a, L, S, R>
 
     /// There is no place for a new connection: one is given up for it, here or, for a local peer, by another worker
     /// soon. A connection is closed for which none can be.
-    fn make_room(&mut self, newcomer: Newcomer<S::Stream>) -> Option<Turn>
-        ensures told { self.new.ready.told ≡ self.old.ready.told }
+    fn evict_for(&mut self, newcomer: Incoming<S::Stream>) -> Option<Turn>
+        ensures current { self.new.ready.current ≡ self.old.ready.current }
         ensures links { Tells self.old.ready self.new.ready result }
         ensures schedule { self.new.schedule ≡ self.old.schedule }
     {
@@ -207,15 +207,15 @@ impl<'a, L: Ledger, S: System, R: Host + Wait + Clock> SocketSource<'a, L, S, R>
             .candidate(&self.ready, with_local, self.rounds.time);
         if let Some(key) = candidate {
             self.door.newcomer = Some(newcomer);
-            return Some(give_way(&mut self.ready, key, self.rounds.time));
+            return Some(evict(&mut self.ready, key, self.rounds.time));
         }
-        if newcomer.is_local && waited < PLACE_TIMEOUT_MS {
+        if newcomer.is_local && waited < PERMIT_TIMEOUT_MS {
             if self.shared.quota.want(remote_first) {
                 self.shared.wake_others(self.sockets.worker);
             }
             self.door.newcomer = Some(newcomer);
         } else {
-            self.tally.note_unanswered(self.shared);
+            self.tally.on_unanswered(self.shared);
         }
         None
     }
@@ -223,7 +223,7 @@ impl<'a, L: Ledger, S: System, R: Host + Wait + Clock> SocketSource<'a, L, S, R>
     /// None could be accepted: if that is for want of descriptors or of memory a connection is given up for it, as if
     /// there were no place, here or by another worker soon. From which host it comes isn't known: remote ones go first.
     fn free_descriptor(&mut self) -> Option<Turn>
-        ensures told { self.new.ready.told ≡ self.old.ready.told }
+        ensures current { self.new.ready.current ≡ self.old.ready.current }
         ensures links { Tells self.old.ready self.new.ready result }
         ensures schedule { self.new.schedule ≡ self.old.schedule }
     {
@@ -235,7 +235,7 @@ impl<'a, L: Ledger, S: System, R: Host + Wait + Clock> SocketSource<'a, L, S, R>
         let waited = now.saturating_sub(*self.door.lacking.get_or_insert(now));
         let remote_first = spares_local(waited, self.shared.quota.remote());
         if let Some(key) = self.door.candidate(&self.ready, !remote_first, now) {
-            return Some(give_way(&mut self.ready, key, now));
+            return Some(evict(&mut self.ready, key, now));
         }
         if self.shared.quota.want(remote_first) {
             self.shared.wake_others(self.sockets.worker);
@@ -254,7 +254,7 @@ impl<'a, L: Ledger, S: System, R: Host + Wait + Clock> SocketSource<'a, L, S, R>
     }
 
     /// Gives up a connection, if a local peer waits for a place at another worker and one may be.
-    pub(crate) fn make_way(&mut self) -> Option<Turn>
+    pub(crate) fn evict_for_other_worker(&mut self) -> Option<Turn>
         ensures links { Tells self.old.ready self.new.ready result }
         ensures schedule { self.new.schedule ≡ self.old.schedule }
     {
@@ -264,39 +264,39 @@ impl<'a, L: Ledger, S: System, R: Host + Wait + Clock> SocketSource<'a, L, S, R>
         }
         let key = self.door.candidate(&self.ready, is_any, self.rounds.time)?;
         self.shared.quota.want_none();
-        Some(give_way(&mut self.ready, key, self.rounds.time))
+        Some(evict(&mut self.ready, key, self.rounds.time))
     }
 }
 
 /// The link with this key is given up.
-pub(crate) fn give_way<S: Stream>(links: &mut Links<'_, S>, key: usize, now: u64) -> Turn
-    ensures told { links.new.told ≡ links.old.told }
+pub(crate) fn evict<S: Stream>(links: &mut Links<'_, S>, key: usize, now: u64) -> Turn
+    ensures current { links.new.current ≡ links.old.current }
     ensures links { Keeps links.old links.new }
     ensures late { result ≡ Turn.Late key }
 {
     if let Some(held) = links.get_mut(key) {
-        held.link.give_way(now);
+        held.link.evict(now);
     }
     Turn::Late(key as u64)
 }
 
 /// The one that goes first of the links that may be given up for another one: of those of remote peers, and, with local
 /// ones, of all. None that is pending is.
-fn first_to_go<S: Stream>(links: &Links<'_, S>, with_local: bool, now: u64) -> Option<usize> {
-    let mut first: Option<Candidate> = None;
+fn first_to_evict<S: Stream>(links: &Links<'_, S>, with_local: bool, now: u64) -> Option<usize> {
+    let mut first: Option<EvictionCandidate> = None;
     for key in 0..links.keys() {
-        let place = links.place(key);
-        if place == Some(Place::Pending) {
+        let place = links.state(key);
+        if place == Some(LinkState::Pending) {
             continue;
         }
         if let Some(OpenLink { link, .. }) = links.get(key) {
-            let candidate = Candidate {
+            let candidate = EvictionCandidate {
                 is_local: link.is_local,
-                has_news: place == Some(Place::Queued) && !link.is_late(),
+                is_ready: place == Some(LinkState::Queued) && !link.is_late(),
                 came: link.came,
                 key,
             };
-            if (with_local || !candidate.is_local) && link.may_go(now) {
+            if (with_local || !candidate.is_local) && link.is_evictable(now) {
                 first = first_of(first, candidate);
             }
         }

@@ -2,7 +2,7 @@
 ghost use Rattle.std.specs.Prelude.{◌≡◌, ℕ, ◌+◌, ◌≤◌, List, [], ◌∷◌, ◌++◌, ◌⊎◌, false, IfSome, IfNone};
 ghost use Rattle.std.specs.Io.KnownBytes.{Keeps};
 ghost use Rattle.portmap_core.specs.declared.event.Event.TheVariants as event;
-ghost use Rattle.portmap_book.specs.Told.{AsksPiece, SaysTo};
+ghost use Rattle.portmap_book.specs.DeskCalls.{AsksPiece, SaysTo};
 ghost use Rattle.portmap_link.specs.Asking.{devices};
 ghost use Rattle.portmap_link.specs.Flush.{Moves};
 ghost use Rattle.portmap_worker.specs.Carrying.{IsLate, IsRead, FollowsAnswer, FollowsNothing, added, bytes_of};
@@ -75,7 +75,7 @@ impl<L: Ledger> Carrier<L> {
         ensures told { IfSome result.0 (λ told. (piece : List ℕ) × (let seen = devices I.left I.held I.pulls I.puts in
             IsRead (seen link.old link.old) (seen link.new link.new) piece) × SaysTo self.old.conn.slot piece told.1
             × AsksPiece self.old.conn.slot piece seat.old.asked seat.new.asked) }
-        ensures hears { IfSome result.0 (λ told. seat.new.told ≡ seat.old.told ++ told ∷ []) }
+        ensures hears { IfSome result.0 (λ told. seat.new.acted ≡ seat.old.acted ++ told ∷ []) }
         ensures written { IfSome result.0 (λ told.
             Moves (I.held link.old) (I.held link.new) (self.old.out ++ added told.1 result.1) self.new.out) }
         ensures due { IfSome result.0 (λ told. (self.old.due ≡ false) × (self.new.due ≡ is_close (fate_of told.1))) }

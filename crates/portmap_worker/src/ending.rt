@@ -5,7 +5,7 @@ use std::sync::atomic::{AtomicBool, AtomicU64, Ordering};
 
 /// Why workers end before they are told to.
 #[derive(Clone, Copy, Debug, PartialEq, Eq)]
-pub enum Failure {
+pub enum ShutdownCause {
     /// Readiness of sockets can no longer be had.
     Poll,
     /// Nothing gets through any more for want of memory.
@@ -14,15 +14,15 @@ pub enum Failure {
 
 /// Why they do, by whether nothing gets through any more for want of memory, and whether readiness can no longer be
 /// had.
-fn failure_of(is_starved: bool, has_poll_failed: bool) -> Option<Failure>
-    ensures starved { is_starved ≡ true → result ≡ Some Failure.NoMemory }
-    ensures poll { is_starved ≡ false → has_poll_failed ≡ true → result ≡ Some Failure.Poll }
+fn failure_of(is_starved: bool, has_poll_failed: bool) -> Option<ShutdownCause>
+    ensures starved { is_starved ≡ true → result ≡ Some ShutdownCause.NoMemory }
+    ensures poll { is_starved ≡ false → has_poll_failed ≡ true → result ≡ Some ShutdownCause.Poll }
     ensures none { is_starved ≡ false → has_poll_failed ≡ false → result ≡ None }
 {
     if is_starved {
-        Some(Failure::NoMemory)
+        Some(ShutdownCause::NoMemory)
     } else if has_poll_failed {
-        Some(Failure::Poll)
+        Some(ShutdownCause::Poll)
     } else {
         None
     }
@@ -30,7 +30,7 @@ fn failure_of(is_starved: bool, has_poll_failed: bool) -> Option<Failure>
 
 /// How many workers run, and whether they are to end. At first none runs.
 #[derive(Default, Drop)]
-pub struct Ending {
+pub struct Shutdown {
     /// How many workers have not ended.
     running: AtomicU64,
     /// Every worker is to end.
@@ -39,7 +39,7 @@ pub struct Ending {
     starved: AtomicBool,
 }
 
-impl Ending {
+impl Shutdown {
     /// One more worker begins.
     pub fn begin_one(&self) {
         self.running.fetch_add(1, Ordering::SeqCst);
@@ -66,16 +66,16 @@ impl Ending {
     }
 
     /// Notes why workers end before they are told to.
-    pub(crate) fn note_failure(&self, failure: Failure) {
+    pub(crate) fn set_cause(&self, failure: ShutdownCause) {
         let failed = match failure {
-            Failure::Poll => &self.poll_failed,
-            Failure::NoMemory => &self.starved,
+            ShutdownCause::Poll => &self.poll_failed,
+            ShutdownCause::NoMemory => &self.starved,
         };
         failed.store(true, Ordering::SeqCst);
     }
 
     /// Why the workers have ended, or are to end, before they were told to.
-    pub fn failure(&self) -> Option<Failure> {
+    pub fn failure(&self) -> Option<ShutdownCause> {
         let is_starved = self.starved.load(Ordering::SeqCst);
         failure_of(is_starved, self.poll_failed.load(Ordering::SeqCst))
     }

@@ -90,7 +90,7 @@ impl Pass {
     }
 
     /// The queue was asked for the next link, and told one or had none.
-    pub(crate) fn note_turn(&mut self, is_told: bool)
+    pub(crate) fn on_turn(&mut self, is_told: bool)
         ensures { self.new ≡ record self.old { left = cond is_told (self.old.left - 1) 0 } }
     {
         self.left = if is_told {

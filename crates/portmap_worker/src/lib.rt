@@ -21,9 +21,9 @@
 //! - Each permit that is acquired is a `Permit`, made by `Quota::take` alone and released when it is dropped. The quota
 //!   therefore counts what links have.
 //! - These decisions are exact functions over values:
-//!   - Which connections are open: `is_free`, `goes_before`, `spares_local`, `may_reset`, `unread_since`,
-//!     `poll_timeout`, `note_poll`, `is_held`, `acceptors_without`, `accept_error`, `starved_for`, `failure_of`.
-//!   - The times of a link: `may_move`, `since_at`, `expire`, `take_late`. How a registration waits: `told_at_once`,
+//!   - Which connections are open: `is_free`, `is_evicted_before`, `spares_local`, `may_reset`, `unread_since`,
+//!     `poll_timeout`, `on_poll`, `is_held`, `acceptors_without`, `accept_error`, `starved_for`, `failure_of`.
+//!   - The times of a link: `may_move`, `since_at`, `expire`, `take_late`. How a registration waits: `immediate_turn`,
 //!     `Waiting::next`.
 //!   - When the log is drained, what waits, and when a file is full: `is_due`, `fits`, `is_full`. When a recording that
 //!     failed begins again, with what and in which file: `is_tried`, `begin_anew`, `next_number`.
@@ -79,12 +79,12 @@ mod system;
 mod timer;
 mod times;
 mod unsent;
-mod workplace;
+mod worker_context;
 mod write_fault;
 
 pub use crate::carrier::{Carrier, Next};
 pub use crate::drain::{Drain, Drained, begin_file, drain_log};
-pub use crate::ending::{Ending, Failure};
+pub use crate::ending::{Shutdown, ShutdownCause};
 pub use crate::gate::{Gate, Open, Point};
 pub use crate::host::{Host, RecordFile};
 pub use crate::laws::{only_answers_are_written, queued_are_served};
@@ -92,11 +92,11 @@ pub use crate::limits::{
     EVENTS_MOST, FILE_BYTES_MOST, PULL_BYTES_MOST, UNSENT_BYTES_MOST, numbers_are_the_profiles,
 };
 pub use crate::link::Link;
-pub use crate::news::Noted;
+pub use crate::news::SharedActivity;
 pub use crate::notice::Notice;
 pub use crate::peer::is_local_peer;
-pub use crate::queue::{FileStart, Part, RecordQueue};
-pub use crate::recorder::{Recorder, recordings_are_fronts, recordings_are_records};
+pub use crate::queue::{FilePreamble, RecordItem, RecordQueue};
+pub use crate::recorder::{Recorder, recordings_are_prefixes, recordings_are_records};
 pub use crate::recording::{RecordWriter, recordings_are_runs, write_recording};
 pub use crate::refused::Refused;
 pub use crate::remote::{LocalRequest, RemoteRefused, RemoteSlots};
@@ -108,5 +108,5 @@ pub use crate::sockets::Sockets;
 pub use crate::source::{HandsOut, LinkSource, Serve, Source, Turn};
 pub use crate::system::{Interest, Report, Stream, System, Wake};
 pub use crate::times::TIMES_HEADER;
-pub use crate::workplace::Workplace;
+pub use crate::worker_context::WorkerContext;
 pub use crate::write_fault::WriteFault;

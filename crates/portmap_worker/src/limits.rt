@@ -25,16 +25,16 @@ pub(crate) const KEPT_SHARE: u64 = 8;
 pub(crate) const YOUNG_MS: u64 = 1000;
 
 /// For so long a local peer waits for a place: at first for that of a remote one, which another worker holds.
-pub(crate) const PLACE_TIMEOUT_MS: u64 = 200;
+pub(crate) const PERMIT_TIMEOUT_MS: u64 = 200;
 
 pub(crate) const REMOTE_FIRST_MS: u64 = 50;
 
 /// If no connection may be given up for another one, so much later the next one is looked for.
-pub(crate) const ROOM_BACKOFF_MS: u64 = 10;
+pub(crate) const EVICTION_BACKOFF_MS: u64 = 10;
 
 /// So many links are read in a millisecond at most that were answered and go on sending: what they send is of no use,
 /// but is logged.
-pub(crate) const RESTS_MOST: u32 = 4;
+pub(crate) const RESUMES_MOST: u32 = 4;
 
 // ---- pending registrations
 
@@ -59,7 +59,7 @@ pub(crate) const POLLS_MOST: u32 = 64;
 
 /// So much time passes between two looks at what no event tells: whether another worker has stopped a connection, and
 /// whose time is over.
-pub(crate) const LOOK_INTERVAL_MS: u64 = 450;
+pub(crate) const SCAN_INTERVAL_MS: u64 = 450;
 
 /// How long a poll waits at most if there is nothing to look at: a connection that comes or another thread ends it.
 pub(crate) const IDLE_TIMEOUT_MS: u64 = 10_000;

@@ -12,18 +12,18 @@ use crate::first_piece::FirstPiece;
 use crate::limits::YOUNG_MS;
 use crate::open_link::Fate;
 use crate::readiness::Readiness;
-use crate::rounds::Rounds;
+use crate::rounds::LoopState;
 use crate::system::{Stream, System};
 use crate::timer::Timer;
 use portmap_core::Name;
-use portmap_link::{Device, Input, Output, Past, Pull, Put, pull_from, put_from};
+use portmap_link::{Device, GhostList, Input, Output, Pull, Put, pull_from, put_from};
 use std::alloc::Global;
 use std::io::{ErrorKind, Read, Write};
 use std::{io, mem};
 
 /// How far a connection is.
 #[derive(Clone, Copy, Debug, PartialEq, Eq)]
-enum Progress {
+enum ReplyProgress {
     /// Nothing was ever written to it.
     Asked,
     /// Bytes of its answer were.
@@ -36,8 +36,8 @@ enum Progress {
 #[derive(Drop)]
 struct History {
     failed: bool,
-    pulls: Past<Pull>,
-    puts: Past<Put>,
+    pulls: GhostList<Pull>,
+    puts: GhostList<Put>,
 }
 
 /// A connection that a worker holds. Times are in milliseconds since the daemon began.
@@ -47,14 +47,14 @@ pub struct Link<S: Read + Write> {
     history: History,
     first: FirstPiece,
     readiness: Readiness,
-    progress: Progress,
+    progress: ReplyProgress,
     timer: Timer,
     pub(crate) is_local: bool,
     /// When it came.
     pub(crate) came: u64,
     /// It was answered and goes on sending: what it sends is of no use, and is read piece by piece with rests in
     /// between. Or it asks for a list while many bytes wait to be written, or the poll has refused to report it.
-    is_resting: bool,
+    is_paused: bool,
     /// The poll has refused to report it, so it is asked each time that it has rested.
     is_refused: bool,
     /// Many bytes wait to be written, over all connections.
@@ -88,8 +88,8 @@ impl<S: Read + Write> Link<S> {
             stream,
             history: History {
                 failed: false,
-                pulls: Past::new(),
-                puts: Past::new(),
+                pulls: GhostList::new(),
+                puts: GhostList::new(),
             },
             first: if is_local {
                 FirstPiece::Expected(alloc)
@@ -97,11 +97,11 @@ impl<S: Read + Write> Link<S> {
                 FirstPiece::Past
             },
             readiness: Readiness::new(),
-            progress: Progress::Asked,
+            progress: ReplyProgress::Asked,
             timer: Timer::default(),
             is_local,
             came: now,
-            is_resting: false,
+            is_paused: false,
             is_refused: false,
             is_crowded: false,
             unsent_bytes: 0,
@@ -133,7 +133,7 @@ impl<S: Read + Write> Link<S> {
     pub(crate) fn is_answered(&self) -> bool
         ensures { result ≡ is_answered self.now.progress }
     {
-        self.progress != Progress::Asked
+        self.progress != ReplyProgress::Asked
     }
 
     /// How many bytes wait to be written.
@@ -174,7 +174,7 @@ impl<S: Read + Write> Link<S> {
     /// Whether it may be given up for another one: it has been there for a while, and waits for its peer. One that is
     /// answered and has read its answer may not, so none that holds a name, but for the moment in which its answer
     /// waits to be written.
-    pub(crate) fn may_go(&self, now: u64) -> bool
+    pub(crate) fn is_evictable(&self, now: u64) -> bool
         ensures { (result ≡ true) ↔ ((is_timed self.now.progress self.now.readiness.writing ≡ true)
             × (YOUNG_MS < now - self.now.came)) }
     {
@@ -189,10 +189,10 @@ impl<S: Read + Write> Link<S> {
     }
 
     /// It is given up for another one, if it can be. If it is kept it has come anew.
-    pub(crate) fn give_way(&mut self, now: u64)
+    pub(crate) fn evict(&mut self, now: u64)
         ensures came { self.new.came ≡ now }
         ensures told { self.new.timer.is_late ≡ false }
-        ensures rests { self.new.is_resting ≡ self.old.is_resting }
+        ensures rests { self.new.is_paused ≡ self.old.is_paused }
         ensures notes { self.new.readiness ≡ self.old.readiness }
     {
         self.came = now;
@@ -205,18 +205,18 @@ impl<S: Read + Write> Link<S> {
     }
 
     /// The poll has reported it, and perhaps that its peer sends no more: what is reported goes before what is late.
-    pub(crate) fn note_event(&mut self, is_closed: bool)
+    pub(crate) fn on_event(&mut self, is_closed: bool)
         ensures told { self.new.timer.is_late ≡ false }
         ensures moves { may_move self.new.readiness.reading self.new.readiness.writing ≡ true }
         ensures noted { self.new.readiness.notes ≡ self.old.readiness.notes ++ Reported ∷ [] }
     {
         self.timer.is_late = false;
-        self.readiness.note_report();
+        self.readiness.on_report();
         self.progress = match self.progress {
-            Progress::Asked => Progress::Asked,
-            Progress::Answered | Progress::Left if is_closed && !self.readiness.is_unsent() =>
-                Progress::Left,
-            Progress::Answered | Progress::Left => Progress::Answered,
+            ReplyProgress::Asked => ReplyProgress::Asked,
+            ReplyProgress::Answered | ReplyProgress::Left
+                if is_closed && !self.readiness.is_unsent() => ReplyProgress::Left,
+            ReplyProgress::Answered | ReplyProgress::Left => ReplyProgress::Answered,
         };
     }
 
@@ -230,14 +230,14 @@ impl<S: Read + Write> Link<S> {
     }
 
     /// It has rested. Whether there is something to tell of it.
-    pub(crate) fn end_rest(&mut self) -> bool
-        ensures rests { self.new.is_resting ≡ false }
+    pub(crate) fn resume(&mut self) -> bool
+        ensures rests { self.new.is_paused ≡ false }
         ensures quiet { result ≡ false → is_quiet self.new.readiness.notes ≡ true }
         ensures asked { asked self.new.readiness.notes ≡ asked self.old.readiness.notes }
     {
-        self.is_resting = false;
+        self.is_paused = false;
         if !self.readiness.is_watched() {
-            self.readiness.note_report();
+            self.readiness.on_report();
         }
         self.may_move()
     }
@@ -257,17 +257,17 @@ impl<S: Read + Write> Link<S> {
     }
 
     /// Looks at it, now that the poll has reported all up to this time. Whether there is something to tell of it.
-    pub(crate) fn look(&mut self, rounds: &Rounds, timeout: u64) -> bool
-        ensures rests { self.new.is_resting ≡ self.old.is_resting }
-        ensures quiet { result ≡ false → self.old.is_resting ≡ false → is_quiet self.new.readiness.notes ≡ true }
+    pub(crate) fn look(&mut self, rounds: &LoopState, timeout: u64) -> bool
+        ensures rests { self.new.is_paused ≡ self.old.is_paused }
+        ensures quiet { result ≡ false → self.old.is_paused ≡ false → is_quiet self.new.readiness.notes ≡ true }
         ensures asked { asked self.new.readiness.notes ≡ asked self.old.readiness.notes }
     {
         let is_timed = self.is_timed();
         self.timer.begin(is_timed, self.is_local, rounds.time);
-        let is_asked = self.is_refused && !self.is_resting && !self.first.is_kept();
+        let is_asked = self.is_refused && !self.is_paused && !self.first.is_kept();
         if self.may_move() && !is_asked {
             // One that rests goes on when its rest is over: all of them at once would be hundreds of lists.
-            return !self.is_resting;
+            return !self.is_paused;
         }
         if !is_asked && self.readiness.is_watched() {
             return self.timer.expire(rounds.time, timeout);
@@ -275,13 +275,13 @@ impl<S: Read + Write> Link<S> {
         // The poll has refused to report it, so it was asked after the look before, and no more is known of it than up
         // to then.
         if !self.timer.expire(rounds.looked, timeout) {
-            self.readiness.note_report();
+            self.readiness.on_report();
         }
         true
     }
 
     /// So many bytes have moved.
-    fn note_moved(&mut self, count: usize)
+    fn on_moved(&mut self, count: usize)
         ensures { self.new ≡ record self.old {
           timer = record self.old.timer { has_moved = true };
           moved_bytes = min (self.old.moved_bytes + count) (2 ^ 64 - 1);
@@ -292,34 +292,34 @@ impl<S: Read + Write> Link<S> {
     }
 
     /// So many bytes were read: one that was answered rests then.
-    fn note_read(&mut self, count: usize)
+    fn on_read(&mut self, count: usize)
         ensures moved { self.new.timer.has_moved ≡ true }
-        ensures rests { self.new.is_resting ≡ is_answered self.old.progress }
+        ensures rests { self.new.is_paused ≡ is_answered self.old.progress }
         ensures written { self.new.has_written ≡ self.old.has_written }
         ensures history { self.new.history ≡ self.old.history }
         ensures readiness { self.new.readiness ≡ self.old.readiness }
     {
-        self.note_moved(count);
-        self.is_resting = self.is_answered();
+        self.on_moved(count);
+        self.is_paused = self.is_answered();
     }
 
     /// So many bytes were written.
-    fn note_written(&mut self, count: usize)
+    fn on_written(&mut self, count: usize)
         ensures moved { self.new.timer.has_moved ≡ true }
         ensures answered { is_answered self.new.progress ≡ true }
         ensures written { self.new.has_written ≡ true }
         ensures history { self.new.history ≡ self.old.history }
         ensures readiness { self.new.readiness ≡ self.old.readiness }
     {
-        self.note_moved(count);
+        self.on_moved(count);
         self.has_written = true;
-        if self.progress == Progress::Asked {
-            self.progress = Progress::Answered;
+        if self.progress == ReplyProgress::Asked {
+            self.progress = ReplyProgress::Answered;
         }
     }
 
     /// A read with so much room has told this. What the pull answers.
-    fn note_pull(&mut self, told: io::Result<usize>, room: usize) -> Pull
+    fn on_pull(&mut self, told: io::Result<usize>, room: usize) -> Pull
         ensures answer { result ≡ pull_of told }
         ensures failed { self.new.history.failed ≡ pull_is_fault result }
         ensures pulls { self.new.history.pulls ≡ self.old.history.pulls ++ result ∷ [] }
@@ -330,15 +330,15 @@ impl<S: Read + Write> Link<S> {
         let answer = pull_from(told);
         self.history.failed = answer == Pull::Fault;
         self.history.pulls.note(&answer);
-        self.readiness.note_pull(&answer, room, is_blocked);
+        self.readiness.on_pull(&answer, room, is_blocked);
         if let Pull::Piece(count) = answer {
-            self.note_read(count);
+            self.on_read(count);
         }
         answer
     }
 
     /// A write of so many bytes has told this. What the put answers.
-    fn note_put(&mut self, told: io::Result<usize>, offered: usize) -> Put
+    fn on_put(&mut self, told: io::Result<usize>, offered: usize) -> Put
         ensures answer { result ≡ put_of told }
         ensures failed { self.new.history.failed ≡ put_is_fault result }
         ensures puts { self.new.history.puts ≡ self.old.history.puts ++ result ∷ [] }
@@ -349,10 +349,10 @@ impl<S: Read + Write> Link<S> {
         let answer = put_from(told);
         self.history.failed = answer == Put::Fault;
         self.history.puts.note(&answer);
-        self.readiness.note_put(&answer, is_blocked);
+        self.readiness.on_put(&answer, is_blocked);
         self.unsent_bytes = unsent_after(&answer, offered);
         if let Put::Wrote(count) = answer {
-            self.note_written(count);
+            self.on_written(count);
         }
         answer
     }
@@ -363,21 +363,21 @@ impl<S: Stream> Link<S> {
     /// refuses, it is asked again once the link has rested.
     pub(crate) fn fate<P: System<Stream = S>>(&mut self, system: &mut P, key: usize) -> Fate
         ensures again { result ≡ Fate.Again → may_move self.new.readiness.reading self.new.readiness.writing ≡ true }
-        ensures rests { result ≡ Fate.Rests → self.new.is_resting ≡ true }
+        ensures rests { result ≡ Fate.Rests → self.new.is_paused ≡ true }
         ensures waits { result ≡ Fate.Waits
-            → (self.new.is_resting ≡ false) × (is_quiet self.new.readiness.notes ≡ true) }
+            → (self.new.is_paused ≡ false) × (is_quiet self.new.readiness.notes ≡ true) }
         ensures asked { AreTaken key (P.watched system.old) (P.watched system.new)
             self.old.readiness.notes self.new.readiness.notes }
     {
-        let is_asked = !self.is_resting && self.may_move();
+        let is_asked = !self.is_paused && self.may_move();
         if !is_asked && !self.readiness.is_watched() {
             let interest = self.readiness.wanted();
             let was_watched = self.readiness.is_known();
             let told = system.watch(&mut self.stream, key, interest, was_watched);
             self.is_refused = !self.readiness.note_watch(told);
-            self.is_resting = self.is_resting || self.is_refused;
+            self.is_paused = self.is_paused || self.is_refused;
         }
-        if self.is_resting {
+        if self.is_paused {
             Fate::Rests
         } else if self.may_move() {
             Fate::Again
@@ -430,13 +430,13 @@ impl<S: Read + Write> Input for Link<S> {
     fn pull(&mut self, buffer: &mut [u8]) -> Pull {
         let told = if self.history.failed {
             broken()
-        } else if self.progress == Progress::Left {
+        } else if self.progress == ReplyProgress::Left {
             Ok(0)
         } else {
             self.first.read(&mut self.stream, buffer, self.is_crowded)
         };
-        self.is_resting = self.is_resting || self.first.asks_list();
-        self.note_pull(told, buffer.len())
+        self.is_paused = self.is_paused || self.first.asks_list();
+        self.on_pull(told, buffer.len())
     }
 
     fn failed(&self) -> bool {
@@ -451,7 +451,7 @@ impl<S: Read + Write> Output for Link<S> {
         } else {
             self.stream.write(bytes)
         };
-        self.note_put(told, bytes.len())
+        self.on_put(told, bytes.len())
     }
 
     fn failed(&self) -> bool {

@@ -13,7 +13,7 @@ use std::net::IpAddr;
 
 /// How a worker stands to a listening socket.
 #[derive(Clone, Copy, Debug, PartialEq, Eq)]
-enum Watch {
+enum ListenerState {
     /// Others accept its connections.
     Off,
     /// The poll reports it.
@@ -50,7 +50,7 @@ fn accept_error(kind: ErrorKind) -> AcceptError
 struct Listener {
     /// Which of them it is.
     place: usize,
-    watch: Watch,
+    watch: ListenerState,
     /// Connections may wait at it.
     waiting: bool,
     /// One was accepted since it was last reported.
@@ -59,7 +59,7 @@ struct Listener {
 
 impl Listener {
     /// The poll has reported it. A report that comes before the last one has come to nothing is one with it.
-    fn note_report(&mut self) {
+    fn on_report(&mut self) {
         self.took = self.took && self.waiting;
         self.waiting = true;
     }
@@ -71,7 +71,7 @@ impl Listener {
         ensures would_block { result ≡ AcceptError.WouldBlock
             → (self.new.waiting ≡ false) × (self.new.watch ≡ self.old.watch) × (self.new.took ≡ self.old.took) }
         ensures exhausted { result ≡ AcceptError.Exhausted
-            → (self.new.waiting ≡ false) × (self.new.watch ≡ Watch.From (min (now + ACCEPT_BACKOFF_MS) (2 ^ 64 - 1))) }
+            → (self.new.waiting ≡ false) × (self.new.watch ≡ ListenerState.From (min (now + ACCEPT_BACKOFF_MS) (2 ^ 64 - 1))) }
     {
         let error = accept_error(kind);
         match error {
@@ -80,7 +80,7 @@ impl Listener {
             // What waits is not reported again, so the poll is to look anew after a while.
             AcceptError::Exhausted => {
                 self.leave(system);
-                self.watch = Watch::From(now.saturating_add(ACCEPT_BACKOFF_MS));
+                self.watch = ListenerState::From(now.saturating_add(ACCEPT_BACKOFF_MS));
             }
         }
         error
@@ -90,31 +90,31 @@ impl Listener {
     fn leave<S: System>(&mut self, system: &mut S)
         ensures { self.new.waiting ≡ false }
     {
-        if self.watch == Watch::On {
+        if self.watch == ListenerState::On {
             system.leave(self.place);
         }
-        self.watch = Watch::Off;
+        self.watch = ListenerState::Off;
         self.waiting = false;
     }
 
     /// Watches it, if it is time. Whether it can't be watched.
-    fn come_back<S: System>(&mut self, system: &mut S, now: u64) -> bool {
-        let Watch::From(time) = self.watch else {
+    fn rewatch<S: System>(&mut self, system: &mut S, now: u64) -> bool {
+        let ListenerState::From(time) = self.watch else {
             return false;
         };
         if now < time {
             return false;
         }
         self.watch = match system.listen(self.place) {
-            Ok(()) => Watch::On,
+            Ok(()) => ListenerState::On,
             // It was never left, so what waits at it is not reported again.
             Err(error) if error.kind() == ErrorKind::AlreadyExists => {
-                self.note_report();
-                Watch::On
+                self.on_report();
+                ListenerState::On
             }
-            Err(_) => Watch::From(now.saturating_add(ACCEPT_BACKOFF_MS)),
+            Err(_) => ListenerState::From(now.saturating_add(ACCEPT_BACKOFF_MS)),
         };
-        self.watch != Watch::On
+        self.watch != ListenerState::On
     }
 }
 
@@ -139,7 +139,11 @@ impl Listeners {
     pub(crate) fn new(alloc: Global, count: usize, is_on: bool) -> Result<Listeners, NoMemory>
         ensures { IfOk result (λ listeners. listeners.is_on ≡ is_on) }
     {
-        let watch = if is_on { Watch::From(0) } else { Watch::Off };
+        let watch = if is_on {
+            ListenerState::From(0)
+        } else {
+            ListenerState::Off
+        };
         let mut listeners = Vec::new(alloc);
         for place in 0..count {
             listeners.push(Listener {
@@ -173,7 +177,7 @@ impl Listeners {
     pub(crate) fn until(&self, time: u64) -> u64 {
         let mut until = time;
         for listener in &self.listeners {
-            if let Watch::From(from) = listener.watch {
+            if let ListenerState::From(from) = listener.watch {
                 until = until.min(from);
             }
         }
@@ -183,7 +187,7 @@ impl Listeners {
     /// The poll has reported the one at this place.
     pub(crate) fn report(&mut self, place: usize) {
         if let Some(listener) = self.listeners.get_mut(place) {
-            listener.note_report();
+            listener.on_report();
         }
     }
 
@@ -195,7 +199,7 @@ impl Listeners {
     ) -> Option<(S::Stream, IpAddr)> {
         for _ in 0..self.listeners.len() {
             let place = self.first;
-            self.first = next_place(place, self.listeners.len());
+            self.first = next_index(place, self.listeners.len());
             let accepted = self.accept_at(place, system, now);
             if accepted.is_some() {
                 return accepted;
@@ -270,10 +274,10 @@ impl Listeners {
         for listener in &mut self.listeners {
             if turns && !is_on {
                 listener.leave(system);
-            } else if turns && listener.watch == Watch::Off {
-                listener.watch = Watch::From(now);
+            } else if turns && listener.watch == ListenerState::Off {
+                listener.watch = ListenerState::From(now);
             }
-            if listener.come_back(system, now) {
+            if listener.rewatch(system, now) {
                 self.exhausted = true;
             }
         }
@@ -281,7 +285,7 @@ impl Listeners {
 }
 
 /// The place behind this one of so many: the first one behind the last one.
-fn next_place(place: usize, count: usize) -> usize
+fn next_index(place: usize, count: usize) -> usize
     ensures next { place + 1 < count → result ≡ place + 1 }
     ensures first { count ≤ place + 1 → result ≡ 0 }
 {

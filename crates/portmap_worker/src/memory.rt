@@ -3,7 +3,7 @@ ghost use Rattle.std.specs.Prelude.{◌≡◌, ◌+◌, ◌||◌, ◌&&◌, not,
 
 use crate::host::Host;
 use crate::limits::{RESERVE_BYTES, STARVED_SECONDS_MOST};
-use crate::news::News;
+use crate::news::Activity;
 use std::alloc::Global;
 use std::sync::atomic::{AtomicBool, Ordering};
 
@@ -25,7 +25,7 @@ fn reserve<R: Host>(rt: &R, alloc: Global, held: usize) -> Option<Vec<u8>> {
 
 /// For how many seconds on end nothing has got through for want of memory, after one more: in it no peer was answered,
 /// and entries could not be taken out of the log, or memory was short and peers went unanswered.
-fn starved_for(seconds: u32, stuck: bool, short: bool, news: News) -> u32
+fn starved_for(seconds: u32, stuck: bool, short: bool, news: Activity) -> u32
     ensures goes_on { (not news.answered && (stuck || (short && news.unanswered))) ≡ true
         → result ≡ min (seconds + 1) 4294967295 }
     ensures ends { (not news.answered && (stuck || (short && news.unanswered))) ≡ false → result ≡ 0 }
@@ -89,7 +89,7 @@ impl Memory {
         alloc: Global,
         short: &AtomicBool,
         stuck: bool,
-        news: News,
+        news: Activity,
     ) -> bool {
         if stuck || news.unanswered {
             self.relieve_if_short(rt, alloc, short);

@@ -7,7 +7,7 @@ use std::sync::atomic::{AtomicBool, AtomicU64, Ordering};
 
 /// What has become of connections since that was last asked.
 #[derive(Clone, Copy, Debug, Default, PartialEq, Eq)]
-pub(crate) struct News {
+pub(crate) struct Activity {
     /// Bytes were written to one.
     pub(crate) answered: bool,
     /// One has ended to which none ever were.
@@ -23,7 +23,7 @@ pub(crate) struct News {
 
 /// The news of all workers.
 #[derive(Default, Drop)]
-pub struct Noted {
+pub struct SharedActivity {
     answered: AtomicBool,
     unanswered: AtomicBool,
     exhausted: AtomicBool,
@@ -31,10 +31,10 @@ pub struct Noted {
     resets: AtomicU64,
 }
 
-impl Noted {
+impl SharedActivity {
     /// Adds what a worker knows. Whether a connection has ended unanswered, and none had that was noted: that is to be
     /// looked into soon.
-    fn add(&self, news: News) -> bool {
+    fn add(&self, news: Activity) -> bool {
         self.answered.fetch_or(news.answered, Ordering::SeqCst);
         self.exhausted.fetch_or(news.exhausted, Ordering::SeqCst);
         self.refused.fetch_add(news.refused, Ordering::SeqCst);
@@ -53,8 +53,8 @@ impl Noted {
     }
 
     /// What was noted since this was last asked.
-    pub(crate) fn take(&self) -> News {
-        News {
+    pub(crate) fn take(&self) -> Activity {
+        Activity {
             answered: self.answered.swap(false, Ordering::SeqCst),
             unanswered: self.unanswered.swap(false, Ordering::SeqCst),
             exhausted: self.exhausted.swap(false, Ordering::SeqCst),
@@ -66,20 +66,20 @@ impl Noted {
 
 /// What a worker is to tell the others soon.
 #[derive(Default, Drop)]
-pub(crate) struct Tally {
-    pub(crate) news: News,
+pub(crate) struct WorkerActivity {
+    pub(crate) news: Activity,
     /// How many bytes its links have moved since the log was weighed.
     unweighed_bytes: usize,
 }
 
-impl Tally {
+impl WorkerActivity {
     /// Whether all news are told.
     pub(crate) fn is_told(&self) -> bool {
-        self.news == News::default()
+        self.news == Activity::default()
     }
 
     /// A link has moved so many bytes. Whether the log is to be weighed.
-    pub(crate) fn note_moved(&mut self, bytes: usize) -> bool {
+    pub(crate) fn on_moved(&mut self, bytes: usize) -> bool {
         self.unweighed_bytes = self.unweighed_bytes.saturating_add(bytes);
         let is_due = self.unweighed_bytes >= WEIGH_BYTES;
         if is_due {
@@ -89,12 +89,12 @@ impl Tally {
     }
 
     /// A link has written bytes of a reply, or not: bytes that were read alone are no answer.
-    pub(crate) fn note_written(&mut self, has_written: bool) {
+    pub(crate) fn on_written(&mut self, has_written: bool) {
         self.news.answered = self.news.answered || has_written;
     }
 
     /// A connection has ended, or was closed at once, to which nothing was ever written: perhaps for want of memory.
-    pub(crate) fn note_unanswered<W: Wake>(&mut self, shared: &Shared<W>) {
+    pub(crate) fn on_unanswered<W: Wake>(&mut self, shared: &Shared<W>) {
         self.news.unanswered = true;
         if shared.short.load(Ordering::SeqCst) {
             self.news.refused = self.news.refused.saturating_add(1);

@@ -6,10 +6,10 @@ ghost use Rattle.portmap_worker.specs.IdleLinks.{IsReported, Keeps};
 use crate::link::Link;
 use crate::pending::Waiting;
 use crate::quota::Permit;
-use crate::rounds::Rounds;
+use crate::rounds::LoopState;
 use crate::system::{Stream, System};
 use crate::unsent::Unsent;
-use portmap_ready::{Place, Ready};
+use portmap_ready::{LinkState, Scheduler};
 
 /// What becomes of a link that was told.
 #[derive(Clone, Copy, Debug, PartialEq, Eq)]
@@ -45,7 +45,7 @@ impl<S: Stream> Drop for OpenLink<'_, S> {
 }
 
 /// The links of a worker, by key.
-pub(crate) type Links<'a, S> = Ready<OpenLink<'a, S>>;
+pub(crate) type Links<'a, S> = Scheduler<OpenLink<'a, S>>;
 
 /// What the turn of a link has moved.
 #[derive(Clone, Copy)]
@@ -58,14 +58,14 @@ pub(crate) struct Moved {
 }
 
 /// The link that was told last is put at the place that it is to stand at, at this time. What it has moved.
-pub(crate) fn put_in_place<S: System>(
+pub(crate) fn finish_turn<S: System>(
     links: &mut Links<'_, S::Stream>,
     system: &mut S,
     key: usize,
     now: u64,
 ) -> Moved
-    requires { links.old.told ≡ Some key }
-    ensures told { links.new.told ≡ None }
+    requires { links.old.current ≡ Some key }
+    ensures current { links.new.current ≡ None }
     ensures links { Keeps links.old links.new }
 {
     let Some(held) = links.get_mut(key) else {
@@ -80,7 +80,7 @@ pub(crate) fn put_in_place<S: System>(
     let has_written = held.link.take_written();
     let is_unread = held.unsent.set(held.link.unsent_bytes() as u64, now);
     match held.link.fate(system, key) {
-        Fate::Again => links.put_back(key),
+        Fate::Again => links.requeue(key),
         Fate::Rests => links.rest(key),
         Fate::Waits => links.leave(key),
     }
@@ -98,40 +98,40 @@ pub(crate) fn report<S: Stream>(links: &mut Links<'_, S>, key: usize, is_closed:
     ensures others { (k : ℕ) → k ≢ key → link_at links.new k ≡ link_at links.old k }
     ensures links { Keeps links.old links.new }
 {
-    let rests = links.place(key) == Some(Place::Resting);
+    let rests = links.state(key) == Some(LinkState::Paused);
     let Some(held) = links.get_mut(key) else {
         return;
     };
-    held.link.note_event(is_closed);
+    held.link.on_event(is_closed);
     if is_closed || !rests {
         links.report(key);
     }
 }
 
 /// A millisecond is over: of the links that have rested longest so many may move again.
-pub(crate) fn end_rests<S: Stream>(links: &mut Links<'_, S>, most: u32)
-    ensures ended { links.new.resting ≡ drop most links.old.resting }
+pub(crate) fn resume_paused<S: Stream>(links: &mut Links<'_, S>, most: u32)
+    ensures ended { links.new.paused ≡ drop most links.old.paused }
     ensures links { Keeps links.old links.new }
 {
     for _ in 0..most {
-        if !end_rest(links) {
+        if !resume_oldest(links) {
             return;
         }
     }
 }
 
 /// The link that has rested longest may move again. False if none rests.
-fn end_rest<S: Stream>(links: &mut Links<'_, S>) -> bool
-    ensures ended { links.new.resting ≡ drop 1 links.old.resting }
-    ensures none { result ≡ false → links.old.resting ≡ [] }
+fn resume_oldest<S: Stream>(links: &mut Links<'_, S>) -> bool
+    ensures ended { links.new.paused ≡ drop 1 links.old.paused }
+    ensures none { result ≡ false → links.old.paused ≡ [] }
     ensures links { Keeps links.old links.new }
 {
-    links.none_is_forgotten();
-    let Some(key) = links.end_rest() else {
+    links.no_link_is_lost();
+    let Some(key) = links.resume_oldest() else {
         return false;
     };
     if let Some(held) = links.get_mut(key) {
-        if held.link.end_rest() {
+        if held.link.resume() {
             links.report(key);
         }
     }
@@ -139,7 +139,12 @@ fn end_rest<S: Stream>(links: &mut Links<'_, S>) -> bool
 }
 
 /// Looks at a link, now that the poll has reported all up to this time.
-pub(crate) fn look<S: Stream>(links: &mut Links<'_, S>, key: usize, rounds: &Rounds, timeout: u64)
+pub(crate) fn look<S: Stream>(
+    links: &mut Links<'_, S>,
+    key: usize,
+    rounds: &LoopState,
+    timeout: u64,
+)
     ensures { Keeps links.old links.new }
 {
     if let Some(held) = links.get_mut(key) {

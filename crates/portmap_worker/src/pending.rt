@@ -11,7 +11,7 @@ use crate::Turn;
 use crate::host::Host;
 use crate::limits::{EPOCH_ROUNDS_MOST, EPOCH_TIMEOUT_MS, NAME_TIMEOUT_MS};
 use crate::open_link::Links;
-use crate::rounds::Rounds;
+use crate::rounds::LoopState;
 use crate::shared::Shared;
 use crate::socket_source::SocketSource;
 use crate::system::{Stream, System, Wake};
@@ -85,7 +85,7 @@ impl Waiting {
 
 /// What is told at once of the link with this key that keeps a registration back; none if it is to wait, since its name
 /// is active. There are no more that wait than places.
-fn told_at_once(key: u64, is_short: bool, is_active: bool) -> Option<Turn>
+fn immediate_turn(key: u64, is_short: bool, is_active: bool) -> Option<Turn>
     ensures short { is_short ≡ true → result ≡ Some (Turn.Late key) }
     ensures free { is_short ≡ false → is_active ≡ false → result ≡ Some (Turn.Ready key) }
     ensures waits { is_short ≡ false → is_active ≡ true → result ≡ None }
@@ -132,27 +132,27 @@ impl<L: Ledger, S: System, R: Host + Wait + Clock> SocketSource<'_, L, S, R> {
 
     /// What the link that was told last keeps back is told at once, unless its name is active, or no memory is left
     /// that others may need.
-    pub(crate) fn hold_back(&mut self) -> Option<Turn>
+    pub(crate) fn defer_registration(&mut self) -> Option<Turn>
         ensures links { Tells self.old.ready self.new.ready result }
-        ensures again { IfSome result (λ told. IsOf self.old.ready.told told) }
+        ensures again { IfSome result (λ told. IsOf self.old.ready.current told) }
         ensures schedule { self.new.schedule ≡ self.old.schedule }
     {
-        let key = self.ready.told()?;
+        let key = self.ready.current()?;
         let is_active = self.is_name_active(key)?;
-        let told = told_at_once(key as u64, self.refuses(), is_active);
+        let told = immediate_turn(key as u64, self.refuses(), is_active);
         if told.is_some() {
             return told;
         }
         self.ready.get_mut(key)?.waiting = Waiting::Come;
         self.ready.hold(key);
-        self.note_pending();
+        self.publish_pending();
         None
     }
 
     /// Has the registrations told whose names are free by now, or that have waited for long enough. The poll is asked
     /// next.
     pub(crate) fn retry_pending(&mut self)
-        requires { self.old.ready.told ≡ None }
+        requires { self.old.ready.current ≡ None }
         ensures links { Keeps self.old.ready self.new.ready }
         ensures schedule { self.new.schedule ≡ self.old.schedule }
     {
@@ -172,7 +172,7 @@ impl<L: Ledger, S: System, R: Host + Wait + Clock> SocketSource<'_, L, S, R> {
                 }
             }
         }
-        self.note_pending();
+        self.publish_pending();
     }
 
     /// How one goes on waiting, if it does.
@@ -186,16 +186,21 @@ impl<L: Ledger, S: System, R: Host + Wait + Clock> SocketSource<'_, L, S, R> {
     }
 
     /// The other workers are to know how many wait.
-    fn note_pending(&self) {
+    fn publish_pending(&self) {
         let count = self.ready.pending() as u64;
         self.state.pending.store(count, Ordering::SeqCst);
     }
 }
 
 /// The link that was told last goes on waiting for its name.
-fn wait_on<S: Stream>(links: &mut Links<'_, S>, rounds: &mut Rounds, key: usize, waiting: Waiting)
-    requires { links.old.told ≡ Some key }
-    ensures told { links.new.told ≡ None }
+fn wait_on<S: Stream>(
+    links: &mut Links<'_, S>,
+    rounds: &mut LoopState,
+    key: usize,
+    waiting: Waiting,
+)
+    requires { links.old.current ≡ Some key }
+    ensures current { links.new.current ≡ None }
     ensures links { Keeps links.old links.new }
     ensures until { rounds.new ≡ record rounds.old
         { pending_until = Some (earliest rounds.old.pending_until (until waiting rounds.old.time)) } }
@@ -204,17 +209,17 @@ fn wait_on<S: Stream>(links: &mut Links<'_, S>, rounds: &mut Rounds, key: usize,
         held.waiting = waiting;
     }
     links.hold(key);
-    rounds.note_until(waiting.until(rounds.time));
+    rounds.set_deadline(waiting.until(rounds.time));
 }
 
 /// What the link that was told last keeps back is to be told, or that no registration is taken.
 fn resume<S: Stream>(links: &mut Links<'_, S>, key: usize, is_short: bool)
-    requires { links.old.told ≡ Some key }
-    ensures told { links.new.told ≡ None }
+    requires { links.old.current ≡ Some key }
+    ensures current { links.new.current ≡ None }
     ensures links { Keeps links.old links.new }
 {
     if let Some(held) = links.get_mut(key) {
         held.link.set_late(is_short);
     }
-    links.put_back(key);
+    links.requeue(key);
 }

@@ -4,10 +4,10 @@ ghost use Rattle.portmap_worker.specs.IdleLinks.{Keeps, Tells};
 ghost use Rattle.portmap_worker.specs.Schedule.{IsPolled};
 
 use crate::Turn;
-use crate::ending::Failure;
+use crate::ending::ShutdownCause;
 use crate::epochs::Begun;
 use crate::host::Host;
-use crate::open_link::{end_rests, look};
+use crate::open_link::{look, resume_paused};
 use crate::rounds::poll_timeout;
 use crate::shared::IDLE;
 use crate::socket_source::SocketSource;
@@ -21,7 +21,7 @@ use std::sync::ledger::Ledger;
 impl<L: Ledger, S: System, R: Host + Wait + Clock> SocketSource<'_, L, S, R> {
     /// Polls. What is to be told by the time alone, or if the poll has failed.
     pub(crate) fn poll(&mut self) -> Option<Turn>
-        requires { self.old.ready.told ≡ None }
+        requires { self.old.ready.current ≡ None }
         ensures links { Tells self.old.ready self.new.ready result }
         ensures schedule { IsPolled self.old.schedule self.new.schedule }
     {
@@ -30,7 +30,7 @@ impl<L: Ledger, S: System, R: Host + Wait + Clock> SocketSource<'_, L, S, R> {
         self.state.busy_since.store(IDLE, Ordering::SeqCst);
         let is_well = self.wait();
         let after = self.time_us();
-        self.note_answer(after);
+        self.on_polled(after);
         self.state
             .busy_since
             .store(self.rounds.time, Ordering::SeqCst);
@@ -43,24 +43,24 @@ impl<L: Ledger, S: System, R: Host + Wait + Clock> SocketSource<'_, L, S, R> {
         }
         self.note_load(before, after);
         self.pass_listeners();
-        let is_due = self.rounds.is_look_due();
+        let is_due = self.rounds.is_scan_due();
         if !self.look_round(is_due) {
             return Some(self.fail());
         }
-        match self.make_way() {
+        match self.evict_for_other_worker() {
             None if is_due => Some(Turn::Idle),
             turn => turn,
         }
     }
 
     /// The poll has answered at this time, in microseconds: with each millisecond a few of the links that rest go on.
-    fn note_answer(&mut self, after: u64)
+    fn on_polled(&mut self, after: u64)
         ensures links { Keeps self.old.ready self.new.ready }
         ensures schedule { self.new.schedule ≡ self.old.schedule }
     {
-        if self.rounds.note_answer(after) {
+        if self.rounds.on_polled(after) {
             let most = rests_most(self.shared.unsent.is_crowded());
-            end_rests(&mut self.ready, most);
+            resume_paused(&mut self.ready, most);
         }
     }
 
@@ -72,7 +72,7 @@ impl<L: Ledger, S: System, R: Host + Wait + Clock> SocketSource<'_, L, S, R> {
             ⊎ (self.new.schedule ≡ record self.old.schedule { accepted = 0; is_burst = true }) }
     {
         let worker = self.sockets.worker;
-        if self.rounds.load.note_poll(before, after) && self.shared.may_add_acceptor(worker) {
+        if self.rounds.load.on_poll(before, after) && self.shared.may_add_acceptor(worker) {
             self.schedule.expect_burst();
         }
     }
@@ -94,13 +94,13 @@ impl<L: Ledger, S: System, R: Host + Wait + Clock> SocketSource<'_, L, S, R> {
     fn fail(&self) -> Turn
         ensures { result ≡ Turn.Stop }
     {
-        self.shared.ending.note_failure(Failure::Poll);
+        self.shared.ending.set_cause(ShutdownCause::Poll);
         Turn::Stop
     }
 
     /// Until when a poll may wait if there is nothing to do.
     fn until(&self) -> u64 {
-        if !self.door.accepts() || self.ready.resting() > 0 {
+        if !self.door.accepts() || self.ready.paused() > 0 {
             return self.rounds.time;
         }
         let is_idle = self.ready.is_empty() && self.tally.is_told();
@@ -157,7 +157,7 @@ impl<L: Ledger, S: System, R: Host + Wait + Clock> SocketSource<'_, L, S, R> {
         for key in 0..self.ready.keys() {
             look(&mut self.ready, key, &self.rounds, self.sockets.timeout);
         }
-        self.rounds.note_look();
+        self.rounds.on_scan();
         self.tally.publish(self.shared);
         true
     }

@@ -2,17 +2,17 @@
 ghost use Rattle.std.specs.Prelude.{◌≡◌, ◌↔◌, ◌<◌, true, Some, None, IfSome};
 ghost use Rattle.portmap_worker.specs.Quota.{remote_most, IsFree, GoesBefore};
 ghost use Rattle.portmap_worker.specs.declared.limits.TheConstants.{REMOTE_FIRST_MS};
-ghost use Rattle.portmap_worker.specs.declared.quota.Candidate.{Candidate};
+ghost use Rattle.portmap_worker.specs.declared.quota.EvictionCandidate.{EvictionCandidate};
 
 use crate::limits::{KEPT_SHARE, REMOTE_FIRST_MS};
 use std::sync::atomic::{AtomicBool, AtomicU64, Ordering};
 
 /// A connection, as one that may be given up for another one.
 #[derive(Clone, Copy, Debug, PartialEq, Eq)]
-pub(crate) struct Candidate {
+pub(crate) struct EvictionCandidate {
     pub(crate) is_local: bool,
     /// It is to be told, and not that its time is over.
-    pub(crate) has_news: bool,
+    pub(crate) is_ready: bool,
     /// When it came, in milliseconds.
     pub(crate) came: u64,
     pub(crate) key: usize,
@@ -40,26 +40,29 @@ fn is_free(is_local: bool, most: u64, local: u64, remote: u64) -> bool
 
 /// Whether a connection is given up before another one: a remote one before a local one, of two alike one without news,
 /// and else the older.
-fn goes_before(one: Candidate, other: Candidate) -> bool
+fn is_evicted_before(one: EvictionCandidate, other: EvictionCandidate) -> bool
     ensures { (result ≡ true) ↔ GoesBefore one other }
 {
     if one.is_local != other.is_local {
         other.is_local
-    } else if one.has_news != other.has_news {
-        other.has_news
+    } else if one.is_ready != other.is_ready {
+        other.is_ready
     } else {
         one.came < other.came
     }
 }
 
 /// Which of those that may go goes first: the first one so far, if there is one, or another one.
-pub(crate) fn first_of(first: Option<Candidate>, other: Candidate) -> Option<Candidate>
+pub(crate) fn first_of(
+    first: Option<EvictionCandidate>,
+    other: EvictionCandidate,
+) -> Option<EvictionCandidate>
     ensures only { first ≡ None → result ≡ Some other }
-    ensures before { (one : Candidate) → first ≡ Some one → GoesBefore other one → result ≡ Some other }
-    ensures behind { (one : Candidate) → first ≡ Some one → (GoesBefore other one → ⊥) → result ≡ Some one }
+    ensures before { (one : EvictionCandidate) → first ≡ Some one → GoesBefore other one → result ≡ Some other }
+    ensures behind { (one : EvictionCandidate) → first ≡ Some one → (GoesBefore other one → ⊥) → result ≡ Some one }
 {
     match first {
-        Some(one) if !goes_before(other, one) => first,
+        Some(one) if !is_evicted_before(other, one) => first,
         _ => Some(other),
     }
 }

@@ -7,7 +7,7 @@ ghost use Rattle.portmap_worker.specs.declared.readiness.Reading.TheVariants.{Dr
 ghost use Rattle.portmap_worker.specs.declared.readiness.Writing.TheVariants.{Waits};
 
 use crate::system::Interest;
-use portmap_link::{Past, Pull, Put};
+use portmap_link::{GhostList, Pull, Put};
 use std::io;
 
 /// Whether a stream may have bytes. Its news are reported once.
@@ -48,7 +48,7 @@ pub(crate) struct Readiness {
     pub(crate) reading: Reading,
     pub(crate) writing: Writing,
     watched: Option<Interest>,
-    notes: Past<Note>,
+    notes: GhostList<Note>,
     ghost watched_as_asked: { watched ≡ asked notes },
     ghost unsent_as_left: { is_unsent writing ≡ is_left notes },
     ghost dry: { reading ≡ Dry → is_some watched ≡ true → is_read_due notes ≡ true },
@@ -64,7 +64,7 @@ impl Readiness {
             reading: Reading::Open,
             writing: Writing::Free,
             watched: None,
-            notes: Past::new(),
+            notes: GhostList::new(),
         }
     }
 
@@ -129,7 +129,7 @@ impl Readiness {
     }
 
     /// The poll has reported it, or it is to be asked without that.
-    pub(crate) fn note_report(&mut self)
+    pub(crate) fn on_report(&mut self)
         ensures moves { may_move self.new.reading self.new.writing ≡ true }
         ensures noted { self.new.notes ≡ self.old.notes ++ Reported ∷ [] }
     {
@@ -143,7 +143,7 @@ impl Readiness {
     /// A pull with so much room has answered so, and would have waited or not. If fewer bytes came than there was room
     /// for no more were there. A stream that no poll reports yet is reported, once it is to be, with all that has come
     /// by then: so it needn't be asked whether it is dry.
-    pub(crate) fn note_pull(&mut self, answer: &Pull, room: usize, is_blocked: bool)
+    pub(crate) fn on_pull(&mut self, answer: &Pull, room: usize, is_blocked: bool)
         ensures { self.new.notes ≡ self.old.notes ++ Read is_blocked ∷ [] }
     {
         let is_dry = match answer {
@@ -158,7 +158,7 @@ impl Readiness {
     }
 
     /// A put has answered so, and would have waited or not.
-    pub(crate) fn note_put(&mut self, answer: &Put, is_blocked: bool)
+    pub(crate) fn on_put(&mut self, answer: &Put, is_blocked: bool)
         ensures { self.new.notes ≡ self.old.notes ++ Wrote answer.now is_blocked ∷ [] }
     {
         self.notes.note(&Note::Wrote {

@@ -2,7 +2,7 @@
 ghost use Rattle.std.specs.Prelude.{◌≡◌, ◌↔◌, ◌+◌, ◌-◌, ◌^◌, ◌⊎◌, ◌++◌, min, true, Some, None, IfOk, IfSome};
 ghost use Rattle.std.specs.Prelude.{OnOk};
 ghost use Rattle.portmap_core.specs.Entry.{entry_in};
-ghost use Rattle.portmap_worker.specs.Refused.{IsInUse, Refuses, TellsInUse, and_more, in_use_line};
+ghost use Rattle.portmap_worker.specs.Refused.{IsInUse, Refuses, SaysInUse, and_more, in_use_line};
 
 use crate::showing::shown;
 use itoa::Buffer;
@@ -15,8 +15,8 @@ const IN_USE: &[u8] = b"v\x01\0\0\0\0";
 const IN_USE_SHORT: &[u8] = b"y\x01\0\0";
 
 /// Whether a reply tells that a name is in use.
-fn tells_in_use(reply: &[u8]) -> bool
-    ensures { (result ≡ true) ↔ TellsInUse reply.now }
+fn says_in_use(reply: &[u8]) -> bool
+    ensures { (result ≡ true) ↔ SaysInUse reply.now }
 {
     reply == IN_USE || reply == IN_USE_SHORT
 }
@@ -59,7 +59,7 @@ impl Refused {
         let Entry::Piece { bytes, reply, .. } = entry else {
             return;
         };
-        if !tells_in_use(reply.as_slice()) {
+        if !says_in_use(reply.as_slice()) {
             return;
         }
         self.count = self.count.saturating_add(1);

@@ -2,12 +2,12 @@
 //! began.
 ghost use Rattle.std.specs.Prelude.{◌≡◌, ◌↔◌, ◌+◌, ◌-◌, ◌/◌, ◌≤◌, ◌<◌, ◌^◌, true, false, cond, min, max, Some};
 ghost use Rattle.portmap_worker.specs.Pending.{earliest};
-ghost use Rattle.portmap_worker.specs.declared.limits.TheConstants.{IDLE_TIMEOUT_MS, LOOK_INTERVAL_MS};
+ghost use Rattle.portmap_worker.specs.declared.limits.TheConstants.{IDLE_TIMEOUT_MS, SCAN_INTERVAL_MS};
 ghost use Rattle.portmap_worker.specs.declared.limits.TheConstants.{SHORT_TIMEOUT_MS};
 
 use crate::accept_scheduler::LoadMeter;
 use crate::epochs::Pass;
-use crate::limits::{IDLE_TIMEOUT_MS, LOOK_INTERVAL_MS, SHORT_TIMEOUT_MS};
+use crate::limits::{IDLE_TIMEOUT_MS, SCAN_INTERVAL_MS, SHORT_TIMEOUT_MS};
 
 /// How many milliseconds a poll may wait: not at all while there is something to do; else until this time, but at least
 /// a moment.
@@ -34,7 +34,7 @@ fn earliest(time: Option<u64>, other: u64) -> u64
 
 /// What a worker knows of its polls.
 #[derive(Drop)]
-pub(crate) struct Rounds {
+pub(crate) struct LoopState {
     /// The time when the poll answered last.
     pub(crate) time: u64,
     pub(crate) pass: Pass,
@@ -46,21 +46,21 @@ pub(crate) struct Rounds {
     pub(crate) load: LoadMeter,
 }
 
-impl Rounds {
+impl LoopState {
     /// The poll was never asked.
-    pub(crate) fn new() -> Rounds {
-        Rounds {
+    pub(crate) fn new() -> LoopState {
+        LoopState {
             time: 0,
             pass: Pass::default(),
             pending_until: None,
-            look_due: LOOK_INTERVAL_MS,
+            look_due: SCAN_INTERVAL_MS,
             looked: 0,
             load: LoadMeter::default(),
         }
     }
 
     /// The poll has answered at this time, in microseconds. Whether a millisecond is over since it answered last.
-    pub(crate) fn note_answer(&mut self, after: u64) -> bool
+    pub(crate) fn on_polled(&mut self, after: u64) -> bool
         ensures over { (result ≡ true) ↔ (self.old.time < after / 1000) }
         ensures time { self.new ≡ record self.old { time = after / 1000 } }
     {
@@ -70,7 +70,7 @@ impl Rounds {
     }
 
     /// The poll may wait until this time for one more that is pending.
-    pub(crate) fn note_until(&mut self, until: u64)
+    pub(crate) fn set_deadline(&mut self, until: u64)
         ensures { self.new ≡ record self.old { pending_until = Some (earliest self.old.pending_until until) } }
     {
         self.pending_until = Some(earliest(self.pending_until, until));
@@ -91,21 +91,21 @@ impl Rounds {
     }
 
     /// Whether all links are to be looked at.
-    pub(crate) fn is_look_due(&self) -> bool
+    pub(crate) fn is_scan_due(&self) -> bool
         ensures { (result ≡ true) ↔ (self.now.look_due ≤ self.now.time) }
     {
         self.time >= self.look_due
     }
 
     /// All links were looked at.
-    pub(crate) fn note_look(&mut self)
+    pub(crate) fn on_scan(&mut self)
         ensures { self.new ≡ record self.old {
           looked = self.old.time;
-          look_due = min (self.old.time + LOOK_INTERVAL_MS)
+          look_due = min (self.old.time + SCAN_INTERVAL_MS)
               (2 ^ 64 - 1);
         } }
     {
         self.looked = self.time;
-        self.look_due = self.time.saturating_add(LOOK_INTERVAL_MS);
+        self.look_due = self.time.saturating_add(SCAN_INTERVAL_MS);
     }
 }

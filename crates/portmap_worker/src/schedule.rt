@@ -59,7 +59,7 @@ impl Schedule {
     }
 
     /// A connection was accepted. Returns whether so many waited that a further worker is to accept too.
-    pub(crate) fn note_accepted(&mut self) -> bool
+    pub(crate) fn on_accepted(&mut self) -> bool
         ensures last { (result ≡ true) ↔ ((self.old.is_burst ≡ true) × (self.old.accepted + 1 ≡ BACKLOG_MOST)) }
         ensures counted { self.old.accepted < burst self.old
             → self.new ≡ record self.old { accepted = self.old.accepted + 1 } }

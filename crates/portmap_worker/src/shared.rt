@@ -1,9 +1,9 @@
 //! What the threads of a daemon share.
 ghost use Rattle.std.specs.Prelude.{◌≡◌, vec_len, IfOk};
 
-use crate::ending::Ending;
+use crate::ending::Shutdown;
 use crate::epochs::NO_CONNECTIONS;
-use crate::news::Noted;
+use crate::news::SharedActivity;
 use crate::quota::Quota;
 use crate::system::Wake;
 use crate::unsent::AllUnsent;
@@ -64,8 +64,8 @@ pub struct Shared<W: Wake> {
     pub(crate) epoch: AtomicU64,
     /// The reserve of memory is given back, for the log and for look-ups: no registration is taken.
     pub(crate) short: AtomicBool,
-    pub ending: Ending,
-    pub noted: Noted,
+    pub ending: Shutdown,
+    pub noted: SharedActivity,
 }
 
 impl<W: Wake> Shared<W> {
@@ -89,8 +89,8 @@ impl<W: Wake> Shared<W> {
             acceptors: AtomicU64::new(1),
             epoch: AtomicU64::new(0),
             short: AtomicBool::new(false),
-            ending: Ending::default(),
-            noted: Noted::default(),
+            ending: Shutdown::default(),
+            noted: SharedActivity::default(),
         }
     }
 

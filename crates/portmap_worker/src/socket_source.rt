@@ -7,20 +7,20 @@ ghost use Rattle.portmap_worker.specs.Schedule.{Does, HasAccepted, IsSpent, IsSt
 ghost use Rattle.portmap_worker.specs.Schedule.{Passes, scene};
 ghost use Rattle.portmap_worker.specs.declared.limits.TheConstants.{TURNS_MOST};
 
-use crate::admission::Door;
+use crate::admission::Admission;
 use crate::host::Host;
 use crate::limits::{LOG_BYTES_HEAVY, POLLS_MOST};
 use crate::link::Link;
-use crate::news::Tally;
-use crate::open_link::{Links, OpenLink, put_in_place};
-use crate::rounds::Rounds;
+use crate::news::WorkerActivity;
+use crate::open_link::{Links, OpenLink, finish_turn};
+use crate::rounds::LoopState;
 use crate::schedule::Schedule;
 use crate::shared::{Shared, WorkerState};
 use crate::sockets::Sockets;
 use crate::system::System;
 use crate::{LinkSource, Next, Serve, Turn};
 use portmap_book::Desk;
-use portmap_ready::Ready;
+use portmap_ready::Scheduler;
 use std::alloc::Global;
 use std::rt::Clock;
 use std::sync::Wait;
@@ -40,11 +40,11 @@ pub struct SocketSource<'a, L: Ledger, S: System, R: Host + Wait + Clock> {
     pub(crate) sockets: Sockets<S>,
     /// The links, each at its place.
     pub(crate) ready: Links<'a, S::Stream>,
-    pub(crate) door: Door<S::Stream>,
+    pub(crate) door: Admission<S::Stream>,
     pub(crate) schedule: Schedule,
-    pub(crate) rounds: Rounds,
+    pub(crate) rounds: LoopState,
     /// What is to be told to others soon.
-    pub(crate) tally: Tally,
+    pub(crate) tally: WorkerActivity,
     /// More bytes may wait to be written than may, over all connections.
     pub(crate) looks_for_unread: bool,
 }
@@ -69,11 +69,11 @@ impl<'a, L: Ledger, S: System, R: Host + Wait + Clock> SocketSource<'a, L, S, R>
             shared,
             state,
             sockets,
-            ready: Ready::new(alloc),
-            door: Door::new(),
+            ready: Scheduler::new(alloc),
+            door: Admission::new(),
             schedule: Schedule::new(),
-            rounds: Rounds::new(),
-            tally: Tally::default(),
+            rounds: LoopState::new(),
+            tally: WorkerActivity::default(),
             looks_for_unread: false,
         })
     }
@@ -86,11 +86,11 @@ impl<'a, L: Ledger, S: System, R: Host + Wait + Clock> SocketSource<'a, L, S, R>
     }
 
     /// A link has moved so many bytes. Has the log taken out if it has become heavy.
-    fn note_moved(&mut self, bytes: usize)
+    fn on_moved(&mut self, bytes: usize)
         ensures ready { self.new.ready ≡ self.old.ready }
         ensures schedule { self.new.schedule ≡ self.old.schedule }
     {
-        if self.tally.note_moved(bytes) && self.desk.weight(self.rt) >= LOG_BYTES_HEAVY {
+        if self.tally.on_moved(bytes) && self.desk.weight(self.rt) >= LOG_BYTES_HEAVY {
             self.shared.wake_drain();
         }
     }
@@ -100,10 +100,10 @@ impl<'a, L: Ledger, S: System, R: Host + Wait + Clock> SocketSource<'a, L, S, R>
         ensures ready { self.new.ready ≡ self.old.ready }
         ensures schedule { self.new.schedule ≡ self.old.schedule }
     {
-        self.note_moved(held.link.take_moved_bytes());
-        self.tally.note_written(held.link.take_written());
+        self.on_moved(held.link.take_moved_bytes());
+        self.tally.on_written(held.link.take_written());
         if !held.link.is_answered() {
-            self.tally.note_unanswered(self.shared);
+            self.tally.on_unanswered(self.shared);
         }
         drop(held);
         self.shared.wake_pending(self.sockets.worker);
@@ -113,25 +113,25 @@ impl<'a, L: Ledger, S: System, R: Host + Wait + Clock> SocketSource<'a, L, S, R>
     }
 
     /// What was told last goes where there is more to tell of it, where it rests, or where the poll is to report it.
-    fn put_back(&mut self)
-        ensures told { self.new.ready.told ≡ None }
+    fn requeue(&mut self)
+        ensures current { self.new.ready.current ≡ None }
         ensures links { Keeps self.old.ready self.new.ready }
         ensures schedule { self.new.schedule ≡ self.old.schedule }
     {
-        let Some(key) = self.ready.told() else {
+        let Some(key) = self.ready.current() else {
             return;
         };
         let now = self.rounds.time;
-        let moved = put_in_place(&mut self.ready, &mut self.sockets.system, key, now);
+        let moved = finish_turn(&mut self.ready, &mut self.sockets.system, key, now);
         self.looks_for_unread = self.looks_for_unread || moved.is_unread;
-        self.note_moved(moved.bytes);
-        self.tally.note_written(moved.has_written);
+        self.on_moved(moved.bytes);
+        self.tally.on_written(moved.has_written);
     }
 
     /// What is to be told without a poll. A connection that comes and a link that is held are told by turns.
     fn next(&mut self) -> Option<Turn>
-        requires { self.old.ready.told ≡ None }
-        ensures none { IfNone result (self.new.ready.told ≡ None) }
+        requires { self.old.ready.current ≡ None }
+        ensures none { IfNone result (self.new.ready.current ≡ None) }
         ensures most { IfSome result (λ _. self.old.schedule.turns < TURNS_MOST) }
         ensures links { TellsLinks self.old.ready self.new.ready result }
         ensures nears { IfSome result (λ told. Nears told
@@ -152,7 +152,7 @@ impl<'a, L: Ledger, S: System, R: Host + Wait + Clock> SocketSource<'a, L, S, R>
 
     /// A new connection, if one is served before the queue, and what is given up for it.
     fn accept(&mut self) -> Option<Turn>
-        ensures told { self.new.ready.told ≡ self.old.ready.told }
+        ensures current { self.new.ready.current ≡ self.old.ready.current }
         ensures links { Tells self.old.ready self.new.ready result }
         ensures none { IfNone result (self.new.schedule ≡ self.old.schedule) }
         ensures some { IfSome result (λ _. HasAccepted self.old.schedule self.new.schedule) }
@@ -161,7 +161,7 @@ impl<'a, L: Ledger, S: System, R: Host + Wait + Clock> SocketSource<'a, L, S, R>
             return None;
         }
         let turn = self.admit()?;
-        if self.schedule.note_accepted() {
+        if self.schedule.on_accepted() {
             self.shared.add_acceptor(self.sockets.worker);
         }
         Some(turn)
@@ -178,11 +178,11 @@ impl<'a, L: Ledger, S: System, R: Host + Wait + Clock> SocketSource<'a, L, S, R>
         ensures nears { IsStep
             (scene self.old.ready self.old.schedule) (scene self.new.ready self.new.schedule) result }
     {
-        let held_back = self.hold_back();
+        let held_back = self.defer_registration();
         if held_back.is_some() {
             return held_back;
         }
-        self.put_back();
+        self.requeue();
         let unread = self.give_up_unread();
         if unread.is_some() {
             return unread;
@@ -196,9 +196,9 @@ impl<'a, L: Ledger, S: System, R: Host + Wait + Clock> SocketSource<'a, L, S, R>
 
     /// The link that has waited longest of those of which there is something to tell.
     fn pop(&mut self) -> Option<Turn>
-        requires { self.old.ready.told ≡ None }
+        requires { self.old.ready.current ≡ None }
         ensures first { IfSome result (λ turn. IsOf (slice_get self.old.ready.queue 0) turn) }
-        ensures none { IfNone result ((self.old.ready.queue ≡ []) × (self.new.ready.told ≡ None)) }
+        ensures none { IfNone result ((self.old.ready.queue ≡ []) × (self.new.ready.current ≡ None)) }
         ensures links { TellsLinks self.old.ready self.new.ready result }
         ensures passes { IfSome result (λ told. Passes told self.old.ready self.new.ready) }
         ensures schedule { self.new.schedule ≡ self.old.schedule }
@@ -206,7 +206,7 @@ impl<'a, L: Ledger, S: System, R: Host + Wait + Clock> SocketSource<'a, L, S, R>
         let is_short = self.shared.short.load(Ordering::SeqCst);
         let is_crowded = self.shared.unsent.is_crowded();
         let key = self.ready.next();
-        self.rounds.pass.note_turn(key.is_some());
+        self.rounds.pass.on_turn(key.is_some());
         let key = key?;
         let Some(held) = self.ready.get_mut(key) else {
             return Some(Turn::Ready(key as u64));

@@ -2,16 +2,16 @@
 ghost use Rattle.std.specs.Prelude.{◌≡◌, ◌↔◌, ◌-◌, ◌<◌, ◌≤◌, ℕ, true, false, IfSome};
 ghost use Rattle.portmap_worker.specs.IdleLinks.{Tells};
 ghost use Rattle.portmap_worker.specs.Unsent.{AreMany, MayReset};
-ghost use Rattle.portmap_worker.specs.declared.limits.TheConstants.{RESTS_MOST, YOUNG_MS};
+ghost use Rattle.portmap_worker.specs.declared.limits.TheConstants.{RESUMES_MOST, YOUNG_MS};
 
 use crate::Turn;
-use crate::admission::give_way;
+use crate::admission::evict;
 use crate::host::Host;
 use crate::limits::{
-    RESTS_MOST, UNSENT_CROWDED_SHARE, UNSENT_HEAVY_SHARE, UNSENT_SPARED_SHARE, YOUNG_MS,
+    RESUMES_MOST, UNSENT_CROWDED_SHARE, UNSENT_HEAVY_SHARE, UNSENT_SPARED_SHARE, YOUNG_MS,
 };
 use crate::open_link::Links;
-use crate::quota::{Candidate, first_of};
+use crate::quota::{EvictionCandidate, first_of};
 use crate::socket_source::SocketSource;
 use crate::system::{Stream, System};
 use std::mem;
@@ -31,9 +31,9 @@ fn are_many(most: u64, bytes: u64) -> bool
 /// takes milliseconds, and meanwhile no connection is accepted.
 pub(crate) fn rests_most(is_crowded: bool) -> u32
     ensures crowded { is_crowded ≡ true → result ≡ 1 }
-    ensures few { is_crowded ≡ false → result ≡ RESTS_MOST }
+    ensures few { is_crowded ≡ false → result ≡ RESUMES_MOST }
 {
-    if is_crowded { 1 } else { RESTS_MOST }
+    if is_crowded { 1 } else { RESUMES_MOST }
 }
 
 /// Whether a connection may be reset, whose peer has read nothing for a while or is young, where so many bytes may
@@ -180,7 +180,7 @@ impl<L: Ledger, S: System, R: Host + Wait + Clock> SocketSource<'_, L, S, R> {
     /// Gives up the connection whose peer has read nothing for longest, if more bytes wait than may. If none of this
     /// worker's may go, the other workers are to look.
     pub(crate) fn give_up_unread(&mut self) -> Option<Turn>
-        ensures told { self.new.ready.told ≡ self.old.ready.told }
+        ensures current { self.new.ready.current ≡ self.old.ready.current }
         ensures links { Tells self.old.ready self.new.ready result }
         ensures late { IfSome result (λ told. (k : ℕ) × (told ≡ Turn.Late k)) }
         ensures schedule { self.new.schedule ≡ self.old.schedule }
@@ -201,21 +201,21 @@ impl<L: Ledger, S: System, R: Host + Wait + Clock> SocketSource<'_, L, S, R> {
         };
         self.looks_for_unread = true;
         self.tally.note_reset();
-        Some(give_way(&mut self.ready, key, self.rounds.time))
+        Some(evict(&mut self.ready, key, self.rounds.time))
     }
 }
 
 /// The one that goes first of the links for which many bytes wait.
 fn first_unread<S: Stream>(links: &Links<'_, S>, all: &AllUnsent, now: u64) -> Option<usize> {
-    let mut first: Option<Candidate> = None;
+    let mut first: Option<EvictionCandidate> = None;
     for key in 0..links.keys() {
         if let Some(held) = links.get(key) {
             let unsent = &held.unsent;
             let is_young = is_young(unsent.since, now);
             if are_many(all.most, unsent.bytes) && all.may_reset(unsent.is_local, is_young) {
-                let candidate = Candidate {
+                let candidate = EvictionCandidate {
                     is_local: unsent.is_local,
-                    has_news: false,
+                    is_ready: false,
                     came: unsent.since,
                     key,
                 };

@@ -1,14 +1,14 @@
 //! What is checked at each step, at rest and at the end, with what is said where it is wrong.
 use crate::network::Ending;
 use crate::notices::Subject;
-use crate::people::{Person, Stage};
-use crate::roles::{GivenUp, Owed, Reading};
+use crate::people::{Person, PersonState};
+use crate::roles::{GivenUp, Owed, ReadHabit};
 use crate::scene::Scene;
 use crate::weather::{Fault, Weather};
-use crate::wire::{Heard, Wire};
+use crate::wire::{Received, Wire};
 use crate::world::World;
 use portmap_wire::{Line, read_names};
-use portmap_worker::Failure;
+use portmap_worker::ShutdownCause;
 
 /// What was wrong.
 pub type Wrong = &'static str;
@@ -115,12 +115,12 @@ impl Person {
     fn is_late(&self, world: &World, limit: u64) -> bool {
         let worker = self.own(world).and_then(|wire| wire.worker());
         let since = world.held_until(worker).saturating_add(limit);
-        let reads = self.is_local && self.role.reading == Reading::AtOnce;
+        let reads = self.is_local && self.role.reading == ReadHabit::AtOnce;
         reads && world.now > since && self.waited_awake(world) > limit
     }
 
     /// Its connection ends, with so much heard, while it waits for an answer.
-    pub(crate) fn judge_unanswered(&self, heard: Heard) -> Option<Wrong> {
+    pub(crate) fn judge_unanswered(&self, heard: Received) -> Option<Wrong> {
         let is_owed = match self.role.owed {
             Owed::Never => false,
             Owed::IfPrompt => self.asked_after < PROMPT_US,
@@ -132,8 +132,8 @@ impl Person {
     }
 
     /// Its connection ends while it waits for nothing.
-    pub(crate) fn judge_lost(&self, heard: Heard) -> Option<Wrong> {
-        let wrong = if self.stage == Stage::Sending && self.role.owed == Owed::Always {
+    pub(crate) fn judge_lost(&self, heard: Received) -> Option<Wrong> {
+        let wrong = if self.stage == PersonState::Sending && self.role.owed == Owed::Always {
             Some("a connection was given up that sends")
         } else {
             self.holds().then_some("a registered connection was closed")
@@ -301,8 +301,8 @@ impl<'a> Scene<'a> {
     /// Connections that came one by one were accepted, or were not.
     pub(crate) fn judge_trickle(&mut self, are_accepted: bool) -> Option<()> {
         let world = self.world()?;
-        let told = world.threads.iter().filter(|thread| thread.listens());
-        let are_few = told.count() <= LISTENING_MOST;
+        let delivered = world.threads.iter().filter(|thread| thread.listens());
+        let are_few = delivered.count() <= LISTENING_MOST;
         self.check(are_accepted, "a listener at rest gives no connection");
         self.check(are_few, "more workers are told of connections than needed");
         Some(())
@@ -320,8 +320,10 @@ impl<'a> Scene<'a> {
     /// This connection was told the names of those who hold one.
     pub(crate) fn judge_names(&mut self, number: usize) -> Option<()> {
         let world = self.world()?;
-        let told = &world.network.wires.get(number)?.received;
-        let is_told = read_names(self.alloc, told).is_ok_and(|(_, lines)| self.are_holders(&lines));
+        let delivered = &world.network.wires.get(number)?.received;
+        let is_told = read_names(self.alloc, delivered).is_ok_and(|(_, lines)| self.are_holders(
+            &lines,
+        ));
         self.check(is_told, "the names at rest are not those of who holds them");
         Some(())
     }
@@ -345,13 +347,13 @@ impl<'a> Scene<'a> {
 }
 
 /// Whether the fault that a daemon tells, if it does, is what has happened.
-pub(crate) fn is_right(weather: &Weather, failure: Option<Failure>, may_end: bool) -> bool {
+pub(crate) fn is_right(weather: &Weather, failure: Option<ShutdownCause>, may_end: bool) -> bool {
     let is_deaf = weather.has_happened(Fault::Deaf);
     let is_starved = may_end && weather.has_happened(Fault::Famine);
     match failure {
         None => !is_deaf && !is_starved,
-        Some(Failure::Poll) => is_deaf,
-        Some(Failure::NoMemory) => is_starved || weather.has_happened(Fault::Starved),
+        Some(ShutdownCause::Poll) => is_deaf,
+        Some(ShutdownCause::NoMemory) => is_starved || weather.has_happened(Fault::Starved),
     }
 }
 

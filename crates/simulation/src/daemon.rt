@@ -52,7 +52,7 @@ impl<'a, L: Ledger, S: LinkSource + Drop, R: Wait + Drop> Daemon<'a, L, S, R> {
         if !is_kept {
             self.act(actor)?;
         }
-        self.scene.note_step(actor)
+        self.scene.on_step(actor)
     }
 
     /// Somebody does something: a worker, who takes the log out, who writes it, or one of the people.

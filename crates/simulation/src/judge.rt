@@ -71,12 +71,12 @@ impl Replies {
         for _ in self.by_connection.len()..number.saturating_add(1) {
             self.by_connection.push(Vec::new(self.alloc)).ok()?;
         }
-        let told = self.by_connection.get_mut(number)?;
-        told.extend_from_slice(reply).ok()
+        let delivered = self.by_connection.get_mut(number)?;
+        delivered.extend_from_slice(reply).ok()
     }
 
     /// Notes that a connection was closed without a reply, if it asked for what only this host may.
-    fn note_refused(&mut self, world: &World, number: usize, bytes: &[u8]) -> Option<()> {
+    fn on_refused(&mut self, world: &World, number: usize, bytes: &[u8]) -> Option<()> {
         match local_request(bytes) {
             Some(asked) if !world.network.wires.get(number)?.is_local => self
                 .remote
@@ -107,7 +107,7 @@ impl Replies {
                     return Some(());
                 };
                 if reply.is_empty() && *fate == Fate::Close {
-                    self.note_refused(world, number, bytes)?;
+                    self.on_refused(world, number, bytes)?;
                 }
                 self.add(number, reply)
             }
@@ -139,13 +139,13 @@ impl Replies {
             return Err("connections are missing in the recording");
         }
         for (number, wire) in world.network.wires.iter().enumerate() {
-            let told = self.by_connection.get(number);
-            let told: &[u8] = told.map_or(&[], |told| told.as_slice());
-            if !told.starts_with(&wire.received) {
+            let delivered = self.by_connection.get(number);
+            let delivered: &[u8] = delivered.map_or(&[], |delivered| delivered.as_slice());
+            if !delivered.starts_with(&wire.received) {
                 return Err("a peer has what it was not told");
             }
             let has = wire.received.len().saturating_add(wire.down.len());
-            if has < told.len() && wire.is_ended_well {
+            if has < delivered.len() && wire.is_ended_well {
                 return Err("a peer lacks what it was told");
             }
         }
@@ -155,14 +155,14 @@ impl Replies {
 
 /// The place at which the next file begins, and how often entries may be missing before one.
 #[derive(Drop)]
-struct Next {
+struct Expected {
     place: u64,
     gaps: u32,
 }
 
-impl Next {
-    fn new(world: &World) -> Next {
-        Next {
+impl Expected {
+    fn new(world: &World) -> Expected {
+        Expected {
             place: 0,
             gaps: world.notices.failures,
         }
@@ -171,7 +171,7 @@ impl Next {
 
 /// Fails unless what a file has is a run that begins with this entry, or, where entries may be missing, with a later
 /// one. The next file begins where it ends.
-fn judge_record(alloc: Global, record: &Record, next: &mut Next) -> Result<(), Wrong> {
+fn judge_record(alloc: Global, record: &Record, next: &mut Expected) -> Result<(), Wrong> {
     if check(alloc, record).is_err() {
         return Err("a file is no run");
     }
@@ -197,7 +197,7 @@ fn judge_record(alloc: Global, record: &Record, next: &mut Next) -> Result<(), W
 fn read_file(
     alloc: Global,
     file: &[u8],
-    next: &mut Next,
+    next: &mut Expected,
     is_cut: bool,
 ) -> Result<Option<Record>, Wrong> {
     let read = match read_record(alloc, file) {
@@ -217,7 +217,7 @@ fn read_file(
 /// Fails unless the files are as a kill may have left them: the last one is cut anywhere, since what was written last
 /// may be lost.
 fn judge_killed(alloc: Global, world: &mut World) -> Result<(), Wrong> {
-    let mut next = Next::new(world);
+    let mut next = Expected::new(world);
     let count = world.disk.killed.len();
     for (number, file) in world.disk.killed.iter().enumerate() {
         let is_last = number.saturating_add(1) == count;
@@ -283,7 +283,7 @@ fn judge_cut(alloc: Global, world: &World) -> Result<(), Wrong> {
 /// and peers and the operator were told what is in it.
 fn judge_log(alloc: Global, world: &World, opened: &[usize], acts: u64) -> Result<(), Wrong> {
     let has_failed = world.notices.failures > 0;
-    let mut next = Next::new(world);
+    let mut next = Expected::new(world);
     let mut replies = Replies::new(alloc);
     for (number, file) in world.disk.files.iter().enumerate() {
         if has_failed && file.is_empty() {

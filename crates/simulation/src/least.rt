@@ -1,5 +1,5 @@
 //! What people have done in all cases of a scenario together, and what they do at least.
-use crate::people::Tally;
+use crate::people::Counts;
 use crate::scenario::{Deeds, Scenario};
 use crate::scenarios::{CALLS, ENDS, PEOPLE, TIMES};
 use std::alloc::Global;
@@ -66,7 +66,7 @@ impl Totals {
     }
 
     /// Notes what people have done in a case of the scenario at this place.
-    pub fn note(&mut self, place: usize, tally: &Tally) {
+    pub fn note(&mut self, place: usize, tally: &Counts) {
         if let Some(total) = self.totals.get_mut(place) {
             total.cases = total.cases.saturating_add(1);
             for (sum, count) in total.deeds.iter_mut().zip(tally.deeds()) {

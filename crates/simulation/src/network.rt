@@ -94,8 +94,8 @@ impl Network {
 
     /// When it was told that a node is stopped, if that was asked for after this time.
     pub fn stopped_after(&self, node: u8, time: u64) -> Option<u64> {
-        let (asked, told) = self.stopped.get(node as usize).copied()?;
-        (asked > time).then_some(told)
+        let (asked, delivered) = self.stopped.get(node as usize).copied()?;
+        (asked > time).then_some(delivered)
     }
 }
 
@@ -116,19 +116,19 @@ impl World {
             self.memory.is_lost = true;
             return None;
         }
-        self.note_comer(place);
+        self.on_arrival(place);
         Some(number)
     }
 
     /// A connection has come to the listener at this place: threads are told of it, all now, or one before the others.
-    fn note_comer(&mut self, place: usize) {
+    fn on_arrival(&mut self, place: usize) {
         let (now, mut first) = (self.now, None);
         if self.happens(Fault::Taken) {
             first = Some(self.weather.random.below(self.threads.len() as u64) as usize);
         }
         for (number, thread) in self.threads.iter_mut().enumerate() {
             let is_later = first.is_some_and(|first| first != number);
-            thread.note_comer(place, now.saturating_add(if is_later { 1000 } else { 0 }));
+            thread.on_arrival(place, now.saturating_add(if is_later { 1000 } else { 0 }));
         }
     }
 
@@ -275,7 +275,7 @@ impl World {
         let is_starved_on = self.now.saturating_add(100_000) < self.memory.starved_until;
         if let Some(wire) = self.network.wires.get_mut(number) {
             if is_starved && !wire.is_held {
-                self.notices.note_unaccepted(self.now);
+                self.notices.on_unaccepted(self.now);
             }
             if is_starved_on && wire.down.is_empty() && wire.received.is_empty() {
                 self.notices.note(Subject::Short, self.now);

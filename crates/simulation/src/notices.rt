@@ -24,7 +24,7 @@ pub enum Subject {
     /// That connections are reset whose peers read nothing.
     Unread,
     /// That the recording has failed, and that it goes on again.
-    Failure,
+    ShutdownCause,
     Again,
     /// That other hosts were refused.
     Remote,
@@ -71,7 +71,7 @@ struct Topic {
     free_at: u64,
     /// How often there was something to tell, and of how much the lines have told.
     happened: u64,
-    told: u64,
+    delivered: u64,
 }
 
 impl Topic {
@@ -86,7 +86,7 @@ impl Topic {
     /// The operator reads a line that tells of so much. Whether it may come.
     fn tell(&mut self, now: u64, count: u64) -> bool {
         let is_free = self.free_at <= now;
-        self.told = self.told.saturating_add(count);
+        self.delivered = self.delivered.saturating_add(count);
         self.free_at = now.saturating_add(NOTICE_US);
         self.pending_since = None;
         is_free
@@ -131,7 +131,7 @@ fn told_by(notice: &Notice<'_>) -> Option<(Subject, u64)> {
         Notice::Remote(refused) => Some((Subject::Remote, refused.count())),
         Notice::ShortOfMemory(count) => Some((Subject::Short, *count)),
         Notice::Unread(count) => Some((Subject::Unread, *count)),
-        Notice::RecordingFailed { .. } => Some((Subject::Failure, 1)),
+        Notice::RecordingFailed { .. } => Some((Subject::ShutdownCause, 1)),
         Notice::RecordingAgain { .. } => Some((Subject::Again, 1)),
         Notice::FewerPlaces { .. } => None,
     }
@@ -145,7 +145,7 @@ impl Notices {
 
     /// Of how many names the operator was told that they are in use.
     pub fn in_use(&self) -> u64 {
-        self.topics[Subject::InUse as usize].told
+        self.topics[Subject::InUse as usize].delivered
     }
 
     /// A write to a file of the recording fails, or the making of one does: that is told, unless the operator knows.
@@ -158,7 +158,7 @@ impl Notices {
         if self.is_known {
             self.topics[Subject::Again as usize].pending_since = None;
         } else {
-            self.note(Subject::Failure, now);
+            self.note(Subject::ShutdownCause, now);
         }
     }
 
@@ -172,12 +172,12 @@ impl Notices {
         if self.is_known {
             self.note(Subject::Again, now);
         } else {
-            self.topics[Subject::Failure as usize].pending_since = None;
+            self.topics[Subject::ShutdownCause as usize].pending_since = None;
         }
     }
 
     /// A connection can't be accepted, or a listener not be watched: that is told, unless it just was.
-    pub fn note_unaccepted(&mut self, now: u64) {
+    pub fn on_unaccepted(&mut self, now: u64) {
         self.refused_at = now;
         if self.topics[Subject::Accept as usize].free_at <= now {
             self.note(Subject::Accept, now);
@@ -193,13 +193,17 @@ impl Notices {
     /// Whether a line about this is true, which tells of so much. What nodes have heard of names in use was in the log
     /// before.
     fn is_true(&mut self, now: u64, subject: Subject, count: u64) -> bool {
-        let Topic { happened, told, .. } = self.topics[subject as usize];
+        let Topic {
+            happened,
+            delivered,
+            ..
+        } = self.topics[subject as usize];
         match subject {
             Subject::Accept => now <= self.refused_at.saturating_add(NEWS_US),
-            Subject::InUse => told >= happened,
+            Subject::InUse => delivered >= happened,
             Subject::Short => count > 0 && now <= self.refused_at.saturating_add(SHORT_US),
-            Subject::Unread => told <= happened,
-            Subject::Failure => self.is_news(true),
+            Subject::Unread => delivered <= happened,
+            Subject::ShutdownCause => self.is_news(true),
             Subject::Again => self.is_news(false),
             Subject::Remote => true,
         }

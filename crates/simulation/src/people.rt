@@ -3,16 +3,16 @@ use crate::checks::Wrong;
 use crate::network::Ending;
 use crate::notices::Subject;
 use crate::random::Random;
-use crate::roles::{Comes, Naming, Next, Pauses, Pieces, Reading, Role};
+use crate::roles::{Comes, Naming, Pauses, Pieces, ReadHabit, Role, RoleStep};
 use crate::scenario::{Crowd, Deeds, Scenario};
 use crate::weather::Fault;
-use crate::wire::{Heard, Wire};
+use crate::wire::{Received, Wire};
 use crate::world::{LISTENERS, World};
 use std::alloc::Global;
 
 /// What somebody is about.
 #[derive(Clone, Copy, PartialEq, Eq)]
-pub enum Stage {
+pub enum PersonState {
     /// Is not connected.
     Away,
     /// Sends its request.
@@ -27,7 +27,7 @@ pub enum Stage {
 
 /// What has been seen of people.
 #[derive(Clone, Copy, Default)]
-pub struct Tally {
+pub struct Counts {
     pub connections: u32,
     pub registrations: u32,
     pub refused: u32,
@@ -38,7 +38,7 @@ pub struct Tally {
     pub longest: u64,
 }
 
-impl Tally {
+impl Counts {
     /// What was done.
     pub fn deeds(&self) -> Deeds {
         [
@@ -58,7 +58,7 @@ pub struct Person {
     pub(crate) is_local: bool,
     /// Which node it is, or asks for.
     pub(crate) node: u8,
-    pub(crate) stage: Stage,
+    pub(crate) stage: PersonState,
     wire: Option<usize>,
     next_at: u64,
     request: Vec<u8>,
@@ -117,7 +117,7 @@ impl Person {
             scenario,
             is_local,
             node,
-            stage: Stage::Away,
+            stage: PersonState::Away,
             wire: None,
             next_at: if role.asks_once { first_at } else { next_at },
             request: Vec::new(alloc),
@@ -136,7 +136,7 @@ impl Person {
     /// From when on it acts: at its time, or since there is news of its connection.
     pub fn due_at(&self, world: &World) -> Option<u64> {
         match self.stage {
-            Stage::Gone => None,
+            PersonState::Gone => None,
             _ if self.has_news(world) => Some(world.now),
             _ => Some(self.next_at),
         }
@@ -148,7 +148,7 @@ impl Person {
     }
 
     fn is_slow(&self) -> bool {
-        self.role.reading == Reading::Slowly
+        self.role.reading == ReadHabit::Slowly
     }
 
     fn has_news(&self, world: &World) -> bool {
@@ -157,7 +157,7 @@ impl Person {
 
     /// For how long it has waited for an answer.
     pub(crate) fn waited(&self, now: u64) -> u64 {
-        if self.stage == Stage::Waiting {
+        if self.stage == PersonState::Waiting {
             now.saturating_sub(self.asked_at)
         } else {
             0
@@ -172,7 +172,7 @@ impl Person {
 
     /// Whether it holds a name.
     pub fn holds(&self) -> bool {
-        self.stage == Stage::Holding && self.role.owns()
+        self.stage == PersonState::Holding && self.role.owns()
     }
 
     /// The name that it holds, or asks for.
@@ -211,14 +211,14 @@ impl Person {
         self.wire = world.connect(place, self.is_local);
         let number = self.wire?;
         self.ask(&mut world.weather.random)?;
-        if self.role.reading == Reading::Nothing {
+        if self.role.reading == ReadHabit::Nothing {
             world.network.wires.get_mut(number)?.room = 1;
         }
         Some(())
     }
 
     /// Comes.
-    fn come(&mut self, world: &mut World, tally: &mut Tally) {
+    fn come(&mut self, world: &mut World, tally: &mut Counts) {
         if self.connect(world).is_none() {
             // Too many wait: it tries again after a second, as TCP does.
             self.next_at = world.now.saturating_add(1_000_000);
@@ -229,7 +229,7 @@ impl Person {
         tally.restarts = tally.restarts.saturating_add(u32::from(is_restart));
         self.came_at = world.shown();
         self.has_come = true;
-        self.stage = Stage::Sending;
+        self.stage = PersonState::Sending;
         self.next_at = world.now;
     }
 
@@ -264,7 +264,7 @@ impl Person {
             return;
         }
         self.next_at = u64::MAX;
-        self.stage = Stage::Waiting;
+        self.stage = PersonState::Waiting;
         self.asked_at = world.now;
         self.asked_after = world.shown().saturating_sub(self.came_at);
         self.stopped_before = world.clock.stopped;
@@ -277,14 +277,14 @@ impl Person {
     /// Does what it does once it has asked.
     fn go_on(&mut self, world: &mut World) {
         match self.role.next {
-            Next::Waits if self.is_slow() => {
+            RoleStep::Waits if self.is_slow() => {
                 let is_late = world.weather.random.happens(100);
                 self.next_at = world.after(if is_late { 3_000_000 } else { 50_000 });
             }
-            Next::Waits => {}
-            Next::Stays => self.hold(world),
-            Next::Drips => {
-                self.stage = Stage::Sending;
+            RoleStep::Waits => {}
+            RoleStep::Stays => self.hold(world),
+            RoleStep::Drips => {
+                self.stage = PersonState::Sending;
                 self.sent = 0;
                 self.request.truncate(1);
                 self.next_at = world.after(400_000);
@@ -294,7 +294,7 @@ impl Person {
 
     /// Stays as it is for a while.
     fn hold(&mut self, world: &mut World) {
-        self.stage = Stage::Holding;
+        self.stage = PersonState::Holding;
         let is_long = world.weather.random.happens(100);
         let hold_us = self.scenario.hold_us;
         let next_at = world.after(if is_long { 1_800_000_000 } else { hold_us });
@@ -309,9 +309,9 @@ impl Person {
             world.end(wire, ending);
         }
         self.stage = if self.is_retired {
-            Stage::Gone
+            PersonState::Gone
         } else {
-            Stage::Away
+            PersonState::Away
         };
         let next_at = world.after(most);
         let burst_at = self.scenario.burst_after(next_at);
@@ -323,11 +323,11 @@ impl Person {
     }
 
     /// Reads what has come. What was wrong, if anything was.
-    fn hear(&mut self, world: &mut World, number: usize, tally: &mut Tally) -> Option<Wrong> {
+    fn hear(&mut self, world: &mut World, number: usize, tally: &mut Counts) -> Option<Wrong> {
         world.receive(number, self.role.reading as usize);
         let heard = self.own(world)?.heard();
         match self.stage {
-            Stage::Waiting => self.hear_answer(world, heard, tally),
+            PersonState::Waiting => self.hear_answer(world, heard, tally),
             _ if heard.is_over || heard.is_reset => {
                 let wrong = self.judge_lost(heard);
                 self.leave(world, 50_000);
@@ -341,7 +341,12 @@ impl Person {
     }
 
     /// Has heard so much while it waits for an answer.
-    fn hear_answer(&mut self, world: &mut World, heard: Heard, tally: &mut Tally) -> Option<Wrong> {
+    fn hear_answer(
+        &mut self,
+        world: &mut World,
+        heard: Received,
+        tally: &mut Counts,
+    ) -> Option<Wrong> {
         let registers = self.role.registers();
         let is_answered = (registers && heard.bytes >= 6)
             || (!registers && heard.bytes > 0 && heard.is_over);
@@ -361,7 +366,7 @@ impl Person {
     }
 
     /// Has its answer.
-    fn take(&mut self, world: &mut World, tally: &mut Tally) -> Option<Wrong> {
+    fn take(&mut self, world: &mut World, tally: &mut Counts) -> Option<Wrong> {
         tally.answers = tally.answers.saturating_add(1);
         if !self.is_slow() {
             tally.longest = tally.longest.max(self.waited(world.now));
@@ -378,7 +383,7 @@ impl Person {
     }
 
     /// Is registered, or is refused.
-    fn take_result(&mut self, world: &mut World, tally: &mut Tally) -> Option<Wrong> {
+    fn take_result(&mut self, world: &mut World, tally: &mut Counts) -> Option<Wrong> {
         let result = self.own(world)?.received.get(1).copied();
         if result == Some(0) {
             tally.registrations = tally.registrations.saturating_add(1);
@@ -420,7 +425,7 @@ impl Person {
     }
 
     /// Does what is next. What was wrong, if anything was.
-    pub fn act(&mut self, world: &mut World, tally: &mut Tally) -> Option<Wrong> {
+    pub fn act(&mut self, world: &mut World, tally: &mut Counts) -> Option<Wrong> {
         let Some(wire) = self.wire else {
             self.come(world, tally);
             return None;
@@ -429,10 +434,10 @@ impl Person {
             return self.hear(world, wire, tally);
         }
         match self.stage {
-            Stage::Sending => self.say(world, wire),
-            Stage::Holding if self.role.naming == Naming::Talks => self.talk(world, wire),
-            Stage::Holding => self.leave(world, self.role.away_us),
-            Stage::Waiting | Stage::Away | Stage::Gone => self.next_at = u64::MAX,
+            PersonState::Sending => self.say(world, wire),
+            PersonState::Holding if self.role.naming == Naming::Talks => self.talk(world, wire),
+            PersonState::Holding => self.leave(world, self.role.away_us),
+            PersonState::Waiting | PersonState::Away | PersonState::Gone => self.next_at = u64::MAX,
         }
         None
     }
@@ -440,7 +445,7 @@ impl Person {
     /// The weather is over: who holds a name keeps it, and all others leave for good.
     pub fn retire(&mut self, world: &mut World) {
         self.is_retired = true;
-        if self.stage != Stage::Holding || self.role.naming != Naming::Holds {
+        if self.stage != PersonState::Holding || self.role.naming != Naming::Holds {
             self.leave(world, 1);
         }
         self.next_at = u64::MAX;

@@ -85,7 +85,7 @@ impl Thread {
     }
 
     /// A connection has come to the listener at this place.
-    pub fn note_comer(&mut self, place: usize, now: u64) {
+    pub fn on_arrival(&mut self, place: usize, now: u64) {
         if let Some(listener) = self.listeners.get_mut(place) {
             if listener.is_on && listener.news_at.is_none() {
                 listener.news_at = Some(now);
@@ -311,7 +311,7 @@ impl World {
     /// Has a thread's poll report a listener.
     pub fn listen(&mut self, number: usize, place: usize) -> Result<(), ErrorKind> {
         if self.happens(Fault::Unwatched) {
-            self.notices.note_unaccepted(self.now);
+            self.notices.on_unaccepted(self.now);
             return Err(ErrorKind::OutOfMemory);
         }
         let waiting = self.network.backlogs.get(place);
@@ -349,7 +349,7 @@ impl World {
         if self.now >= until && !self.has_no_descriptor() {
             return None;
         }
-        self.notices.note_unaccepted(self.now);
+        self.notices.on_unaccepted(self.now);
         // Whom it is for, nobody knows: one may be given up for it.
         self.network.wanting = self.network.wanting.saturating_add(1);
         Some(kind)

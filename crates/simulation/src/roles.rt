@@ -36,7 +36,7 @@ pub enum Pauses {
 
 /// What somebody does once it has asked.
 #[derive(Clone, Copy)]
-pub enum Next {
+pub enum RoleStep {
     /// It waits for an answer.
     Waits,
     /// It stays for a while, whatever it is told.
@@ -47,7 +47,7 @@ pub enum Next {
 
 /// How somebody reads: so many bytes at once.
 #[derive(Clone, Copy, PartialEq, Eq)]
-pub enum Reading {
+pub enum ReadHabit {
     Nothing = 0,
     /// Late too.
     Slowly = 1,
@@ -92,8 +92,8 @@ pub struct Role {
     pub naming: Naming,
     pub pieces: Pieces,
     pub pauses: Pauses,
-    pub next: Next,
-    pub reading: Reading,
+    pub next: RoleStep,
+    pub reading: ReadHabit,
     pub comes: Comes,
     /// Where it might have stayed it comes back within so many microseconds.
     pub away_us: u64,
@@ -126,8 +126,8 @@ const USUAL: Role = Role {
     naming: Naming::Nameless,
     pieces: Pieces::Any,
     pauses: Pauses::UpTo(3000),
-    next: Next::Waits,
-    reading: Reading::AtOnce,
+    next: RoleStep::Waits,
+    reading: ReadHabit::AtOnce,
     comes: Comes::Together,
     away_us: 300_000,
     asks_once: false,
@@ -163,7 +163,7 @@ pub const LISTER: Role = role!(USUAL, asks_once: true);
 pub const DUMPER: Role = role!(USUAL, asks: &[0, 1, 0x64], asks_once: true);
 
 /// Asks for the list of names and reads it late, or byte by byte.
-pub const SLOW: Role = role!(USUAL, reading: Reading::Slowly);
+pub const SLOW: Role = role!(USUAL, reading: ReadHabit::Slowly);
 
 /// Asks for the list of names, a byte each three and a half seconds.
 pub const PLODDER: Role =
@@ -171,7 +171,7 @@ pub const PLODDER: Role =
 
 /// Asks for the list of names and reads nothing.
 pub const UNREADING: Role =
-    role!(USUAL, reading: Reading::Nothing, owed: Owed::Never, given_up: GivenUp::Anybody);
+    role!(USUAL, reading: ReadHabit::Nothing, owed: Owed::Never, given_up: GivenUp::Anybody);
 
 /// Asks the port mapper to end.
 pub const KILLER: Role = role!(USUAL, asks: &[0, 1, 0x6B]);
@@ -182,16 +182,17 @@ pub const STOPPER: Role =
 
 /// Connects and says nothing.
 pub const SILENT: Role =
-    role!(USUAL, asks: &[], next: Next::Stays, comes: Comes::Apart, owed: Owed::Never,
+    role!(USUAL, asks: &[], next: RoleStep::Stays, comes: Comes::Apart, owed: Owed::Never,
     given_up: GivenUp::Anybody);
 
 /// Sends a byte of a request now and then, and never all of it.
 pub const DRIPPER: Role =
-    role!(USUAL, asks: &[0, 200], pieces: Pieces::UpTo(1), next: Next::Drips, owed: Owed::Never,
+    role!(USUAL, asks: &[0, 200], pieces: Pieces::UpTo(1), next: RoleStep::Drips, owed: Owed::Never,
     given_up: GivenUp::Remote);
 
 /// Sends any bytes.
-pub const BABBLER: Role = role!(USUAL, asks: &[], noise: 40, next: Next::Stays, owed: Owed::Never);
+pub const BABBLER: Role =
+    role!(USUAL, asks: &[], noise: 40, next: RoleStep::Stays, owed: Owed::Never);
 
 /// Asks for the list of names, and says the last of that about when its time is over, or with all others where there
 /// are bursts.

@@ -5,7 +5,7 @@ use crate::checks::{GOES_ON, NEVER_HEAVY, SEATS, UNSEEN, Wrong};
 use crate::daemon::{Around, Daemon, SimWorker};
 use crate::disk::PATH;
 use crate::judge::judge;
-use crate::people::{Tally, people_of};
+use crate::people::{Counts, people_of};
 use crate::scenario::Scenario;
 use crate::scene::Scene;
 use crate::steps::{Step, Stepped};
@@ -46,7 +46,7 @@ pub struct Case {
 #[derive(Drop)]
 pub struct Outcome {
     pub wrong: Option<Wrong>,
-    pub tally: Tally,
+    pub tally: Counts,
     pub happened: FaultCounts,
     /// How many acts the workers made.
     pub acts: u64,
@@ -157,7 +157,7 @@ impl<'a> Scene<'a> {
             workers: case.workers as usize,
             due: Vec::new(alloc),
             people,
-            tally: Tally::default(),
+            tally: Counts::default(),
             opened: Vec::new(alloc),
             acts: 0,
             drains: 0,

@@ -1,13 +1,13 @@
 //! What is around a daemon: the world, its people, and what was wrong.
 use crate::checks::{UNHEEDED, Wrong, is_right};
 use crate::network::Ending;
-use crate::people::{Person, Tally};
+use crate::people::{Counts, Person};
 use crate::scenario::Scenario;
 use crate::steps::Step;
 use crate::system::SharedWorld;
 use crate::weather::Fault;
 use crate::world::World;
-use portmap_worker::{Failure, Turn};
+use portmap_worker::{ShutdownCause, Turn};
 use std::alloc::Global;
 use std::cell::RefMut;
 
@@ -25,7 +25,7 @@ pub struct Scene<'a> {
     /// Who may do something now.
     pub(crate) due: Vec<usize>,
     pub(crate) people: Vec<Person>,
-    pub(crate) tally: Tally,
+    pub(crate) tally: Counts,
     /// The connections that the desk has opened, in the order in which it did.
     pub(crate) opened: Vec<usize>,
     /// How many acts the workers have made that have ended.
@@ -117,7 +117,7 @@ impl<'a> Scene<'a> {
     }
 
     /// Notes a step, if each is told.
-    pub(crate) fn note_step(&mut self, actor: usize) -> Option<()> {
+    pub(crate) fn on_step(&mut self, actor: usize) -> Option<()> {
         if !self.is_traced {
             return Some(());
         }
@@ -214,7 +214,7 @@ impl<'a> Scene<'a> {
     }
 
     /// It is to end, and tells this fault, or none: by when.
-    pub(crate) fn begin_end(&mut self, failure: Option<Failure>) -> Option<u64> {
+    pub(crate) fn begin_end(&mut self, failure: Option<ShutdownCause>) -> Option<u64> {
         let mut world = self.world()?;
         let is_right = is_right(&world.weather, failure, self.scenario.may_end);
         self.check(is_right, "it tells another reason than why it ends");

@@ -37,14 +37,14 @@ impl<L: Ledger, R: Wait + Drop> LinkSource for Stepped<'_, L, R> {
     type Link = Link<SimStream>;
 
     fn turn(&mut self) -> Turn {
-        let told = self.source.step();
-        let turn = told.unwrap_or(Turn::Ready(NO_KEY));
+        let delivered = self.source.step();
+        let turn = delivered.unwrap_or(Turn::Ready(NO_KEY));
         let met = match turn {
             Turn::Fresh { key, local: _ } | Turn::Late(key) => self.connection(key),
             Turn::Ready(_) | Turn::Idle | Turn::Stop => None,
         };
         if let Ok(mut world) = self.world.try_borrow_mut() {
-            world.note_turn(self.thread, told, met);
+            world.note_turn(self.thread, delivered, met);
         }
         turn
     }

@@ -17,7 +17,7 @@ pub struct Watch {
 
 /// How many bytes a peer has read, whether no more will come, and whether the connection was reset.
 #[derive(Clone, Copy)]
-pub struct Heard {
+pub struct Received {
     pub bytes: usize,
     pub is_over: bool,
     pub is_reset: bool,
@@ -152,8 +152,8 @@ impl Wire {
     }
 
     /// What the peer has heard.
-    pub fn heard(&self) -> Heard {
-        Heard {
+    pub fn heard(&self) -> Received {
+        Received {
             bytes: self.received.len(),
             is_over: self.is_down_ended && self.down.is_empty(),
             is_reset: self.is_reset,
@@ -161,7 +161,7 @@ impl Wire {
     }
 
     /// There is news for who watches it, which the poll has to report or doesn't.
-    fn note_news(&mut self, now: u64, is_due: bool) {
+    fn on_event(&mut self, now: u64, is_due: bool) {
         let is_told = is_due || !self.is_sparing;
         if is_told && self.watch.is_some() && self.news_at.is_none() {
             self.news_at = Some(now);
@@ -179,7 +179,7 @@ impl Wire {
             self.down.clear();
             is_due = is_due || self.is_room_due;
         }
-        self.note_news(now, is_due);
+        self.on_event(now, is_due);
         is_kept
     }
 
@@ -238,7 +238,7 @@ impl Wire {
         let is_kept = self.received.extend(self.down.drain(..count)).is_ok();
         self.has_peer_news = false;
         if was_full {
-            self.note_news(now, self.is_room_due);
+            self.on_event(now, self.is_room_due);
         }
         is_kept
     }

@@ -19,11 +19,11 @@ pub fn audited(alloc: Global, device: &str, turns: &str, words: &[&str]) -> Resu
     for file in &files {
         inputs.push_back(Tape::new(alloc, file, plan))?;
     }
-    told(alloc, marked!(alloc, audit(alloc, inputs, turns)))
+    actual(alloc, marked!(alloc, audit(alloc, inputs, turns)))
 }
 
 /// Want of memory is told without the file, as by every call.
-fn told(alloc: Global, outcome: Result<Audited, AuditFault>) -> Result<String> {
+fn actual(alloc: Global, outcome: Result<Audited, AuditFault>) -> Result<String> {
     match outcome {
         Ok(Audited::Run { entries, tail }) => text(format!(in alloc; "run {entries} {tail:?}")),
         Ok(Audited::Broken { file, entry }) => text(format!(in alloc; "broken {file} at {entry}")),

@@ -57,11 +57,11 @@ pub fn listed<E: Debug + Drop>(alloc: Global, list: Result<(u32, Vec<Line>), E>)
         Ok(list) => list,
         Err(fault) => return by_name(alloc, &fault),
     };
-    let mut told = format!(in alloc; "{port}")?;
+    let mut actual = format!(in alloc; "{port}")?;
     for line in &lines {
-        write!(told, ",{}={}", Digits(line.name.bytes()), line.port)?;
+        write!(actual, ",{}={}", Digits(line.name.bytes()), line.port)?;
     }
-    Ok(told)
+    Ok(actual)
 }
 
 /// The port and the text of a dump, or why there are none.

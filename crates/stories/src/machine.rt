@@ -22,7 +22,7 @@ pub struct Machine {
     book: Book,
     first: u32,
     replay: Replay,
-    told: Vec<Happened>,
+    actual: Vec<Happened>,
     /// The transcript of the log, and of how many entries it is.
     lines: String,
     lines_told: u64,
@@ -50,7 +50,7 @@ impl Machine {
             book: Book::new(alloc, config, first)?,
             first,
             replay: Replay::new(alloc, config)?,
-            told: Vec::new(alloc),
+            actual: Vec::new(alloc),
             lines: String::new(alloc),
             lines_told: 0,
             kept,
@@ -131,7 +131,7 @@ impl Machine {
         let came = came_of(alloc, words.first().copied().unwrap_or(""), &outcome)?;
         if came.as_str() != "NoMemory" {
             self.show(alloc, words, came.as_str())?;
-            self.told.push(Happened {
+            self.actual.push(Happened {
                 act: joined(alloc, words)?,
                 came: came.clone()?,
             })?;
@@ -254,7 +254,7 @@ impl Machine {
         let (config, state) = (self.book.core().config(), self.book.core().state(alloc)?);
         let is_so = is_built_again(alloc, config, &state)?;
         ensure!(is_so, "its state is not that of its parts");
-        runs_so(alloc, *config, self.first, &self.told, &state)
+        runs_so(alloc, *config, self.first, &self.actual, &state)
     }
 
     /// Fails unless the tickets of all acts are the log, where nothing was taken out of it but as segments. None are

@@ -23,13 +23,13 @@ pub fn runs_so(
     alloc: Global,
     config: Config,
     first: u32,
-    told: &[Happened],
+    actual: &[Happened],
     state: &State,
 ) -> Result<()> {
     let mut core = Core::new(alloc, config, first)?;
-    let results = results_of(alloc, &mut core, told)?;
+    let results = results_of(alloc, &mut core, actual)?;
     let mut other = Core::new(alloc, config, first)?;
-    let is_whole = follows(alloc, &mut other, told, results)?;
+    let is_whole = follows(alloc, &mut other, actual, results)?;
     let end = other.state(alloc)?;
     if !is_at(alloc, &core, &end)? || (is_whole && !end.same(state)) {
         return wrong("a run ends in another state");
@@ -43,20 +43,20 @@ pub fn is_at(alloc: Global, core: &Core, state: &State) -> Result<bool> {
 }
 
 /// What a run tells of all events. One that is refused as a whole has changed nothing, and is made once more.
-fn results_of(alloc: Global, core: &mut Core, told: &[Happened]) -> Result<Results> {
-    let events = events_of(alloc, told)?;
+fn results_of(alloc: Global, core: &mut Core, actual: &[Happened]) -> Result<Results> {
+    let events = events_of(alloc, actual)?;
     let results = marked!(alloc, core.run(alloc, events));
     let is_refused = was_refused(alloc);
     match results {
         Ok(results) => Ok((results, is_refused)),
-        Err(_) if is_refused => Ok((core.run(alloc, events_of(alloc, told)?)?, false)),
+        Err(_) if is_refused => Ok((core.run(alloc, events_of(alloc, actual)?)?, false)),
         Err(_) => wrong("memory was not refused to a run"),
     }
 }
 
-fn events_of(alloc: Global, told: &[Happened]) -> Result<Vec<Event>> {
+fn events_of(alloc: Global, actual: &[Happened]) -> Result<Vec<Event>> {
     let mut events = Vec::new(alloc);
-    for one in told {
+    for one in actual {
         let words: Vec<&str> = one.act.as_str().split_whitespace().collect(alloc)?;
         events.push(event(alloc, &words)?)?;
     }
@@ -65,10 +65,10 @@ fn events_of(alloc: Global, told: &[Happened]) -> Result<Vec<Event>> {
 
 /// Whether memory was refused to none of the events. Fails unless another machine answers each of the others like the
 /// run, and it was answered so where memory was refused to none before.
-fn follows(alloc: Global, other: &mut Core, told: &[Happened], results: Results) -> Result<bool> {
+fn follows(alloc: Global, other: &mut Core, actual: &[Happened], results: Results) -> Result<bool> {
     let (results, is_refused) = results;
     let mut is_whole = true;
-    for (one, (event, outcome)) in told.iter().zip(results) {
+    for (one, (event, outcome)) in actual.iter().zip(results) {
         let act = one.act.as_str();
         let came = came_of(alloc, act, &outcome)?;
         if is_refused && came.as_str() == "NoMemory" {

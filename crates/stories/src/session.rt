@@ -127,8 +127,8 @@ fn is_judged(alloc: Global, bytes: &[u8]) -> Result<bool> {
         Ok(session) => verdict_of(alloc, session, bytes)?,
         Err(fault) => format!(in alloc; "Bad({fault:?}) -")?,
     };
-    let told = played(alloc, "tell", bytes, &["steady", "steady", "3"])?;
-    ensure!(told == wanted, "{wanted} is told as {told}");
+    let actual = played(alloc, "tell", bytes, &["steady", "steady", "3"])?;
+    ensure!(actual == wanted, "{wanted} is told as {actual}");
     Ok(session.is_ok())
 }
 
@@ -235,44 +235,48 @@ fn left(alloc: Global, bytes: &[u8]) -> Result<String> {
 /// of each entry.
 fn beginning(alloc: Global, session: &Record) -> Result<String> {
     let config = &session.config;
-    let mut told = format!(in alloc; "{} {}", config.port, yes(config.relaxed))?;
-    write!(told, " {} {}", config.conn_max, config.known_max)?;
+    let mut actual = format!(in alloc; "{} {}", config.port, yes(config.relaxed))?;
+    write!(actual, " {} {}", config.conn_max, config.known_max)?;
     if let Version::Two {
         first,
         start,
         workers,
     } = &session.version
     {
-        write!(told, " first {first}")?;
-        write_start(&mut told, start)?;
-        told.push_str(" workers")?;
+        write!(actual, " first {first}")?;
+        write_start(&mut actual, start)?;
+        actual.push_str(" workers")?;
         for worker in workers {
-            write!(told, " {worker}")?;
+            write!(actual, " {worker}")?;
         }
     }
-    Ok(told)
+    Ok(actual)
 }
 
 /// Tells a state by its parts.
-fn write_start(told: &mut String, start: &State) -> Result<()> {
+fn write_start(actual: &mut String, start: &State) -> Result<()> {
     for row in start.active() {
         let name = Digits(row.reg.name.bytes());
         write!(
-            told,
+            actual,
             " row {name} {} {} {}",
             row.reg.port, row.creation, row.slot
         )?;
     }
     for old in start.retired() {
         let name = Digits(old.name.bytes());
-        write!(told, " old {name} {} {}", old.port, old.creation)?;
+        write!(actual, " old {name} {} {}", old.port, old.creation)?;
     }
     for held in start.conns() {
         let (local, bytes) = (yes(held.local), Digits(&held.bytes));
-        write!(told, " conn {} {local} {:?} {bytes}", held.slot, held.phase)?;
+        write!(
+            actual,
+            " conn {} {local} {:?} {bytes}",
+            held.slot, held.phase
+        )?;
     }
     if start.halted() {
-        told.push_str(" halted")?;
+        actual.push_str(" halted")?;
     }
     Ok(())
 }

@@ -1,5 +1,5 @@
 //! A story: what it shows, what comes in turn, and what is wanted.
-use crate::part::Part;
+use crate::part::Subject;
 use crate::words::{Names, wrong};
 use anyhow::{Result, ensure};
 use portmap_testing::marks::was_refused;
@@ -11,7 +11,7 @@ use std::sync::Wait;
 pub struct Story<'a, R: Wait> {
     host: &'a R,
     name: String,
-    part: Part,
+    part: Subject,
     holds: bool,
 }
 
@@ -21,7 +21,7 @@ impl<'a, R: Wait> Story<'a, R> {
         Story {
             host,
             name: String::new(alloc),
-            part: Part::None,
+            part: Subject::None,
             holds: true,
         }
     }
@@ -29,7 +29,7 @@ impl<'a, R: Wait> Story<'a, R> {
     /// The story that a line begins, if it begins one: by the part that it is about, and what it shows.
     pub fn begun(host: &'a R, alloc: Global, line: &str) -> Result<Option<Story<'a, R>>> {
         let (word, name) = line.split_once(' ').unwrap_or((line, ""));
-        let Some(part) = Part::begun(alloc, word)? else {
+        let Some(part) = Subject::begun(alloc, word)? else {
             return Ok(None);
         };
         let mut story = Story::none(host, alloc);

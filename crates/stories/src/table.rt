@@ -22,33 +22,33 @@ fn is_usual(reg: &Reg) -> bool {
 }
 
 /// Adds a name, its slot and its creation.
-fn write_row(told: &mut String, row: &Row) -> Result<()> {
+fn write_row(actual: &mut String, row: &Row) -> Result<()> {
     ensure!(is_usual(&row.reg), "a node that was not registered so");
     let name = Digits(row.reg.name.bytes());
-    Ok(write!(told, " {name} {} {}", row.slot, row.creation)?)
+    Ok(write!(actual, " {name} {} {}", row.slot, row.creation)?)
 }
 
 /// Adds a retired name and its creation.
-fn write_old(told: &mut String, old: &Old) -> Result<()> {
+fn write_old(actual: &mut String, old: &Old) -> Result<()> {
     let is_usual = old.port == 40_000;
     ensure!(is_usual, "a retired node that was not registered so");
-    Ok(write!(told, " {} {}", Digits(old.name.bytes()), old.creation)?)
+    Ok(write!(actual, " {} {}", Digits(old.name.bytes()), old.creation)?)
 }
 
 /// The active names, each with its slot and its creation, and the retired ones, each with its creation; by copies of
 /// both.
 fn known(alloc: Global, names: &Table) -> Result<String> {
-    let mut told = String::from_str(alloc, "active")?;
+    let mut actual = String::from_str(alloc, "active")?;
     for place in 0..names.active_len() {
         let row = names.active_at(place).context("fewer names are active")?;
-        write_row(&mut told, &row.try_copy(alloc)?)?;
+        write_row(&mut actual, &row.try_copy(alloc)?)?;
     }
-    told.push_str(" retired")?;
+    actual.push_str(" retired")?;
     for place in 0..names.retired_len() {
         let old = names.retired_at(place).context("fewer names are retired")?;
-        write_old(&mut told, &old.try_copy(alloc)?.try_copy(alloc)?)?;
+        write_old(&mut actual, &old.try_copy(alloc)?.try_copy(alloc)?)?;
     }
-    Ok(told)
+    Ok(actual)
 }
 
 /// The slot that owns a name, which is that of its row; `-` where the name is not active.

@@ -21,7 +21,7 @@ use std::sync::ledger::{Blank, Ledger};
 /// What a source brings to a worker. Each line is told over a new one, which makes all turns up to there and then
 /// stops.
 #[derive(Drop)]
-pub struct Scene {
+pub struct WorkerSetup {
     is_relaxed: bool,
     conn_max: u32,
     /// What the links 7 and 8 give. Link 8 moves all at each call.
@@ -31,7 +31,7 @@ pub struct Scene {
     /// Whether another connection has ended the port mapper before.
     is_killed: bool,
     turns: Vec<Turn>,
-    told: Amounts,
+    actual: Amounts,
 }
 
 /// How many entries, bytes of link 7, bytes of link 8 and ended links were told.
@@ -99,11 +99,19 @@ impl<'a> Wires<'a> {
     }
 
     /// What has come behind what was told: entries, and what both links got and gave up.
-    fn line(&self, alloc: Global, told: Amounts, is_over: bool) -> Result<String> {
-        let mut line = entry_words(alloc, self.log.get(told[0]..).unwrap_or(&[]))?;
-        put_bytes(&mut line, 7, self.seven.sink.get(told[1]..).unwrap_or(&[]))?;
-        put_bytes(&mut line, 8, self.eight.sink.get(told[2]..).unwrap_or(&[]))?;
-        for key in self.ended.iter().skip(told[3]) {
+    fn line(&self, alloc: Global, actual: Amounts, is_over: bool) -> Result<String> {
+        let mut line = entry_words(alloc, self.log.get(actual[0]..).unwrap_or(&[]))?;
+        put_bytes(
+            &mut line,
+            7,
+            self.seven.sink.get(actual[1]..).unwrap_or(&[]),
+        )?;
+        put_bytes(
+            &mut line,
+            8,
+            self.eight.sink.get(actual[2]..).unwrap_or(&[]),
+        )?;
+        for key in self.ended.iter().skip(actual[3]) {
             write!(line, " ; ends {key}")?;
         }
         if is_over {
@@ -126,9 +134,9 @@ impl<'a> Wires<'a> {
     }
 }
 
-impl Scene {
-    pub fn new(alloc: Global) -> Scene {
-        Scene {
+impl WorkerSetup {
+    pub fn new(alloc: Global) -> WorkerSetup {
+        WorkerSetup {
             is_relaxed: false,
             conn_max: 2,
             seven: Vec::new(alloc),
@@ -136,7 +144,7 @@ impl Scene {
             plan: STEADY,
             is_killed: false,
             turns: Vec::new(alloc),
-            told: [0; 4],
+            actual: [0; 4],
         }
     }
 
@@ -162,7 +170,7 @@ impl Scene {
     fn set(&mut self, alloc: Global, words: &[&str]) -> Result<()> {
         self.is_killed = false;
         self.turns.clear();
-        self.told = [0; 4];
+        self.actual = [0; 4];
         match *words {
             ["with", checks, "conn", count] => {
                 self.is_relaxed = is_relaxed(checks)?;
@@ -190,15 +198,15 @@ impl Scene {
     /// up, and all are made once more.
     fn came_new<R: Wait>(&mut self, rt: &R, alloc: Global) -> Result<String> {
         let given_up = end_of(alloc, self.turns.last())?;
-        let (mut line, mut told) = self.line(rt, alloc, !given_up.is_empty())?;
+        let (mut line, mut actual) = self.line(rt, alloc, !given_up.is_empty())?;
         if was_refused(alloc) {
             let (again, told_again) = self.line(rt, alloc, false)?;
             let is_so = line == again || line.as_str().contains(given_up.as_str());
             ensure!(is_so, "where memory is refused comes: {line}");
             line = again;
-            told = told_again;
+            actual = told_again;
         }
-        self.told = told;
+        self.actual = actual;
         Ok(line)
     }
 
@@ -207,7 +215,7 @@ impl Scene {
     fn line<R: Wait>(&self, rt: &R, alloc: Global, is_marked: bool) -> Result<(String, Amounts)> {
         let mut wires = self.wires(alloc, self.plan, is_marked)?;
         let is_over = serve_all(rt, alloc, self, &mut wires)?;
-        Ok((wires.line(alloc, self.told, is_over)?, wires.amounts()))
+        Ok((wires.line(alloc, self.actual, is_over)?, wires.amounts()))
     }
 
     /// What comes of both links where link 7 fails at this call of it.
@@ -235,7 +243,12 @@ impl Scene {
 }
 
 /// Has a worker make all turns. Whether the port mapper has ended.
-fn serve_all<R: Wait>(rt: &R, alloc: Global, scene: &Scene, wires: &mut Wires<'_>) -> Result<bool> {
+fn serve_all<R: Wait>(
+    rt: &R,
+    alloc: Global,
+    scene: &WorkerSetup,
+    wires: &mut Wires<'_>,
+) -> Result<bool> {
     let served = served::<Brand, R>(rt, alloc, Blank::new(PARTS), scene, wires);
     served.context("it closes not all as it stops, or has served otherwise than it says")
 }
@@ -246,7 +259,7 @@ fn served<L: Ledger, R: Wait>(
     rt: &R,
     alloc: Global,
     blank: Blank,
-    scene: &Scene,
+    scene: &WorkerSetup,
     wires: &mut Wires<'_>,
 ) -> Option<bool>
     requires name { blank.name ≡ L.name }

@@ -4,18 +4,18 @@ use portmap_book::{Book, GatherFault, Segment, Ticket, gather};
 use portmap_core::{Event, Fate};
 use portmap_testing::bytes::{ALIVE_A, FIFTH, FOURTH};
 use portmap_testing::cases::{Case, all_hold};
-use portmap_testing::entries::{Kept, entry};
+use portmap_testing::entries::{SampleEntry, entry};
 use std::alloc::Global;
 use std::test::Fail;
 
 /// Tickets for the log of a node that connects, registers and leaves, and what is found of them.
-struct Gathered(&'static [(u64, Kept)], Result<(), GatherFault>);
+struct Gathered(&'static [(u64, SampleEntry)], Result<(), GatherFault>);
 
-const OPENED: Kept = Kept::Connected(true, 0);
+const OPENED: SampleEntry = SampleEntry::Connected(true, 0);
 
-const REGISTERED: Kept = Kept::Piece(0, ALIVE_A, FOURTH, Fate::Stay);
+const REGISTERED: SampleEntry = SampleEntry::Piece(0, ALIVE_A, FOURTH, Fate::Stay);
 
-const LEFT: Kept = Kept::Closed(0);
+const LEFT: SampleEntry = SampleEntry::Closed(0);
 
 const GATHERED: &[Gathered] = &[
     Gathered(&[(0, OPENED), (1, REGISTERED), (2, LEFT)], Ok(())),
@@ -29,15 +29,18 @@ const GATHERED: &[Gathered] = &[
         Err(GatherFault::Stranger(3)),
     ),
     Gathered(
-        &[(0, OPENED), (1, Kept::Piece(0, ALIVE_A, FIFTH, Fate::Stay))],
+        &[
+            (0, OPENED),
+            (1, SampleEntry::Piece(0, ALIVE_A, FIFTH, Fate::Stay)),
+        ],
         Err(GatherFault::Differs(1)),
     ),
     Gathered(
-        &[(0, OPENED), (2, Kept::Faulted(0))],
+        &[(0, OPENED), (2, SampleEntry::Faulted(0))],
         Err(GatherFault::Differs(2)),
     ),
     Gathered(
-        &[(0, Kept::Connected(false, 0))],
+        &[(0, SampleEntry::Connected(false, 0))],
         Err(GatherFault::Differs(0)),
     ),
     Gathered(&[(0, OPENED), (2, LEFT)], Err(GatherFault::Missing(1))),
@@ -60,7 +63,7 @@ fn one_node(alloc: Global) -> Option<Book> {
     Some(book)
 }
 
-pub fn tickets_of(alloc: Global, table: &[(u64, Kept)]) -> Result<Vec<Ticket>, Fail> {
+pub fn tickets_of(alloc: Global, table: &[(u64, SampleEntry)]) -> Result<Vec<Ticket>, Fail> {
     let mut tickets = Vec::new(alloc);
     for (place, kept) in table {
         tickets.push(ticket(*place, entry(alloc, kept)?))?;
@@ -88,7 +91,7 @@ fn tickets_are_the_log_or_the_first_fault_is_told(rt: HostRuntime) -> Result<(),
 struct Chained(&'static [usize], bool, Result<(), GatherFault>);
 
 /// A node connects, registers and leaves, and another one connects.
-pub const ALL: &[(u64, Kept)] = &[(0, OPENED), (1, REGISTERED), (2, LEFT), (3, OPENED)];
+pub const ALL: &[(u64, SampleEntry)] = &[(0, OPENED), (1, REGISTERED), (2, LEFT), (3, OPENED)];
 
 const CHAINED: &[Chained] = &[
     Chained(&[0, 1], false, Ok(())),

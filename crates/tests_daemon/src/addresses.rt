@@ -19,10 +19,10 @@ fn looked_up(rt: &HostRuntime, last: u8) -> Result<bool, ErrorKind> {
 
 /// What comes of look-ups at three addresses of the host, of which a daemon listens on the first two, and whether it
 /// ends then.
-fn told(rt: &HostRuntime) -> ([Result<bool, ErrorKind>; 3], Option<bool>) {
+fn actual(rt: &HostRuntime) -> ([Result<bool, ErrorKind>; 3], Option<bool>) {
     let is_first = is_answered(rt, PORT, PORT_A, NOT_FOUND) == Some(true);
-    let told = [Ok(is_first), looked_up(rt, 2), looked_up(rt, 3)];
-    (told, is_answered(rt, PORT, KILL, b"OK"))
+    let actual = [Ok(is_first), looked_up(rt, 2), looked_up(rt, 3)];
+    (actual, is_answered(rt, PORT, KILL, b"OK"))
 }
 
 #[test]
@@ -30,9 +30,13 @@ fn each_address_that_is_listed_is_listened_on_and_no_other(rt: HostRuntime) -> R
     let alloc = rt.alloc();
     let mut settings = settings_at(alloc, PORT, 60, 1, None)?;
     settings.addresses.push([127, 0, 0, 2])?;
-    let (ended, (told, has_ended)) = thread::join(&rt, || run(&rt, alloc, settings), || told(&rt));
+    let (ended, (actual, has_ended)) = thread::join(
+        &rt,
+        || run(&rt, alloc, settings),
+        || actual(&rt),
+    );
     assert_eq!(rt;
-        told,
+        actual,
         [Ok(true), Ok(true), Err(ErrorKind::ConnectionRefused)]
     );
     assert!(rt; ended.is_ok() && has_ended == Some(true));

@@ -29,7 +29,7 @@ pub struct Pushing {
     pub is_short: AtomicBool,
     pub asked: AtomicU64,
     /// How often the operator was told that the recording has failed.
-    pub told: AtomicU64,
+    pub actual: AtomicU64,
     /// How often, that it goes on again, that memory is short, and that another host was refused.
     pub again: AtomicU64,
     pub short: AtomicU64,
@@ -120,7 +120,7 @@ impl<R: Clock + Files<File = File>> Host for Pushed<R> {
 
     fn notify(&self, _alloc: Global, notice: &Notice<'_>) {
         let count = match notice {
-            Notice::RecordingFailed { .. } => &self.shared.told,
+            Notice::RecordingFailed { .. } => &self.shared.actual,
             Notice::RecordingAgain { .. } => &self.shared.again,
             Notice::ShortOfMemory(_) => &self.shared.short,
             Notice::Remote(_) => &self.shared.remote,

@@ -22,7 +22,7 @@ use std::{fs, thread};
 
 /// What a client does with the daemon, each at the port of this number.
 #[derive(Clone, Copy, PartialEq, Eq)]
-enum Story {
+enum ClientScript {
     /// A node registers, is listed, and leaves.
     Leaves = 14_369,
     /// A node registers, and its connection is reset.
@@ -196,18 +196,22 @@ fn crowds<R: Net<Stream = TcpStream> + Clock>(rt: &R, alloc: Global, port: u16) 
 }
 
 /// Whether the story goes as it should. The daemon is told to end in any case.
-fn goes_well<R: Net<Stream = TcpStream> + Clock>(rt: &R, alloc: Global, story: Story) -> bool {
+fn goes_well<R: Net<Stream = TcpStream> + Clock>(
+    rt: &R,
+    alloc: Global,
+    story: ClientScript,
+) -> bool {
     let port = story as u16;
-    let told = match story {
-        Story::Leaves => leaves(rt, port, LISTED),
-        Story::Records => leaves(rt, port, LISTED_AS_RECORDED),
-        Story::Resets | Story::Nowhere => resets(rt, port),
-        Story::Silent => is_silent(rt, port),
-        Story::Stalls => stalls(rt, alloc, port),
-        Story::Crowds => crowds(rt, alloc, port),
+    let actual = match story {
+        ClientScript::Leaves => leaves(rt, port, LISTED),
+        ClientScript::Records => leaves(rt, port, LISTED_AS_RECORDED),
+        ClientScript::Resets | ClientScript::Nowhere => resets(rt, port),
+        ClientScript::Silent => is_silent(rt, port),
+        ClientScript::Stalls => stalls(rt, alloc, port),
+        ClientScript::Crowds => crowds(rt, alloc, port),
     };
     let has_ended = is_answered(rt, port, KILL, b"OK");
-    told == Some(true) && has_ended == Some(true)
+    actual == Some(true) && has_ended == Some(true)
 }
 
 /// What a daemon at this port is set to, which listens on the host and may be told to end with names active.
@@ -241,12 +245,12 @@ pub fn settings_at(
 }
 
 /// What the daemon of a story is set to.
-fn settings(alloc: Global, story: Story, recording: Option<&str>) -> Result<Settings, Fail>
+fn settings(alloc: Global, story: ClientScript, recording: Option<&str>) -> Result<Settings, Fail>
     ensures addresses { IfOk result (λ settings. 0 < vec_len settings.addresses) }
     ensures timeout { IfOk result (λ settings. (1 ≤ settings.timeout) × (settings.timeout ≤ TIMEOUT_SECONDS_MOST)) }
     ensures workers { IfOk result (λ settings. (1 ≤ settings.workers) × (settings.workers ≤ SEATS_MOST)) }
 {
-    let timeout = if story == Story::Silent { 1 } else { 60 };
+    let timeout = if story == ClientScript::Silent { 1 } else { 60 };
     settings_at(alloc, story as u16, timeout, 2, recording)
 }
 
@@ -260,12 +264,12 @@ fn have_served(ended: &Result<RunEnd, RunFault>, recorded: bool) -> bool {
 }
 
 /// Stories, the path that is recorded to, and whether all was.
-const TOLD: [(Story, Option<&str>, bool); 5] = [
-    (Story::Leaves, None, true),
-    (Story::Resets, None, true),
-    (Story::Silent, None, true),
-    (Story::Stalls, None, true),
-    (Story::Nowhere, Some("/none/there"), false),
+const TOLD: [(ClientScript, Option<&str>, bool); 5] = [
+    (ClientScript::Leaves, None, true),
+    (ClientScript::Resets, None, true),
+    (ClientScript::Silent, None, true),
+    (ClientScript::Stalls, None, true),
+    (ClientScript::Nowhere, Some("/none/there"), false),
 ];
 
 #[test]
@@ -274,8 +278,8 @@ fn each_story_goes_as_it_should(rt: HostRuntime) -> Result<(), Fail> {
     for (story, path, recorded) in TOLD {
         let settings = settings(alloc, story, path)?;
         let daemon = || run(&rt, alloc, settings);
-        let (ended, told) = thread::join(&rt, daemon, || goes_well(&rt, alloc, story));
-        assert!(rt; told && have_served(&ended, recorded));
+        let (ended, actual) = thread::join(&rt, daemon, || goes_well(&rt, alloc, story));
+        assert!(rt; actual && have_served(&ended, recorded));
     }
     Ok(())
 }
@@ -284,10 +288,10 @@ fn each_story_goes_as_it_should(rt: HostRuntime) -> Result<(), Fail> {
 fn a_worker_that_is_held_stops_no_other(rt: HostRuntime) -> Result<(), Fail> {
     let alloc = rt.alloc();
     let gate = Meet::new(&rt);
-    let settings = settings(alloc, Story::Crowds, None)?;
+    let settings = settings(alloc, ClientScript::Crowds, None)?;
     let daemon = || run_gated(&rt, alloc, settings, &gate);
-    let (ended, told) = thread::join(&rt, daemon, || goes_well(&rt, alloc, Story::Crowds));
-    assert!(rt; told && have_served(&ended, true) && gate.have_met());
+    let (ended, actual) = thread::join(&rt, daemon, || goes_well(&rt, alloc, ClientScript::Crowds));
+    assert!(rt; actual && have_served(&ended, true) && gate.have_met());
     Ok(())
 }
 
@@ -303,9 +307,9 @@ pub fn acts_of(ended: &Result<RunEnd, RunFault>) -> u64 {
 fn is_run_of<F: Read + Drop>(alloc: Global, file: F, entries: u64) -> Result<bool, Fail> {
     let mut input = Reading::new(file);
     let mut output = Writing::new(Vec::new(alloc));
-    let told = show(alloc, &mut input, &mut output, u64::MAX, Text::Verdict);
+    let actual = show(alloc, &mut input, &mut output, u64::MAX, Text::Verdict);
     let verdict = format!(in alloc; "run of {entries} entries\n")?;
-    Ok(told == Ok(Verdict::Run) && output.into_inner().as_slice() == verdict.as_bytes())
+    Ok(actual == Ok(Verdict::Run) && output.into_inner().as_slice() == verdict.as_bytes())
 }
 
 /// A file of this test alone, in the folder that tests run in.
@@ -314,10 +318,14 @@ const RECORDING: &str = "recording-14374";
 #[test]
 fn what_is_answered_is_recorded(rt: HostRuntime) -> Result<(), Fail> {
     let alloc = rt.alloc();
-    let settings = settings(alloc, Story::Records, Some(RECORDING))?;
+    let settings = settings(alloc, ClientScript::Records, Some(RECORDING))?;
     let daemon = || run(&rt, alloc, settings);
-    let (ended, told) = thread::join(&rt, daemon, || goes_well(&rt, alloc, Story::Records));
-    assert!(rt; told && have_served(&ended, true));
+    let (ended, actual) = thread::join(
+        &rt,
+        daemon,
+        || goes_well(&rt, alloc, ClientScript::Records),
+    );
+    assert!(rt; actual && have_served(&ended, true));
     let file = File::open(&rt, RECORDING)?;
     fs::remove_file(&rt, RECORDING)?;
     is_so(&rt, is_run_of(alloc, file, acts_of(&ended)))

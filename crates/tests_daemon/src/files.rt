@@ -5,7 +5,7 @@ use portmap_book::{Desk, PARTS};
 use portmap_testing::books::small_book;
 use portmap_testing::bytes::ALIVE_A;
 use portmap_testing::sessions::CLOSES;
-use portmap_worker::{Part, RecordQueue, begin_file, write_recording};
+use portmap_worker::{RecordItem, RecordQueue, begin_file, write_recording};
 use std::alloc::Global;
 use std::fs::{File, Files};
 use std::marker::Brand;
@@ -45,7 +45,7 @@ fn record_log<L: Ledger, R: Wait>(rt: &R, alloc: Global, desk: &Desk<L>, queue: 
     let mut entries = Vec::new(alloc);
     let mut makers = Vec::new(alloc);
     desk.advance(rt, alloc, &mut entries, &mut makers);
-    queue.put(rt, Some(Part::Entries(entries, makers)));
+    queue.put(rt, Some(RecordItem::Entries(entries, makers)));
 }
 
 /// Begins the next file.

@@ -1,7 +1,7 @@
 //! The file of a recording as the host makes it, and what an operator reads.
 use portmap_core::Fate;
 use portmap_testing::bytes::{ALIVE_A, ALIVE_B, DUMP, FOURTH, KILL, NOT_FOUND, PORT_A, STOP_A};
-use portmap_testing::entries::{Kept, entry};
+use portmap_testing::entries::{SampleEntry, entry};
 use portmap_worker::{Host, LocalRequest, Notice, RecordFile, Refused, RemoteRefused, RemoteSlots};
 use std::alloc::Global;
 use std::fs;
@@ -162,22 +162,22 @@ const IN_USE_SHORT: &[u8] = &[0x79, 0x01, 0x00, 0x00];
 const NO_ROOM: &[u8] = &[0x76, 0x02, 0x00, 0x00, 0x00, 0x00];
 
 /// Of these none is refused since its name is in use.
-const OTHERS: &[Kept] = &[
-    Kept::Connected(true, 0),
-    Kept::Piece(0, PORT_A, NOT_FOUND, Fate::Close),
-    Kept::Piece(1, ALIVE_A, FOURTH, Fate::Stay),
-    Kept::Piece(2, ALIVE_B, NO_ROOM, Fate::Close),
+const OTHERS: &[SampleEntry] = &[
+    SampleEntry::Connected(true, 0),
+    SampleEntry::Piece(0, PORT_A, NOT_FOUND, Fate::Close),
+    SampleEntry::Piece(1, ALIVE_A, FOURTH, Fate::Stay),
+    SampleEntry::Piece(2, ALIVE_B, NO_ROOM, Fate::Close),
 ];
 
 /// The end of a registration, and two whole ones.
-const REFUSED: &[Kept] = &[
-    Kept::Piece(3, b"c\0\0", IN_USE, Fate::Close),
-    Kept::Piece(4, ALIVE_A, IN_USE_SHORT, Fate::Close),
-    Kept::Piece(5, ALIVE_B, IN_USE, Fate::Close),
+const REFUSED: &[SampleEntry] = &[
+    SampleEntry::Piece(3, b"c\0\0", IN_USE, Fate::Close),
+    SampleEntry::Piece(4, ALIVE_A, IN_USE_SHORT, Fate::Close),
+    SampleEntry::Piece(5, ALIVE_B, IN_USE, Fate::Close),
 ];
 
 /// Whether so many of these entries count, and this line tells of them.
-fn is_told(alloc: Global, entries: &[Kept], count: u64, line: &[u8]) -> Result<bool, Fail> {
+fn is_told(alloc: Global, entries: &[SampleEntry], count: u64, line: &[u8]) -> Result<bool, Fail> {
     let mut refused = Refused::new();
     for kept in entries {
         refused.note(alloc, &entry(alloc, kept)?);
@@ -197,32 +197,32 @@ fn an_operator_reads_of_names_that_are_in_use(rt: HostRuntime) -> Result<(), Fai
 }
 
 /// Another host has slots 1 and 3, and this one slot 2.
-const ROUNDS: &[Kept] = &[
-    Kept::Connected(false, 1),
-    Kept::Connected(true, 2),
-    Kept::Connected(false, 3),
+const ROUNDS: &[SampleEntry] = &[
+    SampleEntry::Connected(false, 1),
+    SampleEntry::Connected(true, 2),
+    SampleEntry::Connected(false, 3),
 ];
 
 /// None of these is a request of another host that was refused: of this host, answered, in parts, a look-up, or of a
 /// slot that is this host's again.
-const UNCOUNTED: &[Kept] = &[
-    Kept::Piece(2, DUMP, b"", Fate::Close),
-    Kept::Piece(1, DUMP, b"dump", Fate::Close),
-    Kept::Piece(1, DUMP, b"", Fate::Stay),
-    Kept::Piece(1, b"\0", b"", Fate::Close),
-    Kept::Piece(1, PORT_A, b"", Fate::Close),
-    Kept::Closed(1),
-    Kept::Connected(true, 1),
-    Kept::Piece(1, DUMP, b"", Fate::Close),
-    Kept::Piece(7, DUMP, b"", Fate::Close),
+const UNCOUNTED: &[SampleEntry] = &[
+    SampleEntry::Piece(2, DUMP, b"", Fate::Close),
+    SampleEntry::Piece(1, DUMP, b"dump", Fate::Close),
+    SampleEntry::Piece(1, DUMP, b"", Fate::Stay),
+    SampleEntry::Piece(1, b"\0", b"", Fate::Close),
+    SampleEntry::Piece(1, PORT_A, b"", Fate::Close),
+    SampleEntry::Closed(1),
+    SampleEntry::Connected(true, 1),
+    SampleEntry::Piece(1, DUMP, b"", Fate::Close),
+    SampleEntry::Piece(7, DUMP, b"", Fate::Close),
 ];
 
 /// Each of these is one.
-const COUNTED: &[Kept] = &[
-    Kept::Piece(3, STOP_A, b"", Fate::Close),
-    Kept::Piece(3, KILL, b"", Fate::Close),
-    Kept::Piece(3, DUMP, b"", Fate::Close),
-    Kept::Piece(3, ALIVE_A, b"", Fate::Close),
+const COUNTED: &[SampleEntry] = &[
+    SampleEntry::Piece(3, STOP_A, b"", Fate::Close),
+    SampleEntry::Piece(3, KILL, b"", Fate::Close),
+    SampleEntry::Piece(3, DUMP, b"", Fate::Close),
+    SampleEntry::Piece(3, ALIVE_A, b"", Fate::Close),
 ];
 
 /// Notes these entries of a log with five slots.
@@ -230,7 +230,7 @@ fn note_all(
     alloc: Global,
     refused: &mut RemoteRefused,
     slots: &mut RemoteSlots,
-    entries: &[Kept],
+    entries: &[SampleEntry],
 ) -> Result<(), Fail> {
     for kept in entries {
         let entry = entry(alloc, kept)?;

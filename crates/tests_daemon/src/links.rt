@@ -56,8 +56,8 @@ impl Call {
 
 #[test]
 fn only_a_call_that_would_have_waited_ends_the_asking(rt: HostRuntime) -> Result<(), Fail> {
-    let told: Vec<CallOutcome> = STEPS.iter().map(|step| step.1).collect(rt.alloc())?;
-    let mut link = Link::new(rt.alloc(), scripted(&told), false, 0);
+    let actual: Vec<CallOutcome> = STEPS.iter().map(|step| step.1).collect(rt.alloc())?;
+    let mut link = Link::new(rt.alloc(), scripted(&actual), false, 0);
     assert!(rt; link.may_move());
     for Step(call, _, is_later, may_move) in STEPS {
         assert_eq!(rt;

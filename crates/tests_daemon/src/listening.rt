@@ -34,7 +34,7 @@ fn beside_an_ipv4_address_stands_one_of_ipv6(rt: HostRuntime) -> Result<(), Fail
 
 /// What comes of a look-up and of a registration at the host's IPv6 address, and whether the daemon at 127.0.0.1 ends
 /// then.
-fn told(rt: &HostRuntime) -> ([Option<bool>; 2], bool) {
+fn actual(rt: &HostRuntime) -> ([Option<bool>; 2], bool) {
     let is_up = is_answered(rt, PORT, PORT_A, NOT_FOUND) == Some(true);
     let looked_up = told_at(rt, LOOPBACK_OF_IPV6, PORT, PORT_A, NOT_FOUND).ok();
     let registered = told_at(rt, LOOPBACK_OF_IPV6, PORT, ALIVE_A, TAKEN).ok();
@@ -48,8 +48,8 @@ fn a_daemon_of_the_host_serves_its_ipv6_peers_too(rt: HostRuntime) -> Result<(),
     let alloc = rt.alloc();
     let has_ipv6 = TcpListener::bind(&rt, (LOOPBACK_OF_IPV6, 0)).is_ok();
     let settings = settings_at(alloc, PORT, 60, 2, None)?;
-    let (ended, told) = thread::join(&rt, || run(&rt, alloc, settings), || told(&rt));
-    assert_eq!(rt; told, ([has_ipv6.then_some(true); 2], true));
+    let (ended, actual) = thread::join(&rt, || run(&rt, alloc, settings), || actual(&rt));
+    assert_eq!(rt; actual, ([has_ipv6.then_some(true); 2], true));
     assert!(rt; ended.is_ok());
     Ok(())
 }
@@ -88,8 +88,8 @@ fn who_connects_between_two_daemons_is_served_by_the_second(rt: HostRuntime) -> 
         let settings = settings_at(alloc, 1, 60, 2, None)?;
         let listening = handed(alloc, &socket)?;
         let daemon = || run_over(&rt, alloc, settings, &Open, listening, FILE_BYTES_MOST);
-        let (told, ended) = thread::join(&rt, || is_served(&rt), daemon);
-        assert!(rt; told && ended.is_ok());
+        let (actual, ended) = thread::join(&rt, || is_served(&rt), daemon);
+        assert!(rt; actual && ended.is_ok());
     }
     Ok(())
 }

@@ -95,8 +95,8 @@ fn while_memory_is_short_no_name_is_registered_and_for_five_seconds_at_most(
         let (is_over, starves) = (is_over(&rt, pushing), starves(&rt, pushing));
         (has_begun, is_spared, is_over, starves)
     };
-    let (ended, told) = thread::join(&rt, || run(&host, alloc, settings), client);
-    assert_eq!(rt; told, (true, Some(true), true, Some(true)));
+    let (ended, actual) = thread::join(&rt, || run(&host, alloc, settings), client);
+    assert_eq!(rt; actual, (true, Some(true), true, Some(true)));
     assert!(rt; host.pushing().short.load(Ordering::SeqCst) > 0);
     assert!(rt; matches!(ended, Err(RunFault::NoMemory)));
     Ok(())

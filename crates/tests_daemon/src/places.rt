@@ -81,8 +81,8 @@ fn a_connection_that_says_nothing_makes_room_for_others(rt: HostRuntime) -> Resu
         let makes_room = makes_room(&rt, 14_440, clock.pushing());
         (makes_room, is_answered(&rt, 14_440, KILL, b"OK"))
     };
-    let (ended, told) = thread::join(&rt, || serves(&clock, rt.alloc(), 14_440), client);
-    assert_eq!(rt; told, (Some(true), Some(true)));
+    let (ended, actual) = thread::join(&rt, || serves(&clock, rt.alloc(), 14_440), client);
+    assert_eq!(rt; actual, (Some(true), Some(true)));
     assert!(rt; ended?);
     Ok(())
 }

@@ -25,8 +25,8 @@ fn listening(rt: &HostRuntime, ports: &[u16]) -> Option<MioSystem> {
         sockets.push(socket).ok()?;
     }
     let (mut system, _) = MioSystem::open(rt, rt.alloc(), &sockets).ok()?;
-    for place in 0..ports.len() {
-        system.listen(place).ok()?;
+    for index in 0..ports.len() {
+        system.listen(index).ok()?;
     }
     Some(system)
 }

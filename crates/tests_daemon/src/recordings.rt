@@ -51,8 +51,8 @@ fn a_recording_that_stalls_holds_nobody(rt: HostRuntime) -> Result<(), Fail> {
     let path = path_of(alloc, &full)?;
     let settings = settings_at(alloc, PORT, 60, 2, Some(path.as_str()))?;
     let host = Pushed::new(rt, alloc)?;
-    let (ended, told) = thread::join(&rt, || run(&host, alloc, settings), || are_answered(&rt));
-    assert!(rt; told && acts_of(&ended) > u64::from(LOOK_UPS));
+    let (ended, actual) = thread::join(&rt, || run(&host, alloc, settings), || are_answered(&rt));
+    assert!(rt; actual && acts_of(&ended) > u64::from(LOOK_UPS));
     assert!(rt; is_told_once(&host, &ended));
     Ok(())
 }
@@ -60,7 +60,7 @@ fn a_recording_that_stalls_holds_nobody(rt: HostRuntime) -> Result<(), Fail> {
 /// Whether the daemon has told once that its recording failed, and ends so.
 fn is_told_once<R: Clock + Copy>(host: &Pushed<R>, ended: &Result<RunEnd, RunFault>) -> bool {
     let is_told_so = ended.as_ref().is_ok_and(|end| !end.recorded);
-    is_told_so && host.pushing().told.load(Ordering::SeqCst) == 1
+    is_told_so && host.pushing().actual.load(Ordering::SeqCst) == 1
 }
 
 /// Whether the operator is told while the daemon serves.
@@ -69,7 +69,7 @@ fn is_told_at_once<R: Net<Stream = TcpStream> + Clock + Copy>(
     host: &Pushed<R>,
     port: u16,
 ) -> Option<bool> {
-    let is_told = is_raised(rt, &host.pushing().told);
+    let is_told = is_raised(rt, &host.pushing().actual);
     let serves = is_answered(rt, port, PORT_A, NOT_FOUND)?;
     Some(is_answered(rt, port, KILL, b"OK")? && is_told && serves)
 }
@@ -80,8 +80,8 @@ fn a_recording_that_fails_is_told_at_once_and_once(rt: HostRuntime) -> Result<()
     let settings = settings_at(alloc, MUTE_PORT, 60, 1, Some("nowhere/recording"))?;
     let host = Pushed::new(rt, alloc)?;
     let client = || is_told_at_once(&rt, &host, MUTE_PORT);
-    let (ended, told) = thread::join(&rt, || run(&host, alloc, settings), client);
-    assert!(rt; told == Some(true) && is_told_once(&host, &ended));
+    let (ended, actual) = thread::join(&rt, || run(&host, alloc, settings), client);
+    assert!(rt; actual == Some(true) && is_told_once(&host, &ended));
     Ok(())
 }
 
@@ -100,7 +100,7 @@ const AGAIN_SECONDS: u32 = 30;
 /// Whether the operator reads that the recording failed, and that it goes on again once its folder is there: a node
 /// that has registered before is found in it.
 fn goes_on_again(rt: &HostRuntime, host: &Pushing) -> Option<bool> {
-    let has_failed = is_raised(rt, &host.told);
+    let has_failed = is_raised(rt, &host.actual);
     let _node = registered(rt, AGAIN_PORT)?;
     fs::create_dir(rt, AGAIN_FOLDER).ok()?;
     for _ in 0..AGAIN_SECONDS {
@@ -134,8 +134,8 @@ fn a_recording_that_failed_begins_anew_once_it_can(rt: HostRuntime) -> Result<()
     let settings = settings_at(alloc, AGAIN_PORT, 60, 1, Some(AGAIN))?;
     let host = Pushed::new(rt, alloc)?;
     let client = || goes_on_again(&rt, host.pushing());
-    let (ended, told) = thread::join(&rt, || run(&host, alloc, settings), client);
-    assert_eq!(rt; told, Some(true));
+    let (ended, actual) = thread::join(&rt, || run(&host, alloc, settings), client);
+    assert_eq!(rt; actual, Some(true));
     assert!(rt; is_told_once(&host, &ended));
     assert!(rt; held(&rt, AGAIN)?.is_some_and(|(first, count)| first > 0 && count > 3));
     fs::remove_file(&rt, AGAIN_TIMES)?;
@@ -151,8 +151,8 @@ fn a_recording_that_can_not_start_is_told_at_once_and_once(rt: HostRuntime) -> R
     let host = Pushed::new(rt, alloc)?;
     host.pushing().is_alone.store(true, Ordering::SeqCst);
     let client = || is_told_at_once(&rt, &host, UNSTARTED_PORT);
-    let (ended, told) = thread::join(&rt, || run(&host, alloc, settings), client);
-    assert!(rt; told == Some(true) && is_told_once(&host, &ended));
+    let (ended, actual) = thread::join(&rt, || run(&host, alloc, settings), client);
+    assert!(rt; actual == Some(true) && is_told_once(&host, &ended));
     Ok(())
 }
 
@@ -200,18 +200,18 @@ fn numbered(alloc: Global, number: u32) -> Result<String, AllocError> {
 
 /// How many entries the files have together, where each one begins at the place at which the one before it ended.
 fn recorded(rt: &HostRuntime) -> Result<Option<u64>, Fail> {
-    let mut place = 0u64;
+    let mut index = 0u64;
     for number in 0..1000 {
         let path = numbered(rt.alloc(), number)?;
         if !fs::exists(rt, path.as_str())? {
             break;
         }
         match held(rt, path.as_str())? {
-            Some((first, count)) if first == place => place = place.saturating_add(count),
+            Some((first, count)) if first == index => index = index.saturating_add(count),
             _ => return Ok(None),
         }
     }
-    Ok(Some(place))
+    Ok(Some(index))
 }
 
 #[test]
@@ -223,9 +223,9 @@ fn a_recording_goes_on_in_files_that_follow_one_another(rt: HostRuntime) -> Resu
     let listening = vec![in alloc; socket]?;
     // So many bytes a header has with which nothing is known: each file is full at once.
     let daemon = || run_over(&rt, alloc, settings, &Open, listening, 37);
-    let (ended, told) = thread::join(&rt, daemon, || goes_on(&rt));
+    let (ended, actual) = thread::join(&rt, daemon, || goes_on(&rt));
     let acts = acts_of(&ended);
-    assert!(rt; told == Some(true) && ended.is_ok_and(|end| end.recorded));
+    assert!(rt; actual == Some(true) && ended.is_ok_and(|end| end.recorded));
     assert_eq!(rt; recorded(&rt)?, Some(acts));
     Ok(())
 }

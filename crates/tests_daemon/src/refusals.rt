@@ -84,10 +84,10 @@ fn a_recording_that_lacks_entries_is_told_to_have_failed(rt: HostRuntime) -> Res
     let path = path_of(alloc, &writer)?;
     let host = Pushed::new(rt, alloc)?;
     let blank = Blank::new(PARTS);
-    let told = is_told_whole::<Brand, Pushed<HostRuntime>>(&host, alloc, blank, path);
+    let actual = is_told_whole::<Brand, Pushed<HostRuntime>>(&host, alloc, blank, path);
     drop(writer);
     let has_all = has_all(alloc, reader)?;
-    assert_eq!(rt; told, Some(has_all));
+    assert_eq!(rt; actual, Some(has_all));
     assert!(rt; has_all || was_refused(alloc));
     Ok(())
 }

@@ -1,6 +1,6 @@
 //! Recordings in several files, over memory.
 use super::ending;
-use crate::auditing::{do_audit, first_place, number_of, parts_of};
+use crate::auditing::{do_audit, files_of, first_place, number_of};
 use portmap_core::{Config, Core, Entry, Event, State};
 use portmap_link::{Reading, Writing};
 use portmap_record::{Record, Version, write_record};
@@ -72,12 +72,12 @@ fn session(
     let mut core = Core::new(alloc, config, 4)?;
     let mut start = core.state(alloc)?;
     let mut entries = Vec::new(alloc);
-    for (place, event) in events(alloc, node)?.into_iter().enumerate() {
-        if place == first {
+    for (index, event) in events(alloc, node)?.into_iter().enumerate() {
+        if index == first {
             start = core.state(alloc)?;
         }
         let (entry, _) = core.entry(alloc, event)?;
-        if first <= place && place < behind {
+        if first <= index && index < behind {
             entries.push(entry)?;
         }
     }
@@ -131,7 +131,7 @@ impl Trial for Files {
             numbers.push(number.parse::<u64>()?)?;
             files.push(file_of(alloc, word)?)?;
         }
-        let parts = parts_of(alloc, "session", numbers)?;
+        let parts = files_of(alloc, "session", numbers)?;
         let first = files.first().map_or(0, |file| first_place(file.as_slice()));
         let mut inputs = VecDeque::new(alloc);
         for file in &files {

@@ -59,7 +59,7 @@ fn ended<W: Write>(
 }
 
 /// How an action ends over this stream, behind `unasked` where its request was not written whole.
-fn told(alloc: Global, word: &str, tape: &mut Tape<'_>) -> Result<String, Fail> {
+fn printed(alloc: Global, word: &str, tape: &mut Tape<'_>) -> Result<String, Fail> {
     let mut output = Writing::new(Vec::new(alloc));
     let mut errors = Writing::new(Vec::new(alloc));
     let (status, is_asked) = ended(alloc, word, tape, &mut output, &mut errors)?;
@@ -79,9 +79,9 @@ impl Trial for Asks {
         let answer = answer.replace(alloc, "4369:", "\0\0\x11\x11")?;
         let answer = answer.as_str().replace(alloc, "MANY", many.as_str())?;
         let answer = bytes_of(alloc, answer.as_str())?;
-        let told = told(alloc, word, &mut Tape::new(alloc, &answer, plan(stream)))?;
-        let told = told.as_str().replace(alloc, many.as_str(), "MANY")?;
-        Ok(told.as_str().replace(alloc, HEAD, "4369:")?)
+        let printed = printed(alloc, word, &mut Tape::new(alloc, &answer, plan(stream)))?;
+        let printed = printed.as_str().replace(alloc, many.as_str(), "MANY")?;
+        Ok(printed.as_str().replace(alloc, HEAD, "4369:")?)
     }
 }
 
@@ -174,7 +174,7 @@ fn a_silent_port_mapper_is_strange_at_the_thousandth_later(rt: HostRuntime) -> R
 const FAILED: &[u8] = b"epmd: input or output failed\n";
 
 /// Whether a list to this output ends with this status, and this is told of errors.
-fn is_told<W: Write>(
+fn is_printed<W: Write>(
     alloc: Global,
     output: &mut Writing<W>,
     status: u8,
@@ -190,9 +190,9 @@ fn is_told<W: Write>(
 fn an_output_that_fails_is_told(rt: HostRuntime) -> Result<(), Fail> {
     let mut room = [0u8; 50];
     let mut full = Writing::new(room.as_mut_slice());
-    assert!(rt; is_told(rt.alloc(), &mut full, 3, FAILED)?);
+    assert!(rt; is_printed(rt.alloc(), &mut full, 3, FAILED)?);
     let mut broken = Writing::new(Broken);
-    assert!(rt; is_told(rt.alloc(), &mut broken, 3, FAILED)?);
+    assert!(rt; is_printed(rt.alloc(), &mut broken, 3, FAILED)?);
     Ok(())
 }
 
@@ -206,7 +206,7 @@ const IN_PARTS: &[CallOutcome] = &[
 #[test]
 fn a_list_is_told_in_as_many_parts_as_it_takes(rt: HostRuntime) -> Result<(), Fail> {
     let mut output = Writing::new(scripted(IN_PARTS));
-    assert!(rt; is_told(rt.alloc(), &mut output, 0, b"")?);
+    assert!(rt; is_printed(rt.alloc(), &mut output, 0, b"")?);
     assert_eq!(rt; output.into_inner().asked, 3);
     Ok(())
 }

@@ -40,18 +40,18 @@ fn ended(alloc: Global, fault: HandedFault) -> Result<String, Fail> {
 
 #[test]
 fn what_is_handed_over_and_does_not_listen_is_told(rt: HostRuntime) -> Result<(), Fail> {
-    let told = ended(rt.alloc(), HandedFault::NotListening(4))?;
+    let printed = ended(rt.alloc(), HandedFault::NotListening(4))?;
     assert_eq!(rt;
-        told.as_str(),
+        printed.as_str(),
         "1 err epmd: descriptor 4 is no listening socket|"
     );
-    let told = ended(rt.alloc(), HandedFault::NoMemory)?;
-    assert_eq!(rt; told.as_str(), "3 err epmd: out of memory|");
+    let printed = ended(rt.alloc(), HandedFault::NoMemory)?;
+    assert_eq!(rt; printed.as_str(), "3 err epmd: out of memory|");
     Ok(())
 }
 
 /// What is told of port and addresses, where so many sockets are handed over to the daemon of this command.
-fn told(alloc: Global, command: &Command, sockets: usize) -> Result<String, Fail> {
+fn printed(alloc: Global, command: &Command, sockets: usize) -> Result<String, Fail> {
     let mut errors = Writing::new(Vec::new(alloc));
     let sockets = [(); 9].get(..sockets).unwrap_or(&[]);
     report_without_effect(&mut errors, command, sockets);
@@ -72,7 +72,7 @@ impl Trial for Over {
     fn came(&self, alloc: Global, given: &str) -> Result<String, Fail> {
         let (sockets, line) = given.split_once(' ').unwrap_or(("9", given));
         match command(alloc, line) {
-            Ok(command) => told(alloc, &command, sockets.parse::<usize>()?),
+            Ok(command) => printed(alloc, &command, sockets.parse::<usize>()?),
             Err(fault) => Ok(format!(in alloc; "fault {fault:?}")?),
         }
     }

@@ -4,7 +4,7 @@ ghost use Rattle.std.specs.Prelude.{◌≡◌};
 use super::{bytes_of, ending};
 use crate::actions::Failure;
 use crate::health::{Checked, Outcome, Step, do_health, health_node, look_up, register};
-use portmap_link::{Past, Writing};
+use portmap_link::{GhostList, Writing};
 use portmap_testing::bytes::Bytes;
 use portmap_testing::cases::{Trial, all_come};
 use portmap_testing::tape::{STEADY, Tape};
@@ -19,7 +19,7 @@ struct Scripted<'a> {
     look_ups: usize,
     closed: usize,
     pauses: usize,
-    steps: Past<(Step, Outcome)>,
+    steps: GhostList<(Step, Outcome)>,
 }
 
 impl<'a> Scripted<'a> {
@@ -30,7 +30,7 @@ impl<'a> Scripted<'a> {
             look_ups: 0,
             closed: 0,
             pauses: 0,
-            steps: Past::new(),
+            steps: GhostList::new(),
         }
     }
 
@@ -47,8 +47,8 @@ impl<'a> Scripted<'a> {
 
     /// What comes of the request of this number.
     fn reply(&self) -> Outcome {
-        let place = self.registrations.saturating_add(self.look_ups);
-        match self.words.get(place.saturating_sub(1)) {
+        let index = self.registrations.saturating_add(self.look_ups);
+        match self.words.get(index.saturating_sub(1)) {
             Some(word) => meant(word),
             None => Err(Failure::StrangeAnswer),
         }
@@ -93,10 +93,10 @@ fn words_of<'a>(alloc: Global, line: &'a str) -> Result<Vec<&'a str>, Fail> {
 }
 
 /// Appends how many registrations, look-ups, closes and pauses a port mapper saw.
-fn put_counts(told: &mut String, peer: &Scripted<'_>) -> Result<(), Fail> {
+fn put_counts(printed: &mut String, peer: &Scripted<'_>) -> Result<(), Fail> {
     let (first, second) = (peer.registrations, peer.look_ups);
     let (closed, pauses) = (peer.closed, peer.pauses);
-    write!(told, " saw {first} {second} {closed} {pauses}")?;
+    write!(printed, " saw {first} {second} {closed} {pauses}")?;
     Ok(())
 }
 
@@ -111,10 +111,10 @@ impl Trial for Checks {
         let mut six = Scripted::new(words_of(alloc, six)?);
         let mut errors = Writing::new(Vec::new(alloc));
         let status = do_health(&mut four, &mut six, has_ipv6, 4369, &mut errors);
-        let mut told = ending(alloc, status, b"", &errors.into_inner())?;
-        put_counts(&mut told, &four)?;
-        put_counts(&mut told, &six)?;
-        Ok(told)
+        let mut printed = ending(alloc, status, b"", &errors.into_inner())?;
+        put_counts(&mut printed, &four)?;
+        put_counts(&mut printed, &six)?;
+        Ok(printed)
     }
 }
 

@@ -119,7 +119,7 @@ fn ends_so<
         &output.into_inner(),
         &errors.into_inner(),
     ) {
-        Ok(told) => told.as_str() == wanted,
+        Ok(printed) => printed.as_str() == wanted,
         Err(_) => false,
     }
 }
@@ -188,8 +188,8 @@ fn a_file_is_judged_at_its_path(rt: HostRuntime) -> Result<(), Fail> {
 
 #[test]
 fn a_folder_is_no_record(rt: HostRuntime) -> Result<(), Fail> {
-    let told = "3 err epmd: input or output failed|epmd: in .|";
-    assert!(rt; ends_so(&rt, &rt, "epmd -check .", told));
+    let printed = "3 err epmd: input or output failed|epmd: in .|";
+    assert!(rt; ends_so(&rt, &rt, "epmd -check .", printed));
     Ok(())
 }
 
@@ -221,11 +221,11 @@ fn the_files_of_a_recording_are_found_beside_its_first(rt: HostRuntime) -> Resul
         assert!(rt; ends_so(&rt, &rt, line, wanted), "{line}");
     }
     fs::remove_file(&rt, "recorded")?;
-    let told =
+    let printed =
         "0 out run of 4 entries in 2 files| err epmd: the files before ./recorded.2 are gone|";
-    assert!(rt; ends_so(&rt, &rt, "epmd -audit ./recorded", told));
-    let told = "3 err epmd: input or output failed|epmd: gone: No such file or directory|";
-    assert!(rt; ends_so(&rt, &rt, "epmd -audit gone/recorded", told));
+    assert!(rt; ends_so(&rt, &rt, "epmd -audit ./recorded", printed));
+    let printed = "3 err epmd: input or output failed|epmd: gone: No such file or directory|";
+    assert!(rt; ends_so(&rt, &rt, "epmd -audit gone/recorded", printed));
     for (path, _) in RECORDED.iter().skip(1) {
         fs::remove_file(&rt, *path)?;
     }
@@ -236,10 +236,10 @@ fn the_files_of_a_recording_are_found_beside_its_first(rt: HostRuntime) -> Resul
 fn a_file_that_is_no_plain_one_is_not_opened(rt: HostRuntime) -> Result<(), Fail> {
     fs::write(&rt, "plain", &file_of(rt.alloc(), "a0..2")?)?;
     fs::create_dir(&rt, "plain.1")?;
-    let told = "3 err epmd: plain.1: input or output failed|";
-    assert!(rt; ends_so(&rt, &rt, "epmd -audit plain", told));
+    let printed = "3 err epmd: plain.1: input or output failed|";
+    assert!(rt; ends_so(&rt, &rt, "epmd -audit plain", printed));
     fs::remove_file(&rt, "plain")?;
-    assert!(rt; ends_so(&rt, &rt, "epmd -audit plain", told));
+    assert!(rt; ends_so(&rt, &rt, "epmd -audit plain", printed));
     fs::remove_dir(&rt, "plain.1")?;
     Ok(())
 }
@@ -252,10 +252,10 @@ fn an_input_that_fails_is_told(rt: HostRuntime) -> Result<(), Fail> {
 
 #[test]
 fn a_port_mapper_that_is_not_there_is_told(rt: HostRuntime) -> Result<(), Fail> {
-    let told = "1 err epmd: Cannot connect to local epmd|";
-    assert!(rt; ends_so(&rt, &rt, "epmd -port 14472 -names", told));
-    let told = "1 err epmd: cannot connect to 127.0.0.1:14472|";
-    assert!(rt; ends_so(&rt, &rt, "epmd -port 14472 -health", told));
+    let printed = "1 err epmd: Cannot connect to local epmd|";
+    assert!(rt; ends_so(&rt, &rt, "epmd -port 14472 -names", printed));
+    let printed = "1 err epmd: cannot connect to 127.0.0.1:14472|";
+    assert!(rt; ends_so(&rt, &rt, "epmd -port 14472 -health", printed));
     Ok(())
 }
 

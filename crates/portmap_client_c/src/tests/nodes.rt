@@ -49,10 +49,10 @@ fn texts(node: &Lengths) -> (Bytes, Bytes) {
 }
 
 /// The fields of ALIVE2_REQ and PORT2_RESP behind this front.
-fn fields(alloc: Global, front: &[u8], node: &Lengths) -> Result<Vec<u8>, Fail> {
+fn fields(alloc: Global, prefix: &[u8], node: &Lengths) -> Result<Vec<u8>, Fail> {
     let (name, nlen, extra, elen, _, _) = *node;
     let parts = [
-        (front, 1),
+        (prefix, 1),
         (NUMBERS, 1),
         (nlen, 1),
         (b"a", name),
@@ -64,8 +64,8 @@ fn fields(alloc: Global, front: &[u8], node: &Lengths) -> Result<Vec<u8>, Fail> 
 
 /// ALIVE2_REQ.
 fn registration(alloc: Global, node: &Lengths) -> Result<Vec<u8>, Fail> {
-    let front = spelled(alloc, &[(node.4, 1), (b"x", 1)])?;
-    fields(alloc, &front, node)
+    let prefix = spelled(alloc, &[(node.4, 1), (b"x", 1)])?;
+    fields(alloc, &prefix, node)
 }
 
 /// PORT_PLEASE2_REQ or STOP_REQ, by its first byte.
@@ -131,8 +131,8 @@ fn is_found(status: i32, bytes: &[u8], found: &EpmdFound, node: &Lengths) -> boo
 
 /// Whether a text in bytes is this one.
 fn has(bytes: &[u8], place: &EpmdText, text: &[u8]) -> bool {
-    let front = bytes.get(..place.at.saturating_add(place.size));
-    front.is_some_and(|front| front.get(place.at..) == Some(text))
+    let prefix = bytes.get(..place.at.saturating_add(place.size));
+    prefix.is_some_and(|prefix| prefix.get(place.at..) == Some(text))
 }
 
 fn is_looked_up(alloc: Global, socket: i32, node: &Lengths) -> bool {

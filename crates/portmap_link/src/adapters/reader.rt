@@ -3,7 +3,7 @@ ghost use Rattle.std.specs.Prelude.{◌≡◌, [], false};
 ghost use Rattle.portmap_link.specs.Adapters.{reading_inner, reading_pulls, reading_broken};
 
 use super::read_once;
-use crate::{Device, Input, Past, Pull};
+use crate::{Device, GhostList, Input, Pull};
 use std::io::Read;
 
 /// A reader as a device.
@@ -11,7 +11,7 @@ use std::io::Read;
 pub struct Reading<R: Read> {
     inner: R,
     failed: bool,
-    pulls: Past<Pull>,
+    pulls: GhostList<Pull>,
 }
 
 impl<R: Read> Reading<R> {
@@ -24,7 +24,7 @@ impl<R: Read> Reading<R> {
         Reading {
             inner,
             failed: false,
-            pulls: Past::new(),
+            pulls: GhostList::new(),
         }
     }
 

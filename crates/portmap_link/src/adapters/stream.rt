@@ -5,7 +5,7 @@ ghost use Rattle.portmap_link.specs.contracts.adapters.stream.Both.{the_row};
 ghost use Rattle.portmap_link.specs.Adapters.{both_inner, both_pulls, both_puts, both_broken};
 
 use super::{read_once, write_once};
-use crate::{Device, Input, Output, Past, Pull, Put};
+use crate::{Device, GhostList, Input, Output, Pull, Put};
 use std::io::{Read, Write};
 
 /// A stream that is read and written as a device. The standard library doesn't say what a read does to the bytes that
@@ -14,8 +14,8 @@ use std::io::{Read, Write};
 pub struct Both<S: Read + Write> {
     inner: S,
     failed: bool,
-    pulls: Past<Pull>,
-    puts: Past<Put>,
+    pulls: GhostList<Pull>,
+    puts: GhostList<Put>,
 }
 
 impl<S: Read + Write> Both<S> {
@@ -29,8 +29,8 @@ impl<S: Read + Write> Both<S> {
         Both {
             inner,
             failed: false,
-            pulls: Past::new(),
-            puts: Past::new(),
+            pulls: GhostList::new(),
+            puts: GhostList::new(),
         }
     }
 

@@ -4,7 +4,7 @@ ghost use Rattle.std.specs.Io.KnownBytes.{Keeps};
 ghost use Rattle.portmap_link.specs.Adapters.{writing_inner, writing_puts, writing_broken};
 
 use super::write_once;
-use crate::{Device, Output, Past, Put};
+use crate::{Device, GhostList, Output, Put};
 use std::io::Write;
 
 /// A writer as a device.
@@ -12,7 +12,7 @@ use std::io::Write;
 pub struct Writing<W: Write> {
     inner: W,
     failed: bool,
-    puts: Past<Put>,
+    puts: GhostList<Put>,
 }
 
 impl<W: Write> Writing<W> {
@@ -25,7 +25,7 @@ impl<W: Write> Writing<W> {
         Writing {
             inner,
             failed: false,
-            puts: Past::new(),
+            puts: GhostList::new(),
         }
     }
 

@@ -21,9 +21,9 @@ fn is_told_the_end<L: Ledger, R: Wait>(
     conn: &Conn<L>,
 ) -> bool {
     begin(alloc);
-    let told = desk.piece(rt, alloc, seat, conn, NAMES);
+    let actual = desk.piece(rt, alloc, seat, conn, NAMES);
     end(alloc);
-    matches!(told, Err(ActFault::Refused(Refusal::Halted)))
+    matches!(actual, Err(ActFault::Refused(Refusal::Halted)))
 }
 
 fn ends_and_tells<L: Ledger, R: Wait>(rt: &R, alloc: Global, blank: Blank) -> Option<bool>

@@ -4,7 +4,7 @@ use Rattle.epmd.specs.Daemon.{served_lines}
 use Rattle.epmd.proofs.Pieces.{IsLeft}
 use Rattle.epmd.proofs.daemon.report_served.Given as goal
 
-abbrev pub invariant-loop-place : goal.invariant-loop-place
-invariant-loop-place g l =
-    IsLeft (served_lines 1 l.served) (served_lines (l.place + 1) (drop l.place l.served))
+abbrev pub invariant-loop-index : goal.invariant-loop-index
+invariant-loop-index g l =
+    IsLeft (served_lines 1 l.served) (served_lines (l.index + 1) (drop l.index l.served))
     (g.E.Write.contents (writing_inner l.initial.errors)) (g.E.Write.contents (writing_inner l.errors))

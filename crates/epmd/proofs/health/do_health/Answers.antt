@@ -1,7 +1,7 @@
 use Rattle.epmd.proofs.health.do_health.Goals as goal
 
-pub returns-in-Err-check-clause-told : goal.returns-in-Err-check-clause-told
-returns-in-Err-check-clause-told g c =
+pub returns-in-Err-check-clause-printed : goal.returns-in-Err-check-clause-printed
+returns-in-Err-check-clause-printed g c =
     let said = c.report-in-Err-check.ensures in (
       c.check.result,
       c.check-2.result,

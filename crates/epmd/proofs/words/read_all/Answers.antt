@@ -2,7 +2,7 @@ use Rattle.std.specs.Prelude.{string_bytes}
 use Rattle.std.proofs.Common.{◌≡◌, ◌≤◌, length, List, ℕ, map, subst, arith, true, sym, ◌∙◌, ◌-◌, drop}
 use Rattle.std.proofs.lemmas.List.{length-take, length-drop}
 use Rattle.epmd.specs.Words.{Begins, is_action}
-use Rattle.epmd.proofs.Sayings.{says_all, says_more, in_front}
+use Rattle.epmd.proofs.Sayings.{says_all, says_more, in_prefix}
 use Rattle.epmd.proofs.words.read_all.Goals as goal
 
 pub loop-rest-preserved : goal.loop-rest-preserved
@@ -10,7 +10,7 @@ loop-rest-preserved c =
     let some : 1 ≤ length c.loop-rest.rest.now = c.in-len1-up.len_at_least in
     let begins : Begins c.in_ok-said.said (map string_bytes c.loop-rest.rest.now) (map string_bytes c.in_ok-said.after.now) =
     subst (λ (words : List (List ℕ)). Begins c.in_ok-said.said words (map string_bytes c.in_ok-said.after.now))
-    (in_front string_bytes c.loop-rest.rest.now c.first-item.result some c.first-item.is) c.in_ok-said.ensures.spelled in
+    (in_prefix string_bytes c.loop-rest.rest.now c.first-item.result some c.first-item.is) c.in_ok-said.ensures.spelled in
     let one = λ (is : is_action c.in_ok-said.said ≡ true). sym c.has_action.ensures ∙ c.in_ok-said.ensures.one is in
     let fewer = c.in_ok-said.ensures.fewer in (
       says_more (map string_bytes c.args.words.now) (map string_bytes c.loop-rest.rest.now) (map string_bytes c.in_ok-said.after.now)

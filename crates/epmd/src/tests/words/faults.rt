@@ -157,8 +157,8 @@ impl Case for FaultText {
         let mut errors = Writing::new(Vec::new(alloc));
         let status = refuse(&mut errors, self.0);
         let shown = format!(in alloc; "{status} err epmd: {}|", self.0)?;
-        let told = ending(alloc, status, b"", &errors.into_inner())?;
-        Ok(told.as_str() == self.1 && shown.as_str() == self.1)
+        let printed = ending(alloc, status, b"", &errors.into_inner())?;
+        Ok(printed.as_str() == self.1 && shown.as_str() == self.1)
     }
 }
 

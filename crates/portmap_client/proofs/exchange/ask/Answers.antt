@@ -6,27 +6,27 @@ use Rattle.portmap_client.proofs.exchange.ask.Goals as goal
 
 pub returns-in-Empty-clause-waited : goal.returns-in-Empty-clause-waited
 returns-in-Empty-clause-waited g c =
-    let told = c.send_all-sent.ensures in
-    let few = sends_laters_at Empty (omega arith) (rw c.in-Empty.is at told.answers) in
-    (few, omega (arith, ap (count_by is_pull_later) told.pulls, sends_laters told.answers))
+    let client_result = c.send_all-sent.ensures in
+    let few = sends_laters_at Empty (omega arith) (rw c.in-Empty.is at client_result.answers) in
+    (few, omega (arith, ap (count_by is_pull_later) client_result.pulls, sends_laters client_result.answers))
 
 pub returns-in-Later-clause-waited : goal.returns-in-Later-clause-waited
 returns-in-Later-clause-waited g c =
-    let told = c.send_all-sent.ensures in
-    let all = sends_laters_at Later (omega arith) (rw c.in-Later.is at told.answers) in
-    omega (arith, all, ap (count_by is_pull_later) told.pulls, sends_laters told.answers)
+    let client_result = c.send_all-sent.ensures in
+    let all = sends_laters_at Later (omega arith) (rw c.in-Later.is at client_result.answers) in
+    omega (arith, all, ap (count_by is_pull_later) client_result.pulls, sends_laters client_result.answers)
 
 pub returns-in-Fault-clause-writes : goal.returns-in-Fault-clause-writes
 returns-in-Fault-clause-writes g c =
     let sent = c.send_all-sent.result in
-    let told = c.send_all-sent.ensures in
+    let client_result = c.send_all-sent.ensures in
     record {
-      front = record { count = sent.count; writes = told.written };
-      part = sends_part sent.flush told.within told.answers (λ e. (let both : Fault ≡ Empty = sym c.in-Fault.is ∙ e in cc));
+      prefix = record { count = sent.count; writes = client_result.written };
+      part = sends_part sent.flush client_result.within client_result.answers (λ e. (let both : Fault ≡ Empty = sym c.in-Fault.is ∙ e in cc));
     }
 
 pub returns-in-Fault-clause-waited : goal.returns-in-Fault-clause-waited
 returns-in-Fault-clause-waited g c =
-    let told = c.send_all-sent.ensures in
-    let few = sends_laters_at Fault (omega arith) (rw c.in-Fault.is at told.answers) in
-    omega (arith, few, ap (count_by is_pull_later) told.pulls, sends_laters told.answers)
+    let client_result = c.send_all-sent.ensures in
+    let few = sends_laters_at Fault (omega arith) (rw c.in-Fault.is at client_result.answers) in
+    omega (arith, few, ap (count_by is_pull_later) client_result.pulls, sends_laters client_result.answers)

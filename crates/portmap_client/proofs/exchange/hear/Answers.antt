@@ -10,11 +10,11 @@ with_piece : (g : Over) (c : In-Piece g)
     → HasRead c.args.awaited (g.S.Device.left c.args.stream.now) (g.S.Device.left c.pull.new.self)
     (c.loop-laters.read.items ++ take c.in-Piece.count c.pull.new.buffer)
 with_piece g c =
-    let told = c.in-Piece.ensures.bytes in
+    let client_result = c.in-Piece.ensures.bytes in
     let small : length c.pull.new.buffer ≤ c.missing.result = search rules in
     reads_front c.args.awaited (g.S.Device.left c.args.stream.now) (g.S.Device.left c.loop-laters.stream)
     (g.S.Device.left c.pull.new.self) c.loop-laters.read.items c.deref.result.now c.pull.new.buffer c.in-Piece.count c.missing.result
-    c.loop-laters.invariant.has_read told.2 small c.deref.ensures.value c.missing.ensures.missing
+    c.loop-laters.invariant.has_read client_result.2 small c.deref.ensures.value c.missing.ensures.missing
 
 pub loop-laters-preserved-in-Continue-1 : goal.loop-laters-preserved-in-Continue-1
 loop-laters-preserved-in-Continue-1 g c =

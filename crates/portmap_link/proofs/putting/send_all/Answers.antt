@@ -10,8 +10,8 @@ loop-count-preserved-in-Wrote g c =
     let count = c.loop-count.count in
     let laters = c.loop-count.laters in
     let n = c.in-Wrote.n in
-    let told = c.in-Wrote.ensures in
-    let put = rw c.split_at.ensures.back at told.bytes in
+    let outcome = c.in-Wrote.ensures in
+    let put = rw c.split_at.ensures.back at outcome.bytes in
     let after = rw c.in-Wrote.is at c.after-left.ensures in
     let due : 0 < left_in c.loop-count.left = search rules in
     let size = length bytes - count in
@@ -24,7 +24,7 @@ loop-count-preserved-in-Wrote g c =
       calls = search (rules, length_push);
       broken = search rules;
       left = search rules;
-      pulls = told.pulls ∙ kept.pulls;
+      pulls = outcome.pulls ∙ kept.pulls;
     }
 
 pub loop-count-preserved : goal.loop-count-preserved
@@ -34,7 +34,7 @@ loop-count-preserved g c =
     let count = c.loop-count.count in
     let laters = c.loop-count.laters in
     let size = length bytes - count in
-    let told = c.in-Later.ensures in
+    let outcome = c.in-Later.ensures in
     let after = rw c.in-Later.is at c.after-left.ensures in
     let due : 0 < left_in c.loop-count.left = search rules in
     record {
@@ -45,5 +45,5 @@ loop-count-preserved g c =
       calls = search (rules, length_push);
       broken = search rules;
       left = search rules;
-      pulls = told.pulls ∙ kept.pulls;
+      pulls = outcome.pulls ∙ kept.pulls;
     }

@@ -1,7 +1,7 @@
 use Rattle.std.proofs.Common.{◌≡◌, ◌⊎◌, inl, inr, true, Some, sym, ap, ◌∙◌, rules}
 use Rattle.std.specs.Option.{option_copied_mut}
-use Rattle.portmap_ready.specs.Links.{link_at, place_at, written}
-use Rattle.portmap_ready.specs.declared.Place.TheVariants.{Resting}
+use Rattle.portmap_ready.specs.Links.{link_at, state_at, written}
+use Rattle.portmap_ready.specs.declared.LinkState.TheVariants.{Paused}
 use Rattle.portmap_worker.proofs.Idle.{itself, reported_so, rests_on, rests_so, then_reported, then_written, wakes}
 use Rattle.portmap_worker.proofs.open_link.report.Goals as goal
 
@@ -9,20 +9,20 @@ pub returns-then-is_closed-clause-told : goal.returns-then-is_closed-clause-told
 returns-then-is_closed-clause-told g c =
     let k = c.args.key in
     let r = c.args.links.now in
-    let unless : (c.args.is_closed ≡ true) ⊎ (place_at r k ≡ Some Resting → ⊥) =
+    let unless : (c.args.is_closed ≡ true) ⊎ (state_at r k ≡ Some Paused → ⊥) =
     elim c.then-is_closed.either [
       | inl closed ↦ inl closed
-      | inr other ↦ inr (λ resting. let is : c.eq-rests.result ≡ true = search rules in absurd (cc))
+      | inr other ↦ inr (λ paused. let is : c.eq-rests.result ≡ true = search rules in absurd (cc))
     ] in
-    let v = record c.in-Some.held.now { link = c.note_event.new.self } in
+    let v = record c.in-Some.held.now { link = c.on_event.new.self } in
     reported_so c.args.is_closed k r _ c.in-Some.held.now v (sym (ap option_copied_mut c.in-Some.is) ∙ c.get_mut.ensures.value)
-    c.note_event.ensures.noted unless c.report.ensures
+    c.on_event.ensures.noted unless c.report.ensures
 
 pub returns-then-is_closed-clause-others : goal.returns-then-is_closed-clause-others
 returns-then-is_closed-clause-others g c = λ q d.
     let k = c.args.key in
     let r = c.args.links.now in
-    let v = record c.in-Some.held.now { link = c.note_event.new.self } in
+    let v = record c.in-Some.held.now { link = c.on_event.new.self } in
     ap (λ r. link_at r q) c.report.ensures ∙ (then_reported k r (written k r v) (then_written k v r r (itself k r))).others q d
 
 pub returns-then-is_closed-clause-links : goal.returns-then-is_closed-clause-links
@@ -34,18 +34,18 @@ pub returns-else-not-rests-clause-told : goal.returns-else-not-rests-clause-told
 returns-else-not-rests-clause-told g c =
     let k = c.args.key in
     let r = c.args.links.now in
-    let v = record c.in-Some.held.now { link = c.note_event.new.self } in
-    let resting : place_at r k ≡ Some Resting = search rules in
+    let v = record c.in-Some.held.now { link = c.on_event.new.self } in
+    let paused : state_at r k ≡ Some Paused = search rules in
     rw c.if-is_closed.false (rests_so k r c.in-Some.held.now v (sym (ap option_copied_mut c.in-Some.is) ∙ c.get_mut.ensures.value)
-    c.note_event.ensures.noted resting)
+    c.on_event.ensures.noted paused)
 
 pub returns-else-not-rests-clause-others : goal.returns-else-not-rests-clause-others
 returns-else-not-rests-clause-others g c =
     let r = c.args.links.now in
-    let v = record c.in-Some.held.now { link = c.note_event.new.self } in
+    let v = record c.in-Some.held.now { link = c.on_event.new.self } in
     (then_written c.args.key v r r (itself c.args.key r)).others
 
 pub returns-else-not-rests-clause-links : goal.returns-else-not-rests-clause-links
 returns-else-not-rests-clause-links g c =
-    let resting : place_at c.args.links.now c.args.key ≡ Some Resting = search rules in
-    rests_on c.args.key _ c.args.links.now resting
+    let paused : state_at c.args.links.now c.args.key ≡ Some Paused = search rules in
+    rests_on c.args.key _ c.args.links.now paused

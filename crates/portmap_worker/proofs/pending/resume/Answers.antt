@@ -1,5 +1,5 @@
 use Rattle.std.proofs.Common.{refl, ap, inl, inr}
-use Rattle.portmap_ready.specs.declared.Place.TheVariants.{Queued}
+use Rattle.portmap_ready.specs.declared.LinkState.TheVariants.{Queued}
 use Rattle.portmap_worker.proofs.Idle.{seen, sent}
 use Rattle.portmap_worker.proofs.pending.resume.Goals.{in-Some, in_default}
 use Rattle.portmap_worker.proofs.pending.resume.Goals as goal
@@ -11,4 +11,4 @@ returns-clause-links g c =
       | in-Some w ↦ inl (_, w.links-is)
       | in_default w ↦ inr w.links-is
     ])
-    (ap seen c.put_back.ensures) (λ v. refl)
+    (ap seen c.requeue.ensures) (λ v. refl)

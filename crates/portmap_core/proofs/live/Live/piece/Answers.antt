@@ -46,7 +46,7 @@ returns-in-Ok-clause-ok c =
       is_open = c.take-local.ensures.was;
       stage = c.in-Waiting.is;
     } in
-    rw (← c.self.view_is, names, halted) (says_next waits c.args.piece.now o settled.told written)
+    rw (← c.self.view_is, names, halted) (says_next waits c.args.piece.now o settled.response written)
 
 pub returns-in-Err-clause-err : goal.returns-in-Err-clause-err
 returns-in-Err-clause-err c =

@@ -1,7 +1,7 @@
 use Rattle.std.specs.Prelude.{nat_le, position}
 use Rattle.std.proofs.Common.{◌≡◌, ◌∷◌, ◌++◌, ◌+◌, [], false, rules, ap, ◌∙◌}
 use Rattle.portmap_table.specs.Rows.{Names, is_active, known_len, registered, with_room}
-use Rattle.portmap_table.proofs.Kept.{had_name}
+use Rattle.portmap_table.proofs.NameEntry.{had_name}
 use Rattle.portmap_core.specs.Names.{left_by}
 use Rattle.portmap_core.proofs.Names.{enters}
 use Rattle.portmap_core.proofs.name_lists.NameLists.register.Goals as goal

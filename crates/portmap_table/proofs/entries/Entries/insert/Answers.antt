@@ -1,7 +1,7 @@
 use Rattle.std.proofs.Common.{◌≡◌, List, [], ◌∷◌, ◌++◌, length, sym, ap, subst, ◌∙◌, rules}
 use Rattle.indexmap.proofs.CallerLemmas.{insert_entry-new}
-use Rattle.portmap_table.specs.Places.{AreNamed, Entry}
-use Rattle.portmap_table.proofs.Places.{new_found, named_after, puts_last}
+use Rattle.portmap_table.specs.Indexes.{AreNamed, Entry}
+use Rattle.portmap_table.proofs.Indexes.{new_found, named_after, puts_last}
 use Rattle.portmap_table.proofs.entries.Entries.insert.Goals as goal
 
 abbrev entry : (c : goal.Joined-insert-2) → Entry

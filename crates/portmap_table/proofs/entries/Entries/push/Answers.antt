@@ -1,5 +1,5 @@
 use Rattle.std.proofs.Common.{List, sym, ap, subst, ◌∙◌}
-use Rattle.portmap_table.specs.Places.{IsNew}
+use Rattle.portmap_table.specs.Indexes.{IsNew}
 use Rattle.portmap_table.proofs.entries.Entries.push.Goals as goal
 
 pub insert-requires-clause-new : goal.insert-requires-clause-new

@@ -1,9 +1,9 @@
 use Rattle.std.specs.Prelude.{nat_eq}
 use Rattle.std.proofs.{Common.{◌≡◌, [], ◌∷◌, ◌++◌, ap, ◌∙◌, arith, rules}, lemmas.Grind.common_steps}
 use Rattle.indexmap.specs.IndexMap.{get}
-use Rattle.portmap_table.specs.{Places.{AreInPlace, names_at}, Rows.{AreKept, Names, and_retired}}
+use Rattle.portmap_table.specs.{Indexes.{IsIndex, names_at}, Rows.{AreKept, Names, and_retired}}
 use Rattle.portmap_table.specs.Table.{TableState, with_names}
-use Rattle.portmap_table.proofs.{InPlace.{appended_names, appended_places, unknown_there}, NameLaws.kept_appended}
+use Rattle.portmap_table.proofs.{IndexProofs.{appended_names, appended_places, unknown_there}, NameLaws.kept_appended}
 use Rattle.portmap_table.proofs.table.Table.append.Goals as goal
 
 pub append-requires : goal.append-requires
@@ -12,16 +12,16 @@ append-requires c = search (rules, unknown_there)
 abbrev old_names : (c : goal.After-push_reserved) → Names
 old_names c = names_at c.self.inside.entries c.self.inside.active.items c.self.inside.retired.items
 
-pushed : (c : goal.After-push_reserved) → c.push_reserved.new.self.items ≡ c.self.inside.retired.items ++ c.len-place.result ∷ []
-pushed c = c.push_reserved.ensures.items ∙ ap (λ (items : _). items ++ c.len-place.result ∷ []) c.reserve.ensures.items
+pushed : (c : goal.After-push_reserved) → c.push_reserved.new.self.items ≡ c.self.inside.retired.items ++ c.len-index.result ∷ []
+pushed c = c.push_reserved.ensures.items ∙ ap (λ (items : _). items ++ c.len-index.result ∷ []) c.reserve.ensures.items
 
-placed : (c : goal.After-push_reserved)
-    → AreInPlace c.append.new.self c.self.inside.active.items c.push_reserved.new.self.items (get nat_eq c.self.inside.owners)
-placed c = rw (pushed c, c.in_ok-append.ensures.ok, c.len-place.ensures.len) (appended_places c.self.invariant.0 c.args.old.now)
+indexed : (c : goal.After-push_reserved)
+    → IsIndex c.append.new.self c.self.inside.active.items c.push_reserved.new.self.items (get nat_eq c.self.inside.owners)
+indexed c = rw (pushed c, c.in_ok-append.ensures.ok, c.len-index.ensures.len) (appended_places c.self.invariant.0 c.args.old.now)
 
 named : (c : goal.After-push_reserved) → names_at c.append.new.self c.self.inside.active.items c.push_reserved.new.self.items
     ≡ and_retired (old_names c) c.args.old.now
-named c = rw (pushed c, c.in_ok-append.ensures.ok, c.len-place.ensures.len) (appended_names c.self.invariant.0 c.args.old.now)
+named c = rw (pushed c, c.in_ok-append.ensures.ok, c.len-index.ensures.len) (appended_names c.self.invariant.0 c.args.old.now)
 
 kept : (c : goal.After-push_reserved) → AreKept c.self.inside.known_max
     (names_at c.append.new.self c.self.inside.active.items c.push_reserved.new.self.items)
@@ -29,7 +29,7 @@ kept c = grind (arith, common_steps, kept_appended, named)
 
 pub invariant_of-self-2 : goal.invariant_of-self-2
 invariant_of-self-2 c = (
-  placed c,
+  indexed c,
   omega
       (arith, c.in_ok-reserve.ensures.ok, c.push_reserved.ensures.len, c.push_reserved.ensures.capacity, c.reserve.ensures.len),
   kept c,

@@ -1,11 +1,11 @@
 use Rattle.std.specs.Prelude.{nat_eq}
 use Rattle.std.proofs.Common.{◌≡◌, ◌≢◌, ℕ, List, [], ◌∷◌, ◌++◌, false, ap, sym, ◌∙◌, arith, rules}
 use Rattle.indexmap.specs.IndexMap.{get}
-use Rattle.portmap_table.specs.Places.{TakesPlace, names_at}
+use Rattle.portmap_table.specs.Indexes.{TakesIndex, names_at}
 use Rattle.portmap_table.specs.Rows.{AreKept, Names, is_active, is_full_for, owns_name, registered, with_room}
 use Rattle.portmap_table.specs.Table.{TableState}
-use Rattle.portmap_table.proofs.{Finding.is_none, InPlace.{inactive_there, owns_placed, settled_names, settled_places}}
-use Rattle.portmap_table.proofs.Kept.{kept_enters}
+use Rattle.portmap_table.proofs.{Finding.is_none, IndexProofs.{inactive_there, owns_indexed, settled_names, settled_places}}
+use Rattle.portmap_table.proofs.NameEntry.{kept_enters}
 use Rattle.portmap_table.proofs.table.Table.enter.Goals as goal
 
 pub settle-requires-clause-name : goal.settle-requires-clause-name
@@ -21,12 +21,12 @@ free : (c : goal.In-Ok) → owns_name c.args.row.slot (old_names c) ≡ false
 free c = ap (λ (t : TableState). owns_name c.args.row.slot t.names) c.self.view_is ∙ c.requires.slot
 
 settles : (c : goal.In-Ok)
-    → TakesPlace c.self.inside.known_max c.args.row c.self.inside.entries c.settle.new.entries c.self.inside.retired.items
-    c.settle.new.retired.items c.in_ok-place.place
-settles c = rw (← c.reserve.ensures.items) c.in_ok-place.ensures.ok
+    → TakesIndex c.self.inside.known_max c.args.row c.self.inside.entries c.settle.new.entries c.self.inside.retired.items
+    c.settle.new.retired.items c.in_ok-index.index
+settles c = rw (← c.reserve.ensures.items) c.in_ok-index.ensures.ok
 
-pushed : (c : goal.In-Ok) → c.push_reserved.new.self.items ≡ c.self.inside.active.items ++ c.in_ok-place.place ∷ []
-pushed c = c.push_reserved.ensures.items ∙ ap (λ (active : List ℕ). active ++ c.in_ok-place.place ∷ []) c.reserve-2.ensures.items
+pushed : (c : goal.In-Ok) → c.push_reserved.new.self.items ≡ c.self.inside.active.items ++ c.in_ok-index.index ∷ []
+pushed c = c.push_reserved.ensures.items ∙ ap (λ (active : List ℕ). active ++ c.in_ok-index.index ∷ []) c.reserve-2.ensures.items
 
 others : (c : goal.In-Ok) (q : ℕ) → q ≢ c.args.row.slot → get nat_eq c.insert.new.self q ≡ get nat_eq c.self.inside.owners q
 others c q other = search rules
@@ -47,7 +47,7 @@ invariant_of-self-2 c = (
   rw (pushed c)
       (settled_places c.self.invariant.0 (settles c) (inactive c) (get nat_eq c.insert.new.self)
       (is_none (get nat_eq c.self.inside.owners c.args.row.slot)
-      (sym (owns_placed c.self.invariant.0 c.args.row.slot) ∙ free c)) c.in-Ok.ensures.updates.1 (others c)),
+      (sym (owns_indexed c.self.invariant.0 c.args.row.slot) ∙ free c)) c.in-Ok.ensures.updates.1 (others c)),
   omega (
     arith,
     c.in_ok-reserve.ensures.ok,

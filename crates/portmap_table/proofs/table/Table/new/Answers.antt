@@ -1,5 +1,5 @@
 use Rattle.std.proofs.Common.{arith, rules}
-use Rattle.portmap_table.proofs.Kept.{kept_empty}
+use Rattle.portmap_table.proofs.NameEntry.{kept_empty}
 use Rattle.portmap_table.proofs.table.Table.new.Goals as goal
 
 pub invariant_of-result : goal.invariant_of-result

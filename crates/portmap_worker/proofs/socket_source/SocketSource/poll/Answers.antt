@@ -7,27 +7,27 @@ use Rattle.portmap_worker.proofs.socket_source.SocketSource.poll.Goals as goal
 pub returns-then-not-is_well : goal.returns-then-not-is_well
 returns-then-not-is_well g c = record {
   links = rw c.fail.ensures (λ fact h.
-      c.note_answer.ensures.links fact (c.wait-is_well.ensures.links fact (c.retry_pending.ensures.links fact h)));
+      c.on_polled.ensures.links fact (c.wait-is_well.ensures.links fact (c.retry_pending.ensures.links fact h)));
   schedule = inl (asked c.args.self.now.schedule c.retry_pending.new.self.schedule c.wait-is_well.new.self.schedule _
-      c.retry_pending.ensures.schedule c.wait-is_well.ensures.schedule c.note_answer.ensures.schedule);
+      c.retry_pending.ensures.schedule c.wait-is_well.ensures.schedule c.on_polled.ensures.schedule);
 }
 
 pub returns-then-is_stopping : goal.returns-then-is_stopping
 returns-then-is_stopping g c = record {
-  links = λ fact h. c.note_answer.ensures.links fact (c.wait-is_well.ensures.links fact (c.retry_pending.ensures.links fact h));
+  links = λ fact h. c.on_polled.ensures.links fact (c.wait-is_well.ensures.links fact (c.retry_pending.ensures.links fact h));
   schedule = inl (asked c.args.self.now.schedule c.retry_pending.new.self.schedule c.wait-is_well.new.self.schedule _
-      c.retry_pending.ensures.schedule c.wait-is_well.ensures.schedule c.note_answer.ensures.schedule);
+      c.retry_pending.ensures.schedule c.wait-is_well.ensures.schedule c.on_polled.ensures.schedule);
 }
 
 pub returns-then-not-look_round : goal.returns-then-not-look_round
 returns-then-not-look_round g c = record {
   links = rw c.fail-then-not-look_round.ensures (λ fact h.
       let passed : Holds fact c.pass_listeners.new.self.ready = rw (c.pass_listeners.ensures.ready, c.note_load.ensures.ready)
-      (c.note_answer.ensures.links fact (c.wait-is_well.ensures.links fact (c.retry_pending.ensures.links fact h))) in
+      (c.on_polled.ensures.links fact (c.wait-is_well.ensures.links fact (c.retry_pending.ensures.links fact h))) in
       c.look_round.ensures.links fact passed);
-  schedule = loaded c.args.self.now.schedule c.note_answer.new.self.schedule c.note_load.new.self.schedule _
+  schedule = loaded c.args.self.now.schedule c.on_polled.new.self.schedule c.note_load.new.self.schedule _
       (asked c.args.self.now.schedule c.retry_pending.new.self.schedule c.wait-is_well.new.self.schedule _
-      c.retry_pending.ensures.schedule c.wait-is_well.ensures.schedule c.note_answer.ensures.schedule)
+      c.retry_pending.ensures.schedule c.wait-is_well.ensures.schedule c.on_polled.ensures.schedule)
       c.note_load.ensures.schedule (c.look_round.ensures.schedule ∙ c.pass_listeners.ensures.schedule);
 }
 
@@ -35,34 +35,34 @@ pub returns-in-None : goal.returns-in-None
 returns-in-None g c = record {
   links = λ fact h.
       let passed : Holds fact c.pass_listeners.new.self.ready = rw (c.pass_listeners.ensures.ready, c.note_load.ensures.ready)
-      (c.note_answer.ensures.links fact (c.wait-is_well.ensures.links fact (c.retry_pending.ensures.links fact h))) in
-      rw c.in-None.is at c.make_way.ensures.links fact (c.look_round.ensures.links fact passed);
-  schedule = loaded c.args.self.now.schedule c.note_answer.new.self.schedule c.note_load.new.self.schedule _
+      (c.on_polled.ensures.links fact (c.wait-is_well.ensures.links fact (c.retry_pending.ensures.links fact h))) in
+      rw c.in-None.is at c.evict_for_other_worker.ensures.links fact (c.look_round.ensures.links fact passed);
+  schedule = loaded c.args.self.now.schedule c.on_polled.new.self.schedule c.note_load.new.self.schedule _
       (asked c.args.self.now.schedule c.retry_pending.new.self.schedule c.wait-is_well.new.self.schedule _
-      c.retry_pending.ensures.schedule c.wait-is_well.ensures.schedule c.note_answer.ensures.schedule)
-      c.note_load.ensures.schedule (c.make_way.ensures.schedule ∙ c.look_round.ensures.schedule ∙ c.pass_listeners.ensures.schedule);
+      c.retry_pending.ensures.schedule c.wait-is_well.ensures.schedule c.on_polled.ensures.schedule)
+      c.note_load.ensures.schedule (c.evict_for_other_worker.ensures.schedule ∙ c.look_round.ensures.schedule ∙ c.pass_listeners.ensures.schedule);
 }
 
 pub returns-in_default : goal.returns-in_default
 returns-in_default g c = record {
   links = then_tells _ _ _ _ (λ fact h.
       let passed : Holds fact c.pass_listeners.new.self.ready = rw (c.pass_listeners.ensures.ready, c.note_load.ensures.ready)
-      (c.note_answer.ensures.links fact (c.wait-is_well.ensures.links fact (c.retry_pending.ensures.links fact h))) in
-      c.look_round.ensures.links fact passed) c.make_way.ensures.links;
-  schedule = loaded c.args.self.now.schedule c.note_answer.new.self.schedule c.note_load.new.self.schedule _
+      (c.on_polled.ensures.links fact (c.wait-is_well.ensures.links fact (c.retry_pending.ensures.links fact h))) in
+      c.look_round.ensures.links fact passed) c.evict_for_other_worker.ensures.links;
+  schedule = loaded c.args.self.now.schedule c.on_polled.new.self.schedule c.note_load.new.self.schedule _
       (asked c.args.self.now.schedule c.retry_pending.new.self.schedule c.wait-is_well.new.self.schedule _
-      c.retry_pending.ensures.schedule c.wait-is_well.ensures.schedule c.note_answer.ensures.schedule)
-      c.note_load.ensures.schedule (c.make_way.ensures.schedule ∙ c.look_round.ensures.schedule ∙ c.pass_listeners.ensures.schedule);
+      c.retry_pending.ensures.schedule c.wait-is_well.ensures.schedule c.on_polled.ensures.schedule)
+      c.note_load.ensures.schedule (c.evict_for_other_worker.ensures.schedule ∙ c.look_round.ensures.schedule ∙ c.pass_listeners.ensures.schedule);
 }
 
 pub returns-in_default-2 : goal.returns-in_default-2
 returns-in_default-2 g c = record {
   links = then_tells _ _ _ _ (λ fact h.
       let passed : Holds fact c.pass_listeners.new.self.ready = rw (c.pass_listeners.ensures.ready, c.note_load.ensures.ready)
-      (c.note_answer.ensures.links fact (c.wait-is_well.ensures.links fact (c.retry_pending.ensures.links fact h))) in
-      c.look_round.ensures.links fact passed) c.make_way.ensures.links;
-  schedule = loaded c.args.self.now.schedule c.note_answer.new.self.schedule c.note_load.new.self.schedule _
+      (c.on_polled.ensures.links fact (c.wait-is_well.ensures.links fact (c.retry_pending.ensures.links fact h))) in
+      c.look_round.ensures.links fact passed) c.evict_for_other_worker.ensures.links;
+  schedule = loaded c.args.self.now.schedule c.on_polled.new.self.schedule c.note_load.new.self.schedule _
       (asked c.args.self.now.schedule c.retry_pending.new.self.schedule c.wait-is_well.new.self.schedule _
-      c.retry_pending.ensures.schedule c.wait-is_well.ensures.schedule c.note_answer.ensures.schedule)
-      c.note_load.ensures.schedule (c.make_way.ensures.schedule ∙ c.look_round.ensures.schedule ∙ c.pass_listeners.ensures.schedule);
+      c.retry_pending.ensures.schedule c.wait-is_well.ensures.schedule c.on_polled.ensures.schedule)
+      c.note_load.ensures.schedule (c.evict_for_other_worker.ensures.schedule ∙ c.look_round.ensures.schedule ∙ c.pass_listeners.ensures.schedule);
 }

@@ -1,5 +1,5 @@
 use Rattle.std.proofs.Common.{refl, ap, rules}
-use Rattle.portmap_ready.specs.declared.Place.TheVariants.{Told}
+use Rattle.portmap_ready.specs.declared.LinkState.TheVariants.{Current}
 use Rattle.portmap_worker.proofs.Idle.{seen, taken}
 use Rattle.portmap_worker.specs.IdleLinks.{Holds}
 use Rattle.portmap_worker.proofs.socket_source.SocketSource.retry_pending.Goals.{in-Some-goes_on, in-None}
@@ -7,11 +7,11 @@ use Rattle.portmap_worker.proofs.socket_source.SocketSource.retry_pending.Goals 
 
 pub loop-turn-preserved : goal.loop-turn-preserved
 loop-turn-preserved g c = record {
-  told = search rules;
+  current = search rules;
   schedule = search rules;
   links = λ fact h.
-      let taken = taken Told _ c.loop-turn.self.ready c.next_pending.new.self
-      (ap seen c.next_pending.ensures.told) (λ v. refl) fact (c.loop-turn.invariant.links fact h) in
+      let taken = taken Current _ c.loop-turn.self.ready c.next_pending.new.self
+      (ap seen c.next_pending.ensures.current) (λ v. refl) fact (c.loop-turn.invariant.links fact h) in
       elim c.match-goes_on.branch [
         | in-Some-goes_on w ↦ rw w.self-is (w.wait_on.ensures.links fact taken)
         | in-None w ↦

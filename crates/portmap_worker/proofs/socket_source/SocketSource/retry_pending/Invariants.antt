@@ -5,7 +5,7 @@ use Rattle.portmap_worker.proofs.socket_source.SocketSource.retry_pending.Given 
 -- nothing is told, what holds goes on to hold, and no turn is counted
 abbrev pub invariant-loop-turn : goal.invariant-loop-turn
 invariant-loop-turn g l = record {
-  told : l.self.ready.told ≡ None;
+  current : l.self.ready.current ≡ None;
   links : Keeps l.fn.self.ready l.self.ready;
   schedule : l.self.schedule ≡ l.fn.self.schedule;
 }

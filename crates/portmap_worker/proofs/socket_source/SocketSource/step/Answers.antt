@@ -8,22 +8,22 @@ pub returns-then-is_some : goal.returns-then-is_some
 returns-then-is_some g c =
     let some = sym c.is_some.ensures ∙ c.if-is_some.true in
     record {
-      links = weaker _ _ _ c.hold_back-held_back.ensures.links;
-      nears = free_so _ _ _ _ _ some c.hold_back-held_back.ensures.links (again_free _ _ c.hold_back-held_back.ensures.again)
-          c.hold_back-held_back.ensures.schedule;
+      links = weaker _ _ _ c.defer_registration-held_back.ensures.links;
+      nears = free_so _ _ _ _ _ some c.defer_registration-held_back.ensures.links (again_free _ _ c.defer_registration-held_back.ensures.again)
+          c.defer_registration-held_back.ensures.schedule;
     }
 
 pub returns-then-is_some-2 : goal.returns-then-is_some-2
 returns-then-is_some-2 g c =
     let none = sym c.is_some.ensures ∙ c.if-is_some.false in
     let some = sym c.is_some-2.ensures ∙ c.if-is_some-2.true in
-    let before : Keeps c.args.self.now.ready c.put_back.new.self.ready = λ fact h.
-    c.put_back.ensures.links fact (nothing_told _ _ _ none c.hold_back-held_back.ensures.links fact h) in
+    let before : Keeps c.args.self.now.ready c.requeue.new.self.ready = λ fact h.
+    c.requeue.ensures.links fact (nothing_told _ _ _ none c.defer_registration-held_back.ensures.links fact h) in
     let tells = then_tells _ _ _ _ before c.give_up_unread-unread.ensures.links in
     record {
       links = weaker _ _ _ tells;
       nears = free_so _ _ _ _ _ some tells (late_free _ _ c.give_up_unread-unread.ensures.late)
-          (c.give_up_unread-unread.ensures.schedule ∙ c.put_back.ensures.schedule ∙ c.hold_back-held_back.ensures.schedule);
+          (c.give_up_unread-unread.ensures.schedule ∙ c.requeue.ensures.schedule ∙ c.defer_registration-held_back.ensures.schedule);
     }
 
 pub returns-then-is_some-3 : goal.returns-then-is_some-3
@@ -33,11 +33,11 @@ returns-then-is_some-3 g c =
     let some = sym c.is_some-3.ensures ∙ c.if-is_some-3.true in
     let before : Keeps c.args.self.now.ready c.give_up_unread-unread.new.self.ready = λ fact h.
     nothing_told _ _ _ unread c.give_up_unread-unread.ensures.links fact
-    (c.put_back.ensures.links fact (nothing_told _ _ _ none c.hold_back-held_back.ensures.links fact h)) in
+    (c.requeue.ensures.links fact (nothing_told _ _ _ none c.defer_registration-held_back.ensures.links fact h)) in
     record {
       links = then_told _ _ _ _ before c.next-next.ensures.links;
       nears = nears_so _ _ _ _ _ _ some (stays_of _ _ before) _
-          (c.give_up_unread-unread.ensures.schedule ∙ c.put_back.ensures.schedule ∙ c.hold_back-held_back.ensures.schedule)
+          (c.give_up_unread-unread.ensures.schedule ∙ c.requeue.ensures.schedule ∙ c.defer_registration-held_back.ensures.schedule)
           c.next-next.ensures.nears;
     }
 
@@ -48,11 +48,11 @@ returns g c =
     let last = sym c.is_some-3.ensures ∙ c.if-is_some-3.false in
     let before : Keeps c.args.self.now.ready c.give_up_unread-unread.new.self.ready = λ fact h.
     nothing_told _ _ _ unread c.give_up_unread-unread.ensures.links fact
-    (c.put_back.ensures.links fact (nothing_told _ _ _ none c.hold_back-held_back.ensures.links fact h)) in
+    (c.requeue.ensures.links fact (nothing_told _ _ _ none c.defer_registration-held_back.ensures.links fact h)) in
     let kept : Keeps c.args.self.now.ready c.next-next.new.self.ready = λ fact h.
     none_told_links _ _ _ last c.next-next.ensures.links fact (before fact h) in
     let spent = spends _ _ c.next-next.new.self.ready _ _ c.next-next.new.self.schedule _ last (stays_of _ _ before)
-    (c.give_up_unread-unread.ensures.schedule ∙ c.put_back.ensures.schedule ∙ c.hold_back-held_back.ensures.schedule)
+    (c.give_up_unread-unread.ensures.schedule ∙ c.requeue.ensures.schedule ∙ c.defer_registration-held_back.ensures.schedule)
     c.next-next.ensures.spent in
     record {
       links = weaker _ _ _ (then_tells _ _ _ _ kept c.poll.ensures.links);
