@@ -194,15 +194,15 @@ impl System for MioSystem {
             Interest::Both => mio::Interest::READABLE | mio::Interest::WRITABLE,
         };
         let registry = self.poll.registry();
-        let told = if was_watched {
+        let outcome = if was_watched {
             registry.reregister(&mut stream.inner, Token(key), events)
         } else {
             registry.register(&mut stream.inner, Token(key), events)
         };
-        if told.is_ok() {
+        if outcome.is_ok() {
             self.watched.note(&(key, interest));
         }
-        told
+        outcome
     }
 
     fn listeners(&self) -> usize {

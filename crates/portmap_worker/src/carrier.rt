@@ -72,15 +72,15 @@ impl<L: Ledger> Carrier<L> {
         link: &mut I,
         gate: &G,
     ) -> (Option<(u64, Answer)>, Next)
-        ensures told { IfSome result.0 (λ told. (piece : List ℕ) × (let seen = devices I.left I.held I.pulls I.puts in
-            IsRead (seen link.old link.old) (seen link.new link.new) piece) × SaysTo self.old.conn.slot piece told.1
+        ensures acted { IfSome result.0 (λ acted. (piece : List ℕ) × (let seen = devices I.left I.held I.pulls I.puts in
+            IsRead (seen link.old link.old) (seen link.new link.new) piece) × SaysTo self.old.conn.slot piece acted.1
             × AsksPiece self.old.conn.slot piece seat.old.asked seat.new.asked) }
-        ensures hears { IfSome result.0 (λ told. seat.new.acted ≡ seat.old.acted ++ told ∷ []) }
-        ensures written { IfSome result.0 (λ told.
-            Moves (I.held link.old) (I.held link.new) (self.old.out ++ added told.1 result.1) self.new.out) }
-        ensures due { IfSome result.0 (λ told. (self.old.due ≡ false) × (self.new.due ≡ is_close (fate_of told.1))) }
-        ensures counted { IfSome result.0 (λ told. (seat.new.count ≡ seat.old.count + 1) × (seat.old.count ≤ told.0)) }
-        ensures next { IfSome result.0 (λ told. FollowsAnswer told.1 (I.puts link.old)
+        ensures hears { IfSome result.0 (λ acted. seat.new.acted ≡ seat.old.acted ++ acted ∷ []) }
+        ensures written { IfSome result.0 (λ acted.
+            Moves (I.held link.old) (I.held link.new) (self.old.out ++ added acted.1 result.1) self.new.out) }
+        ensures due { IfSome result.0 (λ acted. (self.old.due ≡ false) × (self.new.due ≡ is_close (fate_of acted.1))) }
+        ensures counted { IfSome result.0 (λ acted. (seat.new.count ≡ seat.old.count + 1) × (seat.old.count ≤ acted.0)) }
+        ensures next { IfSome result.0 (λ acted. FollowsAnswer acted.1 (I.puts link.old)
             (I.puts link.new) self.new.out result.1) }
         ensures same { IfNone result.0 ((seat.new ≡ seat.old) × (self.new.due ≡ self.old.due)) }
         ensures worker { seat.new.worker ≡ seat.old.worker }

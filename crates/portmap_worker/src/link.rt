@@ -68,10 +68,10 @@ pub struct Link<S: Read + Write> {
 }
 
 /// Whether a call would have blocked: then there will be a report.
-fn would_block(told: &io::Result<usize>) -> bool
-    ensures { result ≡ would_block told.now }
+fn would_block(outcome: &io::Result<usize>) -> bool
+    ensures { result ≡ would_block outcome.now }
 {
-    matches!(told, Err(error) if error.kind() == ErrorKind::WouldBlock)
+    matches!(outcome, Err(error) if error.kind() == ErrorKind::WouldBlock)
 }
 
 impl<S: Read + Write> Link<S> {
@@ -191,7 +191,7 @@ impl<S: Read + Write> Link<S> {
     /// It is given up for another one, if it can be. If it is kept it has come anew.
     pub(crate) fn evict(&mut self, now: u64)
         ensures came { self.new.came ≡ now }
-        ensures told { self.new.timer.is_late ≡ false }
+        ensures timely { self.new.timer.is_late ≡ false }
         ensures rests { self.new.is_paused ≡ self.old.is_paused }
         ensures notes { self.new.readiness ≡ self.old.readiness }
     {
@@ -199,14 +199,14 @@ impl<S: Read + Write> Link<S> {
         self.timer.is_late = false;
     }
 
-    /// What it asks for is to be told, or that its time is over.
+    /// Returns the turn that is due: Late once its time is over, else Ready.
     pub(crate) fn set_late(&mut self, is_late: bool) {
         self.timer.is_late = is_late;
     }
 
     /// The poll has reported it, and perhaps that its peer sends no more: what is reported goes before what is late.
     pub(crate) fn on_event(&mut self, is_closed: bool)
-        ensures told { self.new.timer.is_late ≡ false }
+        ensures timely { self.new.timer.is_late ≡ false }
         ensures moves { may_move self.new.readiness.reading self.new.readiness.writing ≡ true }
         ensures noted { self.new.readiness.notes ≡ self.old.readiness.notes ++ Reported ∷ [] }
     {
@@ -246,7 +246,7 @@ impl<S: Read + Write> Link<S> {
     pub(crate) fn turn(&mut self, key: usize) -> Turn
         ensures link { IsOf (Some key) result }
         ensures anew { result ≡ Turn.Late key → self.new.timer.since ≡ None }
-        ensures told { self.new.timer.is_late ≡ false }
+        ensures timely { self.new.timer.is_late ≡ false }
         ensures notes { self.new.readiness ≡ self.old.readiness }
     {
         if self.timer.take_late() {
@@ -319,15 +319,15 @@ impl<S: Read + Write> Link<S> {
     }
 
     /// A read with so much room has told this. What the pull answers.
-    fn on_pull(&mut self, told: io::Result<usize>, room: usize) -> Pull
-        ensures answer { result ≡ pull_of told }
+    fn on_pull(&mut self, outcome: io::Result<usize>, room: usize) -> Pull
+        ensures answer { result ≡ pull_of outcome }
         ensures failed { self.new.history.failed ≡ pull_is_fault result }
         ensures pulls { self.new.history.pulls ≡ self.old.history.pulls ++ result ∷ [] }
         ensures puts { self.new.history.puts ≡ self.old.history.puts }
-        ensures noted { self.new.readiness.notes ≡ self.old.readiness.notes ++ Read (would_block told) ∷ [] }
+        ensures noted { self.new.readiness.notes ≡ self.old.readiness.notes ++ Read (would_block outcome) ∷ [] }
     {
-        let is_blocked = would_block(&told);
-        let answer = pull_from(told);
+        let is_blocked = would_block(&outcome);
+        let answer = pull_from(outcome);
         self.history.failed = answer == Pull::Fault;
         self.history.pulls.note(&answer);
         self.readiness.on_pull(&answer, room, is_blocked);
@@ -338,15 +338,15 @@ impl<S: Read + Write> Link<S> {
     }
 
     /// A write of so many bytes has told this. What the put answers.
-    fn on_put(&mut self, told: io::Result<usize>, offered: usize) -> Put
-        ensures answer { result ≡ put_of told }
+    fn on_put(&mut self, outcome: io::Result<usize>, offered: usize) -> Put
+        ensures answer { result ≡ put_of outcome }
         ensures failed { self.new.history.failed ≡ put_is_fault result }
         ensures puts { self.new.history.puts ≡ self.old.history.puts ++ result ∷ [] }
         ensures pulls { self.new.history.pulls ≡ self.old.history.pulls }
-        ensures noted { self.new.readiness.notes ≡ self.old.readiness.notes ++ Wrote result (would_block told) ∷ [] }
+        ensures noted { self.new.readiness.notes ≡ self.old.readiness.notes ++ Wrote result (would_block outcome) ∷ [] }
     {
-        let is_blocked = would_block(&told);
-        let answer = put_from(told);
+        let is_blocked = would_block(&outcome);
+        let answer = put_from(outcome);
         self.history.failed = answer == Put::Fault;
         self.history.puts.note(&answer);
         self.readiness.on_put(&answer, is_blocked);
@@ -373,8 +373,8 @@ impl<S: Stream> Link<S> {
         if !is_asked && !self.readiness.is_watched() {
             let interest = self.readiness.wanted();
             let was_watched = self.readiness.is_known();
-            let told = system.watch(&mut self.stream, key, interest, was_watched);
-            self.is_refused = !self.readiness.note_watch(told);
+            let outcome = system.watch(&mut self.stream, key, interest, was_watched);
+            self.is_refused = !self.readiness.note_watch(outcome);
             self.is_paused = self.is_paused || self.is_refused;
         }
         if self.is_paused {
@@ -428,7 +428,7 @@ fn broken() -> io::Result<usize>
 
 impl<S: Read + Write> Input for Link<S> {
     fn pull(&mut self, buffer: &mut [u8]) -> Pull {
-        let told = if self.history.failed {
+        let outcome = if self.history.failed {
             broken()
         } else if self.progress == ReplyProgress::Left {
             Ok(0)
@@ -436,7 +436,7 @@ impl<S: Read + Write> Input for Link<S> {
             self.first.read(&mut self.stream, buffer, self.is_crowded)
         };
         self.is_paused = self.is_paused || self.first.asks_list();
-        self.on_pull(told, buffer.len())
+        self.on_pull(outcome, buffer.len())
     }
 
     fn failed(&self) -> bool {
@@ -446,12 +446,12 @@ impl<S: Read + Write> Input for Link<S> {
 
 impl<S: Read + Write> Output for Link<S> {
     fn put(&mut self, bytes: &[u8]) -> Put {
-        let told = if self.history.failed {
+        let outcome = if self.history.failed {
             broken()
         } else {
             self.stream.write(bytes)
         };
-        self.on_put(told, bytes.len())
+        self.on_put(outcome, bytes.len())
     }
 
     fn failed(&self) -> bool {

@@ -94,7 +94,7 @@ pub(crate) fn finish_turn<S: System>(
 /// The poll has reported a link, and perhaps that its peer sends no more. There is something to tell of it, unless it
 /// rests and goes on sending.
 pub(crate) fn report<S: Stream>(links: &mut Links<'_, S>, key: usize, is_closed: bool)
-    ensures told { IsReported is_closed (link_at links.old key) (link_at links.new key) }
+    ensures reported { IsReported is_closed (link_at links.old key) (link_at links.new key) }
     ensures others { (k : ℕ) → k ≢ key → link_at links.new k ≡ link_at links.old k }
     ensures links { Keeps links.old links.new }
 {

@@ -134,14 +134,14 @@ impl<L: Ledger, S: System, R: Host + Wait + Clock> SocketSource<'_, L, S, R> {
     /// that others may need.
     pub(crate) fn defer_registration(&mut self) -> Option<Turn>
         ensures links { Tells self.old.ready self.new.ready result }
-        ensures again { IfSome result (λ told. IsOf self.old.ready.current told) }
+        ensures again { IfSome result (λ turn. IsOf self.old.ready.current turn) }
         ensures schedule { self.new.schedule ≡ self.old.schedule }
     {
         let key = self.ready.current()?;
         let is_active = self.is_name_active(key)?;
-        let told = immediate_turn(key as u64, self.refuses(), is_active);
-        if told.is_some() {
-            return told;
+        let turn = immediate_turn(key as u64, self.refuses(), is_active);
+        if turn.is_some() {
+            return turn;
         }
         self.ready.get_mut(key)?.waiting = Waiting::Come;
         self.ready.hold(key);

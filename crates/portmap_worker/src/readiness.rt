@@ -112,14 +112,14 @@ impl Readiness {
     }
 
     /// The poll was asked to report all that is wanted, and has answered so. Whether it does from now on.
-    pub(crate) fn note_watch(&mut self, told: io::Result<()>) -> bool
-        ensures answer { result ≡ is_ok told }
+    pub(crate) fn note_watch(&mut self, outcome: io::Result<()>) -> bool
+        ensures answer { result ≡ is_ok outcome }
         ensures reading { self.new.reading ≡ self.old.reading }
         ensures writing { self.new.writing ≡ self.old.writing }
-        ensures noted { self.new.notes ≡ self.old.notes ++ watches told (wanted self.old.writing) }
+        ensures noted { self.new.notes ≡ self.old.notes ++ watches outcome (wanted self.old.writing) }
         ensures watched { result ≡ true → self.new.watched ≡ Some (wanted self.old.writing) }
     {
-        if told.is_err() {
+        if outcome.is_err() {
             return false;
         }
         let interest = self.wanted();

@@ -134,7 +134,7 @@ impl<'a, L: Ledger, S: System, R: Host + Wait + Clock> SocketSource<'a, L, S, R>
         ensures none { IfNone result (self.new.ready.current ≡ None) }
         ensures most { IfSome result (λ _. self.old.schedule.turns < TURNS_MOST) }
         ensures links { TellsLinks self.old.ready self.new.ready result }
-        ensures nears { IfSome result (λ told. Nears told
+        ensures nears { IfSome result (λ turn. Nears turn
             (scene self.old.ready self.old.schedule) (scene self.new.ready self.new.schedule)) }
         ensures spent { IfNone result
             (IsSpent (scene self.old.ready self.old.schedule) (scene self.new.ready self.new.schedule)) }
@@ -200,7 +200,7 @@ impl<'a, L: Ledger, S: System, R: Host + Wait + Clock> SocketSource<'a, L, S, R>
         ensures first { IfSome result (λ turn. IsOf (slice_get self.old.ready.queue 0) turn) }
         ensures none { IfNone result ((self.old.ready.queue ≡ []) × (self.new.ready.current ≡ None)) }
         ensures links { TellsLinks self.old.ready self.new.ready result }
-        ensures passes { IfSome result (λ told. Passes told self.old.ready self.new.ready) }
+        ensures passes { IfSome result (λ turn. Passes turn self.old.ready self.new.ready) }
         ensures schedule { self.new.schedule ≡ self.old.schedule }
     {
         let is_short = self.shared.short.load(Ordering::SeqCst);

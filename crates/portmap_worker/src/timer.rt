@@ -56,7 +56,7 @@ impl Timer {
     /// Whether it was over at this time, which is to be told.
     pub(crate) fn expire(&mut self, then: u64, timeout: u64) -> bool
         ensures over { (result ≡ true) ↔ IsOver self.old.since then timeout }
-        ensures told { self.new ≡ record self.old { is_late = result } }
+        ensures late { self.new ≡ record self.old { is_late = result } }
     {
         self.is_late = is_over(self.since, then, timeout);
         self.is_late

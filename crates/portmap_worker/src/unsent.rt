@@ -182,7 +182,7 @@ impl<L: Ledger, S: System, R: Host + Wait + Clock> SocketSource<'_, L, S, R> {
     pub(crate) fn give_up_unread(&mut self) -> Option<Turn>
         ensures current { self.new.ready.current ≡ self.old.ready.current }
         ensures links { Tells self.old.ready self.new.ready result }
-        ensures late { IfSome result (λ told. (k : ℕ) × (told ≡ Turn.Late k)) }
+        ensures late { IfSome result (λ turn. (k : ℕ) × (turn ≡ Turn.Late k)) }
         ensures schedule { self.new.schedule ≡ self.old.schedule }
     {
         if !mem::replace(&mut self.looks_for_unread, false) {

@@ -5,13 +5,13 @@ use Rattle.portmap_worker.proofs.Carrying.{read_between, is_read, moves_more, fo
 use Rattle.portmap_worker.proofs.carrier.Carrier.ready.Goals as goal
 use Rattle.portmap_worker.proofs.carrier.Carrier.ready.Goals.{in-Empty+else-self, in-Later+else-self-2}
 
-pub returns-in-Ok-clause-told : goal.returns-in-Ok-clause-told
-returns-in-Ok-clause-told g c = (
+pub returns-in-Ok-clause-acted : goal.returns-in-Ok-clause-acted
+returns-in-Ok-clause-acted g c = (
   take c.in-Piece.n c.pull.new.buffer,
   is_read _ _ _ _ c.in-Piece.ensures.bytes.1 (omega (arith, c.pull.auto.buffer))
       (read_between _ _ _ _ _ c.flush.ensures.left c.in-Piece.ensures.bytes.2 c.reply-next.ensures.left)
       (c.reply-next.ensures.pulls ∙ c.in-Piece.ensures.noted ∙ ap (λ (t : List Pull). t ++ Piece c.in-Piece.n ∷ []) c.flush.ensures.pulls),
-  c.in-Ok.ensures.told,
+  c.in-Ok.ensures.acted,
   c.in-Ok.ensures.asks,
 )
 
@@ -28,11 +28,11 @@ returns-in-Ok-clause-next g c =
 
 pub returns-in-Ok-clause-does : goal.returns-in-Ok-clause-does
 returns-in-Ok-clause-does g c =
-    let told = returns-in-Ok-clause-told g c in
+    let acted = returns-in-Ok-clause-acted g c in
     record {
-      piece = told.0;
-      read = told.1;
-      says = told.2;
+      piece = acted.0;
+      read = acted.1;
+      says = acted.2;
       not_due = elim c.match-flush.branch [ in-Empty+else-self w ↦ w.if-self.false | in-Later+else-self-2 w ↦ w.if-self-2.false ];
       due = c.reply-next.ensures.due;
       writes = returns-in-Ok-clause-written g c;
