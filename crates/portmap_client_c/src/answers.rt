@@ -92,7 +92,8 @@ pub(crate) fn found_at(reg: &Reg, at: usize, between: usize) -> EpmdFound
 /// Reads the answer to a look-up. The texts of what is found lie in these bytes.
 #[unsafe(no_mangle)]
 pub extern "C" fn epmd_read_port2(alloc: Global, bytes: &[u8], found: &mut EpmdFound) -> i32
-    ensures told { result ≢ EPMD_NO_MEMORY → ReportsFound bytes.now (port2_answer bytes.now) found.old found.new result }
+    ensures told { result ≢ EPMD_NO_MEMORY
+        → ReportsFound bytes.now (port2_answer bytes.now) found.old found.new result }
     // Memory is asked for last, and none is kept.
     ensures memory { result ≡ EPMD_NO_MEMORY → IsOk (port2_answer bytes.now) }
     ensures unchanged { result ≢ EPMD_OK → found.new ≡ found.old }

@@ -55,7 +55,8 @@ fn first_line(lines: Vec<Line>) -> Option<Line>
 /// The one line of a list, which is all of it but for its first four bytes.
 fn one_line(alloc: Global, list: &[u8]) -> Result<Line, ListFault>
     requires { 4 ≤ length list.now }
-    ensures found { IfOk result (λ line. (prefix : List ℕ) → IsOneLine (drop 4 list.now) prefix → ReadsLine prefix line) }
+    ensures found { IfOk result (λ line. (prefix : List ℕ) → IsOneLine (drop 4 list.now) prefix → ReadsLine prefix line)
+        }
     ensures fault { IfErr result (λ fault. (prefix : List ℕ) → IsOneLine (drop 4 list.now) prefix
         → IsReadingFault prefix fault) }
 {

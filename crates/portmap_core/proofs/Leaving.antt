@@ -137,10 +137,12 @@ module _ (name : List ℕ) (cfg : Configuration) (s s' : State) where
       by : (stage : Stage) → says.connection.stage ≡ stage → AnswersPiece cfg s slot says.connection piece stage (said reply fate s')
           → Absent name s'.names
       by (Waiting received) waits response =
-          out (outcome_of s slot says.connection response.served) response.outcome (sight (first_request (received ++ piece)) refl response.response)
+          out (outcome_of s slot says.connection response.served) response.outcome
+              (sight (first_request (received ++ piece)) refl response.response)
         where
           sight : (x : Framing) → first_request (received ++ piece) ≡ x
-              → ServesReceived cfg s.names says.connection.local slot (received ++ piece) x response.served → Absent name response.served.names
+              → ServesReceived cfg s.names says.connection.local slot (received ++ piece) x response.served
+                  → Absent name response.served.names
           sight More whole is = rw is absent
           sight Zero whole is = rw is absent
           sight (TooLarge n) whole is = rw is absent

@@ -18,7 +18,8 @@ concluded {cfg} {s} {s'} {request} {reply} {fate} t o is =
     let local = ap (λ (b : Bool). served cfg s.names b t.slot request by.0) t.local in
     ap (λ (f : Fate). said reply f s') (sym t.fate_is) ∙ by.1 ∙ ap (outcome_of s t.slot t.connection) (local ∙ is by.0)
 
-refuses : {cfg : Configuration} {s s' : State} {request : Request} {reply : List ℕ} {fate : Fate} (t : IsReplied cfg s request reply fate s')
+refuses : {cfg : Configuration} {s s' : State} {request : Request} {reply : List ℕ} {fate : Fate}
+    (t : IsReplied cfg s request reply fate s')
     (text : List ℕ) → ((creation : ℕ) → served cfg s.names true t.slot request creation ≡ replied s.names text)
     → IsRefused s text reply fate s'
 refuses {cfg} {s} t text is =

@@ -200,7 +200,8 @@ module _ {cfg : Configuration} {s : State} (owned : IsOwned cfg s) (slot : ℕ) 
   abbrev waits : (received : List ℕ) → connection.stage ≡ Waiting received → WaitsAt
   waits received stage = search rules
 
-  response_owned : (piece : List ℕ) (stage : Stage) (o : Effect) → connection.stage ≡ stage → AnswersPiece cfg s slot connection piece stage o
+  response_owned : (piece : List ℕ) (stage : Stage) (o : Effect) → connection.stage ≡ stage
+      → AnswersPiece cfg s slot connection piece stage o
       → IsOwned cfg o.state
   response_owned piece (Waiting received) o stage response =
       by_outcome cfg o _ response.outcome (sight_owned (waits received stage) owned (received ++ piece) response.served response.response)

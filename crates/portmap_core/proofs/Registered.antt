@@ -83,7 +83,8 @@ StaysBy name row names o = (o.reply ≡ codes "STOPPED" → ⊥) → Stays name 
 
 if_near : (name : List ℕ) (row : Row) (local : Bool) (names : Names) (response : Served) → StaysBy name row names response
     → StaysBy name row names (if_local local names response)
-if_near name row local names response h = cond_both (not local) (closed names) response (StaysBy name row names) (λ _ _ found. found) (λ _. h)
+if_near name row local names response h = cond_both (not local) (closed names) response (StaysBy name row names) (λ _ _ found. found)
+    (λ _. h)
 
 stops_stay : (name : List ℕ) (row : Row) (names : Names) (owner : Option ℕ) → StaysBy name row names (stops names owner)
 stops_stay name row names None h found = found
@@ -138,7 +139,8 @@ serves_alive : {cfg : Configuration} {s s' : State} {g : Node} {reply : List ℕ
     × (said reply fate s' ≡ outcome_of s t.slot t.connection (alive_served cfg s.names t.slot g creation))
 serves_alive {cfg} {s} {s'} {g} {reply} {fate} t =
     let (o, serves, is) = serves_at t.completes (Alive g) t.spells in
-    let response : served cfg s.names t.connection.local t.slot (Alive g) serves.creation ≡ alive_served cfg s.names t.slot g serves.creation =
+    let response : served cfg s.names t.connection.local t.slot (Alive g) serves.creation
+        ≡ alive_served cfg s.names t.slot g serves.creation =
     ap (λ (b : Bool). served cfg s.names b t.slot (Alive g) serves.creation) t.local in
     let same : o ≡ alive_served cfg s.names t.slot g serves.creation = serves.is ∙ response in (
       serves.creation,

@@ -13,7 +13,8 @@ use Rattle.portmap_table.specs.declared.name_status.NameStatus.{NameStatus}
 use Rattle.portmap_table.specs.declared.name_status.NameStatus.TheVariants as how
 use Rattle.portmap_core.specs.{Config.Configuration, Held.stage_held}
 use Rattle.portmap_core.specs.Serving.{Served, Serves, ServesBody, ServesReceived, alive_served, registers, replied}
-use Rattle.portmap_core.specs.Responding.{RespondsAtAnySlot, IsOnlyResponse, IsChosen, MayChange, MayRegister, IsResponseAtAnySlot, names_after}
+use Rattle.portmap_core.specs.Responding.{RespondsAtAnySlot, IsOnlyResponse, IsChosen, MayChange, MayRegister, IsResponseAtAnySlot}
+use Rattle.portmap_core.specs.Responding.{names_after}
 use Rattle.portmap_core.specs.{Responding.{served_by, stopped_by}, declared.asked.RequestContext.RequestContext}
 use Rattle.portmap_core.specs.declared.connection.Stage.TheVariants.{Holding}
 use Rattle.portmap_core.specs.{declared.event.Fate.TheVariants.{Close, Stay}, declared.serve.Change.TheVariants.Nothing}
@@ -116,13 +117,15 @@ module _ (asked : RequestContext) (g : Node) {last : Option ℕ}
 
 -- ---- a body
 
-pub responds_to_spelled : {E : Type 0} (asked : RequestContext) (body : List ℕ) (request : Request) (result : Result Response E) → Spells body request
+pub responds_to_spelled : {E : Type 0} (asked : RequestContext) (body : List ℕ) (request : Request) (result : Result Response E)
+    → Spells body request
     → RespondsAtAnySlot asked result (λ cfg names slot. Serves cfg names asked.local slot request)
     → RespondsAtAnySlot asked result (λ cfg names slot. ServesBody cfg names asked.local slot body)
 responds_to_spelled asked body request result spells =
     let cfg = asked.config in
     let names = asked.table.now.names in
-    IfOk-weaker result (λ response. (bytes : List ℕ) → IsResponseAtAnySlot (λ slot. Serves cfg names asked.local slot request) asked bytes response)
+    IfOk-weaker result (λ response. (bytes : List ℕ)
+        → IsResponseAtAnySlot (λ slot. Serves cfg names asked.local slot request) asked bytes response)
     (λ response. (bytes : List ℕ) → IsResponseAtAnySlot (λ slot. ServesBody cfg names asked.local slot body) asked bytes response)
     (λ response h bytes. record {
       all = λ slot. all_spelled cfg names asked.local slot body request spells ((h bytes).all slot);
@@ -135,7 +138,8 @@ responds_to_spelled asked body request result spells =
 pub responds_to_whole : {E : Type 0} (asked : RequestContext) (received body : List ℕ) (sight : Framing) (result : Result Response E)
     → Some body ≡ body_in sight
     → RespondsAtAnySlot asked result (λ cfg names slot. ServesBody cfg names asked.local slot body)
-    → IfOk result (λ response. IsResponseAtAnySlot (λ slot. ServesReceived asked.config asked.table.now.names asked.local slot received sight) asked received response)
+    → IfOk result (λ response. IsResponseAtAnySlot
+        (λ slot. ServesReceived asked.config asked.table.now.names asked.local slot received sight) asked received response)
 responds_to_whole asked received body More result is = absurd cc
 responds_to_whole asked received body Zero result is = absurd cc
 responds_to_whole asked received body (TooLarge n) result is = absurd cc
@@ -143,9 +147,11 @@ responds_to_whole asked received body (Whole whole) result is =
     let one : body ≡ whole = cc in
     let cfg = asked.config in
     let names = asked.table.now.names in
-    IfOk-weaker result (λ response. (bytes : List ℕ) → IsResponseAtAnySlot (λ slot. ServesBody cfg names asked.local slot body) asked bytes response)
+    IfOk-weaker result (λ response. (bytes : List ℕ)
+        → IsResponseAtAnySlot (λ slot. ServesBody cfg names asked.local slot body) asked bytes response)
     (λ response. IsResponseAtAnySlot (λ slot. ServesReceived cfg names asked.local slot received (Whole whole)) asked received response)
-    (λ response h. subst (λ (b : List ℕ). IsResponseAtAnySlot (λ slot. ServesBody cfg names asked.local slot b) asked received response) one (h received))
+    (λ response h. subst (λ (b : List ℕ). IsResponseAtAnySlot (λ slot. ServesBody cfg names asked.local slot b) asked received response) one
+        (h received))
 
 -- what a feed keeps of it tells as much
 module _ (cfg : Configuration) (names : Names) {near local : Bool} (alike : near ≡ local) (slot : ℕ) where

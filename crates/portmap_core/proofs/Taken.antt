@@ -64,7 +64,8 @@ takes known_max names slot g creation legal name row last none some old =
 abbrev TakesBy : Type 0 → Names → Served → Type 0
 TakesBy P names o = (o.stage ≡ Holding → P) → TakesNew names o.names
 
-if_near : (P : Type 0) (local : Bool) (names : Names) (response : Served) → TakesBy P names response → TakesBy P names (if_local local names response)
+if_near : (P : Type 0) (local : Bool) (names : Names) (response : Served) → TakesBy P names response
+    → TakesBy P names (if_local local names response)
 if_near P local names response h = cond_both (not local) (closed names) response (TakesBy P names) (λ _ _. stays names) (λ _. h)
 
 stops_new : (P : Type 0) (names : Names) (owner : Option ℕ) → TakesBy P names (stops names owner)

@@ -97,8 +97,10 @@ pub record IsResponseAtAnySlot (Is : ℕ → Served → Type 0) (asked : Request
   pub chosen : IsChosen asked.config.port asked.table.now asked.wanted response.reply.items response.change
 
 -- the same of what is told by who is asked, without regard to the bytes that are kept
-abbrev pub RespondsAtAnySlot : {E : Type 0} → RequestContext → Result Response E → (Configuration → rows.Names → ℕ → Served → Type 0) → Type 0
-RespondsAtAnySlot asked result Is = IfOk result (λ response. (bytes : List ℕ) → IsResponseAtAnySlot (Is asked.config asked.table.now.names) asked bytes response)
+abbrev pub RespondsAtAnySlot : {E : Type 0} → RequestContext → Result Response E → (Configuration → rows.Names → ℕ → Served → Type 0)
+    → Type 0
+RespondsAtAnySlot asked result Is = IfOk result (λ response. (bytes : List ℕ)
+    → IsResponseAtAnySlot (Is asked.config asked.table.now.names) asked bytes response)
 
 abbrev pub Answers : {E : Type 0} → RequestContext → Result Response E → (Configuration → rows.Names → Served) → Type 0
 Answers asked result served = IfOk result (λ response. IsResponse asked response (served asked.config asked.table.now.names))

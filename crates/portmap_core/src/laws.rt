@@ -2,7 +2,8 @@
 ghost use Rattle.portmap_core.specs.Laws.{ActiveNamesAreFound, ActiveNamesAreListed, ActiveNamesAreTaken, EndsAreFinal};
 ghost use Rattle.portmap_core.specs.Laws.{EndsLeaveNoName, EntriesDetermine, HoldersOutlastTheirTime, KillsAreRefused};
 ghost use Rattle.portmap_core.specs.Laws.{KillsEnd, MalformedChangesNoName, NamesBelongToConnections, NewNamesWantRoom};
-ghost use Rattle.portmap_core.specs.Laws.{RemotePeersMayOnlyLookUp, RunsKeepLimits, StepsKeepOwned, TakenCreationsAreNew};
+ghost use Rattle.portmap_core.specs.Laws.{RemotePeersMayOnlyLookUp, RunsKeepLimits, StepsKeepOwned};
+ghost use Rattle.portmap_core.specs.Laws.{TakenCreationsAreNew};
 ghost use Rattle.portmap_core.specs.Laws.{WrittenIsWhole};
 ghost use Rattle.portmap_core.specs.Laws.{AbsentNamesAreNotFound, EndsRetire, ListsAreExact, StopsRetire};
 ghost use Rattle.portmap_core.specs.Laws.{FreeNamesRegister, NamesStay, RegisteredAreAlone, RegisteredAreFound};

@@ -8,9 +8,11 @@ ghost use Rattle.portmap_table.specs.Rows.{owns_name, name_status};
 ghost use Rattle.portmap_core.specs.declared.connection.Phase.TheVariants.{Done};
 ghost use Rattle.portmap_core.specs.declared.event.Fate.TheVariants.{Close};
 ghost use Rattle.portmap_core.specs.declared.serve.Change.TheVariants.{Nothing};
-ghost use Rattle.portmap_core.specs.Serving.{Serves, ServesBody, ServesReceived, dump_lines, dump_served, kill_served, list_of};
+ghost use Rattle.portmap_core.specs.Serving.{Serves, ServesBody, ServesReceived, dump_lines, dump_served, kill_served};
+ghost use Rattle.portmap_core.specs.Serving.{list_of};
 ghost use Rattle.portmap_core.specs.Serving.{names_served, port_served, stop_served};
-ghost use Rattle.portmap_core.specs.Responding.{Answers, RespondsAtAnySlot, MayChange, IsResponseAtAnySlot, names_after, stopped_by};
+ghost use Rattle.portmap_core.specs.Responding.{Answers, RespondsAtAnySlot, MayChange, IsResponseAtAnySlot};
+ghost use Rattle.portmap_core.specs.Responding.{names_after, stopped_by};
 
 use crate::asked::RequestContext;
 use crate::connection::Phase;
@@ -252,7 +254,8 @@ impl RequestContext<'_> {
     }
 
     fn respond_to_body(&self, alloc: Global, body: &[u8]) -> Result<Response, NoMemory>
-        ensures { RespondsAtAnySlot self.now result (λ cfg names slot. ServesBody cfg names self.now.local slot body.now) }
+        ensures { RespondsAtAnySlot self.now result
+            (λ cfg names slot. ServesBody cfg names self.now.local slot body.now) }
     {
         match read_request(alloc, body) {
             Ok(request) => self.respond_to_request(alloc, request),

@@ -92,7 +92,8 @@ module _ {T : Type 0} where
         omega (arith, joined out k old.paused.items puts.paused, ap (λ m. m.paused) (i.marks k)) in
         whole_step i (record {
           held = puts.held;
-          here = marks_is _ _ queue pending paused (ap (λ t. is_key t k) puts.current ∙ not_key_here k old.current ∙ sym to) ∙ sym shows.marks;
+          here = marks_is _ _ queue pending paused (ap (λ t. is_key t k) puts.current ∙ not_key_here k old.current ∙ sym to)
+              ∙ sym shows.marks;
           others = λ j d.
               marks_is _ _ (joined_other (is_queued p) k old.queue.items puts.queue j d)
               (joined_other (is_pending p) k old.pending.items puts.pending j d)
@@ -113,7 +114,8 @@ module _ {T : Type 0} where
         ∙ kept_pushed puts.held is_live (is_pending p) old.pending.items free.pending live) refl puts.current
         (λ x. nat_lt (puts.len x) (puts.capacity x) && nat_le (puts.capacity x) (puts.rooms x))
 
-    put_resting : is_paused p ≡ false → kept is_paused_in new.held new.paused.items ≡ without k (kept is_paused_in old.held old.paused.items)
+    put_resting : is_paused p ≡ false → kept is_paused_in new.held new.paused.items
+        ≡ without k (kept is_paused_in old.held old.paused.items)
     put_resting e =
         ap (kept is_paused_in new.held) (puts.paused ∙ ap (λ b. pushed b k old.paused.items) (not_out o))
         ∙ kept_out puts.held is_paused_in old.paused.items ((shows-with_link_state p o free.live).is_paused_in ∙ e)
@@ -219,7 +221,8 @@ module _ {T : Type 0} where
       let first = take_queue true i takes true l in
       let links = ap (λ xs. first_at Current (slice_get xs 0) (links_of old.held.slots)) first in
       seen_is (seen new) (record (after_next (seen old)) { has_room = has_room new }) (take_links true i takes ∙ links) (ap (drop 1) first)
-      (take_pending true i takes true l) (take_paused true i takes) (take_current true i takes true l ∙ ap (λ xs. slice_get xs 0) first) refl
+      (take_pending true i takes true l) (take_paused true i takes) (take_current true i takes true l ∙ ap (λ xs. slice_get xs 0) first)
+          refl
       ∙ ap (λ w. record (after_next w) { has_room = has_room new }) e
 
   -- the first of those that are pending is told
@@ -303,9 +306,12 @@ module _ {T : Type 0} where
     end_live : (xs : List ℕ) → kept is_live new.held xs ≡ kept is_live old.held xs
     end_live xs = kept_same ends.held is_live xs (λ _. ap is_some (shows-unlisted rested (i.fine k)).link ∙ some_map wake (link_of rested))
 
-    end_resting : (b : Bool) → is_paused_in rested ≡ b → front b k (kept is_paused_in new.held new.paused.items) ≡ kept is_paused_in old.held old.paused.items
-    end_resting true e = sym (ap (kept is_paused_in old.held) ends.paused ∙ rw (e, kept_absent ends.held is_paused_in new.paused.items ended.0) refl)
-    end_resting false e = sym (ap (kept is_paused_in old.held) ends.paused ∙ rw (e, kept_absent ends.held is_paused_in new.paused.items ended.0) refl)
+    end_resting : (b : Bool) → is_paused_in rested ≡ b → front b k (kept is_paused_in new.held new.paused.items)
+        ≡ kept is_paused_in old.held old.paused.items
+    end_resting true e = sym (ap (kept is_paused_in old.held) ends.paused
+        ∙ rw (e, kept_absent ends.held is_paused_in new.paused.items ended.0) refl)
+    end_resting false e = sym (ap (kept is_paused_in old.held) ends.paused
+        ∙ rw (e, kept_absent ends.held is_paused_in new.paused.items ended.0) refl)
 
     pub ended_seen : (v : Links T) → is_paused_in rested ≡ true → IsButForRoom (seen old) v → IsButForRoom (seen new) (after_resume v)
     ended_seen v l e =
@@ -361,7 +367,8 @@ module _ {T : Type 0} where
         let out = λ (xs : List ℕ). kept_out clears.held is_live xs (ap is_some shows.link) in
         ap seen clears.same
         ∙ seen_is _ (record (removed k (seen old)) { has_room = has_room new }) (links_cut clears.held shows.link) (out old.queue.items)
-        (out old.pending.items) (kept_out clears.held is_paused_in old.paused.items shows.is_paused_in) clears.current (ap has_room (sym clears.same))
+        (out old.pending.items) (kept_out clears.held is_paused_in old.paused.items shows.is_paused_in) clears.current
+            (ap has_room (sym clears.same))
 
   pub live_taken : (s : Slab (Tracked T)) (k : ℕ) {v : Option T} → v ≡ option_map (λ link. link.0) (link_of (get s k))
       → is_some v ≡ is_live (get s k)
@@ -505,7 +512,8 @@ module _ {T : Type 0} where
       let live = λ (q : ℕ). sym (ap is_some (get-links_of r.held q)) in
       rw i.counted (len_most (room r) (links_of r.held.slots) (λ q h. i.fits q (some_live (get r.held q) (live q ∙ h))))
 
-  pub length-kept : (f : Option (Tracked T) → Bool) (s : Slab (Tracked T)) (xs : List ℕ) {ys : List ℕ} → kept f s xs ≡ ys → length ys ≤ length xs
+  pub length-kept : (f : Option (Tracked T) → Bool) (s : Slab (Tracked T)) (xs : List ℕ) {ys : List ℕ} → kept f s xs ≡ ys
+      → length ys ≤ length xs
   length-kept f s xs e = rw (← e, length-filter) (count_by-le-length (λ k. f (get s k)) xs)
 
 pub ruleset looks = (

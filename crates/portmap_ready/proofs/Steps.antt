@@ -31,7 +31,8 @@ module _ {T : Type 0} where
   before j q (None ∷ slots) lt = before (j + 1) q slots (omega arith)
   before j q (Some link ∷ slots) lt = grind (arith, nat_tests, before (j + 1) q slots (omega arith))
 
-  at_slot : (j k q : ℕ) (slots : List (Option (T × LinkState))) → q ≡ j + k → map.find nat_cmp q (entries_from j slots) ≡ get_or slots k None
+  at_slot : (j k q : ℕ) (slots : List (Option (T × LinkState))) → q ≡ j + k → map.find nat_cmp q (entries_from j slots)
+      ≡ get_or slots k None
   at_slot j k q [] e = refl
   at_slot j zero q (None ∷ slots) e = before (j + 1) q slots (omega arith)
   at_slot j zero q (Some link ∷ slots) e = grind (arith, nat_tests)
@@ -130,7 +131,8 @@ module _ {T : Type 0} where
 
   -- a key below all room finds room in a list where it does not stand
   room_for : {r : Inside T} (list : Inside T → List ℕ) (mark : Marks → ℕ) (k : ℕ) → IsWhole r
-      → ((j : ℕ) → times j (list r) ≡ mark (marks r j)) → mark (marks_of {T = T} None) ≡ 0 → ((h : Tracked T) → mark (marks_of (Some h)) ≤ 1)
+      → ((j : ℕ) → times j (list r) ≡ mark (marks r j)) → mark (marks_of {T = T} None) ≡ 0
+          → ((h : Tracked T) → mark (marks_of (Some h)) ≤ 1)
       → times k (list r) ≡ 0 → k < room r → length (list r) < room r
   room_for {r} list mark k i is none most absent within =
       times_fit (list r) (room r) k (λ j. let e = is j ∙ ap mark (i.marks j) in let m = once (get r.held j) in omega arith)

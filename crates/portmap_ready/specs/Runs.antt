@@ -24,7 +24,7 @@ pub data Call (T : Type 0) : Type 0 where
 -- the lists from which links are taken in turn
 pub data Line : Type 0 where
   Queue : Line
-  Tracked : Line
+  PendingQueue : Line
 
 -- what a call does to a list: nothing; a key joins it, if any does; its first is taken; or a key leaves it, wherever it stands
 pub data Change : Type 0 where
@@ -74,15 +74,15 @@ module _ {T : Type 0} where
 
   abbrev pub keys_of : Line → Links T → List ℕ
   keys_of Queue r = r.queue
-  keys_of Tracked r = r.pending
+  keys_of PendingQueue r = r.pending
 
   abbrev pub change : Line → Call T → Change
   change Queue (Insert k value) = Joins k
   change Queue (Report k) = Joins k
   change Queue (Next current) = Takes current
   change Queue (PutBack k) = Joins k
-  change Tracked (NextPending current) = Takes current
-  change Tracked (Hold k) = Joins k
+  change PendingQueue (NextPending current) = Takes current
+  change PendingQueue (Hold k) = Joins k
   change line (Remove k) = Leaves k
   change line call = Stays
 

@@ -38,7 +38,8 @@ module _ {T : Type 0} where
 
   abbrev pub marks : Inside T → ℕ → Marks
   marks r k =
-      record { queue = times k r.queue.items; pending = times k r.pending.items; paused = times k r.paused.items; current = is_key r.current k }
+      record { queue = times k r.queue.items; pending = times k r.pending.items; paused = times k r.paused.items; current = is_key r.current
+          k }
 
   -- each key stands where what is held under it says, once in a list or not at all; there is room for all keys in each list; and so many
   -- links are there

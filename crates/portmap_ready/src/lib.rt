@@ -27,7 +27,8 @@ ghost use Rattle.std.specs.VecDeque.{deque_capacity};
 ghost use Rattle.slab.specs.Slab.{Updates, get, slab_len};
 ghost use Rattle.portmap_ready.specs.Links.{is_pending, is_queued, is_paused, is_current, not_key, pushed};
 ghost use Rattle.portmap_ready.specs.declared.LinkState.TheVariants.{Idle, Pending, Queued};
-ghost use Rattle.portmap_ready.specs.Tracked.{cleared, is_live, is_out, left, link_of, with_link_state, is_paused_in, taken, tidied};
+ghost use Rattle.portmap_ready.specs.Tracked.{cleared, is_live, is_out, left, link_of, with_link_state, is_paused_in};
+ghost use Rattle.portmap_ready.specs.Tracked.{taken, tidied};
 ghost use Rattle.portmap_ready.specs.Tracked.{unlisted, woken};
 
 #[cfg(test)]
@@ -571,7 +572,7 @@ impl<T: Drop> Scheduler<T> {
     /// A link before which so many others are pending is taken within as many calls of `next_pending`, and one more,
     /// whatever is called in between, unless it is removed. It costs nothing.
     pub fn pending_wait_is_bounded()
-        ensures { WaitIsBounded T line.Tracked }
+        ensures { WaitIsBounded T line.PendingQueue }
     {}
 
     /// While a link is queued, and is neither told nor removed, no call tells a link that did not stand before it. So
@@ -579,6 +580,6 @@ impl<T: Drop> Scheduler<T> {
     /// was queued after it. It costs nothing.
     pub fn queue_is_fifo()
         ensures queue { QueueIsFifo T line.Queue }
-        ensures pending { QueueIsFifo T line.Tracked }
+        ensures pending { QueueIsFifo T line.PendingQueue }
     {}
 }

@@ -9,7 +9,7 @@ enum AfterTurn {
     Left,
     Again,
     Pauses,
-    Tracked,
+    Deferred,
 }
 
 /// The link that was told last goes there.
@@ -23,17 +23,17 @@ fn settle(ready: &mut Scheduler<u64>, fate: AfterTurn)
         AfterTurn::Left => ready.leave(key),
         AfterTurn::Again => ready.requeue(key),
         AfterTurn::Pauses => ready.rest(key),
-        AfterTurn::Tracked => ready.hold(key),
+        AfterTurn::Deferred => ready.hold(key),
     }
 }
 
-/// The next link, once the one that was told last went there.
+/// The next link, once the link that was served last has gone there.
 fn next(ready: &mut Scheduler<u64>, fate: AfterTurn) -> Option<usize> {
     settle(ready, fate);
     ready.next()
 }
 
-/// The next of those that are pending, once the one that was told last went there.
+/// The next of those that are pending, once the link that was served last has gone there.
 fn next_pending(ready: &mut Scheduler<u64>, fate: AfterTurn) -> Option<usize> {
     settle(ready, fate);
     ready.next_pending()
@@ -51,7 +51,7 @@ fn a_link_is_told_in_turn_wherever_it_stood(rt: HostRuntime) {
     assert!(rt; next(&mut ready, AfterTurn::Left) == Some(first));
     assert!(rt; next(&mut ready, AfterTurn::Left) == Some(second));
     assert!(rt; next(&mut ready, AfterTurn::Pauses) == Some(third));
-    assert!(rt; next(&mut ready, AfterTurn::Tracked) == None);
+    assert!(rt; next(&mut ready, AfterTurn::Deferred) == None);
     assert!(rt;
         ready.state(first) == Some(LinkState::Idle)
             && ready.state(second) == Some(LinkState::Paused)
@@ -68,8 +68,8 @@ fn a_link_is_told_in_turn_wherever_it_stood(rt: HostRuntime) {
     assert!(rt; ready.backlog() == 1);
     // The third goes on to wait, behind the first.
     assert!(rt; next(&mut ready, AfterTurn::Left) == Some(first));
-    assert!(rt; next_pending(&mut ready, AfterTurn::Tracked) == Some(third));
-    assert!(rt; next_pending(&mut ready, AfterTurn::Tracked) == Some(first));
+    assert!(rt; next_pending(&mut ready, AfterTurn::Deferred) == Some(third));
+    assert!(rt; next_pending(&mut ready, AfterTurn::Deferred) == Some(first));
     assert!(rt; next_pending(&mut ready, AfterTurn::Again) == Some(third));
     settle(&mut ready, AfterTurn::Again);
     // Both wait no more, and the second has rested.
@@ -88,7 +88,7 @@ fn a_key_is_not_given_out_while_it_stands_in_a_list(rt: HostRuntime) {
     let first = ready.insert(10).expect(&rt, "memory");
     let second = ready.insert(20).expect(&rt, "memory");
     assert!(rt; next(&mut ready, AfterTurn::Left) == Some(first));
-    assert!(rt; next(&mut ready, AfterTurn::Tracked) == Some(second));
+    assert!(rt; next(&mut ready, AfterTurn::Deferred) == Some(second));
     settle(&mut ready, AfterTurn::Pauses);
     // The second is queued while its key stands among those that rest.
     ready.report(second);

@@ -54,22 +54,26 @@ module _ {S : Type 0} where
 
   -- ---- what stands under a key, and under each other one
 
-  put_here : (state : LinkState) (k : ℕ) (o : Option (OpenLink S × LinkState)) (m : map.FinMap nat_cmp (OpenLink S × LinkState)) → map.get m k ≡ o
+  put_here : (state : LinkState) (k : ℕ) (o : Option (OpenLink S × LinkState)) (m : map.FinMap nat_cmp (OpenLink S × LinkState))
+      → map.get m k ≡ o
       → map.get (put_at state k o m) k ≡ option_map (to state) o
   put_here state k None m e = e
   put_here state k (Some l) m e = grind (arith, nat_tests, map.gets)
 
-  put_there : (state : LinkState) (k : ℕ) (o : Option (OpenLink S × LinkState)) (m : map.FinMap nat_cmp (OpenLink S × LinkState)) (q : ℕ) → q ≢ k
+  put_there : (state : LinkState) (k : ℕ) (o : Option (OpenLink S × LinkState)) (m : map.FinMap nat_cmp (OpenLink S × LinkState)) (q : ℕ)
+      → q ≢ k
       → map.get (put_at state k o m) q ≡ map.get m q
   put_there state k None m q d = refl
   put_there state k (Some l) m q d = grind (arith, nat_tests, map.gets, d)
 
-  write_here : (k : ℕ) (v : OpenLink S) (o : Option (OpenLink S × LinkState)) (m : map.FinMap nat_cmp (OpenLink S × LinkState)) → map.get m k ≡ o
+  write_here : (k : ℕ) (v : OpenLink S) (o : Option (OpenLink S × LinkState)) (m : map.FinMap nat_cmp (OpenLink S × LinkState))
+      → map.get m k ≡ o
       → map.get (write_at k v o m) k ≡ option_map (with v) o
   write_here k v None m e = e
   write_here k v (Some l) m e = grind (arith, nat_tests, map.gets)
 
-  write_there : (k : ℕ) (v : OpenLink S) (o : Option (OpenLink S × LinkState)) (m : map.FinMap nat_cmp (OpenLink S × LinkState)) (q : ℕ) → q ≢ k
+  write_there : (k : ℕ) (v : OpenLink S) (o : Option (OpenLink S × LinkState)) (m : map.FinMap nat_cmp (OpenLink S × LinkState)) (q : ℕ)
+      → q ≢ k
       → map.get (write_at k v o m) q ≡ map.get m q
   write_there k v None m q d = refl
   write_there k v (Some l) m q d = grind (arith, nat_tests, map.gets, d)
@@ -255,7 +259,8 @@ module _ {S : Type 0} where
         (ap is_safe (reported_here k (written k r v)) ∙ waked_safe (link_at (written k r v) k)))
 
   -- it has another value, which is calm if the one before was
-  pub kept_so : (k : ℕ) (r : Links (OpenLink S)) (h v : OpenLink S) → Some h ≡ option_map (λ (l : OpenLink S × LinkState). l.0) (link_at r k)
+  pub kept_so : (k : ℕ) (r : Links (OpenLink S)) (h v : OpenLink S) → Some h
+      ≡ option_map (λ (l : OpenLink S × LinkState). l.0) (link_at r k)
       → (is_calm h ≡ true → is_calm v ≡ true) → Keeps r (written k r v)
   kept_so k r h v value same =
       keeps_both r (written k r v) (keep_so k r (written k r v) (then_written k v r r (itself k r)) (λ safe.
@@ -270,7 +275,8 @@ module _ {S : Type 0} where
       at (Some (t, Paused)) e s = refl
       at (Some (t, Current)) e s = refl
 
-  pub as_calm : (k : ℕ) (r : Links (OpenLink S)) (h v : OpenLink S) → Some h ≡ option_map (λ (l : OpenLink S × LinkState). l.0) (link_at r k)
+  pub as_calm : (k : ℕ) (r : Links (OpenLink S)) (h v : OpenLink S) → Some h
+      ≡ option_map (λ (l : OpenLink S × LinkState). l.0) (link_at r k)
       → v.link.is_paused ≡ h.link.is_paused → notes_of v ≡ notes_of h → Keeps r (written k r v)
   as_calm k r h v value rests notes =
       kept_so k r h v value (λ calm. ap (λ b. not b && is_quiet (notes_of v)) rests
@@ -374,12 +380,14 @@ module _ {S : Type 0} where
       }
 
   -- the first of the queue is told, and has another value
-  pub told_written : (k : ℕ) (old r : Links (OpenLink S)) (v : OpenLink S) → slice_get old.queue 0 ≡ Some k → IsButForRoom r (after_next old)
+  pub told_written : (k : ℕ) (old r : Links (OpenLink S)) (v : OpenLink S) → slice_get old.queue 0 ≡ Some k
+      → IsButForRoom r (after_next old)
       → KeepsLinks old (written k r v)
   told_written k old r v s h =
       let links = ap (λ (r : Links (OpenLink S)). r.links) h in
       keep_so k old (written k r v) (then_written k v old r (first_others Current k (slice_get old.queue 0) old r s links))
-      (λ _. ap is_safe (written_here k v r ∙ ap (option_map (with v)) (ap (λ m. map.get m k) (links ∙ ap (λ o. first_at Current o old.links) s)
+      (λ _. ap is_safe (written_here k v r
+          ∙ ap (option_map (with v)) (ap (λ m. map.get m k) (links ∙ ap (λ o. first_at Current o old.links) s)
       ∙ put_here Current k (link_at old k) old.links refl)) ∙ at (link_at old k))
     where
       at : (o : Option (OpenLink S × LinkState)) → is_safe (option_map (with v) (option_map (to Current) o)) ≡ true
@@ -662,7 +670,8 @@ module _ {S : Type 0} where
 
   module _ (k : ℕ) (v : OpenLink S) (old r new : Links (OpenLink S)) where
     -- the key of a rest that has ended stands nowhere else among those that rest
-    pub rest_over : IsConsistent old → slice_get old.paused 0 ≡ Some k → IsButForRoom r (after_resume old) → new ≡ reported k (written k r v)
+    pub rest_over : IsConsistent old → slice_get old.paused 0 ≡ Some k → IsButForRoom r (after_resume old) → new
+        ≡ reported k (written k r v)
         → new.paused ≡ drop 1 old.paused
     rest_over ready s ended e =
         let rest : r.paused ≡ drop 1 old.paused = ap (λ (r : Links (OpenLink S)). r.paused) ended in

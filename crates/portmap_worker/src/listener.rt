@@ -71,7 +71,8 @@ impl Listener {
         ensures would_block { result ≡ AcceptError.WouldBlock
             → (self.new.waiting ≡ false) × (self.new.watch ≡ self.old.watch) × (self.new.took ≡ self.old.took) }
         ensures exhausted { result ≡ AcceptError.Exhausted
-            → (self.new.waiting ≡ false) × (self.new.watch ≡ ListenerState.From (min (now + ACCEPT_BACKOFF_MS) (2 ^ 64 - 1))) }
+            → (self.new.waiting ≡ false)
+                × (self.new.watch ≡ ListenerState.From (min (now + ACCEPT_BACKOFF_MS) (2 ^ 64 - 1))) }
     {
         let error = accept_error(kind);
         match error {

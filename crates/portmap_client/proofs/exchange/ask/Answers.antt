@@ -22,7 +22,8 @@ returns-in-Fault-clause-writes g c =
     let client_result = c.send_all-sent.ensures in
     record {
       prefix = record { count = sent.count; writes = client_result.written };
-      part = sends_part sent.flush client_result.within client_result.answers (λ e. (let both : Fault ≡ Empty = sym c.in-Fault.is ∙ e in cc));
+      part = sends_part sent.flush client_result.within client_result.answers
+          (λ e. (let both : Fault ≡ Empty = sym c.in-Fault.is ∙ e in cc));
     }
 
 pub returns-in-Fault-clause-waited : goal.returns-in-Fault-clause-waited

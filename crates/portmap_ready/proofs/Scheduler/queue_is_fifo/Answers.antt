@@ -1,4 +1,4 @@
-use Rattle.portmap_ready.specs.Runs.{Tracked, Queue}
+use Rattle.portmap_ready.specs.Runs.{PendingQueue, Queue}
 use Rattle.portmap_ready.proofs.Turns.{comes_in_order}
 use Rattle.portmap_ready.proofs.Scheduler.queue_is_fifo.Goals as goal
 
@@ -6,4 +6,4 @@ pub returns-clause-queue : goal.returns-clause-queue
 returns-clause-queue g c = comes_in_order Queue
 
 pub returns-clause-pending : goal.returns-clause-pending
-returns-clause-pending g c = comes_in_order Tracked
+returns-clause-pending g c = comes_in_order PendingQueue

@@ -40,7 +40,8 @@ returns-in-None g c = record {
   schedule = loaded c.args.self.now.schedule c.on_polled.new.self.schedule c.note_load.new.self.schedule _
       (asked c.args.self.now.schedule c.retry_pending.new.self.schedule c.wait-is_well.new.self.schedule _
       c.retry_pending.ensures.schedule c.wait-is_well.ensures.schedule c.on_polled.ensures.schedule)
-      c.note_load.ensures.schedule (c.evict_for_other_worker.ensures.schedule ∙ c.look_round.ensures.schedule ∙ c.pass_listeners.ensures.schedule);
+      c.note_load.ensures.schedule (c.evict_for_other_worker.ensures.schedule ∙ c.look_round.ensures.schedule
+          ∙ c.pass_listeners.ensures.schedule);
 }
 
 pub returns-in_default : goal.returns-in_default
@@ -52,7 +53,8 @@ returns-in_default g c = record {
   schedule = loaded c.args.self.now.schedule c.on_polled.new.self.schedule c.note_load.new.self.schedule _
       (asked c.args.self.now.schedule c.retry_pending.new.self.schedule c.wait-is_well.new.self.schedule _
       c.retry_pending.ensures.schedule c.wait-is_well.ensures.schedule c.on_polled.ensures.schedule)
-      c.note_load.ensures.schedule (c.evict_for_other_worker.ensures.schedule ∙ c.look_round.ensures.schedule ∙ c.pass_listeners.ensures.schedule);
+      c.note_load.ensures.schedule (c.evict_for_other_worker.ensures.schedule ∙ c.look_round.ensures.schedule
+          ∙ c.pass_listeners.ensures.schedule);
 }
 
 pub returns-in_default-2 : goal.returns-in_default-2
@@ -64,5 +66,6 @@ returns-in_default-2 g c = record {
   schedule = loaded c.args.self.now.schedule c.on_polled.new.self.schedule c.note_load.new.self.schedule _
       (asked c.args.self.now.schedule c.retry_pending.new.self.schedule c.wait-is_well.new.self.schedule _
       c.retry_pending.ensures.schedule c.wait-is_well.ensures.schedule c.on_polled.ensures.schedule)
-      c.note_load.ensures.schedule (c.evict_for_other_worker.ensures.schedule ∙ c.look_round.ensures.schedule ∙ c.pass_listeners.ensures.schedule);
+      c.note_load.ensures.schedule (c.evict_for_other_worker.ensures.schedule ∙ c.look_round.ensures.schedule
+          ∙ c.pass_listeners.ensures.schedule);
 }

@@ -11,7 +11,8 @@ returns-in_err-key-clause-links g c =
     (none_told c.args.self.now.ready _ (sym c.next-key.ensures.key ∙ c.in_err-key.was) c.next-key.ensures.current)
 
 pub returns-in_default-clause-links : goal.returns-in_default-clause-links
-returns-in_default-clause-links g c = first_goes Current _ c.args.self.now.ready _ (ap (λ r. r.links) c.next-key.ensures.current) (λ v. refl)
+returns-in_default-clause-links g c = first_goes Current _ c.args.self.now.ready _ (ap (λ r. r.links) c.next-key.ensures.current)
+    (λ v. refl)
 
 pub returns-in_default-clause-passes : goal.returns-in_default-clause-passes
 returns-in_default-clause-passes g c =

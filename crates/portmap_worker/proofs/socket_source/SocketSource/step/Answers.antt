@@ -9,7 +9,8 @@ returns-then-is_some g c =
     let some = sym c.is_some.ensures ∙ c.if-is_some.true in
     record {
       links = weaker _ _ _ c.defer_registration-held_back.ensures.links;
-      nears = free_so _ _ _ _ _ some c.defer_registration-held_back.ensures.links (again_free _ _ c.defer_registration-held_back.ensures.again)
+      nears = free_so _ _ _ _ _ some c.defer_registration-held_back.ensures.links
+          (again_free _ _ c.defer_registration-held_back.ensures.again)
           c.defer_registration-held_back.ensures.schedule;
     }
 
