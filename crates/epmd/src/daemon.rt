@@ -56,6 +56,7 @@ pub fn settings(
         timeout: command.timeout,
         workers: command.workers,
         recording: command.recording.clone()?,
+        figures: None,
     })
 }
 

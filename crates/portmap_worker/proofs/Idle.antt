@@ -387,7 +387,7 @@ module _ {S : Type 0} where
       let links = ap (λ (r : Links (OpenLink S)). r.links) h in
       keep_so k old (written k r v) (then_written k v old r (first_others Current k (slice_get old.queue 0) old r s links))
       (λ _. ap is_safe (written_here k v r
-          ∙ ap (option_map (with v)) (ap (λ m. map.get m k) (links ∙ ap (λ o. first_at Current o old.links) s)
+      ∙ ap (option_map (with v)) (ap (λ m. map.get m k) (links ∙ ap (λ o. first_at Current o old.links) s)
       ∙ put_here Current k (link_at old k) old.links refl)) ∙ at (link_at old k))
     where
       at : (o : Option (OpenLink S × LinkState)) → is_safe (option_map (with v) (option_map (to Current) o)) ≡ true

@@ -1,4 +1,5 @@
 pub mod Carrying
+pub mod Figures
 pub mod Files
 pub mod IdleLinks
 pub mod Keys

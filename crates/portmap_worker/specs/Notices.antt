@@ -2,7 +2,7 @@
 use Rattle.std.specs.Fmt.{decimal}
 use Rattle.std.specs.Prelude.{ℕ, ◌-◌, ◌==◌, List, ◌++◌, codes, if◌then◌else◌}
 use Rattle.portmap_worker.specs.{Refused.in_use_line, Remote.remote_line}
-use Rattle.portmap_worker.specs.declared.notice.Notice.{Notice, TheVariants.{CannotAccept, FewerPlaces, InUse}}
+use Rattle.portmap_worker.specs.declared.notice.Notice.{Notice, TheVariants.{CannotAccept, FewerPlaces, FiguresLost, InUse}}
 use Rattle.portmap_worker.specs.declared.notice.Notice.TheVariants.{RecordingAgain, RecordingFailed, Remote, ShortOfMemory, Unread}
 
 -- the path of a file of a recording, by its number
@@ -18,6 +18,7 @@ notice_line (Unread count) = codes "epmd: " ++ decimal count ++ codes " connecti
 notice_line (RecordingFailed path number reason) =
     codes "epmd: recording failed: " ++ file_path path.now number ++ codes ": " ++ reason.now ++ codes "\n"
 notice_line (RecordingAgain path number) = codes "epmd: recording again: " ++ file_path path.now number ++ codes "\n"
+notice_line (FiguresLost path) = codes "epmd: cannot write the counters: " ++ path.now ++ codes "\n"
 notice_line (FewerPlaces places limit) = codes "epmd: at most " ++ decimal places
     ++ codes " connections, since the limit of descriptors is " ++ decimal limit ++ codes "\n"
 
@@ -30,4 +31,5 @@ brief_line (ShortOfMemory count) = codes "epmd: memory is short, requests were r
 brief_line (Unread count) = codes "epmd: connections that did not read their replies were reset\n"
 brief_line (RecordingFailed path number reason) = codes "epmd: recording failed: there is no memory to say why\n"
 brief_line (RecordingAgain path number) = codes "epmd: recording again\n"
+brief_line (FiguresLost path) = codes "epmd: the counters cannot be written\n"
 brief_line (FewerPlaces places limit) = codes "epmd: the limit of descriptors is low\n"

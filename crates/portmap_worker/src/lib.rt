@@ -44,6 +44,7 @@ mod carrier;
 mod drain;
 mod ending;
 mod epochs;
+mod figures;
 mod first_piece;
 mod gate;
 mod host;

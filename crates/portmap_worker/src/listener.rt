@@ -72,7 +72,7 @@ impl Listener {
             → (self.new.waiting ≡ false) × (self.new.watch ≡ self.old.watch) × (self.new.took ≡ self.old.took) }
         ensures exhausted { result ≡ AcceptError.Exhausted
             → (self.new.waiting ≡ false)
-                × (self.new.watch ≡ ListenerState.From (min (now + ACCEPT_BACKOFF_MS) (2 ^ 64 - 1))) }
+            × (self.new.watch ≡ ListenerState.From (min (now + ACCEPT_BACKOFF_MS) (2 ^ 64 - 1))) }
     {
         let error = accept_error(kind);
         match error {

@@ -34,6 +34,8 @@ pub enum Notice<'a> {
         path: &'a str,
         number: u32,
     },
+    /// The counters cannot be written to the file at this path.
+    FiguresLost(&'a str),
     /// The daemon has so many places, since the limit of descriptors is this.
     FewerPlaces {
         places: u64,
@@ -57,6 +59,8 @@ const BRIEF_UNREAD: &[u8] = b"epmd: connections that did not read their replies 
 const BRIEF_FAILED: &[u8] = b"epmd: recording failed: there is no memory to say why\n";
 
 const BRIEF_AGAIN: &[u8] = b"epmd: recording again\n";
+
+const BRIEF_FIGURES: &[u8] = b"epmd: the counters cannot be written\n";
 
 const BRIEF_PLACES: &[u8] = b"epmd: the limit of descriptors is low\n";
 
@@ -151,6 +155,9 @@ impl Notice<'_> {
             Notice::RecordingAgain { path, number } => {
                 file_line(alloc, b"epmd: recording again: ", path, *number, b"")
             }
+            Notice::FiguresLost(path) => {
+                file_line(alloc, b"epmd: cannot write the counters: ", path, 0, b"")
+            }
             Notice::FewerPlaces { places, limit } => places_line(alloc, *places, *limit),
         }
     }
@@ -167,6 +174,7 @@ impl Notice<'_> {
             Notice::Unread(_) => BRIEF_UNREAD,
             Notice::RecordingFailed { .. } => BRIEF_FAILED,
             Notice::RecordingAgain { .. } => BRIEF_AGAIN,
+            Notice::FiguresLost(_) => BRIEF_FIGURES,
             Notice::FewerPlaces { .. } => BRIEF_PLACES,
         }
     }

@@ -252,7 +252,7 @@ fn simulate<'a, L: Ledger, S: LinkSource + Drop, R: Wait + Drop>(
     let workers = workers_of(alloc, around, sources)?;
     let scene = Scene::new(alloc, &around.host.world, case)?;
     let (queue, places) = (Some(around.queue), case.scenario.conn_max);
-    let drain = Drain::begin(around.host, alloc, around.desk, queue, places).ok()?;
+    let drain = Drain::begin(around.host, alloc, around.desk, queue, places, None).ok()?;
     let writer: RecordWriter<SimFile> = RecordWriter::new(case.scenario.file_bytes_most);
     let daemon = Daemon {
         around,

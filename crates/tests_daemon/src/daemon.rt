@@ -241,6 +241,7 @@ pub fn settings_at(
         timeout,
         workers,
         recording,
+        figures: None,
     })
 }
 

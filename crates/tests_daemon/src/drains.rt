@@ -88,7 +88,7 @@ fn polls<L: Ledger + Send + Sync, R: Net + Host<File = File> + Threads + Wait + 
     let (_, waker) = MioSystem::open(rt, alloc, &[]).ok()?;
     let shared = Shared::new(rt, Vec::new(alloc), waker, 2, UNSENT_BYTES_MOST);
     shared.ending.begin_one();
-    let drain = Drain::begin(rt, alloc, &desk, None, 2).ok()?;
+    let drain = Drain::begin(rt, alloc, &desk, None, 2, None).ok()?;
     let polls = AtomicU64::new(0);
     let deaf = Deaf { polls: &polls };
     let (is_out, _) = thread::join(

@@ -62,7 +62,7 @@ fn is_told_whole<L: Ledger, R: Host + Wait + Clock>(
 {
     let desk: Desk<L> = Desk::new(blank, small_book(alloc)?);
     let queue = RecordQueue::new(alloc, path);
-    let mut drain = Drain::begin(rt, alloc, &desk, Some(&queue), 2).ok()?;
+    let mut drain = Drain::begin(rt, alloc, &desk, Some(&queue), 2, None).ok()?;
     registers(rt, alloc, &desk)?;
     let is_out = is_out(rt, alloc, &desk, &mut drain);
     queue.close(rt);

@@ -7,7 +7,7 @@ use Rattle.portmap_worker.proofs.open_link.resume_oldest.Goals as goal
 pub returns-then-resume-clause-links : goal.returns-then-resume-clause-links
 returns-then-resume-clause-links g c =
     let others = first_others Idle c.in-Some.key _ c.args.links.now c.resume_oldest.new.self (sym c.resume_oldest.ensures.key
-        ∙ c.in-Some.is)
+    ∙ c.in-Some.is)
     (ap (λ r. r.links) c.resume_oldest.ensures.ended) in
     let queue = stays c.args.links.now c.resume_oldest.new.self (ap (λ r. r.queue) c.resume_oldest.ensures.ended) in
     wakes c.in-Some.key _ c.args.links.now c.resume_oldest.new.self _ others queue
@@ -16,7 +16,7 @@ returns-then-resume-clause-links g c =
 pub returns-else-resume-clause-links : goal.returns-else-resume-clause-links
 returns-else-resume-clause-links g c =
     let others = first_others Idle c.in-Some.key _ c.args.links.now c.resume_oldest.new.self (sym c.resume_oldest.ensures.key
-        ∙ c.in-Some.is)
+    ∙ c.in-Some.is)
     (ap (λ r. r.links) c.resume_oldest.ensures.ended) in
     let queue = stays c.args.links.now c.resume_oldest.new.self (ap (λ r. r.queue) c.resume_oldest.ensures.ended) in
     calms c.in-Some.key _ c.args.links.now c.resume_oldest.new.self others queue
@@ -26,7 +26,7 @@ returns-else-resume-clause-links g c =
 pub returns-in_default-get_mut-clause-links : goal.returns-in_default-get_mut-clause-links
 returns-in_default-get_mut-clause-links g c =
     let others = first_others Idle c.in-Some.key _ c.args.links.now c.resume_oldest.new.self (sym c.resume_oldest.ensures.key
-        ∙ c.in-Some.is)
+    ∙ c.in-Some.is)
     (ap (λ r. r.links) c.resume_oldest.ensures.ended) in
     let queue = stays c.args.links.now c.resume_oldest.new.self (ap (λ r. r.queue) c.resume_oldest.ensures.ended) in
     absent c.in-Some.key c.args.links.now c.resume_oldest.new.self others queue
@@ -35,5 +35,5 @@ returns-in_default-get_mut-clause-links g c =
 pub returns-then-resume-clause-ended : goal.returns-then-resume-clause-ended
 returns-then-resume-clause-ended g c =
     rest_over c.in-Some.key _ c.args.links.now c.resume_oldest.new.self _ c.no_link_is_lost.ensures (sym c.resume_oldest.ensures.key
-        ∙ c.in-Some.is)
+    ∙ c.in-Some.is)
     c.resume_oldest.ensures.ended c.report.ensures

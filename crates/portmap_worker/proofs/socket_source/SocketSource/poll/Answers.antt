@@ -41,7 +41,7 @@ returns-in-None g c = record {
       (asked c.args.self.now.schedule c.retry_pending.new.self.schedule c.wait-is_well.new.self.schedule _
       c.retry_pending.ensures.schedule c.wait-is_well.ensures.schedule c.on_polled.ensures.schedule)
       c.note_load.ensures.schedule (c.evict_for_other_worker.ensures.schedule ∙ c.look_round.ensures.schedule
-          ∙ c.pass_listeners.ensures.schedule);
+      ∙ c.pass_listeners.ensures.schedule);
 }
 
 pub returns-in_default : goal.returns-in_default
@@ -54,7 +54,7 @@ returns-in_default g c = record {
       (asked c.args.self.now.schedule c.retry_pending.new.self.schedule c.wait-is_well.new.self.schedule _
       c.retry_pending.ensures.schedule c.wait-is_well.ensures.schedule c.on_polled.ensures.schedule)
       c.note_load.ensures.schedule (c.evict_for_other_worker.ensures.schedule ∙ c.look_round.ensures.schedule
-          ∙ c.pass_listeners.ensures.schedule);
+      ∙ c.pass_listeners.ensures.schedule);
 }
 
 pub returns-in_default-2 : goal.returns-in_default-2
@@ -67,5 +67,5 @@ returns-in_default-2 g c = record {
       (asked c.args.self.now.schedule c.retry_pending.new.self.schedule c.wait-is_well.new.self.schedule _
       c.retry_pending.ensures.schedule c.wait-is_well.ensures.schedule c.on_polled.ensures.schedule)
       c.note_load.ensures.schedule (c.evict_for_other_worker.ensures.schedule ∙ c.look_round.ensures.schedule
-          ∙ c.pass_listeners.ensures.schedule);
+      ∙ c.pass_listeners.ensures.schedule);
 }
