@@ -21,7 +21,8 @@ COMMANDS = "epmd", "epmd-log", "epmd-metrics", "epmd-prune", "epmd-report"
 STAND_IN = '#!/bin/sh\nprintf "called"\nfor word in "$@"; do printf " <%s>" "$word"; done\necho\n'
 TAB, LINE_AWAY = "\t", "\x15"
 # What takes a file, and what takes a value that is none, of each command.
-FILES = {"epmd": ["-record", "-check", "-play", "-local", "-audit"], "epmd-metrics": ["-recording", "-state"], "epmd-report": ["-epmd"]}
+FILES = {"epmd": ["-record", "-figures", "-check", "-play", "-local", "-audit"],
+         "epmd-metrics": ["-recording", "-state", "-figures"], "epmd-report": ["-epmd"]}
 VALUES = {"epmd": ["-port", "-address", "-packet_timeout", "-workers", "-stop"], "epmd-log": ["-n", "-since", "-until"],
           "epmd-prune": ["-keep"]}
 
