@@ -1,4 +1,4 @@
--- What is known of a call, by what is known of its parts.
+-- Lemmas: the properties of a call, from those of its parts.
 use Rattle.std.specs.{Io.KnownBytes.{Appends, Keeps}, Prelude.{Result, IsErrAnd, IfErr, MatchResult}}
 use Rattle.std.proofs.Common.{◌≡◌, ◌≢◌, ℕ, ◌+◌, true, List, length, Option, Ok, Err, sym, subst, arith, rules}
 use Rattle.std.proofs.{KnownBytes.Appends-kept, lemmas.Bool.false≢true, lemmas.List.take_all}
@@ -16,7 +16,7 @@ whole_prefix bytes old new whole = record {
   writes = subst (λ (t : List ℕ). Appends old new t) (sym (take_all (length bytes) bytes (omega arith))) whole;
 }
 
--- all was written, by a call that is not given up in writing
+-- A call that does not fail with `Write` has written all bytes.
 writes_all : {X : Type 0} (bytes : List ℕ) (old new : Option (List ℕ)) (result : Result X Aborted) → result ≢ Err Write
     → Appends old new bytes → Writes bytes old new result
 writes_all bytes old new result reads whole = search (rules, whole_prefix)
@@ -24,7 +24,7 @@ writes_all bytes old new result reads whole = search (rules, whole_prefix)
 never_write : {X : Type 0} (P : Type 0) (result : Result X Aborted) → result ≢ Err Write → IfErr result (λ f. f ≡ Write → P)
 never_write o result reads = search rules
 
--- Laters that were met before count
+-- Earlier `Later` results count.
 waits_longer : {X : Type 0} (old mid new met : ℕ) (result : Result X Aborted) → mid ≡ old + met → Waits mid (met + new) result
     → Waits old new result
 waits_longer old mid new met result before waits = search rules
@@ -32,7 +32,7 @@ waits_longer old mid new met result before waits = search rules
 no_write : NoMemory ≡ Write → ⊥
 no_write e = cc
 
--- the request was not written whole, so nothing was asked for
+-- The request was not written completely, so nothing was pulled.
 pub not_asked : {X : Type 0} (bytes : List ℕ) (awaited : Awaited) (Says : List ℕ → X → Type 0) (old new : StreamView) (f : Aborted)
     (result : Result X Aborted) → IsErrAnd result (λ e. e ≡ f)
     → WritesAt bytes old.held new.held f → WaitsAt (laters old.pulls old.puts) (laters new.pulls new.puts) f
@@ -40,7 +40,7 @@ pub not_asked : {X : Type 0} (bytes : List ℕ) (awaited : Awaited) (Says : List
     → Exchanges bytes awaited Says old new result
 not_asked bytes awaited o old new f result failed asked waits broken keeps unread = search rules
 
--- the request was written whole, and its answer read so far
+-- The request was written completely, and the reply was read as far as the result says.
 pub heard : {X : Type 0} (bytes : List ℕ) (awaited : Awaited) (Says : List ℕ → X → Type 0) (old mid new : StreamView) (met : ℕ)
     (result : Result X Aborted) → Appends old.held mid.held bytes → Keeps mid.held new.held
     → result ≢ Err Write → Keeps old.left mid.left → mid.pulls ≡ old.pulls
@@ -57,20 +57,20 @@ heard bytes awaited Says old mid new met result wrote held reads left pulls answ
   broken = broken;
 }
 
--- ---- what a call makes of an exchange
+-- ---- a call from an exchange
 
 told_from : {X : Type 0} (result : Result X ClientFault) (s : Result AnswerFault Aborted) → IsErrAnd result (λ e. split e ≡ s)
     → client_fault s ≡ client_result result
 told_from result s failed = search rules
 
--- the exchange was given up
+-- The exchange was aborted.
 pub gave_up : {X Y : Type 0} {bytes sent : List ℕ} {awaited : Awaited} {SaysX : List ℕ → X → Type 0}
     {Says : List ℕ → Result Y AnswerFault → Type 0} {old new : StreamView} {f : Aborted} (result : Result Y ClientFault)
     → bytes ≡ sent → Exchanges bytes awaited SaysX old new (Err f) → IsErrAnd result (λ e. split e ≡ Err f)
     → Exchanges sent awaited Says old new (client_result result)
 gave_up {X} {Y} {bytes} {sent} {awaited} {SaysX} {Says} {old} {new} {f} result same exchange failed = search rules
 
--- its answer says so, or there was no memory to say it
+-- The bytes of the reply have this meaning, or memory ran out.
 pub says : {X Y : Type 0} {bytes sent : List ℕ} {awaited : Awaited} {SaysX : List ℕ → X → Type 0} {Says : List ℕ → Y → Type 0}
     {old new : StreamView} {x : X} (y : Result Y Aborted)
     → bytes ≡ sent → Exchanges bytes awaited SaysX old new (Ok x)
@@ -93,7 +93,7 @@ says {X} {Y} {bytes} {sent} {awaited} {SaysX} {Says} {old} {new} {x} (Err f) sam
     subst (λ (bs : List ℕ). Exchanges bs awaited Says old new (Err f)) same
     (subst (λ (g : Aborted). Exchanges bytes awaited Says old new (Err g)) memory forgot)
 
--- the same, where the answer has a fault
+-- The reply has a fault, or memory ran out.
 pub says_fault : {X Y : Type 0} {bytes sent : List ℕ} {awaited : Awaited} {SaysX : List ℕ → X → Type 0}
     {Says : List ℕ → Result Y AnswerFault → Type 0} {old new : StreamView} {x : X} (s : Result AnswerFault Aborted)
     (result : Result Y ClientFault)

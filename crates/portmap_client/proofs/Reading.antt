@@ -1,4 +1,4 @@
--- An answer is read a piece at a time, and no further.
+-- Lemmas: a reply is read chunk by chunk, and no further than its end.
 use Rattle.std.specs.{Io.KnownBytes.Consumes, Prelude.{◌⊎◌, Result, IsErr}}
 use Rattle.std.proofs.Common.{◌≡◌, ℕ, ◌+◌, ◌-◌, ◌<◌, ◌≤◌, List, [], ◌++◌, length, take, Option, sym, subst, arith, inl}
 use Rattle.std.proofs.{Common.{inr, rules}, KnownBytes.Consumes-trans, Math.Seq.take-append-add, lemmas.Bool.cases_lt}
@@ -7,7 +7,7 @@ use Rattle.portmap_link.specs.declared.device.Pull.{Pull}
 use Rattle.portmap_client.specs.{Exchange.{Answers, HasRead, IsUnfinished}, declared.exchange.Awaited.Awaited}
 use Rattle.portmap_client.specs.declared.fault.Aborted.{Aborted}
 
--- a front of what was read and of a piece more is unfinished
+-- A proper prefix of the bytes read and one more chunk is incomplete.
 front_unfinished : (awaited : Awaited) (read piece : List ℕ) (most n : ℕ)
     → ((k : ℕ) → k < length read → IsUnfinished awaited (take k read)) → length piece ≤ most
     → ((more : List ℕ) → length more < most → IsUnfinished awaited (read ++ more)) → n < length (read ++ piece)
@@ -20,7 +20,7 @@ front_unfinished awaited read piece most n before small missing within (inr more
     subst (λ (m : ℕ). IsUnfinished awaited (take m (read ++ piece))) at
     (subst (IsUnfinished awaited) (sym (take-append-add read piece k)) (missing (take k piece) part))
 
--- a piece more, of no more bytes than the answer has at least
+-- One more chunk was read, with at most as many bytes as the reply still needs.
 reads_on : (awaited : Awaited) (a b c : Option (List ℕ)) (read piece : List ℕ) (most : ℕ) → HasRead awaited a b read → Consumes b c piece
     → length piece ≤ most
     → ((more : List ℕ) → length more < most → IsUnfinished awaited (read ++ more)) → HasRead awaited a c (read ++ piece)
@@ -29,7 +29,7 @@ reads_on awaited a b c read piece most so_far one small missing = record {
   no_further = λ n within. front_unfinished awaited read piece most n so_far.no_further small missing within (cases_lt n (length read));
 }
 
--- the front of a buffer that holds no more bytes than the answer has at least
+-- The chunk is the beginning of a buffer, which has at most as many bytes as the reply still needs.
 pub reads_front : (awaited : Awaited) (a b c : Option (List ℕ)) (read bytes buffer : List ℕ) (count most : ℕ) → HasRead awaited a b read
     → Consumes b c (take count buffer) → length buffer ≤ most
     → bytes ≡ read → ((more : List ℕ) → length more < most → IsUnfinished awaited (bytes ++ more))
@@ -39,7 +39,7 @@ reads_front awaited a b c read bytes buffer count most so_far one small same mis
     reads_on awaited a b c read (take count buffer) most so_far one piece_small
     (subst (λ (bs : List ℕ). (more : List ℕ) → length more < most → IsUnfinished awaited (bs ++ more)) same missing)
 
--- a call that is given up says nothing of what was read
+-- An aborted call states nothing about the reply.
 pub stops : {X : Type 0} (awaited : Awaited) (Says : List ℕ → X → Type 0) (a b : Option (List ℕ)) (asked answered : List Pull)
     (read : List ℕ) (result : Result X Aborted) → IsErr result → HasRead awaited a b read → Answers awaited Says a b asked answered result
 stops awaited o a b asked answered read result failed has_read = search rules

@@ -1,4 +1,4 @@
--- What a client's call makes of the bytes that it read: ERTS User's Guide, EPMD Protocol, the replies.
+-- The result of a client's call, from the bytes that it read: ERTS User's Guide, EPMD Protocol, the replies.
 use Rattle.std.specs.{Cmp.Lexicographic.pointwise, Prelude.{◌≡◌, ◌==◌, ℕ, ◌<◌, ◌≤◌, nat_lt, if◌then◌else◌, List, ◌++◌}}
 use Rattle.std.specs.{Prelude.{length, codes, Option, Result, Ok, Err}, declared.alloc.Global.Global}
 use Rattle.std.specs.declared.vec.Vec.{Vec}
@@ -14,34 +14,34 @@ use Rattle.portmap_client.specs.declared.outcome.Stop.{Stop}
 use Rattle.portmap_client.specs.declared.outcome.Stop.TheVariants.{NoExist, NotAllowed as StopNotAllowed, Stopped}
 use Rattle.portmap_client.specs.declared.fault.AnswerFault.TheVariants as fault
 
--- ---- registrations and look-ups
+-- ---- registrations and lookups
 
--- a reply has this fault
+-- The reply has this fault.
 abbrev pub HasFault : {X : Type 0} → Result X ReplyFault → AnswerFault → Type 0
 HasFault answer fault.Short = answer ≡ Err reply.Short
 HasFault answer (fault.BadTag tag) = answer ≡ Err (reply.BadTag tag)
 HasFault answer fault.Strange = answer ≡ Err reply.Strange
 HasFault answer f = ⊥
 
--- the creation that a registration was given
+-- The creation of a registration.
 abbrev pub SaysCreation : List ℕ → Result ℕ AnswerFault → Type 0
 SaysCreation read (Ok creation) = alive_answer read ≡ Ok (Given creation)
 SaysCreation read (Err (fault.Refused code)) = alive_answer read ≡ Ok (Refused code)
 SaysCreation read (Err f) = HasFault (alive_answer read) f
 
--- what a look-up found
+-- The result of a lookup.
 abbrev pub SaysFound : List ℕ → Result (Option Node) AnswerFault → Type 0
 SaysFound read (Ok found) = port2_answer read ≡ Ok found
 SaysFound read (Err f) = HasFault (port2_answer read) f
 
--- ---- lists: that one of more than LIST_MOST bytes is refused: profile
+-- ---- lists. A list of more than LIST_MOST bytes is refused: profile.
 
--- the bytes of a list
+-- The bytes of a list that is short enough.
 abbrev pub SaysList : List ℕ → Result (Vec ℕ Global) AnswerFault → Type 0
 SaysList read (Ok bytes) = (length read ≤ LIST_MOST) × IsRead read bytes
 SaysList read (Err f) = (f ≡ fault.TooLong) × (LIST_MOST < length read)
 
--- the port mapper's port and the lines of NAMES_REQ's answer
+-- The port of the port mapper, and the lines of the reply to NAMES_REQ.
 abbrev pub SaysNames : List ℕ → Result (ℕ × Vec Line Global) AnswerFault → Type 0
 SaysNames read (Ok list) = (length read ≤ LIST_MOST) × Lists read list.0 list.1.items
 SaysNames read (Err fault.Short) = length read < 4
@@ -49,16 +49,16 @@ SaysNames read (Err fault.Strange) = (length read ≤ LIST_MOST) × (at : ℕ) �
 SaysNames read (Err fault.TooLong) = LIST_MOST < length read
 SaysNames read (Err f) = ⊥
 
--- the port mapper's port and the text of DUMP_REQ's answer
+-- The port of the port mapper, and the text of the reply to DUMP_REQ.
 abbrev pub SaysDump : List ℕ → Result (ℕ × Vec ℕ Global) AnswerFault → Type 0
 SaysDump read (Ok dump) = (length read ≤ LIST_MOST) × (read ≡ be4 dump.0 ++ dump.1.items)
 SaysDump read (Err fault.Short) = length read < 4
 SaysDump read (Err fault.TooLong) = LIST_MOST < length read
 SaysDump read (Err f) = ⊥
 
--- ---- commands: epmd(1) for what is not allowed; that no byte at all says so, as `NO` does: profile
+-- ---- commands. A command that is not allowed: epmd(1). An empty reply means that the command is not allowed: profile.
 
--- one of two words of one length, or no byte at all
+-- The meaning of a reply: one of two words of equal length, or no bytes.
 abbrev pub word_of : {T : Type 0} → List ℕ × T → List ℕ × T → T → List ℕ → Result T AnswerFault
 word_of done undone silent read =
     if length read == 0 then Ok silent

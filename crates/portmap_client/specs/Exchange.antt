@@ -1,5 +1,5 @@
--- A client's call: one request out, and what is read of its answer. ERTS User's Guide, EPMD Protocol, the requests and their
--- replies; that no byte behind an answer is read, and when a call is given up: profile.
+-- A client's call: one request, and the bytes read of its reply. ERTS User's Guide, EPMD Protocol, the requests and their replies. That no
+-- byte after a reply is read, and when a call is aborted: profile.
 use Rattle.std.specs.{Io.KnownBytes.{Appends, Consumes}, Prelude.{◌≡◌, ℕ, ◌<◌, ◌≤◌, Bool, true, false, List, length}}
 use Rattle.std.specs.{Prelude.{take, codes, Option, Result, Ok, Err, IsOk, IfOk, IfErr}, declared.alloc.Global.Global}
 use Rattle.std.specs.declared.vec.Vec.{Vec}
@@ -15,7 +15,7 @@ use Rattle.portmap_client.specs.declared.exchange.Awaited.TheVariants as awaited
 
 -- ---- the stream
 
--- what contracts see of a stream at one time
+-- The values of a stream that contracts see at one time.
 pub record StreamView : Type 0 where
   pub left : Option (List ℕ)
   pub held : Option (List ℕ)
@@ -28,32 +28,32 @@ abbrev pub view : {S : Type 0} → (S → Option (List ℕ)) → (S → Option (
 view left held pulls puts broken stream =
     record { left = left stream; held = held stream; pulls = pulls stream; puts = puts stream; broken = broken stream }
 
--- ---- what is written
+-- ---- writing
 
--- a front of the bytes was written
+-- A prefix of the bytes was written.
 pub record WritesPrefix (bytes : List ℕ) (old new : Option (List ℕ)) : Type 0 where
   pub count : ℕ
   pub writes : Appends old new (take count bytes)
 
--- the same, and not all of them
+-- A proper prefix of the bytes was written.
 pub record WritesPart (bytes : List ℕ) (old new : Option (List ℕ)) : Type 0 where
   pub prefix : WritesPrefix bytes old new
   pub part : prefix.count < length bytes
 
--- what was written of a request's bytes by a call that was given up so
+-- The part of a request that was written by a call with this fault.
 abbrev pub WritesAt : List ℕ → Option (List ℕ) → Option (List ℕ) → Aborted → Type 0
 WritesAt bytes old new Write = WritesPart bytes old new
 WritesAt bytes old new Read = Appends old new bytes
 WritesAt bytes old new f = WritesPrefix bytes old new
 
--- what was written, and nothing else, by a call with this result
+-- The bytes that a call with this result wrote.
 abbrev pub Writes : {X : Type 0} → List ℕ → Option (List ℕ) → Option (List ℕ) → Result X Aborted → Type 0
 Writes bytes old new (Ok x) = Appends old new bytes
 Writes bytes old new (Err f) = WritesAt bytes old new f
 
--- ---- what is read
+-- ---- reading
 
--- the answer that a request awaits
+-- The reply that a request expects.
 abbrev pub awaited_by : Request → Awaited
 awaited_by (Alive g) = awaited.Creation
 awaited_by (Port name) = awaited.Found
@@ -62,7 +62,7 @@ awaited_by Dump = awaited.List
 awaited_by Kill = awaited.Kill
 awaited_by (Stop name) = awaited.Stop
 
--- these bytes are no whole answer yet
+-- The bytes are an incomplete reply.
 abbrev pub IsUnfinished : Awaited → List ℕ → Type 0
 IsUnfinished awaited.Creation read = alive_answer read ≡ Err reply.Short
 IsUnfinished awaited.Found read = port2_answer read ≡ Err reply.Short
@@ -70,13 +70,13 @@ IsUnfinished awaited.List read = length read ≤ LIST_MOST
 IsUnfinished awaited.Kill read = length read < length (codes "OK")
 IsUnfinished awaited.Stop read = length read < length (codes "STOPPED")
 
--- these bytes were read, and none further than the answer
+-- These bytes were read, and none after the reply.
 pub record HasRead (awaited : Awaited) (old new : Option (List ℕ)) (read : List ℕ) : Type 0 where
   pub reads : Consumes old new read
   pub no_further : (n : ℕ) → n < length read → IsUnfinished awaited (take n read)
 
--- what was read for a call with this result, by the bytes that were left and the answers of the pulls before and after
--- it. Unless it was given up, the answer was read whole or up to the end, and says so
+-- The bytes that a call with this result read, by the bytes left and the answers of the pulls. Unless the call was aborted, the reply was
+-- read to its end or to the end of the stream, and `Says` holds of its bytes.
 pub record Answers {X : Type 0} (awaited : Awaited) (Says : List ℕ → X → Type 0) (old new : Option (List ℕ)) (asked answered : List Pull)
     (result : Result X Aborted) : Type 0 where
   pub read : List ℕ
@@ -84,19 +84,19 @@ pub record Answers {X : Type 0} (awaited : Awaited) (Says : List ℕ → X → T
   pub ended : IsOk result → IsUnfinished awaited read → IsEnded new asked answered
   pub says : IfOk result (Says read)
 
--- the bytes that were read, as they came
+-- The bytes that were read, unchanged.
 abbrev pub IsRead : List ℕ → Vec ℕ Global → Type 0
 IsRead read bytes = bytes.items ≡ read
 
 -- ---- a call
 
--- the stream failed
+-- The stream failed.
 abbrev pub is_device_fault : Aborted → Bool
 is_device_fault Write = true
 is_device_fault Read = true
 is_device_fault f = false
 
--- these bytes out and such an answer in, and nothing is asked for before they are out
+-- The call writes these bytes and reads such a reply. It pulls nothing before the bytes are written.
 pub record Exchanges {X : Type 0} (bytes : List ℕ) (awaited : Awaited) (Says : List ℕ → X → Type 0) (old new : StreamView)
     (result : Result X Aborted) : Type 0 where
   pub asked : Writes bytes old.held new.held result
@@ -105,7 +105,7 @@ pub record Exchanges {X : Type 0} (bytes : List ℕ) (awaited : Awaited) (Says :
   pub waits : Waits (laters old.pulls old.puts) (laters new.pulls new.puts) result
   pub broken : IfErr result (λ f. is_device_fault f ≡ true → new.broken ≡ true)
 
--- a request out and its answer in
+-- The call sends a request and reads its reply.
 abbrev pub Calls : {X : Type 0} → Request → (List ℕ → Result X AnswerFault → Type 0) → StreamView → StreamView → Result X ClientFault
     → Type 0
 Calls request Says old new result = Exchanges (sent request) (awaited_by request) Says old new (client_result result)

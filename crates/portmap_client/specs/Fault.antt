@@ -1,4 +1,4 @@
--- A call's faults are of two kinds: the call was given up, or the answer's bytes tell the fault.
+-- A call has two kinds of faults: the call was aborted, or the bytes of the reply have a fault.
 use Rattle.std.specs.Prelude.{Result, Ok, Err}
 use Rattle.portmap_wire.specs.{declared.list_reading.ListFault.ListFault, declared.reply_reading.ReplyFault.ReplyFault}
 use Rattle.portmap_wire.specs.declared.reply_reading.ReplyFault.TheVariants as reply
@@ -8,7 +8,7 @@ use Rattle.portmap_client.specs.declared.fault.Aborted.{Aborted, TheVariants.{No
 use Rattle.portmap_client.specs.declared.fault.AnswerFault.TheVariants as answer
 use Rattle.portmap_client.specs.declared.fault.ClientFault.TheVariants as fault
 
--- what the answer's bytes tell, or why the call was given up
+-- The fault in the reply, or the reason for which the call was aborted.
 abbrev pub split : ClientFault → Result AnswerFault Aborted
 split fault.Write = Err Write
 split fault.Read = Err Read
@@ -24,12 +24,12 @@ abbrev pub client_fault : {X : Type 0} → Result AnswerFault Aborted → Result
 client_fault (Ok f) = Ok (Err f)
 client_fault (Err f) = Err f
 
--- the same of a call's result: what the answer's bytes tell, a value or a fault, or why the call was given up
+-- The result of a call: a value or a fault from the reply, or the reason for which the call was aborted.
 abbrev pub client_result : {X : Type 0} → Result X ClientFault → Result (Result X AnswerFault) Aborted
 client_result (Ok x) = Ok (Ok x)
 client_result (Err f) = client_fault (split f)
 
--- the same of a fault of a reply, and of a list
+-- The kind of a fault that the decoder of replies, or of lists, returns.
 abbrev pub of_reply : ReplyFault → Result AnswerFault Aborted
 of_reply reply.Short = Ok answer.Short
 of_reply (reply.BadTag tag) = Ok (answer.BadTag tag)

@@ -1,4 +1,4 @@
-//! Ending the port mapper, and ending a registration.
+//! Requests that end the port mapper or a registration.
 ghost use Rattle.portmap_wire.specs.declared.request.Request.TheVariants as request;
 ghost use Rattle.portmap_client.specs.Answer.{SaysKill, SaysStop};
 ghost use Rattle.portmap_client.specs.Exchange.{view, Calls};
@@ -10,7 +10,7 @@ use portmap_link::{Input, Output};
 use portmap_wire::{Name, Request, write_request, write_stop};
 use std::alloc::Global;
 
-/// Asks the port mapper to end (KILL_REQ).
+/// Requests that the port mapper halt (KILL_REQ).
 pub fn kill<S: Input + Output>(alloc: Global, stream: &mut S) -> Result<Kill, ClientFault>
     ensures { let seen = view S.left S.held S.pulls S.puts S.broken in
         Calls request.Kill SaysKill (seen stream.old) (seen stream.new) result }
@@ -20,7 +20,7 @@ pub fn kill<S: Input + Output>(alloc: Global, stream: &mut S) -> Result<Kill, Cl
     Ok(read_kill(&answer)?)
 }
 
-/// Asks the port mapper to end the registration of a name (STOP_REQ).
+/// Requests the end of the registration of a name (STOP_REQ).
 pub fn stop<S: Input + Output>(
     alloc: Global,
     stream: &mut S,

@@ -1,4 +1,4 @@
-//! One request out, and its answer in.
+//! Sends one request, and reads its reply.
 ghost use Rattle.std.specs.Prelude.{◌≡◌, ◌≢◌, ℕ, ◌+◌, ◌^◌, ◌<◌, ◌≤◌, true, List, ◌++◌, length, Err, IfErr};
 ghost use Rattle.std.specs.Io.KnownBytes.{Keeps};
 ghost use Rattle.portmap_client.specs.Exchange.{view, Answers, Exchanges, IsRead, IsUnfinished, Writes};
@@ -12,34 +12,30 @@ use portmap_link::{Flush, Input, Limit, Output, Pull, send_all};
 use portmap_wire::{alive_missing, port2_missing};
 use std::alloc::Global;
 
-/// How many Laters end a call.
+/// The number of `Later` results that ends a call.
 const LATERS_MOST: u64 = 1000;
 
-/// How many bytes are pulled at once, at most.
 const PULL_MOST: usize = 4096;
 
-/// The most bytes of a list.
+/// The maximal number of bytes of a list.
 pub(crate) const LIST_MOST: usize = 16_777_216;
 
-/// A law: the numbers that definitions take from the code are those of this profile.
+/// Law: the constants that definitions take from the code are those of this profile.
 pub fn numbers_are_the_profiles()
     ensures { (LATERS_MOST ≡ 1000) × (LIST_MOST ≡ 2 ^ 24) }
 {}
 
-/// Which answer is awaited.
+/// The expected reply.
 #[derive(Clone, Copy)]
 pub(crate) enum Awaited {
-    /// That to a registration.
     Creation,
-    /// That to a look-up.
     Found,
-    /// One of the two lists.
     List,
     Kill,
     Stop,
 }
 
-/// How many bytes more the answer has at least; 0 where it is whole.
+/// Returns a lower bound of the bytes that the reply still needs, or 0 if the reply is complete.
 fn missing(awaited: Awaited, read: &[u8]) -> usize
     ensures none { result ≡ 0 → IsUnfinished awaited read.now → ⊥ }
     ensures missing { (more : List ℕ) → length more < result → IsUnfinished awaited (read.now ++ more) }
@@ -54,7 +50,6 @@ fn missing(awaited: Awaited, read: &[u8]) -> usize
     }
 }
 
-/// Writes the bytes, and says how many Laters were met.
 fn ask<S: Output>(stream: &mut S, bytes: &[u8]) -> Result<u64, Aborted>
     ensures writes { Writes bytes.now (S.held stream.old) (S.held stream.new) result }
     ensures memory { result ≢ Err Aborted.NoMemory }
@@ -72,7 +67,7 @@ fn ask<S: Output>(stream: &mut S, bytes: &[u8]) -> Result<u64, Aborted>
     }
 }
 
-/// Reads the answer, or what there is of it up to the end. So many Laters were met before.
+/// Reads the reply to its end, or to the end of the stream. `met` is the number of `Later` results so far.
 fn hear<S: Input>(
     alloc: Global,
     stream: &mut S,
@@ -106,7 +101,7 @@ fn hear<S: Input>(
     Err(Aborted::TooManyTurns)
 }
 
-/// Writes a request and reads its answer: the bytes of all of it, or of what there is up to the end.
+/// Writes a request, and reads the reply to its end or to the end of the stream.
 pub(crate) fn exchange<S: Input + Output>(
     alloc: Global,
     stream: &mut S,

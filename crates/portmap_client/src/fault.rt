@@ -1,33 +1,33 @@
-//! Why a call failed.
+//! The faults of a call.
 ghost use Rattle.std.specs.Prelude.{◌≡◌, Ok, Err};
 ghost use Rattle.portmap_client.specs.Fault.{split, of_reply, of_list};
 ghost use Rattle.portmap_client.specs.declared.fault.Aborted.TheVariants as given_up;
 
 use portmap_wire::{ListFault, NoMemory, ReplyFault};
 
-/// Why a call of the client failed. The caller closes the stream then.
+/// The fault of a call of the client. The caller then closes the stream.
 #[derive(Clone, Copy, Debug, PartialEq, Eq)]
 pub enum ClientFault {
     /// The stream failed before the request was written.
     Write,
-    /// The stream failed before the answer was read.
+    /// The stream failed before the reply was read.
     Read,
-    /// The stream answered Later 1,000 times in this call.
+    /// The stream returned `Later` 1,000 times in this call.
     TooManyTurns,
-    /// The stream ended before the answer did.
+    /// The stream ended before the reply was complete.
     Short,
-    /// The answer's first byte is this one, which opens no such answer.
+    /// The first byte of the reply, which is this byte, begins no reply to the request.
     BadTag(u8),
-    /// The registration was refused, with this result, which is above 0.
+    /// The registration was refused with this result, which is above 0.
     Refused(u8),
-    /// The answer is none that this client reads.
+    /// The reply has a form that this client does not read.
     Strange,
     /// The list has more than 16,777,216 bytes.
     TooLong,
     NoMemory,
 }
 
-/// Why a call was given up, so that nothing is said of the answer.
+/// The reason for which a call was aborted. Nothing is known of the reply.
 #[derive(Clone, Copy)]
 pub(crate) enum Aborted {
     Write,
@@ -36,7 +36,7 @@ pub(crate) enum Aborted {
     NoMemory,
 }
 
-/// What the bytes of an answer tell in place of a value.
+/// A fault in the bytes of a reply.
 #[derive(Clone, Copy)]
 pub(crate) enum AnswerFault {
     Short,

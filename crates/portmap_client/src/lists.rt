@@ -1,4 +1,4 @@
-//! The two lists of names.
+//! Requests the two lists of names.
 ghost use Rattle.portmap_wire.specs.Request.{sent};
 ghost use Rattle.portmap_wire.specs.declared.request.Request.TheVariants as request;
 ghost use Rattle.portmap_client.specs.Answer.{SaysList, SaysNames, SaysDump};
@@ -11,7 +11,6 @@ use portmap_link::{Input, Output};
 use portmap_wire::{Line, Request, read_dump, read_names, write_request};
 use std::alloc::Global;
 
-/// The bytes of a list, read to their end.
 fn list<S: Input + Output>(
     alloc: Global,
     stream: &mut S,
@@ -28,7 +27,8 @@ fn list<S: Input + Output>(
     Ok(bytes)
 }
 
-/// Asks for the port mapper's own port and the registered names with their ports (NAMES_REQ). It reads to the end.
+/// Requests the port of the port mapper, and the registered names with their ports (NAMES_REQ). Reads to the end of the
+/// stream.
 pub fn names<S: Input + Output>(
     alloc: Global,
     stream: &mut S,
@@ -40,8 +40,8 @@ pub fn names<S: Input + Output>(
     Ok(read_names(alloc, &bytes)?)
 }
 
-/// Asks for the port mapper's own port and for the text of all that it knows (DUMP_REQ), which is not looked at. It
-/// reads to the end.
+/// Requests the port of the port mapper, and the text about all known names (DUMP_REQ), which is not checked. Reads to
+/// the end of the stream.
 pub fn dump<S: Input + Output>(alloc: Global, stream: &mut S) -> Result<(u32, Vec<u8>), ClientFault>
     ensures { let seen = view S.left S.held S.pulls S.puts S.broken in
         Calls request.Dump SaysDump (seen stream.old) (seen stream.new) result }

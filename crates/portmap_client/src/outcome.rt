@@ -1,30 +1,27 @@
-//! What a port mapper says to a command.
+//! The replies to commands.
 ghost use Rattle.std.specs.Prelude.{◌≡◌};
 ghost use Rattle.portmap_client.specs.Answer.{word_of, SaysKill, SaysStop};
 
 use crate::fault::AnswerFault;
 
-/// What a port mapper said to KILL_REQ.
+/// The reply to KILL_REQ.
 #[derive(Clone, Copy, Debug, PartialEq, Eq)]
 pub enum Kill {
-    /// The port mapper ends.
+    /// The port mapper halts.
     Killed,
-    /// It may not: the port mapper said so, or closed the connection without a word.
+    /// The port mapper refused, or closed the connection without a reply.
     NotAllowed,
 }
 
-/// What a port mapper said to STOP_REQ.
+/// The reply to STOP_REQ.
 #[derive(Clone, Copy, Debug, PartialEq, Eq)]
 pub enum Stop {
-    /// The name is no longer registered.
     Stopped,
-    /// The name was not registered.
     NoExist,
-    /// The port mapper closed the connection without a word.
+    /// The port mapper closed the connection without a reply.
     NotAllowed,
 }
 
-/// The words of the answers.
 pub(crate) const OK: &[u8] = b"OK";
 
 const NO: &[u8] = b"NO";
@@ -33,7 +30,6 @@ pub(crate) const STOPPED: &[u8] = b"STOPPED";
 
 const NOEXIST: &[u8] = b"NOEXIST";
 
-/// What an answer of one of two words of the same length, or of no byte at all, means.
 fn read_word<T: Copy>(
     bytes: &[u8],
     done: (&[u8], T),
@@ -57,7 +53,6 @@ fn read_word<T: Copy>(
     Err(AnswerFault::Strange)
 }
 
-/// The answer to KILL_REQ that these bytes are.
 pub(crate) fn read_kill(bytes: &[u8]) -> Result<Kill, AnswerFault>
     ensures { SaysKill bytes.now result }
 {
@@ -65,7 +60,6 @@ pub(crate) fn read_kill(bytes: &[u8]) -> Result<Kill, AnswerFault>
     read_word(bytes, done, undone, Kill::NotAllowed)
 }
 
-/// The answer to STOP_REQ that these bytes are.
 pub(crate) fn read_stop(bytes: &[u8]) -> Result<Stop, AnswerFault>
     ensures { SaysStop bytes.now result }
 {

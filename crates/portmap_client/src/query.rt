@@ -1,4 +1,4 @@
-//! What is registered under a name.
+//! Looks up a name.
 ghost use Rattle.portmap_wire.specs.declared.request.Request.TheVariants as request;
 ghost use Rattle.portmap_client.specs.Answer.{SaysFound};
 ghost use Rattle.portmap_client.specs.Exchange.{view, Calls};
@@ -9,7 +9,7 @@ use portmap_link::{Input, Output};
 use portmap_wire::{Name, Reg, read_port2, write_lookup};
 use std::alloc::Global;
 
-/// Asks what is registered under a name (PORT_PLEASE2_REQ); none where nothing is.
+/// Looks up the node that is registered under a name (PORT_PLEASE2_REQ). Returns `None` if there is no such node.
 pub fn lookup<S: Input + Output>(
     alloc: Global,
     stream: &mut S,

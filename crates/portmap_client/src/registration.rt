@@ -11,14 +11,14 @@ use portmap_link::{Input, Output};
 use portmap_wire::{AliveReply, Reg, read_alive, write_registration};
 use std::alloc::Global;
 
-/// A registered name. It is registered until the stream is closed: when this value is dropped, or what `leave` gave.
+/// A registered name. The registration ends when the stream is closed: when this value is dropped, or the stream that
+/// `leave` returned.
 #[derive(Drop)]
 pub struct Registration<S> {
     stream: S,
     creation: u32,
 }
 
-/// Registers a node over a stream, and gives its creation.
 fn register<S: Input + Output>(alloc: Global, stream: &mut S, reg: &Reg) -> Result<u32, ClientFault>
     ensures { let seen = view S.left S.held S.pulls S.puts S.broken in
         Calls (request.Alive reg.now) SaysCreation (seen stream.old) (seen stream.new) result }
@@ -32,7 +32,7 @@ fn register<S: Input + Output>(alloc: Global, stream: &mut S, reg: &Reg) -> Resu
 }
 
 impl<S: Input + Output> Registration<S> {
-    /// Registers a node (ALIVE2_REQ). With an error the stream is handed back.
+    /// Registers a node (ALIVE2_REQ). An error returns the stream.
     pub fn make(alloc: Global, stream: S, reg: &Reg) -> Result<Registration<S>, (ClientFault, S)>
         ensures { let seen = view S.left S.held S.pulls S.puts S.broken in
             Calls (request.Alive reg.now) SaysCreation (seen stream) (seen (stream_after result)) (made result) }
@@ -44,14 +44,14 @@ impl<S: Input + Output> Registration<S> {
         }
     }
 
-    /// The creation that the port mapper gave: it tells this node from earlier ones of its name.
+    /// Returns the creation, which distinguishes the node from earlier nodes of the same name.
     pub fn creation(&self) -> u32
         ensures { result ≡ creation_of self.now }
     {
         self.creation
     }
 
-    /// The stream. The name stays registered until it is closed.
+    /// Returns the stream. The name stays registered until the stream is closed.
     pub fn leave(self) -> S
         ensures { result ≡ stream_of self }
     {

@@ -1,8 +1,8 @@
--- How long a list of names is.
+-- Lemmas: the length of a list of names.
 use Rattle.std.proofs.{Common.{◌≡◌, ℕ, ◌≤◌, List, [], ◌∷◌, length, ap, arith}, lemmas.List.length-append}
 use Rattle.portmap_wire.specs.{ListReading.{Lists, ListsTo}, Reply.be4, declared.list.Line.Line}
 
--- there are no more lines than bytes
+-- A list has at most as many lines as bytes.
 lines_are_fewer : (text : List ℕ) (lines : List Line) (rest : List ℕ) → ListsTo text lines rest → length lines ≤ length text
 lines_are_fewer text [] rest l = omega arith
 lines_are_fewer text (line ∷ lines) rest (prefix, after, is, reads, more) =

@@ -1,4 +1,4 @@
--- A line of a list, and where the next one begins.
+-- Lemmas: a line of a list, and the offset of the next line.
 use Rattle.std.specs.Prelude.{codes, position, slice_index_or}
 use Rattle.std.proofs.Common.{◌≡◌, ℕ, suc, ◌+◌, ◌-◌, ◌<◌, ◌≤◌, List, [], ◌∷◌, ◌++◌, length, take, drop, None, Some}
 use Rattle.std.proofs.{Common.{refl, sym, ap, subst, ◌∙◌, arith, append_assoc}, Math.Seq.take-append-add}
@@ -15,7 +15,7 @@ use Rattle.portmap_client_c.proofs.Offsets.{lies_at}
 
 -- ---- a text of one line
 
--- it is cut at its only byte 10
+-- The text is cut at its only byte 10.
 only_cut : (a b c : List ℕ) → HasNoNewline c → a ++ 10 ∷ b ≡ c ++ 10 ∷ [] → a ≡ c
 only_cut [] b [] plain e = refl
 only_cut [] b (y ∷ c) plain e = absurd (plain 0 y (omega arith) cc)
@@ -36,14 +36,14 @@ behind_head list port lines l = subst (λ (t : List ℕ). ListsTo t lines []) (s
 not_empty : (text prefix : List ℕ) → text ≡ [] → IsOneLine text prefix → ⊥
 not_empty text prefix e one = omega (arith, ap length e, ap length one.text_is, length-append prefix (10 ∷ []))
 
--- the first line of a list is read
+-- The first line of a list is read.
 pub reads_first : (list prefix : List ℕ) (port : ℕ) (lines : List Line) (line : Line) → Lists list port lines → 0 < length lines
     → line ≡ slice_index_or lines 0 line → IsOneLine (drop 4 list) prefix → ReadsLine prefix line
 reads_first list prefix port [] line l some is one = absurd (omega (arith, some))
 reads_first list prefix port (m ∷ lines) line l some is one =
     subst (ReadsLine prefix) (sym is) (first_reads (drop 4 list) prefix m lines (behind_head list port (m ∷ lines) l) one)
 
--- or why it isn't
+-- A list of one line has a line that can be read.
 reads_list : (list prefix : List ℕ) (port : ℕ) (lines : List Line) → Lists list port lines → IsOneLine (drop 4 list) prefix
     → (line : Line) × ReadsLine prefix line
 reads_list list prefix port [] l one = absurd (not_empty (drop 4 list) prefix (behind_head list port [] l) one)
@@ -60,7 +60,7 @@ reads_none list prefix (fault.StrangeLine at) long h memory one = λ line r.
     cc
 reads_none list prefix fault.NoMemory long h memory one = let l = memory refl in reads_list list prefix l.0 l.1 l.2 one
 
--- ---- the line at a place
+-- ---- the line at an offset
 
 assoc : (t n m p d z : List ℕ) → t ++ (n ++ m ++ p ++ d ++ z) ≡ t ++ n ++ m ++ (p ++ d ++ z)
 assoc t n m p d z =
@@ -73,7 +73,7 @@ module _ (bytes : List ℕ) (at size : ℕ) (found : Some size ≡ position is_n
   pub cut : IsCut (drop at bytes) (take size (drop at bytes)) (drop 1 (drop size (drop at bytes)))
   cut = cut_at (drop at bytes) size found
 
-  -- its number of bytes
+  -- The length of the line.
   pub size_is : length (take size (drop at bytes)) ≡ size
   size_is = omega (
     arith,
@@ -89,7 +89,7 @@ module _ (bytes : List ℕ) (at size : ℕ) (found : Some size ≡ position is_n
       ap (λ (t : List ℕ). take (size + 1) t) cut.text_is ∙ ap (λ (n : ℕ). take (n + 1) (prefix ++ 10 ∷ after)) (sym size_is)
       ∙ take-append-add prefix (10 ∷ after) 1
 
-  -- with four bytes in front of it, it is a list of one line
+  -- With the four bytes before it, the line is a list of one line.
   pub window : 4 ≤ at → IsOneLine (drop 4 (take (at + size + 1 - (at - 4)) (drop (at - 4) bytes))) (take size (drop at bytes))
   window from =
       let place : at - 4 + 4 ≡ at = omega (arith, from) in
@@ -103,7 +103,7 @@ module _ (bytes : List ℕ) (at size : ℕ) (found : Some size ≡ position is_n
   behind : drop 1 (drop size (drop at bytes)) ≡ drop (at + size + 1) bytes
   behind = ap (λ (t : List ℕ). drop 1 t) (drop-drop size at bytes) ∙ drop-drop 1 (at + size) bytes
 
-  -- what stands in front of its name
+  -- The bytes before the name.
   head : List ℕ
   head = take at bytes ++ codes "name "
 
@@ -141,7 +141,7 @@ module _ (bytes : List ℕ) (at size : ℕ) (found : Some size ≡ position is_n
           length-append (codes "name ") line.name,
         )
 
-    -- the line is the next one
+    -- The line is the next line.
     pub next_line : IsNextLine bytes at (at + size + 1)
         (record { name = record { at = at + 5; size = length line.name }; port = line.port })
     unfolding name_of
@@ -154,7 +154,7 @@ module _ (bytes : List ℕ) (at size : ℕ) (found : Some size ≡ position is_n
       name_to = omega (arith, name_fits);
     }
 
--- ---- why no line was read
+-- ---- the reason for which no line was read
 
 strange_fault : (text : List ℕ) → IsStrange text → IsLineFault text EPMD_STRANGE_LINE
 strange_fault text s = record {

@@ -1,4 +1,4 @@
--- Where the texts of an answer lie.
+-- Lemmas: the offsets of the texts of a reply.
 use Rattle.std.proofs.Common.{◌≡◌, ℕ, ◌+◌, ◌≤◌, List, ◌∷◌, [], ◌++◌, length, take, drop, sym, ap, ◌∙◌, arith}
 use Rattle.std.proofs.{Common.append_assoc, Math.Seq.{take-append_seam, drop-append_seam}}
 use Rattle.std.proofs.lemmas.List.{length-append, drop-append-le}
@@ -6,7 +6,7 @@ use Rattle.portmap_wire.specs.{Node.{Node, be2}, ReplyReading.IsFound, declared.
 use Rattle.portmap_client_c.specs.{Answers.{IsFoundIn, OffsetsIn, text_in}, Writing.node_of}
 use Rattle.portmap_client_c.specs.{declared.node.EpmdFound.EpmdFound, declared.node.EpmdText.EpmdText}
 
--- a text between what stands in front of it and what behind it
+-- The text between `head` and `tail`.
 pub lies : (head text tail : List ℕ) → take (length text) (drop (length head) (head ++ text ++ tail)) ≡ text
 lies head text tail =
     let past : drop (length head) (head ++ text ++ tail) ≡ text ++ tail =
@@ -14,7 +14,7 @@ lies head text tail =
     ∙ ap (λ (t : List ℕ). t ++ tail) (drop-append_seam head text) in
     ap (take (length text)) past ∙ take-append_seam text tail
 
--- the same of bytes that are so, at a place that is told
+-- The text at `place`, in bytes that consist of `head`, the text and `tail`.
 pub lies_at : (bytes head text tail : List ℕ) (place : EpmdText) → bytes ≡ head ++ text ++ tail → place.at ≡ length head
     → place.size ≡ length text → text_in bytes place ≡ text
 lies_at bytes head text tail place is at size =
@@ -25,7 +25,7 @@ within : (bytes head text tail : List ℕ) (place : EpmdText) → bytes ≡ head
 within bytes head text tail place is at size =
     omega (arith, ap length is, at, size, length-append (head ++ text) tail, length-append head text)
 
--- what stands in front of a name in the answer to a look-up
+-- The bytes before the name in the reply to a lookup.
 prefix : Node → List ℕ
 prefix g = PORT2_RESP ∷ 0 ∷ (be2 g.port ++ (g.kind ∷ g.proto ∷ []) ++ be2 g.high ++ be2 g.low ++ be2 (length g.name))
 

@@ -1,4 +1,4 @@
--- Calls over a connected socket, which tells no bytes: what each promises over any stream, at one that tells none.
+-- Calls over a connected socket, whose bytes are unknown: the properties over any stream, for a stream without known bytes.
 use Rattle.std.specs.Prelude.{◌≡◌, ◌≢◌, ℕ, ℤ, ◌+◌, false, List, [], ◌++◌, Option, Some, None, Result, Ok, Err}
 use Rattle.std.specs.{declared.alloc.Global.Global, declared.vec.Vec.Vec}
 use Rattle.portmap_wire.specs.{Node.Node, Reply.be4, declared.list.Line.Line}
@@ -15,7 +15,7 @@ use Rattle.portmap_client_c.specs.{declared.node.EpmdAlive.EpmdAlive, declared.n
 use Rattle.portmap_client_c.specs.declared.status.TheConstants.{EPMD_OK, EPMD_NOT_REGISTERED, EPMD_NO_EXIST}
 use Rattle.portmap_client_c.specs.declared.status.TheConstants.{EPMD_NOT_ALLOWED, EPMD_NO_MEMORY}
 
--- the calls, by what they leave of a stream and what they answer
+-- The calls, by their effect on a stream and their result.
 abbrev pub Registers : Node → StreamView → StreamView → Result ℕ ClientFault → Type 0
 Registers g old new answer = Calls (Alive g) SaysCreation old new answer
 
@@ -34,29 +34,29 @@ Kills old new answer = Calls request.Kill SaysKill old new answer
 abbrev pub Stops : List ℕ → StreamView → StreamView → Result Stop ClientFault → Type 0
 Stops name old new answer = Calls (request.Stop name) SaysStop old new answer
 
--- such a call was made, and this is told of its answer
+-- The call was made, and `Tells` holds of its result.
 pub record Asks {X : Type 0} (Called : StreamView → StreamView → Result X ClientFault → Type 0) (old new : StreamView)
     (Tells : Result X ClientFault → Type 0) : Type 0 where
   pub answer : Result X ClientFault
   pub called : Called old new answer
   pub tells : Tells answer
 
--- a stream that tells no bytes, and was asked nothing yet
+-- A new stream whose bytes are unknown.
 abbrev pub unasked : StreamView
 unasked = record { left = None; held = None; pulls = []; puts = []; broken = false }
 
--- such a call was made over such a stream
+-- The call was made over a new stream whose bytes are unknown.
 pub record AsksOnce {X : Type 0} (Called : StreamView → StreamView → Result X ClientFault → Type 0)
     (Tells : Result X ClientFault → Type 0) : Type 0 where
   pub after : StreamView
   pub asks : Asks Called unasked after Tells
 
--- what is asked for, where that can be spelled
+-- `Asked` holds of a request that can be encoded. Otherwise `Refused` holds of the status.
 abbrev pub IfSaid : {X : Type 0} → Result X ℤ → (X → Type 0) → (ℤ → Type 0) → Type 0
 IfSaid (Ok x) Asked Refused = Asked x
 IfSaid (Err status) Asked Refused = Refused status
 
--- ---- what is told
+-- ---- reports
 
 abbrev pub kill_status : Result Kill ClientFault → ℤ
 kill_status (Ok kill.Killed) = EPMD_OK
@@ -69,7 +69,7 @@ stop_status (Ok stop.NoExist) = EPMD_NO_EXIST
 stop_status (Ok stop.NotAllowed) = EPMD_NOT_ALLOWED
 stop_status (Err fault) = client_status fault
 
--- a registration that failed is told by its status, and the result that refused it
+-- A refused registration is reported with its result. Other faults change nothing.
 abbrev pub alive_after : ClientFault → EpmdAlive → EpmdAlive
 alive_after (client.Refused code) alive = record { creation = 0; code = code }
 alive_after fault alive = alive
@@ -78,7 +78,7 @@ abbrev pub ReportsCreation : Result ℕ ClientFault → EpmdAlive → EpmdAlive 
 ReportsCreation (Ok creation) old new status = (status ≡ EPMD_OK) × (new ≡ record { creation = creation; code = 0 })
 ReportsCreation (Err fault) old new status = (status ≡ client_status fault) × (new ≡ alive_after fault old)
 
--- a node, whose texts are put into a buffer, the extra bytes behind the name
+-- The report of a node. Its texts are in a buffer: the name, then the extra bytes.
 pub record ReportsNode (g : Node) (old new : List ℕ) (found : EpmdFound) (status : ℤ) : Type 0 where
   pub places : OffsetsIn 0 0 g found
   pub texts : Puts (g.name ++ g.extra) old new (found.name.size + found.extra.size) status
@@ -88,7 +88,7 @@ ReportsLookup (Ok (Some g)) old new was is status = ReportsNode g old new is sta
 ReportsLookup (Ok None) old new was is status = (status ≡ EPMD_NOT_REGISTERED) × (new ≡ old) × (is ≡ was)
 ReportsLookup (Err fault) old new was is status = (status ≡ client_status fault) × (new ≡ old) × (is ≡ was)
 
--- a list, as a port mapper spells it
+-- The report of a list, as a port mapper encodes it.
 abbrev pub ReportsNames : Result (ℕ × Vec Line Global) ClientFault → List ℕ → List ℕ → ℕ → ℤ → Type 0
 ReportsNames (Ok list) old new size status = PutsList list.0 list.1.items old new size status
 ReportsNames (Err fault) old new size status = (status ≡ client_status fault) × (new ≡ old) × (size ≡ 0)

@@ -1,4 +1,4 @@
--- Which number tells which fault.
+-- The status number of each fault.
 use Rattle.std.specs.Prelude.{ℤ}
 use Rattle.portmap_wire.specs.{declared.list_reading.ListFault.ListFault, declared.name.NameFault.NameFault}
 use Rattle.portmap_wire.specs.declared.reply_reading.ReplyFault.{ReplyFault}

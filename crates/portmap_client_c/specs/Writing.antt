@@ -10,9 +10,8 @@ use Rattle.portmap_client_c.specs.declared.status.TheConstants.{EPMD_OK, EPMD_EX
 use Rattle.portmap_client_c.specs.declared.status.TheConstants.{EPMD_NO_MEMORY}
 use Rattle.portmap_client_c.specs.declared.writing.Unmade.{Unmade, TheVariants.{NoMemory, Refused}}
 
--- ---- which request is asked for
+-- ---- the request
 
--- the node of these numbers and texts
 abbrev pub node_of : EpmdNode → List ℕ → List ℕ → Node
 node_of n name extra = record {
   port = n.port;
@@ -24,12 +23,12 @@ node_of n name extra = record {
   extra = extra;
 }
 
--- what the name is of, or the status of why these bytes are no name
+-- The result for a name, or the status for which the bytes are not a name.
 abbrev pub with_name : {X : Type 0} → (List ℕ → Result X ℤ) → Result (List ℕ) NameFault → Result X ℤ
 with_name make (Ok name) = make name
 with_name make (Err fault) = Err (name_status fault)
 
--- a request that is a name behind its first byte
+-- A request that is a name after its first byte.
 abbrev pub named_said : (List ℕ → Request) → List ℕ → Result Request ℤ
 named_said make bytes = with_name (λ name. Ok (make name)) (name_in bytes)
 
@@ -46,7 +45,8 @@ to_alive (Err fault) = Err fault
 abbrev pub alive_said : EpmdNode → List ℕ → List ℕ → Result Request ℤ
 alive_said n bytes extra = to_alive (node_said n bytes extra)
 
--- what was made is what is asked for, or there was no memory for it: so many bytes, as a request is sent. A refusal is no want of memory
+-- The value was made, or was refused with this status, or memory ran out. `size` is the number of bytes of the request as it is sent. A
+-- refusal is never `EPMD_NO_MEMORY`.
 abbrev pub MakesAs : {X : Type 0} → (X → ℕ → Type 0) → Result X Unmade → Result X ℤ → Type 0
 MakesAs Takes (Ok x) said = said ≡ Ok x
 MakesAs Takes (Err (Refused status)) said = (said ≡ Err status) × (status ≢ EPMD_NO_MEMORY)
@@ -58,7 +58,7 @@ Makes = MakesAs (λ request size. size ≡ length (sent request))
 abbrev pub MakesNode : Result Node Unmade → Result Node ℤ → Type 0
 MakesNode = MakesAs (λ g size. size ≡ length (sent (Alive g)))
 
--- the same of a name, of which so many bytes stand beside it
+-- A name, for a request with `beside` other bytes.
 abbrev pub MakesName : ℕ → Result (List ℕ) Unmade → Result (List ℕ) NameFault → Type 0
 MakesName beside made said = MakesAs (λ name size. size ≡ length name + beside) made (with_name (λ name. Ok name) said)
 
@@ -66,9 +66,9 @@ abbrev pub unmade_status : Unmade → ℤ
 unmade_status (Refused status) = status
 unmade_status (NoMemory size) = EPMD_NO_MEMORY
 
--- ---- what is written of it
+-- ---- the bytes that are written
 
--- these bytes in a buffer, whole at its front or none of them, and how many they are
+-- The bytes are at the beginning of the buffer, or the buffer is unchanged. `size` is the number of bytes.
 pub record Puts (bytes old new : List ℕ) (size : ℕ) (status : ℤ) : Type 0 where
   pub size_is : size ≡ length bytes
   pub whole : status ≡ EPMD_OK → new ≡ bytes ++ drop (length bytes) old
@@ -76,19 +76,20 @@ pub record Puts (bytes old new : List ℕ) (size : ℕ) (status : ℤ) : Type 0 
   pub none : status ≢ EPMD_OK → new ≡ old
   pub no_other : status ≢ EPMD_OK → status ≢ EPMD_BUFFER_TOO_SMALL → status ≡ EPMD_NO_MEMORY
 
--- none of so many bytes, for which there was no memory: a buffer that is too small is told first
+-- Memory ran out for `size` bytes. A buffer that is too small is reported first.
 pub record LacksMemory (old : List ℕ) (size told : ℕ) (status : ℤ) : Type 0 where
   pub size_is : told ≡ size
   pub small : (status ≡ EPMD_BUFFER_TOO_SMALL) ↔ (length old < size)
   pub no_other : status ≢ EPMD_BUFFER_TOO_SMALL → status ≡ EPMD_NO_MEMORY
 
--- a list in a buffer, as a port mapper spells it. That the buffer is too small is told before want of memory, which tells no size
+-- A list in a buffer, as a port mapper encodes it. A buffer that is too small is reported before a lack of memory. If memory runs out, the
+-- size is 0.
 pub record PutsList (port : ℕ) (lines : List Line) (old new : List ℕ) (size : ℕ) (status : ℤ) : Type 0 where
   pub puts : status ≢ EPMD_NO_MEMORY → Puts (names_reply port lines) old new size status
   pub room : status ≡ EPMD_NO_MEMORY → length (names_reply port lines) ≤ length old
   pub none : status ≡ EPMD_NO_MEMORY → (new ≡ old) × (size ≡ 0)
 
--- a request as it is sent, or why there is none
+-- The request as it is sent, or the status for which there is no request.
 abbrev pub Writes : Result Request ℤ → List ℕ → List ℕ → ℕ → ℤ → Type 0
 Writes (Ok request) old new size status = Puts (sent request) old new size status
 Writes (Err fault) old new size status = (status ≡ fault) × (new ≡ old) × (size ≡ 0)

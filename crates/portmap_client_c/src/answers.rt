@@ -1,5 +1,4 @@
-//! The answers to a registration and to a look-up, in the caller's bytes. What follows an answer there is not looked
-//! at.
+//! Reads the replies to a registration and to a lookup in the caller's bytes. Bytes after a reply are ignored.
 ghost use Rattle.std.specs.Prelude.{◌≡◌, ◌≢◌, ◌+◌, ◌<◌, ◌≤◌, List, ℕ, ◌++◌, length, Err, IsOk};
 ghost use Rattle.portmap_wire.specs.ReplyReading.{alive_answer, port2_answer};
 ghost use Rattle.portmap_client_c.specs.Answers.{OffsetsIn, ReportsAlive, ReportsFound};
@@ -11,8 +10,8 @@ use portmap_wire::{
 };
 use std::alloc::Global;
 
-/// How many bytes more the answer to a registration has at least, where these are its first ones; 0 where it is whole,
-/// or is no such answer.
+/// Returns a lower bound of the bytes that the reply to a registration still needs after `bytes`. Returns 0 if the
+/// reply is complete, or if `bytes` begin no such reply.
 #[unsafe(no_mangle)]
 pub extern "C" fn epmd_alive_missing(bytes: &[u8]) -> usize
     ensures none { result ≡ 0 → alive_answer bytes.now ≢ Err ReplyFault.Short }
@@ -22,7 +21,8 @@ pub extern "C" fn epmd_alive_missing(bytes: &[u8]) -> usize
     alive_missing(bytes)
 }
 
-/// The same of the answer to a look-up.
+/// Returns a lower bound of the bytes that the reply to a lookup still needs after `bytes`. Returns 0 if the reply is
+/// complete, or if `bytes` begin no such reply.
 #[unsafe(no_mangle)]
 pub extern "C" fn epmd_port2_missing(bytes: &[u8]) -> usize
     ensures none { result ≡ 0 → port2_answer bytes.now ≢ Err ReplyFault.Short }
@@ -32,7 +32,7 @@ pub extern "C" fn epmd_port2_missing(bytes: &[u8]) -> usize
     port2_missing(bytes)
 }
 
-/// Reads the answer to a registration.
+/// Reads the reply to a registration.
 #[unsafe(no_mangle)]
 pub extern "C" fn epmd_read_alive(bytes: &[u8], alive: &mut EpmdAlive) -> i32
     ensures { ReportsAlive (alive_answer bytes.now) alive.old alive.new result }
@@ -50,7 +50,6 @@ pub extern "C" fn epmd_read_alive(bytes: &[u8], alive: &mut EpmdAlive) -> i32
     }
 }
 
-/// The numbers of what is registered.
 pub(crate) fn numbers_of(reg: &Reg) -> EpmdNode
     ensures { result ≡ record {
       port = reg.now.port;
@@ -69,7 +68,7 @@ pub(crate) fn numbers_of(reg: &Reg) -> EpmdNode
     }
 }
 
-/// What is registered, with its name at this place and its extra bytes so many bytes behind the name.
+/// Returns the node with its name at offset `at`, and `between` bytes between the name and the extra bytes.
 pub(crate) fn found_at(reg: &Reg, at: usize, between: usize) -> EpmdFound
     requires { at + between ≤ 1000 }
     ensures { OffsetsIn at between reg.now result }
@@ -89,12 +88,12 @@ pub(crate) fn found_at(reg: &Reg, at: usize, between: usize) -> EpmdFound
     }
 }
 
-/// Reads the answer to a look-up. The texts of what is found lie in these bytes.
+/// Reads the reply to a lookup. The offsets in `found` are offsets in `bytes`.
 #[unsafe(no_mangle)]
 pub extern "C" fn epmd_read_port2(alloc: Global, bytes: &[u8], found: &mut EpmdFound) -> i32
     ensures told { result ≢ EPMD_NO_MEMORY
         → ReportsFound bytes.now (port2_answer bytes.now) found.old found.new result }
-    // Memory is asked for last, and none is kept.
+    // Memory is allocated last, and none is kept.
     ensures memory { result ≡ EPMD_NO_MEMORY → IsOk (port2_answer bytes.now) }
     ensures unchanged { result ≢ EPMD_OK → found.new ≡ found.old }
 {

@@ -1,4 +1,4 @@
-//! Calls over any stream, as C has them.
+//! The calls of the C interface, over any stream.
 ghost use Rattle.std.specs.Prelude.{◌≡◌, ◌≢◌, ◌++◌, List, ℕ, ℤ, Ok, IsOk, length};
 ghost use Rattle.portmap_wire.specs.RequestReading.{name_in};
 ghost use Rattle.portmap_client.specs.Exchange.{view};
@@ -20,7 +20,6 @@ use portmap_link::{Input, Output};
 use portmap_wire::Reg;
 use std::alloc::Global;
 
-/// What is told of a registration that failed, beside its status.
 fn alive_after(fault: ClientFault, alive: EpmdAlive) -> EpmdAlive
     ensures { result ≡ alive_after fault alive }
 {
@@ -37,7 +36,7 @@ fn alive_after(fault: ClientFault, alive: EpmdAlive) -> EpmdAlive
     }
 }
 
-/// Registers a node, and hands the stream back.
+/// Registers a node, and returns the status and the stream.
 pub(crate) fn register<S: Input + Output>(
     alloc: Global,
     stream: S,
@@ -73,7 +72,7 @@ pub(crate) fn register<S: Input + Output>(
     }
 }
 
-/// Puts the texts of a node into a buffer, and tells where they lie there.
+/// Puts the name and the extra bytes into a buffer, and their offsets into `found`.
 fn put_node(reg: &Reg, texts: &mut [u8], found: &mut EpmdFound) -> i32
     ensures told { ReportsNode reg.now texts.old texts.new found.new result }
     ensures memory { result ≢ EPMD_NO_MEMORY }
@@ -82,7 +81,7 @@ fn put_node(reg: &Reg, texts: &mut [u8], found: &mut EpmdFound) -> i32
     put(reg.name.bytes(), &reg.extra, texts)
 }
 
-/// Asks what is registered under a name. The node's name and its extra bytes come to the front of `texts`.
+/// Looks up a name. Puts the node's name and extra bytes at the beginning of `texts`.
 pub(crate) fn lookup<S: Input + Output>(
     alloc: Global,
     stream: &mut S,
@@ -109,8 +108,8 @@ pub(crate) fn lookup<S: Input + Output>(
     }
 }
 
-/// Asks for the port mapper's own port and the registered names with their ports: the answer to NAMES_REQ comes to the
-/// front of `out`.
+/// Requests the port of the port mapper, and the registered names with their ports. Puts the reply at the beginning of
+/// `out`.
 pub(crate) fn names<S: Input + Output>(
     alloc: Global,
     stream: &mut S,
@@ -129,8 +128,7 @@ pub(crate) fn names<S: Input + Output>(
     }
 }
 
-/// Asks for the port mapper's own port and for the text of all that it knows: the answer to DUMP_REQ comes to the front
-/// of `out`.
+/// Requests the port of the port mapper, and the text about all known names. Puts the reply at the beginning of `out`.
 pub(crate) fn dump<S: Input + Output>(
     alloc: Global,
     stream: &mut S,
@@ -151,7 +149,6 @@ pub(crate) fn dump<S: Input + Output>(
     }
 }
 
-/// What a port mapper said to KILL_REQ.
 fn kill_status(answer: Result<Kill, ClientFault>) -> i32
     ensures { result ≡ kill_status answer }
 {
@@ -162,7 +159,6 @@ fn kill_status(answer: Result<Kill, ClientFault>) -> i32
     }
 }
 
-/// What a port mapper said to STOP_REQ.
 fn stop_status(answer: Result<Stop, ClientFault>) -> i32
     ensures { result ≡ stop_status answer }
 {
@@ -174,7 +170,7 @@ fn stop_status(answer: Result<Stop, ClientFault>) -> i32
     }
 }
 
-/// Asks the port mapper to end.
+/// Requests that the port mapper halt.
 pub(crate) fn kill<S: Input + Output>(alloc: Global, stream: &mut S) -> i32
     ensures { let seen = view S.left S.held S.pulls S.puts S.broken in
         Asks Kills (seen stream.old) (seen stream.new) (λ answer. result ≡ kill_status answer) }
@@ -182,7 +178,7 @@ pub(crate) fn kill<S: Input + Output>(alloc: Global, stream: &mut S) -> i32
     kill_status(portmap_client::kill(alloc, stream))
 }
 
-/// Asks the port mapper to end the registration of a name.
+/// Requests the end of the registration of a name.
 pub(crate) fn stop<S: Input + Output>(alloc: Global, stream: &mut S, name: &[u8]) -> i32
     ensures told { let seen = view S.left S.held S.pulls S.puts S.broken in
         result ≢ EPMD_NO_MEMORY → IfSaid (with_name (λ n. Ok n) (name_in name.now))

@@ -6,7 +6,7 @@ ghost use Rattle.portmap_link.specs.Device.{PullConsumes, PutAppends};
 use portmap_link::{Device, GhostList, Input, Output, Pull, Put, pull_from, put_from};
 use std::io;
 
-/// A connected socket of the caller's, by its number. It stays open.
+/// A connected socket of the caller, by its number. Dropping this value does not close the socket.
 #[derive(Drop)]
 pub(crate) struct Descriptor {
     number: i32,
@@ -15,8 +15,7 @@ pub(crate) struct Descriptor {
     puts: GhostList<Put>,
 }
 
-/// What a call of the system told that moved so many bytes, or that failed with this number where it moved fewer than
-/// none.
+/// Returns the result of a system call that moved `count` bytes. A negative `count` is a failure with `errno`.
 pub(crate) fn call_result(count: isize, errno: i32) -> io::Result<usize>
     ensures { MatchResult result (λ n. count ≡ pos n)
         (λ error. (raw_os_error error ≡ Some errno) × (error_kind error ≡ os_error_kind errno)) }
@@ -27,7 +26,6 @@ pub(crate) fn call_result(count: isize, errno: i32) -> io::Result<usize>
     Ok(count as usize)
 }
 
-/// Reads once.
 fn read_from(number: i32, buffer: &mut [u8]) -> Pull
     requires { 0 < length buffer.old }
     ensures { PullConsumes None None result buffer.new }
@@ -36,7 +34,7 @@ fn read_from(number: i32, buffer: &mut [u8]) -> Pull
     pull_from(call_result(count, os::errno()))
 }
 
-/// Writes once. Where the peer reads no more the call fails, and no signal is raised.
+/// Writes once. If the peer reads no more, the call fails without a signal.
 fn write_to(number: i32, bytes: &[u8]) -> Put
     requires { 0 < length bytes.now }
     ensures { PutAppends None None result bytes.now }
@@ -46,7 +44,6 @@ fn write_to(number: i32, bytes: &[u8]) -> Put
 }
 
 impl Descriptor {
-    /// A device that was asked nothing yet.
     pub(crate) fn new(number: i32) -> Descriptor
         ensures whole { result.failed ≡ false }
         ensures pulls { result.pulls ≡ [] }

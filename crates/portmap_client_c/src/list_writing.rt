@@ -1,5 +1,4 @@
-//! The answer to NAMES_REQ, spelled into the caller's buffer. How many bytes it has is reckoned first, which takes no
-//! memory.
+//! Writes the reply to NAMES_REQ into the caller's buffer. Its size is computed first, without allocation.
 ghost use Rattle.std.specs.Prelude.{◌≡◌, ◌*◌, ◌≤◌, ◌^◌, IfOk, length};
 ghost use Rattle.std.specs.List.{flat_map};
 ghost use Rattle.portmap_wire.specs.List.{names_line, names_reply};
@@ -12,10 +11,9 @@ use itoa::Buffer;
 use portmap_wire::{Line, NAMES_LINE_REST, NoMemory, put_names_line};
 use std::alloc::Global;
 
-/// How many digits `NAMES_LINE_REST` has room for.
+/// The number of digits that `NAMES_LINE_REST` includes.
 const DIGITS_MOST: usize = 5;
 
-/// How many bytes a line has.
 fn line_size(line: &Line) -> usize
     ensures exact { result ≡ length (names_line line.now) }
     ensures most { result ≤ 1040 }
@@ -23,8 +21,8 @@ fn line_size(line: &Line) -> usize
     NAMES_LINE_REST - DIGITS_MOST + Buffer::new().format(line.port).len() + line.name.bytes().len()
 }
 
-/// How many bytes a list of these lines has, behind the port mapper's own port. One that was read has at most 2^24, and
-/// no more lines.
+/// Returns the size of the lines, without the port before them. A list that was read has at most 2^24 bytes, and no
+/// more lines than bytes.
 fn lines_size(lines: &[Line]) -> usize
     requires { length lines.now ≤ 2 ^ 24 }
     ensures exact { result ≡ length (flat_map names_line lines.now) }
@@ -37,7 +35,6 @@ fn lines_size(lines: &[Line]) -> usize
     size
 }
 
-/// The answer to NAMES_REQ that tells this port and these lines.
 fn list_bytes(alloc: Global, port: u32, lines: &[Line]) -> Result<Vec<u8>, NoMemory>
     ensures { IfOk result (λ v. v.items ≡ names_reply port lines.now) }
 {
@@ -48,7 +45,6 @@ fn list_bytes(alloc: Global, port: u32, lines: &[Line]) -> Result<Vec<u8>, NoMem
     Ok(out)
 }
 
-/// Puts that answer into a buffer.
 pub(crate) fn put_list(
     alloc: Global,
     port: u32,

@@ -1,4 +1,4 @@
-//! The two lists of names in the caller's bytes, which are all that the port mapper sent.
+//! Reads the two lists of names. The caller's bytes are all that the port mapper sent.
 ghost use Rattle.std.specs.Prelude.{◌≡◌, ◌≢◌, ◌↔◌, ◌+◌, ◌<◌, ◌≤◌, ◌++◌, ℕ, List, drop, length, max, position};
 ghost use Rattle.std.specs.Prelude.{slice_index_or, IfSome, IfNone, IfOk, IfErr};
 ghost use Rattle.portmap_wire.specs.Reply.{be4};
@@ -12,11 +12,11 @@ use crate::status::{EPMD_LIST_END, EPMD_OK, EPMD_SHORT, EPMD_STRANGE_LINE, line_
 use portmap_wire::{Line, ListFault, read_dump, read_names};
 use std::alloc::Global;
 
-/// How many bytes stand in front of the lines of a list: the port mapper's own port.
+/// The number of bytes before the lines of a list: the port of the port mapper.
 pub(crate) const HEAD: usize = 4;
 
-/// Reads the head of the answer to NAMES_REQ or DUMP_REQ: the port mapper's own port, and where the lines begin, or the
-/// text.
+/// Reads the first bytes of the reply to NAMES_REQ or DUMP_REQ: the port of the port mapper. Sets `at` to the offset of
+/// the lines or of the text.
 #[unsafe(no_mangle)]
 pub extern "C" fn epmd_read_list(bytes: &[u8], port: &mut u32, at: &mut usize) -> i32
     ensures found { result ≡ EPMD_OK → (at.new ≡ 4) × (bytes.now ≡ be4 port.new ++ drop 4 bytes.now) }
@@ -33,14 +33,12 @@ pub extern "C" fn epmd_read_list(bytes: &[u8], port: &mut u32, at: &mut usize) -
     }
 }
 
-/// Where the first byte 10 stands.
 fn line_size(text: &[u8]) -> Option<usize>
     ensures { result ≡ position is_newline text.now }
 {
     text.iter().position(|b| *b == b'\n')
 }
 
-/// The first of these lines.
 fn first_line(lines: Vec<Line>) -> Option<Line>
     ensures found { IfSome result (λ line. (0 < length lines.items) × (line ≡ slice_index_or lines.items 0 line)) }
     ensures none { IfNone result (length lines.items ≡ 0) }
@@ -52,11 +50,10 @@ fn first_line(lines: Vec<Line>) -> Option<Line>
     Some(lines.remove(0))
 }
 
-/// The one line of a list, which is all of it but for its first four bytes.
+/// Reads a list of one line. The line follows the first four bytes.
 fn one_line(alloc: Global, list: &[u8]) -> Result<Line, ListFault>
     requires { 4 ≤ length list.now }
-    ensures found { IfOk result (λ line. (prefix : List ℕ) → IsOneLine (drop 4 list.now) prefix → ReadsLine prefix line)
-        }
+    ensures found { IfOk result (λ line. (prefix : List ℕ) → IsOneLine (drop 4 list.now) prefix → ReadsLine prefix line) }
     ensures fault { IfErr result (λ fault. (prefix : List ℕ) → IsOneLine (drop 4 list.now) prefix
         → IsReadingFault prefix fault) }
 {
@@ -69,7 +66,7 @@ fn one_line(alloc: Global, list: &[u8]) -> Result<Line, ListFault>
     }
 }
 
-/// The line that begins at a place, and where the next one begins.
+/// Reads the line at offset `at`, and returns the offset of the next line.
 fn line_at(alloc: Global, bytes: &[u8], at: usize) -> Result<(EpmdLine, usize), ListFault>
     requires { (4 ≤ at) × (at < length bytes.now) }
     ensures found { IfOk result (λ found. IsNextLine bytes.now at found.1 found.0) }
@@ -95,8 +92,8 @@ fn line_at(alloc: Global, bytes: &[u8], at: usize) -> Result<(EpmdLine, usize), 
     }
 }
 
-/// Reads the line of the answer to NAMES_REQ that begins at this place, below 4 the first one. With `EPMD_OK` the place
-/// is set to where the next line begins.
+/// Reads the line of the reply to NAMES_REQ at offset `at`. An offset below 4 is that of the first line. With
+/// `EPMD_OK`, `at` is set to the offset of the next line.
 #[unsafe(no_mangle)]
 pub extern "C" fn epmd_read_names_line(
     alloc: Global,
@@ -108,7 +105,7 @@ pub extern "C" fn epmd_read_names_line(
     ensures end { result ≡ EPMD_LIST_END → length bytes.now ≤ max 4 at.old }
     ensures found { result ≡ EPMD_OK → IsNextLine bytes.now (max 4 at.old) at.new line.new }
     ensures strange { result ≡ EPMD_STRANGE_LINE → IsStrange (drop (max 4 at.old) bytes.now) }
-    // Memory is asked for last, and none is kept.
+    // Memory is allocated last, and none is kept.
     ensures memory { result ≡ EPMD_NO_MEMORY → HasLine (drop (max 4 at.old) bytes.now) }
     ensures no_other { result ≢ EPMD_OK → result ≢ EPMD_SHORT → result ≢ EPMD_STRANGE_LINE → result ≢ EPMD_LIST_END
         → result ≡ EPMD_NO_MEMORY }

@@ -1,33 +1,32 @@
-//! Nodes, lines and answers in numbers. Of a text it is told where it lies in bytes of the caller's.
+//! Nodes, lines and replies as numbers. A text is given by its offset in bytes of the caller.
 
-/// The numbers that a node registers, by the fields of ALIVE2_REQ in the ERTS User's Guide. Any number is taken in
-/// each.
+/// The numbers of a node, by the fields of ALIVE2_REQ in the ERTS User's Guide. Each field accepts any number.
 #[repr(C)]
 #[derive(Clone, Copy)]
 pub struct EpmdNode {
-    /// PortNo, the port that the node listens on.
+    /// PortNo: the port that the node listens on.
     pub port: u16,
-    /// HighestVersion of the distribution protocol that the node speaks.
+    /// HighestVersion of the distribution protocol that the node supports.
     pub highest: u16,
     /// LowestVersion.
     pub lowest: u16,
-    /// NodeType: 77 is a normal node, 72 a hidden one.
+    /// NodeType: 77 is a normal node, 72 is a hidden node.
     pub kind: u8,
     /// Protocol: 0 is TCP over IPv4.
     pub protocol: u8,
 }
 
-/// Where a text lies in bytes.
+/// A text in bytes.
 #[repr(C)]
 #[derive(Clone, Copy)]
 pub struct EpmdText {
-    /// The place of its first byte.
+    /// The offset of the first byte.
     pub at: usize,
-    /// How many bytes it has.
+    /// The number of bytes.
     pub size: usize,
 }
 
-/// What is registered under a name.
+/// A node that is registered under a name.
 #[repr(C)]
 #[derive(Clone, Copy)]
 pub struct EpmdFound {
@@ -36,13 +35,13 @@ pub struct EpmdFound {
     pub node: EpmdNode,
 }
 
-/// What a port mapper answered to a registration.
+/// The reply of a port mapper to a registration.
 #[repr(C)]
 #[derive(Clone, Copy)]
 pub struct EpmdAlive {
-    /// The creation that the name was given; 0 where it was refused.
+    /// The creation of the name, or 0 if the registration was refused.
     pub creation: u32,
-    /// Result: 0 for a name that is registered, above 0 for one that was refused.
+    /// Result: 0 for a registered name, above 0 for a refused registration.
     pub code: u8,
 }
 

@@ -1,6 +1,7 @@
-//! Calls over a connected socket, each over one of its own. No clause can say what a socket gave and took: they say
-//! that there is an answer of which the result tells. Which bytes are asked, and that the answer is what was read, is
-//! said of each call's body, in `calls`, over any stream that tells its bytes.
+//! The calls of the C interface, each over a connected socket of its own.
+//!
+//! Contracts do not see the bytes of a socket. The clauses here say that the result reports some reply. The clauses in
+//! `calls` also say that the request is sent and that the reply is read, over any stream with known bytes.
 ghost use Rattle.std.specs.Prelude.{◌≡◌, ◌≢◌, Ok, IsOk};
 ghost use Rattle.portmap_wire.specs.RequestReading.{name_in};
 ghost use Rattle.portmap_client_c.specs.Calls.{AsksOnce, Dumps, IfSaid, Kills, ListsNames, LooksUp, Registers, Stops};
@@ -33,7 +34,7 @@ pub extern "C" fn epmd_register(
     status
 }
 
-/// Asks what is registered under a name. The node's name and its extra bytes come to the front of `texts`.
+/// Looks up a name. Puts the node's name and extra bytes at the beginning of `texts`.
 #[unsafe(no_mangle)]
 pub extern "C" fn epmd_lookup(
     alloc: Global,
@@ -51,8 +52,8 @@ pub extern "C" fn epmd_lookup(
     lookup(alloc, &mut Descriptor::new(socket), name, texts, found)
 }
 
-/// Asks for the port mapper's own port and the registered names with their ports: the answer to NAMES_REQ comes to the
-/// front of `out`.
+/// Requests the port of the port mapper, and the registered names with their ports. Puts the reply to NAMES_REQ at the
+/// beginning of `out`.
 #[unsafe(no_mangle)]
 pub extern "C" fn epmd_names(alloc: Global, socket: i32, out: &mut [u8], size: &mut usize) -> i32
     ensures told { AsksOnce ListsNames (λ answer. ReportsNames answer out.old out.new size.new result) }
@@ -61,8 +62,8 @@ pub extern "C" fn epmd_names(alloc: Global, socket: i32, out: &mut [u8], size: &
     names(alloc, &mut Descriptor::new(socket), out, size)
 }
 
-/// Asks for the port mapper's own port and for the text of all that it knows: the answer to DUMP_REQ comes to the front
-/// of `out`.
+/// Requests the port of the port mapper, and the text about all known names. Puts the reply to DUMP_REQ at the
+/// beginning of `out`.
 #[unsafe(no_mangle)]
 pub extern "C" fn epmd_dump(alloc: Global, socket: i32, out: &mut [u8], size: &mut usize) -> i32
     ensures told { AsksOnce Dumps (λ answer. ReportsDump answer out.old out.new size.new result) }
@@ -71,7 +72,7 @@ pub extern "C" fn epmd_dump(alloc: Global, socket: i32, out: &mut [u8], size: &m
     dump(alloc, &mut Descriptor::new(socket), out, size)
 }
 
-/// Asks the port mapper to end.
+/// Requests that the port mapper halt.
 #[unsafe(no_mangle)]
 pub extern "C" fn epmd_kill(alloc: Global, socket: i32) -> i32
     ensures { AsksOnce Kills (λ answer. result ≡ kill_status answer) }
@@ -79,7 +80,7 @@ pub extern "C" fn epmd_kill(alloc: Global, socket: i32) -> i32
     kill(alloc, &mut Descriptor::new(socket))
 }
 
-/// Asks the port mapper to end the registration of a name.
+/// Requests the end of the registration of a name.
 #[unsafe(no_mangle)]
 pub extern "C" fn epmd_stop(alloc: Global, socket: i32, name: &[u8]) -> i32
     ensures told { result ≢ EPMD_NO_MEMORY → IfSaid (with_name (λ n. Ok n) (name_in name.now))

@@ -1,4 +1,4 @@
-//! What each call answers, as numbers: one table, which the header has too.
+//! The status numbers of the calls, as in the header.
 ghost use Rattle.std.specs.Prelude.{◌≡◌, pos};
 ghost use Rattle.portmap_client_c.specs.Status.{client_status, line_status, name_status, reply_status};
 ghost use Rattle.portmap_client_c.specs.declared.status.TheConstants.{EPMD_OK, EPMD_NAME_EMPTY, EPMD_NAME_TOO_LONG};
@@ -15,17 +15,17 @@ use portmap_wire::{ListFault, NameFault, ReplyFault};
 
 pub(crate) const EPMD_OK: i32 = 0;
 
-// A name.
+// Names.
 pub(crate) const EPMD_NAME_EMPTY: i32 = 1;
 
 pub(crate) const EPMD_NAME_TOO_LONG: i32 = 2;
 
 pub(crate) const EPMD_NAME_BAD_BYTE: i32 = 3;
 
-// A registration.
+// Registrations.
 pub(crate) const EPMD_EXTRA_TOO_LONG: i32 = 4;
 
-// An answer.
+// Replies.
 pub(crate) const EPMD_SHORT: i32 = 5;
 
 pub(crate) const EPMD_BAD_TAG: i32 = 6;
@@ -36,12 +36,12 @@ pub(crate) const EPMD_REFUSED: i32 = 8;
 
 pub(crate) const EPMD_NOT_REGISTERED: i32 = 9;
 
-// A list.
+// Lists.
 pub(crate) const EPMD_STRANGE_LINE: i32 = 10;
 
 pub(crate) const EPMD_LIST_END: i32 = 11;
 
-// A call over a descriptor.
+// Calls over a socket.
 pub(crate) const EPMD_WRITE: i32 = 12;
 
 pub(crate) const EPMD_READ: i32 = 13;
@@ -54,12 +54,12 @@ pub(crate) const EPMD_NO_EXIST: i32 = 16;
 
 pub(crate) const EPMD_NOT_ALLOWED: i32 = 17;
 
-// Room.
+// Buffers and memory.
 pub(crate) const EPMD_BUFFER_TOO_SMALL: i32 = 18;
 
 pub(crate) const EPMD_NO_MEMORY: i32 = 19;
 
-/// A law: the numbers that definitions take from the code are those of the header.
+/// Law: the constants that definitions take from the code are those of the header.
 pub fn numbers_are_the_headers()
     ensures names { (EPMD_OK ≡ pos 0) × (EPMD_NAME_EMPTY ≡ pos 1) × (EPMD_NAME_TOO_LONG ≡ pos 2)
         × (EPMD_NAME_BAD_BYTE ≡ pos 3)
@@ -72,7 +72,6 @@ pub fn numbers_are_the_headers()
         × (EPMD_NO_MEMORY ≡ pos 19) }
 {}
 
-/// What a call answers where its name is none.
 pub(crate) fn name_status(fault: NameFault) -> i32
     ensures { result ≡ name_status fault }
 {
@@ -84,7 +83,6 @@ pub(crate) fn name_status(fault: NameFault) -> i32
     }
 }
 
-/// What a call answers to bytes that are no reply.
 pub(crate) fn reply_status(fault: ReplyFault) -> i32
     ensures { result ≡ reply_status fault }
 {
@@ -96,7 +94,6 @@ pub(crate) fn reply_status(fault: ReplyFault) -> i32
     }
 }
 
-/// What a call answers to a text that is no line of a list.
 pub(crate) fn line_status(fault: ListFault) -> i32
     ensures { result ≡ line_status fault }
 {
@@ -106,7 +103,6 @@ pub(crate) fn line_status(fault: ListFault) -> i32
     }
 }
 
-/// What a call over a descriptor answers where it failed.
 pub(crate) fn client_status(fault: ClientFault) -> i32
     ensures { result ≡ client_status fault }
 {

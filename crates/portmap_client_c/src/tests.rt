@@ -1,5 +1,5 @@
-//! What no clause says: that calls succeed where memory is ample, and that each over a socket is made over the one
-//! whose number it is given. The bytes are those of FORMATS.md.
+//! Tests of facts that no clause states. Calls succeed if memory suffices, and a call uses the socket whose number it
+//! gets. The bytes are those of docs/FORMATS.md.
 mod failures;
 mod lists;
 mod nodes;
@@ -12,7 +12,7 @@ use std::os::fd::AsRawFd;
 use std::os::unix::net::UnixStream;
 use std::test::Fail;
 
-/// A socket, and the peer that has answered already and sends no more.
+/// A socket whose peer has replied and sends no more.
 #[derive(Drop)]
 struct Pair {
     own: UnixStream,
@@ -31,7 +31,7 @@ impl Pair {
         self.own.as_raw_fd()
     }
 
-    /// Whether the peer was asked this, and nothing else.
+    /// Returns true if the peer received this request and nothing else.
     fn is_asked(mut self, alloc: Global, request: &[u8]) -> io::Result<bool> {
         self.own.shutdown(Shutdown::Write)?;
         let mut asked = Vec::new(alloc);
@@ -40,7 +40,7 @@ impl Pair {
     }
 }
 
-/// These bytes, each part so many times.
+/// Joins the parts, each repeated `times` times.
 fn spelled(alloc: Global, parts: &[(&[u8], usize)]) -> Result<Vec<u8>, Fail> {
     let mut out = Vec::new(alloc);
     for (part, times) in parts {

@@ -1,5 +1,7 @@
-//! Requests into the caller's buffer. `size` is set to how many bytes the request takes, also where the buffer is too
-//! small for it, and then nothing is written; it is set to 0 where the request can't be spelled.
+//! Writes requests into the caller's buffer.
+//!
+//! `size` is set to the number of bytes of the request, even if the buffer is too small and nothing is written. If the
+//! request cannot be encoded, `size` is set to 0.
 ghost use Rattle.std.specs.Prelude.{◌≡◌, ◌≢◌, ◌+◌, ◌≤◌, ◌^◌, ◌++◌, ℤ, Ok, Result, length};
 ghost use Rattle.portmap_wire.specs.Request.{sent};
 ghost use Rattle.portmap_wire.specs.RequestReading.{name_in};
@@ -15,16 +17,15 @@ use crate::status::{
 use portmap_wire::{BODY_MOST, ExtraFault, Name, NameFault, Reg, Request, write_request};
 use std::alloc::Global;
 
-/// Why no request was made.
+/// The reason for which there is no request.
 #[derive(Clone, Copy)]
 pub(crate) enum Unmade {
-    /// It can't be spelled: the status that says why.
+    /// The request cannot be encoded, for the reason of this status.
     Refused(i32),
-    /// There was no memory for it; as it is sent it takes so many bytes.
+    /// Memory ran out. The request has this many bytes as it is sent.
     NoMemory(usize),
 }
 
-/// What a call answers that has none to make.
 pub(crate) fn unmade_status(unmade: Unmade) -> i32
     ensures { result ≡ unmade_status unmade }
 {
@@ -34,7 +35,7 @@ pub(crate) fn unmade_status(unmade: Unmade) -> i32
     }
 }
 
-/// Puts two texts, one behind the other, at the front of a buffer.
+/// Puts two texts, one after the other, at the beginning of a buffer.
 pub(crate) fn put(head: &[u8], tail: &[u8], out: &mut [u8]) -> i32
     ensures puts { Puts (head.now ++ tail.now) out.old out.new (length head.now + length tail.now) result }
     ensures memory { result ≢ EPMD_NO_MEMORY }
@@ -48,7 +49,7 @@ pub(crate) fn put(head: &[u8], tail: &[u8], out: &mut [u8]) -> i32
     EPMD_OK
 }
 
-/// Tells of bytes for which there was no memory how many they are.
+/// Reports the number of bytes for which memory ran out. A buffer that is too small is reported first.
 pub(crate) fn lack_memory(bytes: usize, out: &[u8], size: &mut usize) -> i32
     ensures { LacksMemory out.now bytes size.new result }
 {
@@ -60,7 +61,6 @@ pub(crate) fn lack_memory(bytes: usize, out: &[u8], size: &mut usize) -> i32
     }
 }
 
-/// How many bytes a request takes as it is sent.
 fn sent_size(request: &Request) -> usize
     ensures { result ≡ length (sent request.now) }
 {
@@ -71,7 +71,6 @@ fn sent_size(request: &Request) -> usize
     }
 }
 
-/// Writes a request.
 fn write(alloc: Global, request: &Request, out: &mut [u8], size: &mut usize) -> i32
     ensures { Puts (sent request.now) out.old out.new size.new result }
 {
@@ -84,7 +83,6 @@ fn write(alloc: Global, request: &Request, out: &mut [u8], size: &mut usize) -> 
     }
 }
 
-/// Writes the request that is asked for, as far as it was made.
 fn write_made(alloc: Global, made: Result<Request, Unmade>, out: &mut [u8], size: &mut usize) -> i32
     ensures { (said : Result Request ℤ) → Makes made said → Writes said out.old out.new size.new result }
 {
@@ -98,7 +96,7 @@ fn write_made(alloc: Global, made: Result<Request, Unmade>, out: &mut [u8], size
     }
 }
 
-/// The name that these bytes are, for a request that takes so many bytes beside it.
+/// Reads a name. The request has `beside` other bytes.
 pub(crate) fn made_name(alloc: Global, bytes: &[u8], beside: usize) -> Result<Name, Unmade>
     requires { beside ≤ 2 ^ 63 + 15 }
     ensures { MakesName beside result (name_in bytes.now) }
@@ -110,7 +108,6 @@ pub(crate) fn made_name(alloc: Global, bytes: &[u8], beside: usize) -> Result<Na
     }
 }
 
-/// PORT_PLEASE2_REQ for the name that these bytes are.
 fn made_lookup(alloc: Global, name: &[u8]) -> Result<Request, Unmade>
     ensures { Makes result (named_said request.Port name.now) }
 {
@@ -120,7 +117,6 @@ fn made_lookup(alloc: Global, name: &[u8]) -> Result<Request, Unmade>
     }
 }
 
-/// STOP_REQ for the name that these bytes are.
 fn made_stop(alloc: Global, name: &[u8]) -> Result<Request, Unmade>
     ensures { Makes result (named_said request.Stop name.now) }
 {
@@ -130,7 +126,6 @@ fn made_stop(alloc: Global, name: &[u8]) -> Result<Request, Unmade>
     }
 }
 
-/// What a node registers, of these numbers and texts.
 pub(crate) fn made_node(
     alloc: Global,
     node: &EpmdNode,
@@ -163,7 +158,6 @@ pub(crate) fn made_node(
     }
 }
 
-/// ALIVE2_REQ for such a node.
 fn made_registration(
     alloc: Global,
     node: &EpmdNode,
@@ -178,7 +172,7 @@ fn made_registration(
     }
 }
 
-/// NAMES_REQ as it is sent.
+/// Writes NAMES_REQ with its length.
 #[unsafe(no_mangle)]
 pub extern "C" fn epmd_write_names(alloc: Global, out: &mut [u8], size: &mut usize) -> i32
     ensures { Writes (Ok request.Names) out.old out.new size.new result }
@@ -186,7 +180,7 @@ pub extern "C" fn epmd_write_names(alloc: Global, out: &mut [u8], size: &mut usi
     write(alloc, &Request::Names, out, size)
 }
 
-/// DUMP_REQ as it is sent.
+/// Writes DUMP_REQ with its length.
 #[unsafe(no_mangle)]
 pub extern "C" fn epmd_write_dump(alloc: Global, out: &mut [u8], size: &mut usize) -> i32
     ensures { Writes (Ok request.Dump) out.old out.new size.new result }
@@ -194,7 +188,7 @@ pub extern "C" fn epmd_write_dump(alloc: Global, out: &mut [u8], size: &mut usiz
     write(alloc, &Request::Dump, out, size)
 }
 
-/// KILL_REQ as it is sent.
+/// Writes KILL_REQ with its length.
 #[unsafe(no_mangle)]
 pub extern "C" fn epmd_write_kill(alloc: Global, out: &mut [u8], size: &mut usize) -> i32
     ensures { Writes (Ok request.Kill) out.old out.new size.new result }
@@ -202,7 +196,7 @@ pub extern "C" fn epmd_write_kill(alloc: Global, out: &mut [u8], size: &mut usiz
     write(alloc, &Request::Kill, out, size)
 }
 
-/// PORT_PLEASE2_REQ as it is sent.
+/// Writes PORT_PLEASE2_REQ with its length.
 #[unsafe(no_mangle)]
 pub extern "C" fn epmd_write_lookup(
     alloc: Global,
@@ -216,7 +210,7 @@ pub extern "C" fn epmd_write_lookup(
     write_made(alloc, made, out, size)
 }
 
-/// STOP_REQ as it is sent.
+/// Writes STOP_REQ with its length.
 #[unsafe(no_mangle)]
 pub extern "C" fn epmd_write_stop(
     alloc: Global,
@@ -230,7 +224,7 @@ pub extern "C" fn epmd_write_stop(
     write_made(alloc, made, out, size)
 }
 
-/// ALIVE2_REQ as it is sent.
+/// Writes ALIVE2_REQ with its length.
 #[unsafe(no_mangle)]
 pub extern "C" fn epmd_write_register(
     alloc: Global,

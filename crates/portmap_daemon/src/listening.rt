@@ -1,4 +1,4 @@
-//! The sockets that a daemon listens on: those that it opens, and those that are handed over to it.
+//! The listening sockets of a daemon: those that it opens, and those that are passed to it.
 ghost use Rattle.std.specs.Prelude.{◌≡◌, ◌≢◌, ◌↔◌, ◌⊎◌, ◌+◌, ◌≤◌, ◌∷◌, [], true, length, Some, IfErr, IfNone, IfSome};
 ghost use Rattle.std.specs.Net.Addr.{ipv4_octets, IsLoopbackV6, IsUnspecifiedV6, IsV4And};
 ghost use Rattle.std.specs.Net.Socket.{socket_ip, socket_port};
@@ -18,21 +18,20 @@ use std::net::{IpAddr, Ipv6Addr, Net, SocketAddr, SocketAddrV6};
 use std::os::fd::AsRawFd;
 use std::{io, net};
 
-/// So many connections may wait at a socket, if the system allows as many.
+/// The backlog of a listener, if the system allows as many connections.
 const BACKLOG: i32 = 4096;
 
-/// How many bytes an IPv6 address of the system has.
 const ADDRESS_BYTES: u32 = 28;
 
-/// The errors by which a system without IPv6 refuses a socket, and an address.
+/// The errors with which a system without IPv6 refuses a socket, and an address.
 const EAFNOSUPPORT: i32 = 97;
 
 const EADDRNOTAVAIL: i32 = 99;
 
-/// Why sockets that are handed over are not served.
+/// The reason for which passed sockets are not served.
 #[derive(Clone, Copy, Debug, PartialEq, Eq)]
 pub enum HandedFault {
-    /// The descriptor of this number is no TCP socket that listens.
+    /// The descriptor with this number is not a listening TCP socket.
     NotListening(i32),
     NoMemory,
 }
@@ -48,8 +47,7 @@ impl<T: Drop> From<AllocFailed<T>> for HandedFault {
     }
 }
 
-/// Listens on each of the addresses at this port, and on the IPv6 address beside it, where it has one and the system
-/// has IPv6.
+/// Listens on each address at this port. If the system has IPv6, also listens on the IPv6 address beside it, if any.
 pub(crate) fn listen<R: Net>(
     rt: &R,
     alloc: Global,
@@ -74,7 +72,6 @@ pub(crate) fn listen<R: Net>(
     Ok(listening)
 }
 
-/// The address of a socket that listens there.
 fn address_at(address: [u8; 4], port: u16) -> SocketAddr
     ensures ip { IsV4And (socket_ip result) (λ ip. ipv4_octets ip ≡ address) }
     ensures port { socket_port result ≡ port }
@@ -82,8 +79,8 @@ fn address_at(address: [u8; 4], port: u16) -> SocketAddr
     SocketAddr::new(IpAddr::from(address), port)
 }
 
-/// The IPv6 address that a daemon listens on beside this one: every address of the host beside every one, its loopback
-/// beside its loopback.
+/// Returns the IPv6 address beside an IPv4 address: `::` beside `0.0.0.0`, and `::1` beside `127.0.0.1`. Other
+/// addresses have none.
 pub fn beside(address: [u8; 4]) -> Option<Ipv6Addr>
     ensures found { IfSome result (λ ip. ((address ≡ 0 ∷ 0 ∷ 0 ∷ 0 ∷ []) × IsUnspecifiedV6 ip)
         ⊎ ((address ≡ 127 ∷ 0 ∷ 0 ∷ 1 ∷ []) × IsLoopbackV6 ip)) }
@@ -96,14 +93,13 @@ pub fn beside(address: [u8; 4]) -> Option<Ipv6Addr>
     }
 }
 
-/// Whether a system without IPv6 says so by the error of this number.
+/// Returns true if and only if a system without IPv6 reports this error.
 pub fn lacks_ipv6(number: Option<i32>) -> bool
     ensures { (result ≡ true) ↔ ((number ≡ Some EAFNOSUPPORT) ⊎ (number ≡ Some EADDRNOTAVAIL)) }
 {
     number == Some(EAFNOSUPPORT) || number == Some(EADDRNOTAVAIL)
 }
 
-/// Listens on an IPv6 address at this port, and takes no IPv4 peer there.
 fn listen_alone(ip: Ipv6Addr, port: u16) -> io::Result<net::TcpListener> {
     let kind = SOCK_STREAM | SOCK_NONBLOCK | SOCK_CLOEXEC;
     let number = unsafe { libc::net::socket(AF_INET6, kind, 0) };
@@ -120,7 +116,6 @@ fn listen_alone(ip: Ipv6Addr, port: u16) -> io::Result<net::TcpListener> {
     Ok(listener)
 }
 
-/// What a call of the system answered: 0 where it is done.
 fn done(status: i32) -> io::Result<()> {
     if status == 0 {
         return Ok(());
@@ -128,7 +123,6 @@ fn done(status: i32) -> io::Result<()> {
     Err(io::Error::from_raw_os_error(os::errno()))
 }
 
-/// Puts these bytes to this place of an address.
 fn put(address: &mut [u8; _SS_SIZE], at: usize, bytes: &[u8])
     requires { at + length bytes.now ≤ 128 }
     ensures { address.new ≡ put address.old at bytes.now }
@@ -136,7 +130,6 @@ fn put(address: &mut [u8; _SS_SIZE], at: usize, bytes: &[u8])
     address[at..at + bytes.len()].copy_from_slice(bytes);
 }
 
-/// An IPv6 address and port as the system reads them.
 fn address_of(address: SocketAddrV6) -> [u8; _SS_SIZE]
     ensures { result ≡ sockaddr_in6 address }
 {
@@ -149,8 +142,9 @@ fn address_of(address: SocketAddrV6) -> [u8; _SS_SIZE]
     bytes
 }
 
-/// The sockets that are handed over, so many, from this descriptor on. They no longer block, and are closed with what
-/// is given.
+/// Returns the `count` sockets that were passed to this process, from descriptor `first` on.
+///
+/// The sockets become non-blocking. They are closed when the result is dropped.
 pub fn handed_over(
     alloc: Global,
     first: i32,
@@ -168,7 +162,6 @@ pub fn handed_over(
     Ok(listening)
 }
 
-/// The socket that listens at this descriptor, if one does.
 fn listening_at(number: i32) -> Option<net::TcpListener> {
     if number < 0 {
         return None;
@@ -178,14 +171,13 @@ fn listening_at(number: i32) -> Option<net::TcpListener> {
     is_listening(&listener).then_some(listener)
 }
 
-/// The port of a socket that has an address.
 pub(crate) fn port_of(socket: &net::TcpListener) -> Option<u16> {
     let port = socket.local_addr().ok()?.port();
     (port > 0).then_some(port)
 }
 
-/// Whether it is a TCP socket with an address that takes connections. One that has an address and took none before does
-/// from now on.
+/// Returns true if the socket is a TCP socket with an address, and listens. A socket with an address that did not
+/// listen before listens from now on.
 fn is_listening(socket: &net::TcpListener) -> bool {
     let mut value = [0; 16];
     let mut length = 4;

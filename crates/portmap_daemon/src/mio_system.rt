@@ -1,4 +1,4 @@
-//! The system as `mio` and the kernel give it.
+//! The implementation of `System` with `mio` and the kernel.
 ghost use Rattle.std.specs.Prelude.{◌≡◌, ◌≢◌, ◌↔◌, ◌-◌, ◌<◌, ◌≤◌, ◌∷◌, [], ◌&&◌, not, true, take, drop, IfSome, IfNone};
 ghost use Rattle.std.specs.Prelude.{IfErr, option_copied, slice_get};
 ghost use Rattle.mio.specs.Events.{items};
@@ -23,19 +23,19 @@ use std::os::fd::AsRawFd;
 use std::time::Duration;
 use std::{io, net};
 
-/// The token of the first listener. Below it are the keys of streams.
+/// The token of the first listener. Smaller tokens are the keys of streams.
 const FIRST_LISTENER: usize = 4_294_967_296;
 
-/// The token by which other threads end the wait.
+/// The token of the waker, with which other threads end the wait.
 const WAKE: usize = 8_589_934_592;
 
-/// How many bytes of an address the system may write.
+/// The maximal number of bytes of an address that the system may write.
 const ADDRESS_MOST: u32 = 128;
 
-/// How many bytes the system is to read of an address.
+/// The number of bytes of an address that the system reads.
 const ADDRESS_BYTES: u32 = 16;
 
-/// What the poll reports of what has this token, by whether its peer sends no more and whether it has failed.
+/// Returns the report for a token. A stream that has failed is not reported as closed.
 fn report_of(token: usize, is_read_closed: bool, is_error: bool) -> Report
     ensures { result ≡ report_of token is_read_closed is_error }
 {
@@ -51,14 +51,12 @@ fn report_of(token: usize, is_read_closed: bool, is_error: bool) -> Report
     }
 }
 
-/// Whether a poll that has reported so much may have more to report.
 fn is_full(count: usize) -> bool
     ensures { (result ≡ true) ↔ (EVENTS_MOST ≤ count) }
 {
     count >= EVENTS_MOST
 }
 
-/// The stream of a connection, as `mio` has it.
 #[derive(Drop)]
 pub struct MioStream {
     inner: TcpStream,
@@ -92,14 +90,15 @@ impl Stream for MioStream {
     }
 
     fn reset(&mut self) {
-        // An address of no family: the system undoes the connection. If it refuses, the connection ends as any other.
+        // `connect` to an address of no family dissolves the connection. If the system refuses, the connection ends as
+        // any other.
         let nowhere = [0; 128];
         let number = self.inner.as_raw_fd();
         let _ = unsafe { libc::net::connect(number, &nowhere, ADDRESS_BYTES) };
     }
 }
 
-/// What ends the wait of a poll.
+/// A handle that ends the wait of a poll.
 #[derive(Drop)]
 pub struct MioWaker {
     inner: Waker,
@@ -111,19 +110,19 @@ impl Wake for MioWaker {
     }
 }
 
-/// A poll with what it reported last, and a thread's shares of the listening sockets. The program has it by `run`, and
+/// A poll with its last reports, and a thread's shares of the listening sockets. Programs use it through `run`, and
 /// tests call it.
 #[derive(Drop)]
 pub struct MioSystem {
     poll: Poll,
     events: Events,
     listeners: Vec<TcpListener>,
-    /// What the poll has taken. Only proofs read it.
+    /// The keys and interests that the poll accepted. Only proofs read them.
     watched: GhostList<(usize, Interest)>,
 }
 
 impl MioSystem {
-    /// A poll that reports nothing yet, with what ends its wait.
+    /// Opens a poll without reports, and a waker for it.
     pub fn open<R: Net>(
         rt: &R,
         alloc: Global,
@@ -147,7 +146,6 @@ impl MioSystem {
         Ok((system, MioWaker { inner }))
     }
 
-    /// What the poll has found at this place.
     fn event(&self, place: usize) -> Option<&Event>
         ensures { option_copied result ≡ slice_get (items self.now.events) place }
     {
@@ -224,8 +222,7 @@ impl System for MioSystem {
         }
     }
 
-    /// Calls on the connection don't wait: the system is told so as it gives the connection. The kit's own `accept`
-    /// takes one call more.
+    /// `accept4` makes the stream non-blocking in the same call. The toolchain's `accept` needs one call more.
     fn accept(&mut self, place: usize) -> io::Result<(MioStream, IpAddr)> {
         let Some(listener) = self.listeners.get(place) else {
             return Err(io::Error::from(io::ErrorKind::WouldBlock));
@@ -246,7 +243,7 @@ impl System for MioSystem {
     }
 }
 
-/// The IP address in an address of the system, if it is of a family that has one.
+/// Returns the IP address in an address of the system, or `None` if its family has no IP address.
 fn ip_in(address: &[u8; _SS_SIZE]) -> Option<IpAddr>
     ensures ipv4 { take 2 address.now ≡ 2 ∷ 0 ∷ []
         → IfSome result (λ ip. IsV4And ip (λ ip. ipv4_octets ip ≡ take 4 (drop 4 address.now))) }

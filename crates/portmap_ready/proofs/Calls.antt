@@ -1,4 +1,4 @@
--- What each call does to what is held, and to what callers see: lemmas.
+-- Lemmas: the effect of each call on the fields and on the view.
 use Rattle.std.specs.{Cmp.nat_cmp_total, Ordering.nat_cmp, Prelude.{drop, option_map, nat_lt, nat_le, slice_get}}
 use Rattle.std.proofs.Common.{◌≡◌, ◌≢◌, ◌↔◌, ℕ, ◌+◌, ◌-◌, ◌<◌, ◌≤◌, Bool, true, false, ◌&&◌, not, cond, List, [], ◌∷◌}
 use Rattle.std.proofs.Common.{◌++◌, length, Option, Some, None, is_some, IsSome, refl, sym, ap, subst, ◌∙◌, arith}
@@ -39,9 +39,9 @@ module _ {T : Type 0} where
   no_link : (o : Option (Tracked T)) → is_live o ≡ false → link_of o ≡ None
   no_link o e = search rules
 
-  -- ---- a link goes to another place
+  -- ---- a link changes its state
 
-  -- the link is there, and its key stands neither in the queue nor among those that are pending
+  -- The link is present, and its key is in neither the queue nor the pending list.
   pub record IsFree (r : Inside T) (k : ℕ) : Type 0 where
     pub queue : times k r.queue.items ≡ 0
     pub pending : times k r.pending.items ≡ 0
@@ -134,9 +134,9 @@ module _ {T : Type 0} where
   put_moves p {k} {old} i free puts to =
       put_seen p i free puts ∙ ap (λ xs. record (moved p k (seen old)) { paused = xs }) (put_resting p i free puts refl)
 
-  -- ---- the first of the queue, or of those that are pending
+  -- ---- the first link of the queue or of the pending list
 
-  -- the key stood first in the queue, or else among those that are pending, while none was told
+  -- The key was first in the queue (`b` is true) or in the pending list, and no link was current.
   pub record Takes (b : Bool) (k : ℕ) (old new : Inside T) : Type 0 where
     pub held : Updates old.held new.held k (tidied (taken (get old.held k)))
     pub queue : old.queue.items ≡ front b k new.queue.items
@@ -146,7 +146,7 @@ module _ {T : Type 0} where
     pub rooms : room new ≡ room old
     pub same : new ≡ record old { held = new.held; queue = new.queue; pending = new.pending; current = new.current }
 
-  -- it stood in no other list, and stands in none now
+  -- The key is in neither list after the step, and its link was not paused.
   pub record WasFirst (o : Option (Tracked T)) (x y : ℕ) : Type 0 where
     pub queue : x ≡ 0
     pub pending : y ≡ 0
@@ -194,7 +194,7 @@ module _ {T : Type 0} where
           counted = counted_to Current k new.held i (links_to takes.held Current shows.link);
         }))
 
-    -- what is seen then, if its link is there, or if that is gone
+    -- The view after the step, with the link or with only the key of a removed link.
     take_links : links_of new.held.slots ≡ with_state Current k (links_of old.held.slots)
     take_links = links_to takes.held Current (shows-taken first_held).link
 
@@ -214,7 +214,7 @@ module _ {T : Type 0} where
     take_current : (c : Bool) → is_live first_held ≡ c → new.current ≡ cond c (Some k) None
     take_current c l = takes.current ∙ ap (λ c. cond c (Some k) None) l
 
-  -- the first of the queue is told
+  -- The first queued link becomes current.
   pub current_seen : {k : ℕ} {old new : Inside T} (v : Links T) → IsWhole old → Takes true k old new → is_live (get old.held k) ≡ true
       → IsButForRoom (seen old) v → IsButForRoom (seen new) (after_next v)
   current_seen {k} {old} {new} v i takes l e =
@@ -222,10 +222,10 @@ module _ {T : Type 0} where
       let links = ap (λ xs. first_at Current (slice_get xs 0) (links_of old.held.slots)) first in
       seen_is (seen new) (record (after_next (seen old)) { has_room = has_room new }) (take_links true i takes ∙ links) (ap (drop 1) first)
       (take_pending true i takes true l) (take_paused true i takes) (take_current true i takes true l ∙ ap (λ xs. slice_get xs 0) first)
-          refl
+      refl
       ∙ ap (λ w. record (after_next w) { has_room = has_room new }) e
 
-  -- the first of those that are pending is told
+  -- The first pending link becomes current.
   pub taken_seen : {k : ℕ} {old new : Inside T} (v : Links T) → IsWhole old → Takes false k old new → is_live (get old.held k) ≡ true
       → IsButForRoom (seen old) v → IsButForRoom (seen new) (after_next_pending v)
   taken_seen {k} {old} {new} v i takes l e =
@@ -236,7 +236,7 @@ module _ {T : Type 0} where
       (take_current false i takes true l ∙ ap (λ xs. slice_get xs 0) first) refl
       ∙ ap (λ w. record (after_next_pending w) { has_room = has_room new }) e
 
-  -- of one that is gone nothing was seen
+  -- If the link was removed, the view changes at most in `has_room`.
   pub gone_seen : (b : Bool) {k : ℕ} {old new : Inside T} (v : Links T) → IsWhole old → Takes b k old new → is_live (get old.held k) ≡ false
       → IsButForRoom (seen old) v → IsButForRoom (seen new) v
   gone_seen b {k} {old} {new} v i takes l e =
@@ -250,7 +250,7 @@ module _ {T : Type 0} where
       none true xs = refl
       none false xs = refl
 
-  -- ---- the first of those that rest
+  -- ---- the first paused link
 
   pub record Ends (k : ℕ) (old new : Inside T) : Type 0 where
     pub held : Updates old.held new.held k (tidied (unlisted (get old.held k)))
@@ -261,7 +261,7 @@ module _ {T : Type 0} where
   end_mark : (o : Option (Tracked T)) (x : ℕ) → 1 + x ≡ (marks_of o).paused → (x ≡ 0) × (is_some o ≡ true)
   end_mark o x e = search rules
 
-  -- it is idle, if it rested
+  -- The link becomes idle if it was paused.
   abbrev end_link : Bool → Option (T × LinkState) → Option (T × LinkState)
   end_link b l = cond b (option_map (to_state Idle) l) l
 
@@ -322,7 +322,7 @@ module _ {T : Type 0} where
         (end_live old.queue.items) (end_live old.pending.items) (ap (drop 1) first) refl (ap has_room (sym ends.same))
         ∙ ap (λ w. record (after_resume w) { has_room = has_room new }) e
 
-    -- of one that does not rest now nothing was seen
+    -- If the link is not paused any more, the view changes at most in `has_room`.
     pub stale_seen : (v : Links T) → is_paused_in rested ≡ false → IsButForRoom (seen old) v → IsButForRoom (seen new) v
     stale_seen v l e =
         ap seen ends.same
@@ -331,7 +331,7 @@ module _ {T : Type 0} where
         (end_resting false l) refl (ap has_room (sym ends.same))
         ∙ ap (λ (w : Links T). record w { has_room = has_room new }) e
 
-  -- ---- a link is given up
+  -- ---- a link is removed
 
   pub record Clears (k : ℕ) (old new : Inside T) : Type 0 where
     pub held : Updates old.held new.held k (tidied (cleared (get old.held k)))
@@ -368,13 +368,13 @@ module _ {T : Type 0} where
         ap seen clears.same
         ∙ seen_is _ (record (removed k (seen old)) { has_room = has_room new }) (links_cut clears.held shows.link) (out old.queue.items)
         (out old.pending.items) (kept_out clears.held is_paused_in old.paused.items shows.is_paused_in) clears.current
-            (ap has_room (sym clears.same))
+        (ap has_room (sym clears.same))
 
   pub live_taken : (s : Slab (Tracked T)) (k : ℕ) {v : Option T} → v ≡ option_map (λ link. link.0) (link_of (get s k))
       → is_some v ≡ is_live (get s k)
   live_taken s k e = ap is_some e ∙ some_map (λ link. link.0) (link_of (get s k))
 
-  -- ---- a new link
+  -- ---- a link is inserted
 
   pub record Inserts (k : ℕ) (value : T) (old new : Inside T) : Type 0 where
     pub held : Updates old.held new.held k (held_as Queued (Some value) false)
@@ -465,9 +465,9 @@ module _ {T : Type 0} where
         (live r.pending.items) (kept_same (write_held w) is_paused_in r.paused.items (λ _. ap is_paused_in (sym here))) refl
         (ap (λ n. nat_lt n r.held.capacity && nat_le r.held.capacity (room r)) len)
 
-  -- ---- none is forgotten
+  -- ---- no link is lost
 
-  -- what is held stands where the place of its link says
+  -- The marks of an entry are those that the state of its link requires.
   pub record Agrees (o : Option (Tracked T)) : Type 0 where
     pub queue : cond (is_live o) (marks_of o).queue 0 ≡ one_at is_queued (link_of o)
     pub pending : cond (is_live o) (marks_of o).pending 0 ≡ one_at is_pending (link_of o)
@@ -496,7 +496,7 @@ module _ {T : Type 0} where
         current = search rules;
       }
 
-  -- ---- what the fields say of what callers see
+  -- ---- what the fields say about the view
 
   pub some_seen : (r : Inside T) {v : Links T} (k : ℕ) → seen r ≡ v → IsSome (link_at v k) → is_live (get r.held k) ≡ true
   some_seen r k e some = ap is_some (sym (get-links_of r.held k) ∙ ap (λ v. link_at v k) e) ∙ some

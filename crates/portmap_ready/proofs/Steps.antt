@@ -1,4 +1,4 @@
--- What is held changes under one key: lemmas.
+-- Lemmas: a step that changes the entry under one key.
 use Rattle.std.specs.{Cmp.nat_cmp_total, FinMap.nat_cmp-IsAntisymmetric, Ordering.nat_cmp}
 use Rattle.std.specs.Prelude.{map as list_map, option_map}
 use Rattle.std.proofs.Common.{◌≡◌, ◌≢◌, ℕ, suc, zero, ◌+◌, ◌-◌, ◌<◌, ◌≤◌, Bool, true, false, cond, List, [], ◌∷◌}
@@ -24,7 +24,7 @@ module _ {T : Type 0} where
       → v.current ≡ w.current → v.has_room ≡ w.has_room → v ≡ w
   seen_is v w a b c d e f = λ i. record { links = a i; queue = b i; pending = c i; paused = d i; current = e i; has_room = f i }
 
-  -- ---- the links that callers see
+  -- ---- the links in the view
 
   before : (j q : ℕ) (slots : List (Option (T × LinkState))) → q < j → map.find nat_cmp q (entries_from j slots) ≡ None
   before j q [] lt = refl
@@ -52,7 +52,7 @@ module _ {T : Type 0} where
   same : (m n : map.FinMap nat_cmp (T × LinkState)) → ((q : ℕ) → map.get m q ≡ map.get n q) → m ≡ n
   same m n h = map.same_map nat_cmp_total nat_cmp-IsAntisymmetric m n h
 
-  -- no more links than keys below the last
+  -- If every key is below `n`, there are at most `n` links.
   pub len_most : (n : ℕ) (m : map.FinMap nat_cmp (T × LinkState)) → ((q : ℕ) → is_some (map.get m q) ≡ true → q < n) → map.len m ≤ n
   len_most zero m h =
       let none : m ≡ map.empty = same _ _ (λ q. at_none (map.get m q) (h q) ∙ sym (map.get-empty nat_cmp q)) in
@@ -70,15 +70,15 @@ module _ {T : Type 0} where
   len-put_at state k None m e = refl
   len-put_at state k (Some link) m e = map.len-insert nat_cmp_total m k (link.0, state) ∙ rw (ap is_some e) refl
 
-  -- a link that goes to another place is none more
+  -- A change of state does not change the number of links.
   pub counted_to : (state : LinkState) {old : Inside T} (k : ℕ) (s : Slab (Tracked T)) → IsWhole old
       → links_of s.slots ≡ with_state state k (links_of old.held.slots) → old.count ≡ map.len (links_of s.slots)
   counted_to state {old} k s i e = search (rules, len-put_at)
 
-  -- ---- one is changed
+  -- ---- one entry changes
 
   module _ {s s' : Slab (Tracked T)} {k : ℕ} {o : Option (Tracked T)} (u : Updates s s' k o) where
-    -- what holds under the changed key, and of each other one as it was, holds of each
+    -- A predicate holds at each key if it holds of the new entry, and of every other entry as before.
     pub at_each : (P : ℕ → Option (Tracked T) → Type 0) → P k o → ((j : ℕ) → j ≢ k → P j (get s j)) → (j : ℕ) → P j (get s' j)
     at_each P here there j = search rules
 
@@ -94,7 +94,7 @@ module _ {T : Type 0} where
         → kept f s' (pushed b k xs) ≡ pushed b k (kept f s xs)
     kept_pushed f b xs e h = filter-pushed (λ j. f (get s' j)) b k xs (ap f u.changed ∙ h) ∙ ap (pushed b k) (kept_absent f xs e)
 
-    -- the others stay as they are
+    -- The other keys of the list are unchanged.
     pub kept_others : (f : Option (Tracked T) → Bool) (b : Bool) (xs : List ℕ)
         → without k (kept f s' (pushed b k xs)) ≡ without k (kept f s xs)
     kept_others f b xs = search (rules, without-filter, without-pushed)
@@ -111,12 +111,12 @@ module _ {T : Type 0} where
     pub links_same : link_of o ≡ link_of (get s k) → links_of s'.slots ≡ links_of s.slots
     links_same h = search (rules, get-links_of, same)
 
-    -- the link goes to a place, where there is one
+    -- The link, if present, goes to `state`.
     pub links_to : (state : LinkState) → link_of o ≡ option_map (λ l. (l.0, state)) (link_of (get s k))
         → links_of s'.slots ≡ with_state state k (links_of s.slots)
     links_to state e = search (rules, get-links_of, links_put, links_same)
 
-  -- the key stands where what is held under it says now, and each other one where it stood
+  -- The step changes the entry under `k`, which agrees with the new marks. The marks of other keys are unchanged.
   pub record IsStep (old new : Inside T) (k : ℕ) (o : Option (Tracked T)) : Type 0 where
     pub held : Updates old.held new.held k o
     pub here : marks new k ≡ marks_of o
@@ -129,10 +129,10 @@ module _ {T : Type 0} where
   pub whole_step : {old new : Inside T} {k : ℕ} {o : Option (Tracked T)} → IsWhole old → IsStep old new k o → IsWhole new
   whole_step {old} {new} i step = search rules
 
-  -- a key below all room finds room in a list where it does not stand
+  -- A list has room for a key below `room` that is not in it.
   room_for : {r : Inside T} (list : Inside T → List ℕ) (mark : Marks → ℕ) (k : ℕ) → IsWhole r
       → ((j : ℕ) → times j (list r) ≡ mark (marks r j)) → mark (marks_of {T = T} None) ≡ 0
-          → ((h : Tracked T) → mark (marks_of (Some h)) ≤ 1)
+      → ((h : Tracked T) → mark (marks_of (Some h)) ≤ 1)
       → times k (list r) ≡ 0 → k < room r → length (list r) < room r
   room_for {r} list mark k i is none most absent within =
       times_fit (list r) (room r) k (λ j. let e = is j ∙ ap mark (i.marks j) in let m = once (get r.held j) in omega arith)

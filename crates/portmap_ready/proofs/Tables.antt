@@ -1,4 +1,4 @@
--- What a change of one says of where it stands: lemmas.
+-- Lemmas: the marks of an entry after each change.
 use Rattle.std.specs.Prelude.{option_map}
 use Rattle.std.proofs.Common.{◌≡◌, ◌+◌, Bool, true, false, Option, Some, None, is_some, rules}
 use Rattle.portmap_ready.specs.Tracked.{is_free, Marks, one, woken, link_of, is_live, is_paused_in, marks_of, is_fine, with_link_state}
@@ -6,7 +6,7 @@ use Rattle.portmap_ready.specs.Tracked.{is_out, taken, unlisted, cleared, tidied
 use Rattle.portmap_ready.specs.{Links.{is_queued, is_pending, is_paused, is_current}, declared.Tracked.Tracked}
 use Rattle.portmap_ready.specs.declared.LinkState.{LinkState, TheVariants.Current}
 
--- ---- places
+-- ---- link states
 
 pub marks_is : (m n : Marks) → m.queue ≡ n.queue → m.pending ≡ n.pending → m.paused ≡ n.paused → m.current ≡ n.current → m ≡ n
 marks_is m n a b c d = λ i. record { queue = a i; pending = b i; paused = c i; current = d i }
@@ -18,7 +18,7 @@ module _ {T : Type 0} where
   abbrev pub held_as : LinkState → Option T → Bool → Option (Tracked T)
   held_as p v b = Some (record { value = v; state = p; is_listed = b })
 
-  -- what is held shows where its key stands, its link, and whether that rests
+  -- The entry `o` has the marks `m` and the link `l`; `b` says if its state is `Paused`.
   pub record Shows (o : Option (Tracked T)) (m : Marks) (l : Option (T × LinkState)) (b : Bool) : Type 0 where
     pub marks : marks_of o ≡ m
     pub link : link_of o ≡ l
@@ -60,7 +60,7 @@ module _ {T : Type 0} where
       → Shows (tidied (cleared o)) (record (marks_of o) { current = false }) None false
   shows-cleared o = search rules
 
-  -- ---- what a place says of the lists
+  -- ---- what a state says about the lists
 
   pub free_marks : (o : Option (Tracked T)) → is_free (option_map (λ link. link.1) (link_of o)) ≡ true
       → ((marks_of o).queue ≡ 0) × ((marks_of o).pending ≡ 0) × (is_live o ≡ true)

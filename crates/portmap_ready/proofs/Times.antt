@@ -1,4 +1,4 @@
--- How often a key stands in a list of keys: lemmas.
+-- Lemmas: how often a key is in a list.
 use Rattle.std.specs.List.{All, IsDistinct, list_any}
 use Rattle.std.proofs.Common.{◌≡◌, ◌≢◌, ℕ, ◌+◌, ◌<◌, ◌≤◌, Bool, true, false, cond, eqb, List, [], ◌∷◌, length, refl}
 use Rattle.std.proofs.Common.{sym, ap, ◌∙◌, inl, inr, arith, filter, rules}
@@ -16,19 +16,19 @@ times-pushed b k xs = search (rules, sum_by-append)
 times-pushed_other : (b : Bool) (j k : ℕ) (xs : List ℕ) → j ≢ k → times j (pushed b k xs) ≡ times j xs
 times-pushed_other b j k xs d = search (rules, sum_by-append)
 
--- once a key went to the end, it stands there once more, and each other one as often as before
+-- Appending a key adds 1 to its count. Other counts do not change.
 pub joined : (b : Bool) (k : ℕ) (xs : List ℕ) {ys : List ℕ} → ys ≡ pushed b k xs → times k ys ≡ times k xs + one b
 joined b k xs e = ap (times k) e ∙ times-pushed b k xs
 
 pub joined_other : (b : Bool) (k : ℕ) (xs : List ℕ) {ys : List ℕ} → ys ≡ pushed b k xs → (j : ℕ) → j ≢ k → times j ys ≡ times j xs
 joined_other b k xs e j d = ap (times j) e ∙ times-pushed_other b j k xs d
 
--- a list with a key before it, if it stands there
+-- Puts `k` ahead of the list if the flag is true.
 abbrev pub front : Bool → ℕ → List ℕ → List ℕ
 front true k xs = k ∷ xs
 front false k xs = xs
 
--- a key that stood first stood there once more than now, and each other one as often
+-- Taking the first key subtracts 1 from its count. Other counts do not change.
 pub first_left : (b : Bool) (k : ℕ) {xs : List ℕ} (ys : List ℕ) → xs ≡ front b k ys → one b + times k ys ≡ times k xs
 first_left false k ys e = rw e (omega arith)
 first_left true k ys e = rw e (grind (arith, nat_tests, times-cons k k ys))
@@ -43,7 +43,7 @@ times-filter p k (x ∷ xs) = elim (cases_Bool (p x)) [
   | inr fails ↦ grind (arith, nat_tests, fails, times-filter p k xs, times-cons k x xs)
 ]
 
--- ---- keys that are pairwise different
+-- ---- distinct keys
 
 absent_all : (x : ℕ) (xs : List ℕ) → times x xs ≡ 0 → All (λ y. eqb x y ≡ false) xs
 absent_all x [] h = All-nil (λ y. eqb x y ≡ false)
@@ -64,7 +64,7 @@ present q (x ∷ xs) h = elim (cases_eq x q) [
   | inr differs ↦ grind (arith, nat_tests, times-cons q x xs, present q xs)
 ]
 
--- keys below n, each once, are fewer than n, where one below n is not among them
+-- Distinct keys below `n` are fewer than `n`, if some `j` below `n` is not among them.
 pub times_fit : (xs : List ℕ) (n j : ℕ) → ((k : ℕ) → times k xs ≤ 1) → ((k : ℕ) → 0 < times k xs → k < n) → times j xs ≡ 0 → j < n
     → length xs < n
 times_fit xs n j once below absent within =
@@ -76,7 +76,7 @@ times_fit xs n j once below absent within =
 
 -- ---- keys that pass a test
 
--- tests that agree at each key of a list keep the same of it
+-- Tests that agree on each key of a list keep the same keys.
 pub filter_same : (p q : ℕ → Bool) (xs : List ℕ) → ((k : ℕ) → 0 < times k xs → p k ≡ q k) → filter p xs ≡ filter q xs
 filter_same p q [] h = refl
 filter_same p q (x ∷ xs) h =
@@ -87,14 +87,14 @@ filter_same p q (x ∷ xs) h =
 pub filter-pushed : (p : ℕ → Bool) (b : Bool) (x : ℕ) (xs : List ℕ) → p x ≡ true → filter p (pushed b x xs) ≡ pushed b x (filter p xs)
 filter-pushed p b x xs h = search (rules, filter-append)
 
--- what is kept without a key, whether the key passes or not
+-- Without `k`, the result does not depend on whether `k` passes.
 without-first : (p : ℕ → Bool) (k : ℕ) (xs : List ℕ) → without k (filter p (k ∷ xs)) ≡ without k (filter p xs)
 without-first p k xs = search rules
 
 pub without-pushed : (p : ℕ → Bool) (b : Bool) (k : ℕ) (xs : List ℕ) → without k (filter p (pushed b k xs)) ≡ without k (filter p xs)
 without-pushed p b k xs = search (rules, filter-append)
 
--- tests that agree but at one key keep the same others
+-- Tests that agree on each key other than `k` keep the same other keys.
 pub without-filter : (p q : ℕ → Bool) (k : ℕ) (xs : List ℕ) → ((j : ℕ) → j ≢ k → q j ≡ p j)
     → without k (filter q xs) ≡ without k (filter p xs)
 without-filter p q k [] g = refl

@@ -1,4 +1,4 @@
--- A key that waits in a list comes in its turn: lemmas.
+-- Lemmas: a key that waits in a list is reached in FIFO order.
 use Rattle.std.specs.Prelude.{slice_get, drop}
 use Rattle.std.proofs.Common.{◌≡◌, ◌≢◌, ℕ, ◌+◌, ◌<◌, ◌≤◌, Bool, true, false, not, cond, eqb, List, [], ◌∷◌, length}
 use Rattle.std.proofs.{Common.{refl, ap, ◌∙◌, inl, inr, arith, rules}, lemmas.Bool.cases_eq}
@@ -9,14 +9,14 @@ use Rattle.portmap_ready.specs.Runs.{QueueIsFifo, WaitIsBounded, Does, Line, Run
 use Rattle.portmap_ready.specs.Runs.{first_taken, keys_of, turn, turns, Stays, Joins, Takes, Leaves}
 use Rattle.portmap_ready.proofs.Times.{times-cons, times-filter}
 
--- what a change does to a list
+-- The list after a change.
 abbrev pub Becomes : Change → List ℕ → List ℕ → Type 0
 Becomes Stays old new = new ≡ old
 Becomes (Joins j) old new = (b : Bool) × (new ≡ pushed b j old)
 Becomes (Takes first) old new = (first ≡ slice_get old 0) × (new ≡ drop 1 old)
 Becomes (Leaves j) old new = new ≡ without j old
 
--- the key stands in the list, and those that were taken, and those before it now, are among those before it at first
+-- The key is in the list. The keys that were taken, and the keys ahead of it now, were ahead of it at first.
 pub record Comes (k n : ℕ) (taken old new : List ℕ) : Type 0 where
   pub there : 0 < times k new
   pub nearer : n + length (before k new) ≤ length (before k old)

@@ -1,4 +1,4 @@
--- What the links are, once a link is no longer lent.
+-- The value of the scheduler after a mutable borrow of a link ends.
 use Rattle.std.specs.{Borrow.{Lends, LendsIf, Fml, RattleType, MutBor}, Prelude.{ℕ, Option, Some}}
 use Rattle.portmap_ready.specs.{Links.{Links, written}, contracts.Tracked.the_row as held_row, contracts.Scheduler.the_row}
 use Rattle.portmap_ready.specs.declared.Tracked.{Tracked}
@@ -11,10 +11,10 @@ module _ (T : RattleType) where
   lends_item h r = Lends (held_row T) T h r (with_item h.now)
 
   module _ (s : MutBor (Links T.Denot)) (key : ℕ) where
-    -- the key has the last value written through r, and stands where it stood
+    -- The link under `key` has the last value written through `r`, and the state that it had.
     abbrev pub lends_value : MutBor T.Denot → Fml
     lends_value r = Lends (the_row T) T s r (written key s.now)
 
-    -- the same, and at `None` nothing changes
+    -- If a link was lent, `lends_value` holds. Otherwise nothing changes.
     abbrev pub lends_link : Option (MutBor T.Denot) → Fml
     lends_link r = LendsIf (the_row T) T s r (written key s.now) s.now

@@ -1,4 +1,4 @@
--- Calls in a row, and what comes of those that wait in a list: profile.
+-- Sequences of calls, and what they do to the keys that wait in a list: profile.
 use Rattle.std.specs.Prelude.{◌≡◌, ◌≢◌, ℕ, ◌+◌, ◌<◌, ◌≤◌, cond, ◌==◌, List, [], ◌∷◌, ◌++◌, length, slice_get, Option}
 use Rattle.std.specs.Prelude.{Some, option_to_list}
 use Rattle.portmap_ready.specs.declared.LinkState.TheVariants.{Idle, Queued, Pending}
@@ -6,7 +6,7 @@ use Rattle.portmap_ready.specs.Links.{Links, IsButForRoom, Pauses, inserted, mov
 use Rattle.portmap_ready.specs.Links.{after_next_pending, times}
 use Rattle.portmap_ready.specs.Links.{after_next, written}
 
--- a call, with what comes of it
+-- A call with its arguments and its key. `Refuse` is an `insert` that is refused.
 pub data Call (T : Type 0) : Type 0 where
   Insert : ℕ → T → Call T
   Refuse : Call T
@@ -21,19 +21,19 @@ pub data Call (T : Type 0) : Type 0 where
   Remove : ℕ → Call T
   Write : ℕ → T → Call T
 
--- the lists from which links are taken in turn
+-- The lists that are served in FIFO order: the run queue, and the pending links (`Tracked`).
 pub data Line : Type 0 where
   Queue : Line
   PendingQueue : Line
 
--- what a call does to a list: nothing; a key joins it, if any does; its first is taken; or a key leaves it, wherever it stands
+-- The effect of a call on a list: none, a key is or is not appended, the first key is taken, or a key is removed.
 pub data Change : Type 0 where
   Stays : Change
   Joins : ℕ → Change
   Takes : Option ℕ → Change
   Leaves : ℕ → Change
 
--- those that stand before a key
+-- The keys ahead of the first `k`. If `k` is not in the list, the whole list.
 abbrev pub before : ℕ → List ℕ → List ℕ
 before k [] = []
 before k (x ∷ xs) = cond (x == k) [] (x ∷ before k xs)
@@ -46,14 +46,14 @@ abbrev pub first_taken : Change → List ℕ
 first_taken (Takes first) = option_to_list first
 first_taken _ = []
 
--- the key is neither taken nor leaves
+-- The change neither takes nor removes `k`.
 abbrev pub Spares : ℕ → Change → Type 0
 Spares k (Takes first) = first ≢ Some k
 Spares k (Leaves j) = j ≢ k
 Spares k _ = Unit {0}
 
 module _ {T : Type 0} where
-  -- what each call ensures
+  -- The effect of each call, as its contract states.
   abbrev pub Does : Call T → Links T → Links T → Type 0
   Does (Insert k value) old new = IsButForRoom new (inserted k value old)
   Does Refuse old new = IsButForRoom new old
@@ -86,12 +86,12 @@ module _ {T : Type 0} where
   change line (Remove k) = Leaves k
   change line call = Stays
 
-  -- the calls neither take this key from the list nor remove its link
+  -- No call takes `k` from the list or removes its link.
   abbrev pub AllSpare : Line → ℕ → List (Call T) → Type 0
   AllSpare line k [] = Unit {0}
   AllSpare line k (call ∷ calls) = Spares k (change line call) × AllSpare line k calls
 
-  -- how often the first of the list was asked for, and which keys were taken
+  -- `turns` counts the calls that ask for the first key of the list. `all_taken` lists the keys that they took.
   abbrev pub turns : Line → List (Call T) → ℕ
   turns line [] = 0
   turns line (call ∷ calls) = turn (change line call) + turns line calls
@@ -100,13 +100,13 @@ module _ {T : Type 0} where
   all_taken line [] = []
   all_taken line (call ∷ calls) = first_taken (change line call) ++ all_taken line calls
 
--- while a key waits it stands in the list, and each turn brings it one further to the front
+-- While `k` is spared, it stays in the list, and each turn reduces the number of keys ahead of it by at least 1.
 abbrev pub WaitIsBounded : (T : Type 0) → Line → Type 0
 WaitIsBounded T line =
     (k : ℕ) (calls : List (Call T)) (old new : Links T) → Run calls old new → 0 < times k (keys_of line old) → AllSpare line k calls
     → (0 < times k (keys_of line new)) × (turns line calls + length (before k (keys_of line new)) ≤ length (before k (keys_of line old)))
 
--- while a key waits none is taken but those that stood before it, each as often as it stood there
+-- While `k` is spared, only keys that were ahead of it are taken, each at most as often as it occurs there.
 abbrev pub QueueIsFifo : (T : Type 0) → Line → Type 0
 QueueIsFifo T line =
     (k : ℕ) (calls : List (Call T)) (old new : Links T) → Run calls old new → 0 < times k (keys_of line old) → AllSpare line k calls

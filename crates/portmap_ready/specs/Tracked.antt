@@ -1,4 +1,4 @@
--- What is held under a key: no public clause cites this module.
+-- The entries of a scheduler. No public clause cites this module.
 use Rattle.std.specs.Prelude.{◌≡◌, ℕ, Bool, true, false, ◌&&◌, ◌||◌, not, cond, Option, Some, None, is_some, option_map}
 use Rattle.std.specs.Prelude.{if◌then◌else◌}
 use Rattle.portmap_ready.specs.Links.{Links, Pauses, is_queued, is_pending, is_paused, is_current, moved}
@@ -8,20 +8,20 @@ use Rattle.portmap_ready.specs.declared.LinkState.{LinkState, TheVariants.{Idle,
 abbrev pub one : Bool → ℕ
 one b = cond b 1 0
 
--- how often a key stands in the queue, among those that are pending and among those that rest, and whether it was told last
+-- How often a key is in the queue, in the pending list and in the paused list, and whether it is current.
 pub record Marks : Type 0 where
   pub queue : ℕ
   pub pending : ℕ
   pub paused : ℕ
   pub current : Bool
 
--- where one stands whose link is gone
+-- The state of a key whose link was removed.
 abbrev pub left : LinkState → LinkState
 left Queued = Queued
 left Pending = Pending
 left _ = Idle
 
--- where one stands that rests no more
+-- The state after a pause.
 abbrev pub woken : LinkState → LinkState
 woken Paused = Idle
 woken state = state
@@ -30,7 +30,7 @@ abbrev pub is_idle : LinkState → Bool
 is_idle Idle = true
 is_idle _ = false
 
--- what may stand at a place, by whether there is a link and whether its key is listed among those that rest
+-- Decides if a state is possible. `here` says that there is a link, `listed` that its key is in the paused list.
 abbrev pub may_be_in : LinkState → Bool → Bool → Bool
 may_be_in Idle here listed = here || listed
 may_be_in Queued here listed = true
@@ -38,7 +38,7 @@ may_be_in Pending here listed = true
 may_be_in Paused here listed = here && listed
 may_be_in Current here listed = here
 
--- a link that is neither queued nor pending
+-- A link that is neither queued nor pending.
 abbrev pub is_free : Option LinkState → Bool
 is_free (Some Idle) = true
 is_free (Some Paused) = true
@@ -50,7 +50,7 @@ Moves Paused k old new = Pauses k old new
 Moves state k old new = new ≡ moved state k old
 
 module _ {T : Type 0} where
-  -- the link, where it has not been removed
+  -- The link with its state, unless it was removed.
   abbrev pub link_of : Option (Tracked T) → Option (T × LinkState)
   link_of None = None
   link_of (Some h) = option_map (λ v. (v, h.state)) h.value
@@ -78,32 +78,32 @@ module _ {T : Type 0} where
 
   -- ---- changes
 
-  -- its link goes to another place
+  -- The link goes to another state.
   abbrev pub with_link_state : LinkState → Option (Tracked T) → Option (Tracked T)
   with_link_state state None = None
   with_link_state state (Some h) = Some (record h { state = state; is_listed = h.is_listed || is_paused state })
 
-  -- its key goes to the end of the list of those that rest
+  -- The key has to be appended to the paused list.
   abbrev pub is_out : LinkState → Option (Tracked T) → Bool
   is_out state None = false
   is_out state (Some h) = is_paused state && not h.is_listed
 
-  -- its key was taken from the queue, or from those that are pending: its link is told, if it is there
+  -- The key left the queue or the pending list. Its link, if present, becomes current.
   abbrev pub taken : Option (Tracked T) → Option (Tracked T)
   taken None = None
   taken (Some h) = Some (record h { state = if is_some h.value then Current else Idle })
 
-  -- its key was taken from those that rest
+  -- The key left the paused list.
   abbrev pub unlisted : Option (Tracked T) → Option (Tracked T)
   unlisted None = None
   unlisted (Some h) = Some (record h { state = woken h.state; is_listed = false })
 
-  -- its link is taken
+  -- The link was removed.
   abbrev pub cleared : Option (Tracked T) → Option (Tracked T)
   cleared None = None
   cleared (Some h) = Some (record h { value = None; state = left h.state })
 
-  -- what is no link, and in no list, is not held
+  -- There is no link, and the key is in no list: the entry is freed.
   abbrev pub is_gone : Tracked T → Bool
   is_gone h = is_idle h.state && (not (is_some h.value) && not h.is_listed)
 

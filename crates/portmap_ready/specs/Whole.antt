@@ -1,4 +1,4 @@
--- What the fields hold, and what callers see of it: no public clause cites this module.
+-- The invariant of the fields, and the view that callers see. No public clause cites this module.
 use Rattle.std.specs.{Ordering.nat_cmp, Prelude.{◌≡◌, ℕ, ◌<◌, Bool, true, false, ◌&&◌, ◌==◌, nat_lt, nat_le, min, List}}
 use Rattle.std.specs.{Prelude.{filter, map as list_map, Option, Some, None, IsSome}, VecDeque.deque_capacity}
 use Rattle.std.specs.FinMap as map
@@ -14,11 +14,11 @@ module _ {T : Type 0} where
   abbrev pub links_of : List (Option (Tracked T)) → map.FinMap nat_cmp (T × LinkState)
   links_of slots = map.from_entries (entries_from 0 (list_map link_of slots))
 
-  -- the keys of a list under which such is held
+  -- The keys of a list whose entries pass the test.
   abbrev pub kept : (Option (Tracked T) → Bool) → Slab (Tracked T) → List ℕ → List ℕ
   kept test held keys = filter (λ k. test (get held k)) keys
 
-  -- each list has room for the keys below this one
+  -- The least capacity of the three lists: each can hold all keys below this number.
   abbrev pub room : Inside T → ℕ
   room r = min (deque_capacity r.queue) (min (deque_capacity r.pending) (deque_capacity r.paused))
 
@@ -38,11 +38,15 @@ module _ {T : Type 0} where
 
   abbrev pub marks : Inside T → ℕ → Marks
   marks r k =
-      record { queue = times k r.queue.items; pending = times k r.pending.items; paused = times k r.paused.items; current = is_key r.current
-          k }
+      record {
+        queue = times k r.queue.items;
+        pending = times k r.pending.items;
+        paused = times k r.paused.items;
+        current = is_key r.current
+            k;
+      }
 
-  -- each key stands where what is held under it says, once in a list or not at all; there is room for all keys in each list; and so many
-  -- links are there
+  -- Each key is in the lists as its entry says, at most once in each. Each list can hold all keys in use. `count` is the number of links.
   pub record IsWhole (r : Inside T) : Type 0 where
     pub marks : (k : ℕ) → marks r k ≡ marks_of (get r.held k)
     pub fine : (k : ℕ) → is_fine (get r.held k) ≡ true

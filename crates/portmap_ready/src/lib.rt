@@ -39,31 +39,31 @@ use std::alloc::{AllocError, AllocFailed, Global};
 use std::collections::VecDeque;
 use std::marker::Model;
 
-/// Where a link stands.
+/// The scheduling state of a link.
 #[derive(Clone, Copy, Debug, PartialEq, Eq)]
 pub enum LinkState {
-    /// There is nothing to tell of it until it is reported.
+    /// The link is in no list until it is reported.
     Idle,
-    /// There is something to tell of it.
+    /// The link is in the run queue.
     Queued,
-    /// It waits for something else than a report, and is asked about in turn.
+    /// The link waits for something other than a report. The caller asks about pending links in FIFO order.
     Pending,
-    /// It is told nothing until it has rested.
+    /// The link is not served until its pause ends or it is reported.
     Paused,
-    /// It was told or taken last, and is in the caller's hands.
+    /// The link was taken last, and is in the caller's hands.
     Current,
 }
 
-/// What is held under a key: a link, or none where it was removed and its key still stands in a list.
+/// The entry under a key. `value` is `None` if the link was removed while its key is still in a list.
 #[derive(Drop)]
 struct Tracked<T> {
     value: Option<T>,
     state: LinkState,
-    /// Its key stands among those that rest. It may have been queued since.
+    /// True if the key is in `paused`. The link may have been queued since.
     is_listed: bool,
 }
 
-/// Links by key, each at one place.
+/// A scheduler: links by key, each in one link state.
 #[derive(Drop)]
 pub struct Scheduler<T> {
     held: Slab<Tracked<T>>,
@@ -71,7 +71,6 @@ pub struct Scheduler<T> {
     pending: VecDeque<usize>,
     paused: VecDeque<usize>,
     current: Option<usize>,
-    /// How many links are there.
     count: usize,
 }
 
@@ -109,7 +108,6 @@ impl LinkState {
         matches!(self, LinkState::Paused)
     }
 
-    /// Where a key stands whose link is gone: it stays in the queue, or among those that are pending.
     fn left(self) -> LinkState
         ensures { result ≡ left self }
     {
@@ -119,7 +117,6 @@ impl LinkState {
         }
     }
 
-    /// Where a link stands that rests no more: what has been queued since stays there.
     fn woken(self) -> LinkState
         ensures { result ≡ woken self }
     {
@@ -145,7 +142,6 @@ impl<T> Tracked<T> {
     }
 }
 
-/// No key, where it was this one.
 fn forget(current: Option<usize>, key: usize) -> Option<usize>
     ensures { result ≡ not_key key current }
 {
@@ -155,7 +151,6 @@ fn forget(current: Option<usize>, key: usize) -> Option<usize>
     }
 }
 
-/// Room for so many keys in all.
 fn widen(keys: &mut VecDeque<usize>, most: usize) -> Result<(), AllocError>
     ensures items { keys.new.items ≡ keys.old.items }
     ensures kept { deque_capacity keys.old ≤ deque_capacity keys.new }
@@ -165,7 +160,6 @@ fn widen(keys: &mut VecDeque<usize>, most: usize) -> Result<(), AllocError>
     keys.reserve(most.saturating_sub(keys.len()))
 }
 
-/// A key goes to the end of a list, if it is to.
 fn push_if(keys: &mut VecDeque<usize>, key: usize, is_wanted: bool)
     requires { is_wanted ≡ true → length keys.old.items < deque_capacity keys.old }
     ensures items { keys.new.items ≡ pushed is_wanted key keys.old.items }
@@ -194,7 +188,6 @@ fn value_in<T>(held: &Slab<Tracked<T>>, key: usize) -> Option<&T>
     }
 }
 
-/// A link goes to another place. True if it rests there and its key is not listed yet.
 fn set_state<T>(held: &mut Slab<Tracked<T>>, key: usize, state: LinkState) -> bool
     ensures held { Updates held.old held.new key (with_link_state state (get held.old key)) }
     ensures len { slab_len held.new ≡ slab_len held.old }
@@ -210,7 +203,7 @@ fn set_state<T>(held: &mut Slab<Tracked<T>>, key: usize, state: LinkState) -> bo
     is_out
 }
 
-/// Gives back what is held under a key, if it is no link and the key stands in no list.
+/// Frees the entry under `key` if it has no link and the key is in no list.
 fn tidy<T: Drop>(held: &mut Slab<Tracked<T>>, key: usize)
     ensures { Updates held.old held.new key (tidied (get held.old key)) }
 {
@@ -226,7 +219,6 @@ fn tidy<T: Drop>(held: &mut Slab<Tracked<T>>, key: usize)
     }
 }
 
-/// The key was taken from the queue, or from those that are pending. True if its link is there: it is told now.
 fn take<T: Drop>(held: &mut Slab<Tracked<T>>, key: usize) -> bool
     ensures held { Updates held.old held.new key (tidied (taken (get held.old key))) }
     ensures live { result ≡ is_live (get held.old key) }
@@ -244,7 +236,6 @@ fn take<T: Drop>(held: &mut Slab<Tracked<T>>, key: usize) -> bool
     is_live
 }
 
-/// The key was taken from those that rest. True if its link rested.
 fn unlist<T: Drop>(held: &mut Slab<Tracked<T>>, key: usize) -> bool
     ensures held { Updates held.old held.new key (tidied (unlisted (get held.old key))) }
     ensures is_paused_in { result ≡ is_paused_in (get held.old key) }
@@ -259,7 +250,6 @@ fn unlist<T: Drop>(held: &mut Slab<Tracked<T>>, key: usize) -> bool
     is_paused_in
 }
 
-/// Takes a link. Its key stays in the lists where it stands.
 fn clear<T: Drop>(held: &mut Slab<Tracked<T>>, key: usize) -> Option<T>
     ensures held { Updates held.old held.new key (tidied (cleared (get held.old key))) }
     ensures value { result ≡ option_map (λ link. link.0) (link_of (get held.old key)) }
@@ -280,7 +270,6 @@ impl<T: Drop> Scheduler<T> {
     ghost use Rattle.portmap_ready.specs.Links.{removed, reported, after_resume, after_next_pending, after_next};
     ghost use Rattle.portmap_ready.specs.Tracked.{Moves, is_free};
 
-    /// No link.
     pub fn new(alloc: Global) -> Scheduler<T>
         ensures links { result.links ≡ map.empty }
         ensures queue { result.queue ≡ [] }
@@ -298,66 +287,62 @@ impl<T: Drop> Scheduler<T> {
         }
     }
 
-    /// Each link is idle, queued, pending, resting or told, and in no two of these: in the queue stand, each once, the
-    /// links whose place is `Queued`, and no other key; so it is with those that are pending, and with those that rest;
-    /// and the link whose place is `Current` is the one that `current` names. So no link of which there is something to tell
-    /// is forgotten, and none waits twice. It holds of every value of this type, between any calls, and costs nothing.
+    /// Law: each list holds the keys of the links in its state, each once, and no other key. `current` names the link
+    /// in state `Current`. The law holds of every value of this type between any two calls.
     pub fn no_link_is_lost(&self)
         ensures { IsConsistent self.now }
     {
         let _ = &self.current;
     }
 
-    /// The link that was told or taken last, until it stands elsewhere.
+    /// Returns the key of the current link: the link that was taken last, until its state changes.
     pub fn current(&self) -> Option<usize>
         ensures { result ≡ self.now.current }
     {
         self.current
     }
 
-    /// How many links are there.
     pub fn len(&self) -> usize
         ensures { result ≡ map.len self.now.links }
     {
         self.count
     }
 
-    /// Whether none is there.
     pub fn is_empty(&self) -> bool
         ensures { result ≡ (map.len self.now.links == 0) }
     {
         self.count == 0
     }
 
-    /// No fewer than the links that are queued.
+    /// Returns an upper bound of the number of queued links. Keys of removed links may count.
     pub fn backlog(&self) -> usize
         ensures { length self.now.queue ≤ result }
     {
         self.queue.len()
     }
 
-    /// No fewer than the links that are pending.
+    /// Returns an upper bound of the number of pending links. Keys of removed links may count.
     pub fn pending(&self) -> usize
         ensures { length self.now.pending ≤ result }
     {
         self.pending.len()
     }
 
-    /// No fewer than the links that rest.
+    /// Returns an upper bound of the number of paused links. Keys of removed or requeued links may count.
     pub fn paused(&self) -> usize
         ensures { length self.now.paused ≤ result }
     {
         self.paused.len()
     }
 
-    /// All links are under keys below this one.
+    /// Returns a number above every key in use.
     pub fn keys(&self) -> usize
         ensures { (k : ℕ) → IsSome (link_at self.now k) → k < result }
     {
         self.held.capacity()
     }
 
-    /// Whether the next `insert` wants no memory, so that it is not refused.
+    /// Returns true if the next `insert` does not allocate, and therefore is not refused.
     pub fn has_room(&self) -> bool
         ensures { result ≡ self.now.has_room }
     {
@@ -366,21 +351,19 @@ impl<T: Drop> Scheduler<T> {
         self.held.len() < most && most <= self.queue.capacity().min(others)
     }
 
-    /// Where a link stands.
     pub fn state(&self, key: usize) -> Option<LinkState>
         ensures { result ≡ state_at self.now key }
     {
         state_in(&self.held, key)
     }
 
-    /// A link.
     pub fn get(&self, key: usize) -> Option<&T>
         ensures { option_copied result ≡ option_map (λ link. link.0) (link_at self.now key) }
     {
         value_in(&self.held, key)
     }
 
-    /// A link for writing. It stands where it stood.
+    /// Returns the link under `key` for writing. Its state does not change.
     pub fn get_mut(&mut self, key: usize) -> Option<&mut T>
         ensures* writes_back { sem 𝓛 (lends_link T.row self.entry key result) }
         ensures value { option_copied_mut result ≡ option_map (λ link. link.0) (link_at self.old key) }
@@ -392,7 +375,6 @@ impl<T: Drop> Scheduler<T> {
         }
     }
 
-    /// Whether a link is there.
     pub fn contains(&self, key: usize) -> bool
         ensures { result ≡ is_some (link_at self.now key) }
     {
@@ -407,7 +389,7 @@ impl<T: Drop> Scheduler<T> {
         self.held[key].value_mut()
     }
 
-    /// Takes room for one more in all lists, so that no other call wants memory.
+    /// Reserves space for one link in every list, so that no other call allocates.
     fn take_room(&mut self) -> Result<(), AllocError>
         ensures same { IsButForRoom self.new self.old }
         ensures room { OnOk result (self.new.has_room ≡ true) }
@@ -435,7 +417,8 @@ impl<T: Drop> Scheduler<T> {
         key
     }
 
-    /// One more link, of which there is something to tell.
+    /// Inserts a link at the end of the run queue, and returns its key. If memory runs out, returns the value, and no link
+    /// changes.
     pub fn insert(&mut self, value: T) -> Result<usize, AllocFailed<T>>
         ensures fresh { IfOk result (λ key. link_at self.old key ≡ None) }
         ensures inserted { IfOk result (λ key. IsButForRoom self.new (inserted key value self.old)) }
@@ -449,7 +432,6 @@ impl<T: Drop> Scheduler<T> {
         Ok(self.insert_reserved(value))
     }
 
-    /// A link that is neither queued nor pending goes to another place.
     fn put(&mut self, key: usize, state: LinkState)
         requires from { is_free (state_at self.old key) ≡ true }
         requires to { is_current state ≡ false }
@@ -462,7 +444,7 @@ impl<T: Drop> Scheduler<T> {
         self.current = forget(self.current, key);
     }
 
-    /// There is something to tell of a link that is idle or rests.
+    /// Queues the link under `key` if it is idle or paused. Otherwise changes nothing.
     pub fn report(&mut self, key: usize)
         ensures { self.new ≡ reported key self.old }
     {
@@ -471,7 +453,7 @@ impl<T: Drop> Scheduler<T> {
         }
     }
 
-    /// The first link of the queue. The one that was told before stands elsewhere by now.
+    /// Takes the first link of the run queue, which becomes current. The last current link must have left that state.
     pub fn next(&mut self) -> Option<usize>
         requires { self.old.current ≡ None }
         ensures key { result ≡ slice_get self.old.queue 0 }
@@ -486,8 +468,8 @@ impl<T: Drop> Scheduler<T> {
         None
     }
 
-    /// The first link of those that are pending, for the caller to say whether it goes on to wait. The one that was
-    /// told before stands elsewhere by now.
+    /// Takes the first pending link, which becomes current. The caller decides if it continues to wait. The last
+    /// current link must have left that state.
     pub fn next_pending(&mut self) -> Option<usize>
         requires { self.old.current ≡ None }
         ensures key { result ≡ slice_get self.old.pending 0 }
@@ -502,7 +484,7 @@ impl<T: Drop> Scheduler<T> {
         None
     }
 
-    /// There is no more to tell of the link that was told last, until it is reported.
+    /// Makes the current link idle until it is reported.
     pub fn leave(&mut self, key: usize)
         requires { self.old.current ≡ Some key }
         ensures { self.new ≡ moved Idle key self.old }
@@ -511,7 +493,7 @@ impl<T: Drop> Scheduler<T> {
         self.put(key, LinkState::Idle);
     }
 
-    /// There is more to tell of the link that was told last: it goes to the end of the queue.
+    /// Appends the current link to the run queue.
     pub fn requeue(&mut self, key: usize)
         requires { self.old.current ≡ Some key }
         ensures { self.new ≡ moved Queued key self.old }
@@ -520,7 +502,7 @@ impl<T: Drop> Scheduler<T> {
         self.put(key, LinkState::Queued);
     }
 
-    /// The link that was told last waits, behind the others that are pending.
+    /// Appends the current link to the pending links.
     pub fn hold(&mut self, key: usize)
         requires { self.old.current ≡ Some key }
         ensures { self.new ≡ moved Pending key self.old }
@@ -529,8 +511,8 @@ impl<T: Drop> Scheduler<T> {
         self.put(key, LinkState::Pending);
     }
 
-    /// The link that was told last rests: behind the others, or, if it was reported while it rested before, where its
-    /// key still stands.
+    /// Pauses the current link. It is the last of the paused links, unless its key is still listed from an earlier
+    /// pause.
     pub fn rest(&mut self, key: usize)
         requires { self.old.current ≡ Some key }
         ensures { Pauses key self.old self.new }
@@ -539,7 +521,7 @@ impl<T: Drop> Scheduler<T> {
         self.put(key, LinkState::Paused);
     }
 
-    /// The link that has rested longest, which is idle then.
+    /// Ends the pause of the first paused link, which becomes idle.
     pub fn resume_oldest(&mut self) -> Option<usize>
         ensures key { result ≡ slice_get self.old.paused 0 }
         ensures ended { IsButForRoom self.new (after_resume self.old) }
@@ -552,7 +534,7 @@ impl<T: Drop> Scheduler<T> {
         None
     }
 
-    /// A link is given up, wherever it stands.
+    /// Removes the link under `key`, whatever its state, and returns it.
     pub fn remove(&mut self, key: usize) -> Option<T>
         ensures value { result ≡ option_map (λ link. link.0) (link_at self.old key) }
         ensures removed { IsButForRoom self.new (removed key self.old) }
@@ -563,21 +545,20 @@ impl<T: Drop> Scheduler<T> {
         value
     }
 
-    /// A link before which so many others are queued is told within as many calls of `next`, and one more, whatever is
-    /// called in between, unless it is removed. It costs nothing.
+    /// Law: `next` serves a link with `n` other links queued ahead within `n + 1` calls. Other calls may come in
+    /// between, but none may remove the link.
     pub fn queue_wait_is_bounded()
         ensures { WaitIsBounded T line.Queue }
     {}
 
-    /// A link before which so many others are pending is taken within as many calls of `next_pending`, and one more,
-    /// whatever is called in between, unless it is removed. It costs nothing.
+    /// Law: `next_pending` returns a link with `n` other links pending ahead within `n + 1` calls. Other calls may come
+    /// in between, but none may remove the link.
     pub fn pending_wait_is_bounded()
         ensures { WaitIsBounded T line.PendingQueue }
     {}
 
-    /// While a link is queued, and is neither told nor removed, no call tells a link that did not stand before it. So
-    /// who takes a turn, puts back what was told, and does that again, tells each link that was queued before any that
-    /// was queued after it. It costs nothing.
+    /// Law: while a link is queued or pending, only links that were ahead of it are taken from that list. A caller that
+    /// requeues each served link therefore serves queued links in FIFO order.
     pub fn queue_is_fifo()
         ensures queue { QueueIsFifo T line.Queue }
         ensures pending { QueueIsFifo T line.PendingQueue }

@@ -3,7 +3,7 @@ ghost use Rattle.std.specs.Prelude.{◌≡◌, None};
 use crate::{LinkState, Scheduler};
 use std::rt::HostRuntime;
 
-/// Where the link goes that was told.
+/// What the caller does with the current link.
 #[derive(Clone, Copy)]
 enum AfterTurn {
     Left,
@@ -12,7 +12,6 @@ enum AfterTurn {
     Deferred,
 }
 
-/// The link that was told last goes there.
 fn settle(ready: &mut Scheduler<u64>, fate: AfterTurn)
     ensures { ready.new.current ≡ None }
 {
@@ -27,13 +26,11 @@ fn settle(ready: &mut Scheduler<u64>, fate: AfterTurn)
     }
 }
 
-/// The next link, once the link that was served last has gone there.
 fn next(ready: &mut Scheduler<u64>, fate: AfterTurn) -> Option<usize> {
     settle(ready, fate);
     ready.next()
 }
 
-/// The next of those that are pending, once the link that was served last has gone there.
 fn next_pending(ready: &mut Scheduler<u64>, fate: AfterTurn) -> Option<usize> {
     settle(ready, fate);
     ready.next_pending()
@@ -47,7 +44,7 @@ fn a_link_is_told_in_turn_wherever_it_stood(rt: HostRuntime) {
     let second = ready.insert(20).expect(&rt, "memory");
     let third = ready.insert(30).expect(&rt, "memory");
     assert!(rt; ready.len() == 3 && ready.backlog() == 3);
-    // The first is idle, the second rests, the third is pending.
+    // The first is idle, the second paused, the third pending.
     assert!(rt; next(&mut ready, AfterTurn::Left) == Some(first));
     assert!(rt; next(&mut ready, AfterTurn::Left) == Some(second));
     assert!(rt; next(&mut ready, AfterTurn::Pauses) == Some(third));
@@ -61,18 +58,18 @@ fn a_link_is_told_in_turn_wherever_it_stood(rt: HostRuntime) {
             && ready.pending() == 1
             && ready.paused() == 1
     );
-    // A report queues the first at once, but no link that is pending.
+    // A report queues the first at once, but no pending link.
     ready.report(third);
     ready.report(first);
     ready.report(first);
     assert!(rt; ready.backlog() == 1);
-    // The third goes on to wait, behind the first.
+    // The third continues to wait, behind the first.
     assert!(rt; next(&mut ready, AfterTurn::Left) == Some(first));
     assert!(rt; next_pending(&mut ready, AfterTurn::Deferred) == Some(third));
     assert!(rt; next_pending(&mut ready, AfterTurn::Deferred) == Some(first));
     assert!(rt; next_pending(&mut ready, AfterTurn::Again) == Some(third));
     settle(&mut ready, AfterTurn::Again);
-    // Both wait no more, and the second has rested.
+    // Neither is pending now, and the pause of the second ends.
     assert!(rt; ready.resume_oldest() == Some(second) && ready.resume_oldest() == None);
     ready.report(second);
     assert!(rt; next(&mut ready, AfterTurn::Left) == Some(first));
@@ -90,7 +87,7 @@ fn a_key_is_not_given_out_while_it_stands_in_a_list(rt: HostRuntime) {
     assert!(rt; next(&mut ready, AfterTurn::Left) == Some(first));
     assert!(rt; next(&mut ready, AfterTurn::Deferred) == Some(second));
     settle(&mut ready, AfterTurn::Pauses);
-    // The second is queued while its key stands among those that rest.
+    // The second is queued while its key is in the paused list.
     ready.report(second);
     if let Some(value) = ready.get_mut(second) {
         *value = value.wrapping_add(1);
@@ -99,7 +96,7 @@ fn a_key_is_not_given_out_while_it_stands_in_a_list(rt: HostRuntime) {
     assert!(rt; ready.get(first).is_none() && ready.is_empty());
     let third = ready.insert(30).expect(&rt, "memory");
     assert!(rt; third != first && third != second && ready.keys() > third);
-    // Once their keys came out of all lists they are given out.
+    // Keys are reused once they have left every list.
     assert!(rt; next_pending(&mut ready, AfterTurn::Left) == None && ready.resume_oldest() == None);
     assert!(rt; next(&mut ready, AfterTurn::Left) == Some(third));
     let fourth = ready.insert(40).expect(&rt, "memory");
@@ -107,7 +104,8 @@ fn a_key_is_not_given_out_while_it_stands_in_a_list(rt: HostRuntime) {
     assert!(rt; fourth.max(fifth) == first.max(second) && fourth.min(fifth) == first.min(second));
 }
 
-/// How many links are taken until one wants memory again; none if the first is refused.
+/// Inserts links until `has_room` is false, and returns their number. `None` if an insert is refused, or if there is
+/// still room for another link after 65.
 fn insert_with_room(ready: &mut Scheduler<u64>) -> Option<usize> {
     ready.insert(0).ok()?;
     for _turn in 0..64u32 {
@@ -125,14 +123,14 @@ fn a_refused_insert_changes_nothing_and_one_with_room_is_not_refused(rt: HostRun
     assert!(rt; !ready.has_room());
     let count = insert_with_room(&mut ready);
     if count.is_none() {
-        // A request for memory was refused: all is as it was, and what is there is told.
+        // Memory was refused: the value is returned, and every link is still queued.
         let before = ready.len();
         let refused = ready.insert(7).err();
         assert!(rt; refused.is_none_or(|failed| failed.value == 7));
         assert!(rt; ready.len() >= before && ready.backlog() == ready.len());
     } else {
         assert!(rt; count == Some(ready.len()) && !ready.has_room());
-        // A link that is given up, and whose key came out of the queue, makes room for one.
+        // Removing a link whose key has left the queue makes room for one link.
         let current = next(&mut ready, AfterTurn::Left);
         assert!(rt; current.is_some_and(|key| ready.remove(key).is_some()));
         assert!(rt; ready.has_room() && ready.insert(1).is_ok() && !ready.has_room());

@@ -1,4 +1,4 @@
-//! Books, and what is told over them.
+//! Books, and operations on them.
 use crate::bytes::KILL;
 use portmap_book::{Book, Desk, Seat};
 use portmap_core::{Answer, Config, Fate};
@@ -15,7 +15,6 @@ pub fn book(alloc: Global, relaxed: bool, conn_max: u32) -> Option<Book> {
     Book::new(alloc, config, 4).ok()
 }
 
-/// The book of a port mapper of two connections and two names at most.
 pub fn small_book(alloc: Global) -> Option<Book> {
     let config = Config::new(4369, false, 2, 2).ok()?;
     Book::new(alloc, config, 4).ok()
@@ -29,7 +28,7 @@ pub fn is_gone(answer: &Answer) -> bool {
     matches!(answer, Answer::Gone)
 }
 
-/// Whether a port mapper has ended once it is killed, and not before.
+/// Returns true if the port mapper has halted after KILL_REQ, and not before.
 pub fn is_killed<L: Ledger, R: Wait>(
     rt: &R,
     alloc: Global,

@@ -1,8 +1,7 @@
-//! Entries with their bytes in place.
+//! Entries from literal bytes.
 use portmap_core::{Entry, Fate};
 use std::alloc::{AllocError, Global};
 
-/// An entry, with its bytes in place.
 #[derive(Clone, Copy)]
 pub enum SampleEntry {
     Connected(bool, u64),
@@ -12,7 +11,6 @@ pub enum SampleEntry {
     Late(u64, Fate),
 }
 
-/// The entry of a table.
 pub fn entry(alloc: Global, kept: &SampleEntry) -> Result<Entry, AllocError> {
     Ok(match kept {
         SampleEntry::Connected(local, slot) => Entry::Connected {

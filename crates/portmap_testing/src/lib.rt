@@ -1,4 +1,4 @@
-//! What the tests of several crates share. No program uses it.
+//! Helpers for the tests of several crates. No program uses this crate.
 #![tactic(auto)]
 
 pub mod books;

@@ -1,24 +1,24 @@
-//! Between which two moments of a test a request for memory may be refused, and whether one was.
+//! Marks the part of a test in which allocations may be refused, and asks if one was refused.
 use std::alloc::Global;
 
-/// Requests for so many bytes are the marks. There are no others of these sizes, and `faults/faults.c` knows them.
+/// Allocations of these sizes are marks. There are no others of these sizes, and `faults/faults.c` knows them.
 const BEGIN: usize = 1_000_003;
 
 const END: usize = 1_000_033;
 
 const ASK: usize = 1_000_037;
 
-/// From here on a request may be refused.
+/// Marks the point from which on an allocation may be refused.
 pub fn begin(alloc: Global) {
     drop(Vec::<u8>::with_capacity(alloc, BEGIN));
 }
 
-/// From here on none is.
+/// Marks the point from which on no allocation is refused.
 pub fn end(alloc: Global) {
     drop(Vec::<u8>::with_capacity(alloc, END));
 }
 
-/// What a call gives, each of whose requests may be refused.
+/// Evaluates a call whose allocations may be refused.
 #[macro_export]
 macro_rules! marked {
     ($alloc:expr, $call:expr) => {{
@@ -29,7 +29,7 @@ macro_rules! marked {
     }};
 }
 
-/// Whether memory was refused to a request since this was asked last.
+/// Returns true if an allocation was refused since the last call of this function.
 pub fn was_refused(alloc: Global) -> bool {
     Vec::<u8>::with_capacity(alloc, ASK).is_err()
 }

@@ -5,7 +5,8 @@ use std::rt::Clock;
 use std::thread;
 use std::time::Duration;
 
-/// Connects, as soon as the daemon listens: until then the system refuses it. A read fails after ten seconds.
+/// Connects as soon as the daemon listens. Until then the system refuses the connection. A read fails after ten
+/// seconds.
 pub fn connect<R: Net<Stream = TcpStream> + Clock>(rt: &R, port: u16) -> Option<TcpStream> {
     for _ in 0..500u32 {
         match TcpStream::connect(rt, (Ipv4Addr::LOCALHOST, port)) {
@@ -21,7 +22,7 @@ pub fn connect<R: Net<Stream = TcpStream> + Clock>(rt: &R, port: u16) -> Option<
     None
 }
 
-/// A connection over which this was sent.
+/// Returns a connection over which `request` was sent.
 pub fn sent<R: Net<Stream = TcpStream> + Clock>(
     rt: &R,
     port: u16,

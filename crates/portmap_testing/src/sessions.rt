@@ -1,5 +1,5 @@
-//! Recorded sessions, byte for byte as the format spells them, and what is told of them.
-/// Port 4369, not relaxed, two connections and two names at most: a node registers `a`, and another one looks it up.
+//! Recorded sessions, byte for byte as in the format, and their transcripts.
+/// Port 4369, not relaxed, at most two connections and two names. A node registers `a`, and another peer looks it up.
 pub const SESSION: [u8; 109] = [
     0x45, 0x50, 0x4D, 0x53, 1, 0, 0x11, 0x11, 0, 0, 0, 2, 0, 0, 0, 2, //
     1, 1, 0, 0, 0, 0, 0, 0, 0, 0, //
@@ -10,12 +10,12 @@ pub const SESSION: [u8; 109] = [
     0, 0, 6, 0, 5, 0, 1, 0x61, 0, 0,
 ];
 
-/// The first bytes of `SESSION`: port 4369, not relaxed, two connections and two names at most.
+/// The header of `SESSION`.
 pub const HEADER: &[u8] = &[
     0x45, 0x50, 0x4D, 0x53, 1, 0, 0x11, 0x11, 0, 0, 0, 2, 0, 0, 0, 2,
 ];
 
-/// The same, and a remote peer that asks for the names and leaves.
+/// A session with the header of `SESSION`. A remote peer requests the names and closes its connection.
 pub const REMOTE_NAMES: &[u8] = &[
     0x45, 0x50, 0x4D, 0x53, 1, 0, 0x11, 0x11, 0, 0, 0, 2, 0, 0, 0, 2, //
     1, 0, 0, 0, 0, 0, 0, 0, 0, 0, //
@@ -23,7 +23,8 @@ pub const REMOTE_NAMES: &[u8] = &[
     3, 0, 0, 0, 0, 0, 0, 0, 0,
 ];
 
-/// From place 2 on: `a` is registered with creation 4 by the local connection 0, which is closed; worker 2 is told so.
+/// From position 2 on: the local connection 0 has registered `a` with creation 4, and closes. Worker 2 serves the
+/// close.
 pub const CLOSES: [u8; 85] = [
     0x45, 0x50, 0x4D, 0x53, 2, 0, 0x11, 0x11, 0, 0, 0, 2, 0, 0, 0, 2, //
     0, 0, 0, 0, 0, 0, 0, 2, 0, 0, 0, 0, 1, 0, 0, 0, 0, 0, 0, 0, 1, //
@@ -32,15 +33,15 @@ pub const CLOSES: [u8; 85] = [
     0, 0, 0, 2, 3, 0, 0, 0, 0, 0, 0, 0, 0,
 ];
 
-/// A remote connection in slot 0, which was answered, is open at the start.
+/// A remote connection is open in slot 0 at the start. Its phase is `Done`.
 pub const REMOTE_OPEN: &[u8] = &[
     0x45, 0x50, 0x4D, 0x53, 2, 0, 0x11, 0x11, 0, 0, 0, 2, 0, 0, 0, 2, //
     0, 0, 0, 0, 0, 0, 0, 0, 0, 0, 0, 0, 0, 0, 0, 0, 0, 0, 0, 0, 1, //
     0, 0, 0, 0, 0, 0, 0, 0, 0, 2,
 ];
 
-/// A remote peer comes by worker 3 and a local one by worker 1; the first leaves by worker 2, and the other by worker
-/// 4.
+/// A remote peer connects at worker 3, and a local peer at worker 1. The remote peer closes at worker 2, and the local
+/// peer at worker 4.
 pub const MIXED: &[u8] = &[
     0x45, 0x50, 0x4D, 0x53, 2, 0, 0x11, 0x11, 0, 0, 0, 2, 0, 0, 0, 2, //
     0, 0, 0, 0, 0, 0, 1, 0, 0, 0, 0, 0, 0, 0, 0, 0, 0, 0, 0, 0, 0, //
@@ -50,7 +51,7 @@ pub const MIXED: &[u8] = &[
     0, 0, 0, 4, 3, 0, 0, 0, 0, 0, 0, 0, 1,
 ];
 
-/// The same without the remote peer.
+/// `MIXED` without the remote peer.
 pub const LOCAL_LEFT: &[u8] = &[
     0x45, 0x50, 0x4D, 0x53, 2, 0, 0x11, 0x11, 0, 0, 0, 2, 0, 0, 0, 2, //
     0, 0, 0, 0, 0, 0, 1, 0, 0, 0, 0, 0, 0, 0, 0, 0, 0, 0, 0, 0, 0, //
@@ -58,7 +59,7 @@ pub const LOCAL_LEFT: &[u8] = &[
     0, 0, 0, 4, 3, 0, 0, 0, 0, 0, 0, 0, 1,
 ];
 
-/// The transcript of a registration and a look-up.
+/// The transcript of `SESSION`: a registration and a lookup.
 pub const LOOK_UP_LINES: &[u8] = b"0 connect 0 local
 1 piece 0 get 000e7813884d00000600050001610000 say 760000000004 stay
 2 connect 1 local
@@ -66,7 +67,7 @@ pub const LOOK_UP_LINES: &[u8] = b"0 connect 0 local
 run of 4 entries
 ";
 
-/// That of the wrong one.
+/// The transcript of `wrong_session`.
 pub const WRONG_LOOK_UP_LINES: &[u8] = b"0 connect 0 local
 1 piece 0 get 000e7813884d00000600050001610000 say 760000000004 stay
 2 connect 1 local
@@ -74,7 +75,7 @@ pub const WRONG_LOOK_UP_LINES: &[u8] = b"0 connect 0 local
 broken at entry 3
 ";
 
-/// `SESSION` with a wrong reply to the look-up.
+/// Returns `SESSION` with a wrong reply to the lookup.
 pub fn wrong_session() -> [u8; 109] {
     let mut session = SESSION;
     session[108] = 1;

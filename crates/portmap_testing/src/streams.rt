@@ -1,30 +1,27 @@
-//! Readers and writers that answer as they are told, or fail.
+//! Readers and writers that return scripted results, or fail.
 ghost use Rattle.std.specs.Prelude.{◌≤◌, IfOk};
 
 use std::io;
 use std::io::{ErrorKind, Read, Write};
 
-/// What one call is answered.
 #[derive(Clone, Copy)]
 pub enum CallOutcome {
     Count(usize),
     Error(ErrorKind),
 }
 
-/// A stream that answers from a list, and notes how often it was asked.
+/// A stream that returns results from a list, and counts its calls.
 #[derive(Drop)]
 pub struct Script<'a> {
     told: &'a [CallOutcome],
     pub asked: usize,
 }
 
-/// A stream that was asked nothing yet.
 pub fn scripted(told: &[CallOutcome]) -> Script<'_> {
     Script { told, asked: 0 }
 }
 
 impl<'a> Script<'a> {
-    /// The next count, at most `most`.
     fn next(&mut self, most: usize) -> io::Result<usize>
         ensures { IfOk result (λ n. n ≤ most) }
     {
@@ -54,7 +51,7 @@ impl<'a> Write for Script<'a> {
     }
 }
 
-/// A stream whose every call fails, but that takes bytes which it passes on to no one.
+/// A stream whose reads and flushes fail. Writes succeed, and their bytes are lost.
 #[derive(Drop)]
 pub struct Broken;
 
@@ -74,7 +71,8 @@ impl Write for Broken {
     }
 }
 
-/// A stream that gives these bytes, as many as there is room for, and takes all. So many reads fail in this way first.
+/// A stream that returns these bytes, as many as fit, and accepts all writes. The first `failing` reads fail with
+/// `kind`.
 #[derive(Drop)]
 pub struct Giving<'a> {
     pub failing: u32,

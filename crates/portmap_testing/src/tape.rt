@@ -5,8 +5,8 @@ use portmap_link::{Device, GhostList, Input, Output, Pull, Put};
 use std::alloc::Global;
 use std::sync::atomic::{AtomicU64, Ordering};
 
-/// How a device answers its calls, pulls and puts counted together from 0: those from one number up to another are
-/// Later, one and all after it are faults, and the others move so many bytes at most.
+/// The results of a device's calls. Pulls and puts are counted together from 0. The calls in a range of `later` return
+/// `Later`. The call `fault` and all calls after it fail. The other calls move at most `most` bytes.
 #[derive(Clone, Copy)]
 pub struct DevicePlan {
     pub most: usize,
@@ -14,7 +14,7 @@ pub struct DevicePlan {
     pub fault: Option<usize>,
 }
 
-/// As much as is wanted at each call.
+/// A plan whose calls move as many bytes as possible.
 pub const STEADY: DevicePlan = DevicePlan {
     most: usize::MAX,
     later: &[],
@@ -23,7 +23,6 @@ pub const STEADY: DevicePlan = DevicePlan {
 
 pub const SINGLE: DevicePlan = DevicePlan { most: 1, ..STEADY };
 
-/// What one call is to do.
 #[derive(Clone, Copy)]
 enum TapeStep {
     Move,
@@ -52,7 +51,7 @@ impl DevicePlan {
     }
 }
 
-/// A device that tells its bytes: what is left to read, and what was written.
+/// A device whose bytes are known: those left to read, and those that were written.
 #[derive(Drop)]
 pub struct Tape<'a> {
     pub source: &'a [u8],
@@ -62,7 +61,7 @@ pub struct Tape<'a> {
     failed: bool,
     pulls: GhostList<Pull>,
     puts: GhostList<Put>,
-    /// Where others see how many bytes were written.
+    /// The number of bytes written, for other threads.
     pub written: Option<&'a AtomicU64>,
 }
 

@@ -11,13 +11,13 @@ use std::test::Fail;
 use std::thread::Threads;
 use std::{io, thread};
 
-/// Resets a connection, with bytes of a request unread.
+/// Resets a connection: closes it while bytes of a request are unread.
 fn reset(listener: &TcpListener) -> io::Result<()> {
     let (mut stream, _) = listener.accept()?;
     stream.read_exact(&mut [0; 1])
 }
 
-/// What a call tells whose socket is reset before it is answered.
+/// Returns the status of a call whose socket is reset before the reply.
 fn told_at_reset(
     rt: &impl Threads,
     alloc: Global,
@@ -41,7 +41,7 @@ fn a_socket_that_was_reset_can_not_be_read(rt: HostRuntime) -> Result<(), Fail> 
     Ok(())
 }
 
-/// What a call tells whose peer has left.
+/// Returns the status of a call whose peer has closed its socket.
 fn told_alone(rt: &HostRuntime) -> io::Result<i32> {
     let Pair { own, peer } = Pair::answered(rt, b"OK")?;
     drop(peer);
@@ -54,7 +54,7 @@ fn a_socket_without_a_peer_can_not_be_written(rt: HostRuntime) -> Result<(), Fai
     Ok(())
 }
 
-/// What a read and a write told that failed so.
+/// The results of a read and of a write that failed with `errno`.
 fn failed(errno: i32) -> (Pull, Put) {
     (
         pull_from(call_result(-1, errno)),

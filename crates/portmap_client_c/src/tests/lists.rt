@@ -1,4 +1,4 @@
-//! Lists of no line and of many, and the request that has no name.
+//! Lists with no lines and with many, and the requests without a name.
 use crate::lists::{epmd_read_list, epmd_read_names_line};
 use crate::node::{EpmdLine, EpmdText};
 use crate::sockets::{epmd_dump, epmd_kill, epmd_names};
@@ -7,11 +7,11 @@ use crate::writing::{epmd_write_dump, epmd_write_kill, epmd_write_names};
 use std::alloc::Global;
 use std::test::Fail;
 
-/// The port of a port mapper on 4369.
+/// The port of a port mapper on port 4369.
 const HEAD: &[u8] = b"\x00\x00\x11\x11";
 
-/// The length of the first name of a list, what follows it, and how often both stand there; how many lines these are,
-/// and the last one's port.
+/// The length of the first name of a list, the bytes after the name, and how often both are repeated. Then the number
+/// of lines, and the port of the last line.
 const NAMES: &[(usize, &[u8], usize, usize, u16)] = &[
     (1, b"", 0, 0, 0),
     (1, b" at port 5000\n", 1, 1, 5000),
@@ -26,7 +26,7 @@ const NAMES: &[(usize, &[u8], usize, usize, u16)] = &[
     (1020, b" at port 5000\n", 5, 5, 5000),
 ];
 
-/// A text of what is known, and how often it stands there.
+/// A text about known names, and how often it is repeated.
 const DUMPS: &[(&[u8], usize)] = &[
     (b"", 0),
     (b"active name     a at port 5000, fd = 0\n", 1),
@@ -46,7 +46,7 @@ fn is_dumped(alloc: Global, socket: i32, list: &[u8]) -> bool {
     epmd_dump(alloc, socket, &mut out, &mut size) == 0 && out.get(..size) == Some(list)
 }
 
-/// How many lines a list has up to its end, and the port of the last one; none where a line can't be read.
+/// Returns the number of lines and the port of the last line, or `None` if a line cannot be read.
 fn read(alloc: Global, list: &[u8]) -> Option<(usize, u16)> {
     let (mut port, mut at) = (0, 0);
     let mut line = EpmdLine {
@@ -64,7 +64,6 @@ fn read(alloc: Global, list: &[u8]) -> Option<(usize, u16)> {
     None
 }
 
-/// A list of these lines, so many times.
 fn headed(alloc: Global, lines: &[u8], times: usize) -> Result<Vec<u8>, Fail> {
     spelled(alloc, &[(HEAD, 1), (lines, times)])
 }
@@ -74,7 +73,7 @@ fn list(alloc: Global, name: usize, rest: &[u8], times: usize) -> Result<Vec<u8>
     headed(alloc, &lines, times)
 }
 
-/// Whether this list is told over a socket and read, with so many lines, and the last one of this port.
+/// Returns true if the list is reported over a socket, and is read with this number of lines and this last port.
 fn lists(rt: &HostRuntime, list: &[u8], told: (usize, u16)) -> Result<bool, Fail> {
     let pair = Pair::answered(rt, list)?;
     let is_told = is_listed(rt.alloc(), pair.number(), list);
@@ -95,7 +94,7 @@ fn kills(rt: &HostRuntime) -> Result<bool, Fail> {
     Ok(pair.is_asked(rt.alloc(), b"\x00\x01k")? && status == 0)
 }
 
-/// What is told of a list of 24 bytes where there is room for one fewer.
+/// Returns the status and the size for a list of 24 bytes and a buffer of 23 bytes.
 fn told_in_less(rt: &HostRuntime) -> Result<(i32, usize), Fail> {
     let pair = Pair::answered(rt, b"\x00\x00\x11\x11name a at port 5000\n")?;
     let (mut out, mut size) = ([0; 23], 0);
@@ -103,7 +102,7 @@ fn told_in_less(rt: &HostRuntime) -> Result<(i32, usize), Fail> {
     Ok((status, size))
 }
 
-/// What NAMES_REQ, DUMP_REQ and KILL_REQ are written as.
+/// Returns NAMES_REQ, DUMP_REQ and KILL_REQ as they are written.
 fn written(alloc: Global) -> Option<[u8; 9]> {
     let (mut out, mut sizes) = ([0; 9], [0; 3]);
     let names = epmd_write_names(alloc, &mut out[..3], &mut sizes[0]);

@@ -1,4 +1,4 @@
-//! Names of 1, 255 and 1,020 bytes, with no extra byte, one and many.
+//! Names of 1, 255 and 1,020 bytes, with no extra bytes, with 1 and with many.
 use crate::answers::epmd_read_port2;
 use crate::node::{EpmdAlive, EpmdFound, EpmdNode, EpmdText};
 use crate::sockets::{epmd_lookup, epmd_register, epmd_stop};
@@ -13,8 +13,8 @@ const NAME: &[u8; 1020] = &[b'a'; 1020];
 
 const EXTRA: &[u8; 7159] = &[b'e'; 7159];
 
-/// The length of a name, with Nlen; of its extra bytes, with Elen; and that of the bodies of ALIVE2_REQ, and of
-/// PORT_PLEASE2_REQ and STOP_REQ.
+/// The length of a name and its field Nlen, the length of the extra bytes and their field Elen. Then the length fields
+/// of ALIVE2_REQ, and of PORT_PLEASE2_REQ and STOP_REQ.
 type Lengths = (usize, Bytes, usize, Bytes, Bytes, Bytes);
 
 const NODES: &[Lengths] = &[
@@ -40,15 +40,14 @@ const NODE: EpmdNode = EpmdNode {
     protocol: 0,
 };
 
-/// PortNo to LowestVersion of that node.
+/// The fields PortNo to LowestVersion of that node.
 const NUMBERS: Bytes = b"\x13\x88M\x00\x00\x06\x00\x05";
 
-/// The name of this length, and the extra bytes.
 fn texts(node: &Lengths) -> (Bytes, Bytes) {
     (&NAME[..node.0.min(1020)], &EXTRA[..node.2.min(7159)])
 }
 
-/// The fields of ALIVE2_REQ and PORT2_RESP behind this front.
+/// Returns the fields of ALIVE2_REQ and PORT2_RESP after `prefix`.
 fn fields(alloc: Global, prefix: &[u8], node: &Lengths) -> Result<Vec<u8>, Fail> {
     let (name, nlen, extra, elen, _, _) = *node;
     let parts = [
@@ -62,18 +61,16 @@ fn fields(alloc: Global, prefix: &[u8], node: &Lengths) -> Result<Vec<u8>, Fail>
     spelled(alloc, &parts)
 }
 
-/// ALIVE2_REQ.
 fn registration(alloc: Global, node: &Lengths) -> Result<Vec<u8>, Fail> {
     let prefix = spelled(alloc, &[(node.4, 1), (b"x", 1)])?;
     fields(alloc, &prefix, node)
 }
 
-/// PORT_PLEASE2_REQ or STOP_REQ, by its first byte.
+/// Returns PORT_PLEASE2_REQ or STOP_REQ, by its first byte.
 fn named(alloc: Global, tag: &[u8], node: &Lengths) -> Result<Vec<u8>, Fail> {
     spelled(alloc, &[(node.5, 1), (tag, 1), (b"a", node.0)])
 }
 
-/// Whether a call wrote this request.
 fn is_written(status: i32, out: &[u8], size: usize, request: &[u8]) -> bool {
     status == 0 && out.get(..size) == Some(request)
 }
@@ -121,7 +118,7 @@ const NOTHING: EpmdFound = EpmdFound {
     },
 };
 
-/// Whether the node was found, with its texts in these bytes.
+/// Returns true if the node was found, with its texts in `bytes`.
 fn is_found(status: i32, bytes: &[u8], found: &EpmdFound, node: &Lengths) -> bool {
     let (name, extra) = texts(node);
     let are_numbers = found.node.port == 5000 && found.node.highest == 6 && found.node.lowest == 5;
@@ -129,7 +126,6 @@ fn is_found(status: i32, bytes: &[u8], found: &EpmdFound, node: &Lengths) -> boo
     status == 0 && is_node && has(bytes, &found.name, name) && has(bytes, &found.extra, extra)
 }
 
-/// Whether a text in bytes is this one.
 fn has(bytes: &[u8], place: &EpmdText, text: &[u8]) -> bool {
     let prefix = bytes.get(..place.at.saturating_add(place.size));
     prefix.is_some_and(|prefix| prefix.get(place.at..) == Some(text))
@@ -155,7 +151,7 @@ fn registers(rt: &HostRuntime, node: &Lengths) -> Result<bool, Fail> {
     Ok(pair.is_asked(rt.alloc(), &request)? && is_told && is_written)
 }
 
-/// Whether the node is looked up that answers so.
+/// Returns true if the lookup is written, and its reply is read as the node.
 fn finds(rt: &HostRuntime, node: &Lengths, reply: &[u8]) -> Result<bool, Fail> {
     let request = named(rt.alloc(), b"z", node)?;
     let pair = Pair::answered(rt, reply)?;

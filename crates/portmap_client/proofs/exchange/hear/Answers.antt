@@ -5,7 +5,7 @@ use Rattle.portmap_client.proofs.{Counting.pulled, Reading.{reads_front, stops},
 use Rattle.portmap_client.proofs.exchange.hear.Goals.{In-Piece}
 use Rattle.portmap_client.proofs.exchange.hear.Goals as goal
 
--- with the piece, none further than the answer was read
+-- With the chunk, no byte after the reply was read.
 with_piece : (g : Over) (c : In-Piece g)
     → HasRead c.args.awaited (g.S.Device.left c.args.stream.now) (g.S.Device.left c.pull.new.self)
     (c.loop-laters.read.items ++ take c.in-Piece.count c.pull.new.buffer)

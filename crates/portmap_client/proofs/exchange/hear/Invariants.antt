@@ -5,7 +5,7 @@ use Rattle.portmap_client.specs.{Exchange.HasRead, Laters.laters}
 use Rattle.portmap_client.specs.declared.exchange.TheConstants.{LATERS_MOST, LIST_MOST}
 use Rattle.portmap_client.proofs.exchange.hear.Given as goal
 
--- these bytes were read, none further than the answer, and as many Laters were met as are counted
+-- These bytes were read, and none after the reply. `laters` counts the `Later` results.
 abbrev pub invariant-loop-laters : goal.invariant-loop-laters
 invariant-loop-laters g l = record {
   few : l.laters ≤ LATERS_MOST;
