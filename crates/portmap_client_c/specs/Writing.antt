@@ -77,8 +77,8 @@ pub record Puts (bytes old new : List ℕ) (size : ℕ) (status : ℤ) : Type 0 
   pub no_other : status ≢ EPMD_OK → status ≢ EPMD_BUFFER_TOO_SMALL → status ≡ EPMD_NO_MEMORY
 
 -- Memory ran out for `size` bytes. A buffer that is too small is reported first.
-pub record LacksMemory (old : List ℕ) (size told : ℕ) (status : ℤ) : Type 0 where
-  pub size_is : told ≡ size
+pub record LacksMemory (old : List ℕ) (size reported : ℕ) (status : ℤ) : Type 0 where
+  pub size_is : reported ≡ size
   pub small : (status ≡ EPMD_BUFFER_TOO_SMALL) ↔ (length old < size)
   pub no_other : status ≢ EPMD_BUFFER_TOO_SMALL → status ≡ EPMD_NO_MEMORY
 

@@ -91,7 +91,7 @@ pub(crate) fn found_at(reg: &Reg, at: usize, between: usize) -> EpmdFound
 /// Reads the reply to a lookup. The offsets in `found` are offsets in `bytes`.
 #[unsafe(no_mangle)]
 pub extern "C" fn epmd_read_port2(alloc: Global, bytes: &[u8], found: &mut EpmdFound) -> i32
-    ensures told { result ≢ EPMD_NO_MEMORY
+    ensures reported { result ≢ EPMD_NO_MEMORY
         → ReportsFound bytes.now (port2_answer bytes.now) found.old found.new result }
     // Memory is allocated last, and none is kept.
     ensures memory { result ≡ EPMD_NO_MEMORY → IsOk (port2_answer bytes.now) }

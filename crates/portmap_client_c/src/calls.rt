@@ -45,7 +45,7 @@ pub(crate) fn register<S: Input + Output>(
     extra: &[u8],
     alive: &mut EpmdAlive,
 ) -> (i32, S)
-    ensures told { let seen = view S.left S.held S.pulls S.puts S.broken in
+    ensures reported { let seen = view S.left S.held S.pulls S.puts S.broken in
         result.0 ≢ EPMD_NO_MEMORY → IfSaid (node_said node.now name.now extra.now)
         (λ g. Asks (Registers g) (seen stream) (seen result.1)
         (λ answer. ReportsCreation answer alive.old alive.new result.0))
@@ -74,7 +74,7 @@ pub(crate) fn register<S: Input + Output>(
 
 /// Puts the name and the extra bytes into a buffer, and their offsets into `found`.
 fn put_node(reg: &Reg, texts: &mut [u8], found: &mut EpmdFound) -> i32
-    ensures told { ReportsNode reg.now texts.old texts.new found.new result }
+    ensures reported { ReportsNode reg.now texts.old texts.new found.new result }
     ensures memory { result ≢ EPMD_NO_MEMORY }
 {
     *found = found_at(reg, 0, 0);
@@ -89,7 +89,7 @@ pub(crate) fn lookup<S: Input + Output>(
     texts: &mut [u8],
     found: &mut EpmdFound,
 ) -> i32
-    ensures told { let seen = view S.left S.held S.pulls S.puts S.broken in
+    ensures reported { let seen = view S.left S.held S.pulls S.puts S.broken in
         result ≢ EPMD_NO_MEMORY → IfSaid (with_name (λ n. Ok n) (name_in name.now))
         (λ n. Asks (LooksUp n) (seen stream.old) (seen stream.new)
         (λ answer. ReportsLookup answer texts.old texts.new found.old found.new result))
@@ -116,7 +116,7 @@ pub(crate) fn names<S: Input + Output>(
     out: &mut [u8],
     size: &mut usize,
 ) -> i32
-    ensures told { let seen = view S.left S.held S.pulls S.puts S.broken in
+    ensures reported { let seen = view S.left S.held S.pulls S.puts S.broken in
         Asks ListsNames (seen stream.old) (seen stream.new)
         (λ answer. ReportsNames answer out.old out.new size.new result) }
     ensures memory { result ≡ EPMD_NO_MEMORY → (out.new ≡ out.old) × (size.new ≡ 0) }
@@ -135,7 +135,7 @@ pub(crate) fn dump<S: Input + Output>(
     out: &mut [u8],
     size: &mut usize,
 ) -> i32
-    ensures told { let seen = view S.left S.held S.pulls S.puts S.broken in
+    ensures reported { let seen = view S.left S.held S.pulls S.puts S.broken in
         Asks Dumps (seen stream.old) (seen stream.new) (λ answer. ReportsDump answer out.old out.new size.new result) }
     ensures memory { result ≡ EPMD_NO_MEMORY → (out.new ≡ out.old) × (size.new ≡ 0) }
 {
@@ -180,7 +180,7 @@ pub(crate) fn kill<S: Input + Output>(alloc: Global, stream: &mut S) -> i32
 
 /// Requests the end of the registration of a name.
 pub(crate) fn stop<S: Input + Output>(alloc: Global, stream: &mut S, name: &[u8]) -> i32
-    ensures told { let seen = view S.left S.held S.pulls S.puts S.broken in
+    ensures reported { let seen = view S.left S.held S.pulls S.puts S.broken in
         result ≢ EPMD_NO_MEMORY → IfSaid (with_name (λ n. Ok n) (name_in name.now))
         (λ n. Asks (Stops n) (seen stream.old) (seen stream.new) (λ answer. result ≡ stop_status answer))
         (λ status. result ≡ status) }

@@ -25,7 +25,7 @@ pub extern "C" fn epmd_register(
     extra: &[u8],
     alive: &mut EpmdAlive,
 ) -> i32
-    ensures told { result ≢ EPMD_NO_MEMORY → IfSaid (node_said node.now name.now extra.now)
+    ensures reported { result ≢ EPMD_NO_MEMORY → IfSaid (node_said node.now name.now extra.now)
         (λ g. AsksOnce (Registers g) (λ answer. ReportsCreation answer alive.old alive.new result))
         (λ status. (result ≡ status) × (alive.new ≡ alive.old)) }
     ensures memory { result ≡ EPMD_NO_MEMORY → IsOk (node_said node.now name.now extra.now) × (alive.new ≡ alive.old) }
@@ -43,7 +43,7 @@ pub extern "C" fn epmd_lookup(
     texts: &mut [u8],
     found: &mut EpmdFound,
 ) -> i32
-    ensures told { result ≢ EPMD_NO_MEMORY → IfSaid (with_name (λ n. Ok n) (name_in name.now))
+    ensures reported { result ≢ EPMD_NO_MEMORY → IfSaid (with_name (λ n. Ok n) (name_in name.now))
         (λ n. AsksOnce (LooksUp n) (λ answer. ReportsLookup answer texts.old texts.new found.old found.new result))
         (λ status. (result ≡ status) × (texts.new ≡ texts.old) × (found.new ≡ found.old)) }
     ensures memory { result ≡ EPMD_NO_MEMORY →
@@ -56,7 +56,7 @@ pub extern "C" fn epmd_lookup(
 /// beginning of `out`.
 #[unsafe(no_mangle)]
 pub extern "C" fn epmd_names(alloc: Global, socket: i32, out: &mut [u8], size: &mut usize) -> i32
-    ensures told { AsksOnce ListsNames (λ answer. ReportsNames answer out.old out.new size.new result) }
+    ensures reported { AsksOnce ListsNames (λ answer. ReportsNames answer out.old out.new size.new result) }
     ensures memory { result ≡ EPMD_NO_MEMORY → (out.new ≡ out.old) × (size.new ≡ 0) }
 {
     names(alloc, &mut Descriptor::new(socket), out, size)
@@ -66,7 +66,7 @@ pub extern "C" fn epmd_names(alloc: Global, socket: i32, out: &mut [u8], size: &
 /// beginning of `out`.
 #[unsafe(no_mangle)]
 pub extern "C" fn epmd_dump(alloc: Global, socket: i32, out: &mut [u8], size: &mut usize) -> i32
-    ensures told { AsksOnce Dumps (λ answer. ReportsDump answer out.old out.new size.new result) }
+    ensures reported { AsksOnce Dumps (λ answer. ReportsDump answer out.old out.new size.new result) }
     ensures memory { result ≡ EPMD_NO_MEMORY → (out.new ≡ out.old) × (size.new ≡ 0) }
 {
     dump(alloc, &mut Descriptor::new(socket), out, size)
@@ -83,7 +83,7 @@ pub extern "C" fn epmd_kill(alloc: Global, socket: i32) -> i32
 /// Requests the end of the registration of a name.
 #[unsafe(no_mangle)]
 pub extern "C" fn epmd_stop(alloc: Global, socket: i32, name: &[u8]) -> i32
-    ensures told { result ≢ EPMD_NO_MEMORY → IfSaid (with_name (λ n. Ok n) (name_in name.now))
+    ensures reported { result ≢ EPMD_NO_MEMORY → IfSaid (with_name (λ n. Ok n) (name_in name.now))
         (λ n. AsksOnce (Stops n) (λ answer. result ≡ stop_status answer))
         (λ status. result ≡ status) }
     ensures memory { result ≡ EPMD_NO_MEMORY → IsOk (with_name (λ n. Ok n) (name_in name.now)) }

@@ -42,8 +42,7 @@ module _ {T : Type 0} where
         queue = times k r.queue.items;
         pending = times k r.pending.items;
         paused = times k r.paused.items;
-        current = is_key r.current
-            k;
+        current = is_key r.current k;
       }
 
   -- Each key is in the lists as its entry says, at most once in each. Each list can hold all keys in use. `count` is the number of links.

@@ -37,7 +37,7 @@ fn next_pending(ready: &mut Scheduler<u64>, fate: AfterTurn) -> Option<usize> {
 }
 
 #[test]
-fn a_link_is_told_in_turn_wherever_it_stood(rt: HostRuntime) {
+fn a_link_is_served_in_fifo_order_from_any_state(rt: HostRuntime) {
     let mut ready = Scheduler::new(rt.alloc());
     assert!(rt; ready.is_empty());
     let first = ready.insert(10).expect(&rt, "memory");

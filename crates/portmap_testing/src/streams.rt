@@ -13,21 +13,21 @@ pub enum CallOutcome {
 /// A stream that returns results from a list, and counts its calls.
 #[derive(Drop)]
 pub struct Script<'a> {
-    told: &'a [CallOutcome],
+    outcomes: &'a [CallOutcome],
     pub asked: usize,
 }
 
-pub fn scripted(told: &[CallOutcome]) -> Script<'_> {
-    Script { told, asked: 0 }
+pub fn scripted(outcomes: &[CallOutcome]) -> Script<'_> {
+    Script { outcomes, asked: 0 }
 }
 
 impl<'a> Script<'a> {
     fn next(&mut self, most: usize) -> io::Result<usize>
         ensures { IfOk result (λ n. n ≤ most) }
     {
-        let told = self.told.get(self.asked).copied();
+        let outcome = self.outcomes.get(self.asked).copied();
         self.asked = self.asked.saturating_add(1);
-        match told {
+        match outcome {
             Some(CallOutcome::Count(n)) => Ok(n.min(most)),
             Some(CallOutcome::Error(kind)) => Err(io::Error::from(kind)),
             None => Ok(0),

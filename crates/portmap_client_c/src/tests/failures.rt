@@ -18,7 +18,7 @@ fn reset(listener: &TcpListener) -> io::Result<()> {
 }
 
 /// Returns the status of a call whose socket is reset before the reply.
-fn told_at_reset(
+fn status_at_reset(
     rt: &impl Threads,
     alloc: Global,
     listener: &TcpListener,
@@ -37,12 +37,12 @@ fn told_at_reset(
 fn a_socket_that_was_reset_can_not_be_read(rt: HostRuntime) -> Result<(), Fail> {
     let listener = TcpListener::bind(&rt, SocketAddr::from((Ipv4Addr::LOCALHOST, 0)))?;
     let stream = TcpStream::connect(&rt, listener.local_addr()?)?;
-    assert_eq!(rt; told_at_reset(&rt, rt.alloc(), &listener, &stream)?, 13);
+    assert_eq!(rt; status_at_reset(&rt, rt.alloc(), &listener, &stream)?, 13);
     Ok(())
 }
 
 /// Returns the status of a call whose peer has closed its socket.
-fn told_alone(rt: &HostRuntime) -> io::Result<i32> {
+fn status_alone(rt: &HostRuntime) -> io::Result<i32> {
     let Pair { own, peer } = Pair::answered(rt, b"OK")?;
     drop(peer);
     Ok(epmd_kill(rt.alloc(), own.as_raw_fd()))
@@ -50,7 +50,7 @@ fn told_alone(rt: &HostRuntime) -> io::Result<i32> {
 
 #[test]
 fn a_socket_without_a_peer_can_not_be_written(rt: HostRuntime) -> Result<(), Fail> {
-    assert_eq!(rt; told_alone(&rt)?, 12);
+    assert_eq!(rt; status_alone(&rt)?, 12);
     Ok(())
 }
 

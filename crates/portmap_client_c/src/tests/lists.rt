@@ -74,18 +74,18 @@ fn list(alloc: Global, name: usize, rest: &[u8], times: usize) -> Result<Vec<u8>
 }
 
 /// Returns true if the list is reported over a socket, and is read with this number of lines and this last port.
-fn lists(rt: &HostRuntime, list: &[u8], told: (usize, u16)) -> Result<bool, Fail> {
+fn lists(rt: &HostRuntime, list: &[u8], expected: (usize, u16)) -> Result<bool, Fail> {
     let pair = Pair::answered(rt, list)?;
-    let is_told = is_listed(rt.alloc(), pair.number(), list);
-    let is_read = read(rt.alloc(), list) == Some(told);
-    Ok(pair.is_asked(rt.alloc(), b"\x00\x01n")? && is_told && is_read)
+    let is_reported = is_listed(rt.alloc(), pair.number(), list);
+    let is_read = read(rt.alloc(), list) == Some(expected);
+    Ok(pair.is_asked(rt.alloc(), b"\x00\x01n")? && is_reported && is_read)
 }
 
 fn dumps(rt: &HostRuntime, text: &[u8], times: usize) -> Result<bool, Fail> {
     let list = headed(rt.alloc(), text, times)?;
     let pair = Pair::answered(rt, &list)?;
-    let is_told = is_dumped(rt.alloc(), pair.number(), &list);
-    Ok(pair.is_asked(rt.alloc(), b"\x00\x01d")? && is_told)
+    let is_reported = is_dumped(rt.alloc(), pair.number(), &list);
+    Ok(pair.is_asked(rt.alloc(), b"\x00\x01d")? && is_reported)
 }
 
 fn kills(rt: &HostRuntime) -> Result<bool, Fail> {
@@ -95,7 +95,7 @@ fn kills(rt: &HostRuntime) -> Result<bool, Fail> {
 }
 
 /// Returns the status and the size for a list of 24 bytes and a buffer of 23 bytes.
-fn told_in_less(rt: &HostRuntime) -> Result<(i32, usize), Fail> {
+fn reported_in_less(rt: &HostRuntime) -> Result<(i32, usize), Fail> {
     let pair = Pair::answered(rt, b"\x00\x00\x11\x11name a at port 5000\n")?;
     let (mut out, mut size) = ([0; 23], 0);
     let status = epmd_names(rt.alloc(), pair.number(), &mut out, &mut size);
@@ -112,7 +112,7 @@ fn written(alloc: Global) -> Option<[u8; 9]> {
 }
 
 #[test]
-fn lists_of_no_line_and_of_many_are_told(rt: HostRuntime) -> Result<(), Fail> {
+fn lists_of_no_line_and_of_many_are_reported(rt: HostRuntime) -> Result<(), Fail> {
     for (name, rest, times, count, port) in NAMES {
         let list = list(rt.alloc(), *name, rest, *times)?;
         assert!(rt; lists(&rt, &list, (*count, *port))?, "{count} lines");
@@ -121,7 +121,7 @@ fn lists_of_no_line_and_of_many_are_told(rt: HostRuntime) -> Result<(), Fail> {
 }
 
 #[test]
-fn texts_of_all_sizes_are_told(rt: HostRuntime) -> Result<(), Fail> {
+fn texts_of_all_sizes_are_reported(rt: HostRuntime) -> Result<(), Fail> {
     for (text, times) in DUMPS {
         assert!(rt; dumps(&rt, text, *times)?, "{times} times");
     }
@@ -129,8 +129,8 @@ fn texts_of_all_sizes_are_told(rt: HostRuntime) -> Result<(), Fail> {
 }
 
 #[test]
-fn a_list_for_which_there_is_no_room_is_told_by_its_size(rt: HostRuntime) -> Result<(), Fail> {
-    assert_eq!(rt; told_in_less(&rt)?, (18, 24));
+fn a_list_for_which_there_is_no_room_is_reported_by_its_size(rt: HostRuntime) -> Result<(), Fail> {
+    assert_eq!(rt; reported_in_less(&rt)?, (18, 24));
     Ok(())
 }
 

@@ -146,18 +146,18 @@ fn is_read(alloc: Global, node: &Lengths, reply: &[u8]) -> bool {
 fn registers(rt: &HostRuntime, node: &Lengths) -> Result<bool, Fail> {
     let request = registration(rt.alloc(), node)?;
     let pair = Pair::answered(rt, b"v\x00\x00\x00\x00\x04")?;
-    let is_told = is_registered(rt.alloc(), pair.number(), node);
+    let is_reported = is_registered(rt.alloc(), pair.number(), node);
     let is_written = writes_registration(rt.alloc(), node, &request);
-    Ok(pair.is_asked(rt.alloc(), &request)? && is_told && is_written)
+    Ok(pair.is_asked(rt.alloc(), &request)? && is_reported && is_written)
 }
 
 /// Returns true if the lookup is written, and its reply is read as the node.
 fn finds(rt: &HostRuntime, node: &Lengths, reply: &[u8]) -> Result<bool, Fail> {
     let request = named(rt.alloc(), b"z", node)?;
     let pair = Pair::answered(rt, reply)?;
-    let is_told = is_looked_up(rt.alloc(), pair.number(), node);
+    let is_reported = is_looked_up(rt.alloc(), pair.number(), node);
     let is_written = writes_lookup(rt.alloc(), node, &request);
-    Ok(pair.is_asked(rt.alloc(), &request)? && is_told && is_written)
+    Ok(pair.is_asked(rt.alloc(), &request)? && is_reported && is_written)
 }
 
 fn looks_up(rt: &HostRuntime, node: &Lengths) -> Result<bool, Fail> {

@@ -9,5 +9,5 @@ returns-in-Some-clause-found c = λ prefix one.
 
 pub returns-in-Err-clause-fault : goal.returns-in-Err-clause-fault
 returns-in-Err-clause-fault c = λ prefix one.
-    let told = c.in-Err.ensures in
-    reads_none c.args.list.now prefix c.in-Err.fault c.requires told.fault (λ none. told.memory (ap Err none)) one
+    let failed = c.in-Err.ensures in
+    reads_none c.args.list.now prefix c.in-Err.fault c.requires failed.fault (λ none. failed.memory (ap Err none)) one
