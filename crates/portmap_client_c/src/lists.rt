@@ -53,9 +53,9 @@ fn first_line(lines: Vec<Line>) -> Option<Line>
 /// Reads a list of one line. The line follows the first four bytes.
 fn one_line(alloc: Global, list: &[u8]) -> Result<Line, ListFault>
     requires { 4 ≤ length list.now }
-    ensures found { IfOk result (λ line. (prefix : List ℕ) → IsOneLine (drop 4 list.now) prefix → ReadsLine prefix line) }
-    ensures fault { IfErr result (λ fault. (prefix : List ℕ) → IsOneLine (drop 4 list.now) prefix
-        → IsReadingFault prefix fault) }
+    ensures found { IfOk result (λ line. (text : List ℕ) → IsOneLine (drop 4 list.now) text → ReadsLine text line) }
+    ensures fault { IfErr result (λ fault. (text : List ℕ) → IsOneLine (drop 4 list.now) text
+        → IsReadingFault text fault) }
 {
     match read_names(alloc, list) {
         Ok((_, lines)) => match first_line(lines) {

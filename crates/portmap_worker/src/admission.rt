@@ -92,7 +92,8 @@ impl<S: Stream> Admission<S> {
         ensures early { now < self.old.room_backoff → (result ≡ None) × (self.new ≡ self.old) }
         ensures found { IfSome result (λ _. self.new ≡ self.old) }
         ensures later { self.old.room_backoff ≤ now
-            → IfNone result (self.new ≡ record self.old { room_backoff = min (now + EVICTION_BACKOFF_MS) (2 ^ 64 - 1) }) }
+            → IfNone result (self.new
+            ≡ record self.old { room_backoff = min (now + EVICTION_BACKOFF_MS) (2 ^ 64 - 1) }) }
     {
         if now < self.room_backoff {
             return None;

@@ -79,7 +79,7 @@ impl<L: Ledger> Carrier<L> {
         ensures written { IfSome result.0 (λ acted.
             Moves (I.held link.old) (I.held link.new) (self.old.out ++ added acted.1 result.1) self.new.out) }
         ensures due { IfSome result.0 (λ acted. (self.old.due ≡ false) × (self.new.due ≡ is_close (fate_of acted.1))) }
-        ensures counted { IfSome result.0 (λ acted. (seat.new.count ≡ seat.old.count + 1) × (seat.old.count ≤ acted.0)) }
+        ensures counted { IfSome result.0 (λ act. (seat.new.count ≡ seat.old.count + 1) × (seat.old.count ≤ act.0)) }
         ensures next { IfSome result.0 (λ acted. FollowsAnswer acted.1 (I.puts link.old)
             (I.puts link.new) self.new.out result.1) }
         ensures same { IfNone result.0 ((seat.new ≡ seat.old) × (self.new.due ≡ self.old.due)) }
