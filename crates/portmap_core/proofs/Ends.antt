@@ -1,5 +1,4 @@
--- Where the port mapper ends and what comes of it then, the limits that a run keeps, and a connection that holds its name,
--- whose time is over.
+-- The end of the port mapper, the limits that a run keeps, and the timeout of a connection that holds a name.
 use Rattle.std.specs.Prelude.{◌||◌}
 use Rattle.std.proofs.{Common.{◌≡◌, ℕ, Bool, true, false, [], rules}, lemmas.List.nil_from_length}
 use Rattle.portmap_wire.specs.declared.request.Request.{Request}
@@ -16,9 +15,9 @@ ends_are_final cfg s s' e h step = search rules
 pub holders_outlast_their_time : HoldersOutlastTheirTime
 holders_outlast_their_time cfg s s' slot fate connection here holds step = search rules
 
--- ---- where it ends
+-- ---- the end of the port mapper
 
--- what is told ends it only where no name is active
+-- A result ends the port mapper only if no name is active.
 abbrev LeavesNone : Names → Served → Type 0
 LeavesNone names o = halted_by o.fate false ≡ true → names.active ≡ []
 

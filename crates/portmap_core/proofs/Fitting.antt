@@ -1,4 +1,4 @@
--- Names and open connections that go together, slot by slot and in lists.
+-- The agreement of names and open connections, by slots and by lists.
 use Rattle.std.specs.{Ordering.nat_cmp, Prelude.{All, IsSome}}
 use Rattle.std.proofs.Common.{◌≡◌, ℕ, Bool, true, List, [], ◌∷◌, get_or, Option, Some, refl, sym, ap, subst, ◌∙◌}
 use Rattle.std.proofs.{Common.{eq-eqb, eqb-true, inl, inr, IfSome, rules}, lemmas.Bool.cases_eq}
@@ -11,7 +11,7 @@ use Rattle.portmap_core.specs.{Held.{AreHeld, HeldValue, connection_held, entrie
 use Rattle.portmap_core.specs.declared.connection.Connection.{Connection}
 use Rattle.portmap_core.proofs.{HeldLaws.found, Slots.other_key}
 
--- what holds of each holds of the one that is found at a slot
+-- A property of all listed connections holds of the connection found at a slot.
 found_has : (P : ℕ → Connection → Type 0) (q : ℕ) (held : List HeldValue) → All (λ h. P h.slot (connection_held h)) held
     → IfSome (map.find nat_cmp q (entries_held held)) (P q)
 found_has P q [] each = tt
@@ -33,7 +33,8 @@ AreOpen connections rows = All (λ row. IsSome (map.get connections row.slot)) r
 abbrev AreSlotsFor : Names → ConnectionMap → Type 0
 AreSlotsFor names connections = (slot : ℕ) → IsSlotFor (owns_name slot names) (map.get connections slot)
 
--- each slot is one for its connection exactly where each of the list is, and the owners are open
+-- Names and connections agree at every slot if and only if they agree for each listed connection and all owners are
+-- open.
 module _ (names : Names) (connections : ConnectionMap) (held : List HeldValue) (entries : entries_held held ≡ map.entries connections)
     (are : AreHeld held) where
   found_at : (slot : ℕ) → map.get connections slot ≡ map.find nat_cmp slot (entries_held held)

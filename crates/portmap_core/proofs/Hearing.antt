@@ -1,4 +1,4 @@
--- What a machine with one connection says of bytes that came in pieces, it says of them in one piece.
+-- A machine with one connection answers bytes in several chunks as it answers them in one chunk.
 use Rattle.std.specs.Ordering.{nat_cmp}
 use Rattle.std.proofs.Common.{◌≡◌, ◌≢◌, ℕ, ◌≤◌, List, [], ◌++◌, Some, None, true, false, refl, sym, ap, ◌∙◌, arith}
 use Rattle.std.proofs.Common.{rules}
@@ -12,11 +12,11 @@ use Rattle.portmap_core.specs.declared.event.Fate.{Fate}
 use Rattle.portmap_core.proofs.{Slots.{get_inserted, insert_again, stopped_alike}, Waits.said}
 use Rattle.portmap_core.specs.declared.connection.Phase.TheVariants as phase
 
--- the connection that has sent these bytes
+-- The connection that has sent these bytes.
 abbrev sender : List ℕ → Connection
 sender read = record { local = true; stage = Waiting read }
 
--- what is told does not depend on what was read before
+-- The effect of a result does not depend on the bytes read before.
 alike : (slot : ℕ) (a b : List ℕ) (o : Served)
     → outcome_of (waiting_state slot a) slot (sender a) o ≡ outcome_of (waiting_state slot b) slot (sender b) o
 alike slot a b o = ap (λ (m : ConnectionMap). let x : Effect =
@@ -25,7 +25,7 @@ alike slot a b o = ap (λ (m : ConnectionMap). let x : Effect =
 
 -- ---- for callers of the machine
 
--- a machine that has ample room opens its first connection
+-- A machine opens its first connection.
 opens : (cfg : Configuration) (slot : ℕ) → 1 ≤ cfg.conn_max → Opens cfg empty_state true slot (waiting_state slot [])
 opens cfg slot some = record {
   free = map.get-empty nat_cmp slot;
@@ -33,22 +33,22 @@ opens cfg slot some = record {
   after = refl;
 }
 
--- the connection that waits is open
+-- The connection that waits is open.
 pub is_not_missed : (s : State) (slot : ℕ) (read : List ℕ) → s ≡ waiting_state slot read → map.get s.connections slot ≡ None → ⊥
 is_not_missed s slot read e none = let both : Some (sender read) ≡ None =
     sym (ap (λ (x : State). map.get x.connections slot) e ∙ get_inserted map.empty slot (sender read)) ∙ none in cc
 
--- what is said of a piece to one that has sent others
+-- A chunk arrives on a connection that has sent other bytes.
 module _ {cfg : Configuration} {s s' : State} {slot : ℕ} {piece reply : List ℕ} {fate : Fate} (read : List ℕ)
     (is : s ≡ waiting_state slot read) (says : Says cfg s slot piece reply fate s') where
-  -- it is told of all that was read
+  -- The effect is that of all bytes read.
   settles : Settles cfg (waiting_state slot read) slot (sender read) (read ++ piece) (said reply fate s')
   settles = search (rules, get_inserted)
 
   phase_left : phase_at s' slot ≡ Some (phase_of_stage settles.served.stage)
   phase_left = search (rules, get_inserted)
 
-  -- in one piece too
+  -- The bytes get the same answer in one chunk.
   hears : 1 ≤ cfg.conn_max → Hears cfg (read ++ piece) reply fate
   hears some =
       let heard : Says cfg (waiting_state slot []) slot (read ++ piece) reply fate s' = record {
@@ -66,16 +66,16 @@ module _ {cfg : Configuration} {s s' : State} {slot : ℕ} {piece reply : List �
         );
       }
 
-  -- the connection stays open
+  -- The connection stays open.
   pub stays_open : phase_at s' slot ≡ None → ⊥
   stays_open none = let both : Some (phase_of_stage settles.served.stage) ≡ None = sym phase_left ∙ none in cc
 
-  -- so it is where the connection still waits
+  -- If the connection still waits, the request is incomplete.
   pub says_more : phase_at s' slot ≡ Some phase.Waiting
       → (first_request (read ++ piece) ≡ More) × (s' ≡ waiting_state slot (read ++ piece))
   says_more waiting = search (rules, insert_again, phase_left, settles)
 
-  -- where it waits no more, all that was read is told so
+  -- If the connection no longer waits, the request is decided, and all bytes in one chunk get this answer.
   pub says_all : 1 ≤ cfg.conn_max → phase_at s' slot ≢ Some phase.Waiting
       → (first_request (read ++ piece) ≢ More) × Hears cfg (read ++ piece) reply fate
   says_all some other = search (rules, hears, phase_left)

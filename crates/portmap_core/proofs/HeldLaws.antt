@@ -52,7 +52,7 @@ rise_by (x ∷ y ∷ held) each =
     let e : nat_cmp x.slot y.slot ≡ Less = sym (nat_cmp_is x.slot y.slot Less (each 0 x (omega arith))) in
     rw e at (is_sorted-put nat_cmp nat_cmp_total x.slot (connection_held x) (entries_held (y ∷ held)) rest)
 
--- ---- places
+-- ---- indices
 
 none : (q : ℕ) (held : List HeldValue) → All (λ h. q ≢ h.slot) held → tree.find nat_cmp q (entries_held held) ≡ None
 none q [] others = refl
@@ -86,7 +86,7 @@ pub get_found : (slot : ℕ) (held : List HeldValue) (i : ℕ) (d : HeldValue) �
     → tree.get (connections_held held) slot ≡ Some (connection_held (get_or held i d))
 get_found slot held i d are at = rw (← at.same d) (get_at held i d are.rise at.within)
 
--- what a binary search finds
+-- The result of a binary search.
 pub searched : (slot : ℕ) (held : List HeldValue) (r : Result ℕ ℕ) → SlotsRise (entries_held held) → IsSearchInRange r (length held)
     → IsBinarySearchResult (λ h. nat_cmp h.slot slot) held r → MatchResult r (IsAt held slot) (IsGapFor held slot)
 searched slot held (Ok i) rise within is =
@@ -169,7 +169,7 @@ cut_at slot (x ∷ held) (suc i) rise lt here =
     let far : x.slot < (get_or held i x).slot = above x.slot held (parts _ _ rise).0 i x (omega arith) in
     grind (arith, nat_tests, here x, far, cut_at slot held i (behind x held rise) (omega arith) here)
 
--- a slot is opened
+-- A slot opens.
 pub opened_are : (held : List HeldValue) (i : ℕ) (h : HeldValue) → AreHeld held → IsGapFor held h.slot i → IsHeld h
     → AreHeld (insert held i h)
 opened_are held i h are gap keeps = written_are held (insert held i h) h are (put_new held i h gap.within gap.parted)
@@ -180,7 +180,7 @@ pub opened : (held : List HeldValue) (i : ℕ) (h : HeldValue) → AreHeld held 
     → connections_held (insert held i h) ≡ tree.insert (connections_held held) h.slot (connection_held h)
 opened held i h are gap keeps = search (rules, opened_are, put_new, written)
 
--- one that is open changes
+-- An open slot changes.
 pub turned_are : (held : List HeldValue) (i : ℕ) (h : HeldValue) → AreHeld held → IsAt held h.slot i → IsHeld h → AreHeld (set held i h)
 turned_are held i h are at keeps = written_are held (set held i h) h are (put_at held i h are.rise at.within at.same)
     (All-set IsHeld held i h keeps are.each)
@@ -189,7 +189,7 @@ pub turned : (held : List HeldValue) (i : ℕ) (h : HeldValue) → AreHeld held 
     → connections_held (set held i h) ≡ tree.insert (connections_held held) h.slot (connection_held h)
 turned held i h are at keeps = search (rules, put_at, turned_are, written)
 
--- one that is open is freed
+-- An open slot is freed.
 pub freed_are : (held : List HeldValue) (i : ℕ) → AreHeld held → i < length held → AreHeld (remove held i)
 freed_are held i are lt =
     let slot = (get_or held i any_held).slot in
@@ -216,7 +216,7 @@ freed slot held i are at = same _ _ (λ q.
       get_held (remove held i) q (freed_are held i are at.within).rise,
     ))
 
--- to free a free slot changes nothing
+-- Freeing a slot that is not open changes nothing.
 pub freed_none : (slot : ℕ) (m : ConnectionMap) → tree.get m slot ≡ None → m ≡ tree.remove m slot
 freed_none slot m none = same _ _ (λ q. grind (arith, nat_tests, tree.gets, none))
 
@@ -237,7 +237,7 @@ abbrev bytes_kept : Stage → List ℕ
 bytes_kept (stage.Waiting bytes) = bytes
 bytes_kept other = []
 
--- what is held, of its entry
+-- The listed connection of a map entry.
 abbrev response_by : ℕ × Connection → HeldValue
 response_by e = record { slot = e.0; local = e.1.local; phase = phase_of_stage e.1.stage; bytes = bytes_kept e.1.stage }
 
@@ -250,7 +250,7 @@ response_all (x ∷ held) each =
     let first = response_stage x.phase x.bytes (All-head IsHeld x held each) in
     λ i. record { slot = x.slot; local = x.local; phase = first.0 i; bytes = first.1 i } ∷ response_all held (All-tail IsHeld x held each) i
 
--- a map of open connections is told by one list alone
+-- A map of open connections has only one list.
 pub same_held : (held other : List HeldValue) → AreHeld held → AreHeld other → connections_held held ≡ connections_held other → held ≡ other
 same_held held other are be e =
     sym (response_all held are.each) ∙ ap (λ (es : List (ℕ × Connection)). list_map response_by es)

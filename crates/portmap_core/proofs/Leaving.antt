@@ -1,4 +1,4 @@
--- How a name leaves, and that nobody finds it then.
+-- Names that become inactive, and lookups of inactive names.
 use Rattle.std.specs.{List.{AllByRecursion, IsDistinct}, Prelude.{find, map as list_map, not, option_map, ◌==◌, ◌⊎◌}}
 use Rattle.std.specs.Cmp.Lexicographic.{same_text}
 use Rattle.std.proofs.Common.{◌≡◌, ◌≢◌, ℕ, Bool, true, false, List, [], ◌∷◌, ◌++◌, Option, Some, None, refl, sym, ap, subst, ◌∙◌}
@@ -23,7 +23,7 @@ use Rattle.portmap_core.proofs.{LocalPeers.concluded, Shown.answered, Taken.reti
 
 -- ---- a slot's name retires
 
--- what holds of each key holds of that of an element that is found
+-- A property of all keys holds of the key of an element that is found.
 key_found : {X K : Type 0} (P : K → Type 0) (key : X → K) (p : X → Bool) (xs : List X) (x : X) → AllByRecursion P (list_map key xs)
     → find p xs ≡ Some x → P (key x)
 key_found P key p [] x all found = absurd cc
@@ -32,7 +32,7 @@ key_found P key p (y ∷ ys) x all found = elim (cases_Bool (p y)) [
   | inr fails ↦ key_found P key p ys x all.1 (rw fails at found)
 ]
 
--- where no two keys are the same, what is found is found by its key
+-- If all keys are distinct, an element that is found is found by its key too.
 found_by_key : {X : Type 0} (key : X → ℕ) (p : X → Bool) (xs : List X) (x : X) → IsDistinct ◌==◌ (list_map key xs) → find p xs ≡ Some x
     → find (λ y. key y == key x) xs ≡ Some x
 unfolding IsDistinct
@@ -86,7 +86,7 @@ stops_retire cfg s s' name row reply fate owned relaxed t found =
           (slot_retires cfg.known_max s.names owned.names name row found),
     )
 
--- ---- a name that is not active is so until it is registered
+-- ---- an inactive name stays inactive until it is registered
 
 abbrev Absent : List ℕ → Names → Type 0
 Absent name names = active_row name names ≡ None
@@ -102,7 +102,7 @@ other_registers known_max names row {name} other absent =
 is_near : (local : Bool) → not local ≡ false → local ≡ true
 is_near local e = search rules
 
--- what is served keeps it so, but for its registration
+-- A result keeps the name inactive, unless it registers the name.
 module _ (name : List ℕ) (cfg : Configuration) (names : Names) (local : Bool) (slot : ℕ) where
   abbrev Spares : Request → Served → Type 0
   Spares request o = ((g : Node) → request ≡ Alive g → local ≡ true → o.fate ≡ Stay → g.name ≢ name) → Absent name names
@@ -122,7 +122,7 @@ module _ (name : List ℕ) (cfg : Configuration) (names : Names) (local : Bool) 
   served_spares Kill creation = λ _ absent. search rules
   served_spares (Stop other) creation = λ _ absent. search (rules, retired_at_none)
 
--- and so does each step
+-- A transition keeps the name inactive, unless it registers the name.
 module _ (name : List ℕ) (cfg : Configuration) (s s' : State) where
   abbrev NoneTakes : Type 0
   NoneTakes = (g : Node) (reply : List ℕ) → IsReplied cfg s (Alive g) reply Stay s' → g.name ≢ name
@@ -138,11 +138,11 @@ module _ (name : List ℕ) (cfg : Configuration) (s s' : State) where
           → Absent name s'.names
       by (Waiting received) waits response =
           out (outcome_of s slot says.connection response.served) response.outcome
-              (sight (first_request (received ++ piece)) refl response.response)
+          (sight (first_request (received ++ piece)) refl response.response)
         where
           sight : (x : Framing) → first_request (received ++ piece) ≡ x
               → ServesReceived cfg s.names says.connection.local slot (received ++ piece) x response.served
-                  → Absent name response.served.names
+              → Absent name response.served.names
           sight More whole is = rw is absent
           sight Zero whole is = rw is absent
           sight (TooLarge n) whole is = rw is absent

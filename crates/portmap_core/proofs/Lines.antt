@@ -1,4 +1,4 @@
--- The lines of a list so far, with one more.
+-- The lines of a list, with one more line.
 use Rattle.std.specs.{List.flat_map, Prelude.slice_get}
 use Rattle.std.proofs.Common.{◌≡◌, ℕ, ◌+◌, ◌<◌, List, [], ◌++◌, length, map, get_or, take, Some, None, refl}
 use Rattle.std.proofs.{Common.{append_assoc, rules}, lemmas.Grind.flat_map-append, lemmas.List.{append-nil, map_more}}
@@ -16,6 +16,6 @@ module _ {X L : Type 0} (line : L → List ℕ) (f : X → L) (xs : List X) (i :
       → after ≡ base ++ flat_map line (map f (take (i + 1) xs))
   with_line base so_far is = search (rules, append_assoc, one_more)
 
--- where a list goes on, something stands
+-- An index below the length has an element.
 pub not_past : {X : Type 0} (xs : List X) (i : ℕ) → i < length xs → slice_get xs i ≡ None → ⊥
 not_past xs i lt e = search (rules, slice_get_cases)

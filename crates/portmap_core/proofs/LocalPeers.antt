@@ -1,4 +1,4 @@
--- Which result a local peer's registration is refused with, and where its KILL ends the port mapper.
+-- The results of refused local registrations, and the condition under which a local KILL ends the port mapper.
 use Rattle.std.specs.Prelude.{codes, is_some, length, ◌==◌, ◌||◌}
 use Rattle.std.proofs.Common.{◌≡◌, ℕ, Bool, true, List, refl, sym, ap, ◌∙◌, rules}
 use Rattle.std.proofs.{lemmas.Bool.{le-leb, ne_eqb, or_parts}, lemmas.List.nil_from_length}
@@ -9,7 +9,7 @@ use Rattle.portmap_core.specs.{Laws.{KillsEnd, NewNamesWantRoom, refusal}, Servi
 use Rattle.portmap_core.specs.{State.State, Step.{Effect, outcome_of}, declared.event.Fate.Fate}
 use Rattle.portmap_core.proofs.{Shown.completed, Waits.said}
 
--- what comes of a request that is told one thing whatever creation it would have
+-- The effect of a request whose result does not depend on the creation.
 pub concluded : {cfg : Configuration} {s s' : State} {request : Request} {reply : List ℕ} {fate : Fate}
     (t : IsReplied cfg s request reply fate s') (o : Served) → ((creation : ℕ) → served cfg s.names true t.slot request creation ≡ o)
     → said reply fate s' ≡ outcome_of s t.slot t.connection o

@@ -1,4 +1,4 @@
--- What a registration leaves of plain lists.
+-- The plain lists of names after a registration.
 use Rattle.std.specs.Prelude.{◌&&◌, ◌||◌, nat_le, find, position, is_some}
 use Rattle.std.proofs.Common.{◌≡◌, ℕ, Bool, true, false, cond, List, [], ◌∷◌, ◌++◌, Option, Some, None, refl, rules}
 use Rattle.portmap_table.specs.Rows.{Names, RetiredName, is_active, known_len, registered, with_room, without_oldest}

@@ -1,4 +1,4 @@
--- Each step keeps that every active name belongs to exactly one open connection, which holds it.
+-- Each transition keeps that every active name belongs to exactly one open connection, which holds it.
 use Rattle.std.specs.{Cmp.nat_cmp_total, Ordering.nat_cmp, Prelude.{is_some, ◌==◌, position}}
 use Rattle.std.proofs.Common.{◌≡◌, ◌≢◌, ℕ, ◌+◌, ◌-◌, ◌<◌, ◌≤◌, Bool, true, false, cond, List, [], ◌++◌, Option, Some}
 use Rattle.std.proofs.{Common.{None, refl, sym, ap, subst, ◌∙◌, arith, inl, inr, rules}, lemmas.Bool.cases_eq}
@@ -32,13 +32,13 @@ none_free b o e h = subst (λ (y : Option Connection). IsSlotFor b y) e h
 abbrev AreSlotsFor : rows.Names → ConnectionMap → Type 0
 AreSlotsFor names connections = (q : ℕ) → IsSlotFor (owns_name q names) (map.get connections q)
 
--- no slot but one gets or loses a name
+-- Only `slot` gains or loses a name.
 record Turns (names after : rows.Names) (connections : ConnectionMap) (slot : ℕ) : Type 0 where
   others : (q : ℕ) → q ≢ slot → owns_name q after ≡ owns_name q names
   all : AreSlotsFor names connections
 
 module _ {names after : rows.Names} {connections : ConnectionMap} {slot : ℕ} (turns : Turns names after connections slot) where
-  -- and no other slot is written
+  -- Only `slot` is written.
   slots_by : (m : ConnectionMap) → ((q : ℕ) → q ≢ slot → map.get m q ≡ map.get connections q)
       → IsSlotFor (owns_name slot after) (map.get m slot) → AreSlotsFor after m
   slots_by m same here = λ q. elim (cases_eq q slot) [
@@ -46,20 +46,20 @@ module _ {names after : rows.Names} {connections : ConnectionMap} {slot : ℕ} (
     | inr ne ↦ rw (turns.others q ne, same q ne) (turns.all q)
   ]
 
-  -- a connection is written
+  -- A connection is written.
   slots_with : (connection : Connection) → IsSlotFor (owns_name slot after) (Some connection)
       → AreSlotsFor after (map.insert connections slot connection)
   slots_with connection here = search (rules, put_other, put_same, slots_by)
 
-  -- a connection goes
+  -- A connection is removed.
   slots_without : owns_name slot after ≡ false → AreSlotsFor after (map.remove connections slot)
   slots_without here = search (rules, cut_other, cut_same, slots_by)
 
--- no name changes
+-- No name changes.
 stays : (names : rows.Names) {connections : ConnectionMap} (slot : ℕ) → AreSlotsFor names connections → Turns names names connections slot
 stays names slot all = record { others = λ q ne. refl; all = all }
 
--- ---- how many are open
+-- ---- the number of open connections
 
 len_open : (connections : ConnectionMap) (slot : ℕ) (connection here : Connection) → map.get connections slot ≡ Some here
     → map.len (map.insert connections slot connection) ≡ map.len connections
@@ -87,9 +87,9 @@ owned_empty cfg = record {
   slots = λ q. rw (map.get-empty nat_cmp q) refl;
 }
 
--- ---- what a request does
+-- ---- requests
 
--- a name's registration ends
+-- The registration of a name ends.
 module _ {cfg : Configuration} {s : State} (owned : IsOwned cfg s) (owner : ℕ) where
   gone : owns_name owner (retired_of owner s.names) ≡ false
   gone = owns_retired owner s.names owned.names.owners
@@ -100,7 +100,7 @@ module _ {cfg : Configuration} {s : State} (owned : IsOwned cfg s) (owner : ℕ)
   kept_names : AreKept cfg.known_max (retired_of owner s.names)
   kept_names = kept_retired cfg.known_max s.names (position (λ row. row.slot == owner) s.names.active) owned.names
 
-  -- wherever its connection is
+  -- The slots agree, whether its connection is open or not.
   ended_slots : (o : Option Connection) → map.get s.connections owner ≡ o
       → AreSlotsFor (retired_of owner s.names) (ended_at owner o s.connections)
   ended_slots None e = slots_by retires s.connections (λ q ne. refl) (rw e gone)
@@ -113,15 +113,15 @@ ended_len connections owner o e = search (rules, len_open)
 waiting_free : (b : Bool) (o : Option Connection) (w : WaitsAt) → o ≡ Some w.connection → IsSlotFor b o → b ≡ false
 waiting_free b o w here h = search rules
 
--- a connection that waits
+-- A waiting connection.
 module _ (w : WaitsAt) (owned : IsOwned w.config w.state) where
   open w use {config as cfg, state as s, slot, connection}
 
-  -- it owns no name
+  -- The connection owns no name.
   free : owns_name slot s.names ≡ false
   free = waiting_free (owns_name slot s.names) (map.get s.connections slot) w w.is_open (owned.slots slot)
 
-  -- it stays without one, at any other stage that fits
+  -- The connection may take any stage that fits a slot without a name.
   stays_owned : (stage : Stage) (halted : Bool) → IsStageFor false connection.local stage
       → IsOwned cfg (state_of s.names (map.insert s.connections slot (at_stage connection stage)) halted)
   stays_owned stage halted fits = record {
@@ -164,7 +164,7 @@ module _ (w : WaitsAt) (owned : IsOwned w.config w.state) where
         slots = slots_with (stays (retired_of owner s.names) slot ends) (at_stage connection Done) still;
       }
 
-  -- what is told keeps it, where a connection that is to hold its name may take its creation
+  -- The result keeps the invariant if a connection that is to hold its name may have its creation.
   abbrev KeepsBy : Type 0 → Served → Type 0
   KeepsBy P o = (o.stage ≡ Holding → P) → IsOwned cfg (settled s slot connection o)
 
@@ -184,7 +184,7 @@ module _ (w : WaitsAt) (owned : IsOwned w.config w.state) where
   served_owned (Stop name) creation = search (rules, closed_owned, stop_owned)
   served_owned (Alive g) creation = search (rules, closed_owned, keeps_by, local_owned, register_owned)
 
-  -- ---- what a piece does
+  -- ---- chunks
 
   sight_owned : (received : List ℕ) (o : Served) → ServesReceived cfg s.names connection.local slot received (first_request received) o
       → IsOwned cfg (settled s slot connection o)
@@ -194,7 +194,7 @@ module _ (w : WaitsAt) (owned : IsOwned w.config w.state) where
 by_outcome : (cfg : Configuration) (o p : Effect) → o ≡ p → IsOwned cfg p.state → IsOwned cfg o.state
 by_outcome cfg o p e owned = subst (λ (x : Effect). IsOwned cfg x.state) (sym e) owned
 
--- a connection that is open
+-- An open connection.
 module _ {cfg : Configuration} {s : State} (owned : IsOwned cfg s) (slot : ℕ) {connection : Connection}
     (here : map.get s.connections slot ≡ Some connection) where
   abbrev waits : (received : List ℕ) → connection.stage ≡ Waiting received → WaitsAt

@@ -22,9 +22,9 @@ use Rattle.portmap_core.specs.{declared.connection.Connection.Connection, declar
 use Rattle.portmap_core.specs.{declared.event.Fate.{Fate, TheVariants.{Close, Stay}}}
 use Rattle.portmap_core.proofs.{LocalPeers.active_names_are_taken, Shown.active_names_are_found, Waits.{WaitsAt, said, settles_at}}
 
--- ---- a name that is active stays so
+-- ---- an active name stays active
 
--- what is found first is found still where another element is gone
+-- The first match is still found after another element is removed.
 module _ {X : Type 0} (p : X → Bool) (x y : X) where
   find_without : (xs : List X) (at : ℕ) → slice_get xs at ≡ Some y → find p xs ≡ Some x → y ≢ x → find p (remove xs at) ≡ Some x
   find_without [] at there found other = absurd cc
@@ -37,7 +37,7 @@ module _ {X : Type 0} (p : X → Bool) (x y : X) where
     | inr fails ↦ rw fails (find_without xs at there (rw fails at found) other)
   ]
 
--- and where one comes behind
+-- The first match is still found after elements are appended.
 find_more : {X : Type 0} (p : X → Bool) (xs ys : List X) (x : X) → find p xs ≡ Some x → find p (xs ++ ys) ≡ Some x
 find_more p xs ys x found = rw (find-append p xs ys, found) refl
 
@@ -47,7 +47,7 @@ Stays name row names after = active_row name names ≡ Some row → active_row n
 same : (name : List ℕ) (row : Row) (names : Names) → Stays name row names names
 same name row names found = found
 
--- a name retires that is another slot's
+-- A name of another slot retires.
 retired_last_stays : (name : List ℕ) (row : Row) (names : Names) (at : ℕ) (o : Option Row) → slice_get names.active at ≡ o
     → ((y : Row) → o ≡ Some y → y ≢ row) → Stays name row names (retired_last at o names)
 retired_last_stays name row names at None e other found = found
@@ -70,14 +70,14 @@ retires_stay : (name : List ℕ) (row : Row) (names : Names) (slot : ℕ) → sl
 retires_stay name row names slot other =
     retired_at_stays name row names slot (position (λ (r : Row). eqb r.slot slot) names.active) refl other
 
--- another name registers
+-- Another name registers.
 registers_stay : (name : List ℕ) (row : Row) (known_max : ℕ) (names : Names) (slot : ℕ) (g : Node) (creation : ℕ)
     → Stays name row names (registered g creation slot (with_room known_max g.name names))
 registers_stay name row known_max names slot g creation found =
     find_more (has_name name) (with_room known_max g.name names).active (record { reg = g; creation = creation; slot = slot } ∷ []) row
     (rw (active_names_stay known_max names g.name) found)
 
--- what is told does so, but for STOPPED
+-- A result other than STOPPED keeps the name active.
 abbrev StaysBy : List ℕ → Row → Names → Served → Type 0
 StaysBy name row names o = (o.reply ≡ codes "STOPPED" → ⊥) → Stays name row names o.names
 
@@ -117,7 +117,7 @@ names_stay cfg (e ∷ es) s s' name row run found none =
 
 -- ---- a registration that succeeds
 
--- what is served of a request that is whole
+-- The result of a complete request.
 serves_at : {cfg : Configuration} {s s' : State} {slot : ℕ} {connection : Connection} {body reply : List ℕ}
     (c : Completes cfg s slot connection body reply s') (request : Request) → Spells body request
     → (o : Served) × Serves cfg s.names connection.local slot request o × (said reply c.fate s' ≡ outcome_of s slot connection o)
@@ -132,7 +132,7 @@ serves_at {cfg} {s} {s'} {slot} {connection} {body} {reply} c request spells =
         subst (λ (r : Request). Serves cfg s.names connection.local slot r o) (one_request body p.request request p.spells spells) p.serves
     by o (inr p) = absurd (p.malformed request spells)
 
--- what is served of a local registration, with its creation
+-- The result of a local registration, with its creation.
 serves_alive : {cfg : Configuration} {s s' : State} {g : Node} {reply : List ℕ} {fate : Fate} (t : IsReplied cfg s (Alive g) reply fate s')
     → (creation : ℕ)
     × ((alive_served cfg s.names t.slot g creation).stage ≡ Holding → IsLegalCreation g.high (remembered g.name s.names) creation)
@@ -140,7 +140,7 @@ serves_alive : {cfg : Configuration} {s s' : State} {g : Node} {reply : List ℕ
 serves_alive {cfg} {s} {s'} {g} {reply} {fate} t =
     let (o, serves, is) = serves_at t.completes (Alive g) t.spells in
     let response : served cfg s.names t.connection.local t.slot (Alive g) serves.creation
-        ≡ alive_served cfg s.names t.slot g serves.creation =
+    ≡ alive_served cfg s.names t.slot g serves.creation =
     ap (λ (b : Bool). served cfg s.names b t.slot (Alive g) serves.creation) t.local in
     let same : o ≡ alive_served cfg s.names t.slot g serves.creation = serves.is ∙ response in (
       serves.creation,
@@ -151,7 +151,7 @@ serves_alive {cfg} {s} {s'} {g} {reply} {fate} t =
 second : {X : Type 0} (b : Bool) (x y : X) → b ≡ false → cond b x y ≡ y
 second b x y e = search rules
 
--- the name is active then
+-- The registered name is active.
 becomes_active : (known_max : ℕ) (names : Names) (slot : ℕ) (g : Node) (creation : ℕ) → is_active g.name names ≡ false
     → active_row g.name (registered g creation slot (with_room known_max g.name names))
     ≡ Some (record { reg = g; creation = creation; slot = slot })
@@ -159,7 +159,7 @@ becomes_active known_max names slot g creation new =
     registered_names_are_active (with_room known_max g.name names) g creation slot
     (rw (active_names_stay known_max names g.name) new)
 
--- where it registers
+-- A free name registers.
 registers_so : {cfg : Configuration} {s s' : State} {g : Node} {reply : List ℕ} {fate : Fate} (t : IsReplied cfg s (Alive g) reply fate s')
     → is_active g.name s.names ≡ false → is_full_for cfg.known_max g.name s.names ≡ false
     → (creation : ℕ) × IsLegalCreation g.high (remembered g.name s.names) creation × (reply ≡ alive_reply g.high 0 creation) × (fate ≡ Stay)
@@ -180,7 +180,7 @@ registers_so {cfg} {s} {s'} {g} {reply} {fate} t new room =
 first : {X : Type 0} (b : Bool) (x y : X) → b ≡ true → cond b x y ≡ x
 first b x y e = search rules
 
--- who is told to stay has registered
+-- A registration with fate `Stay` has succeeded.
 took : {cfg : Configuration} {s s' : State} {g : Node} {reply : List ℕ} (t : IsReplied cfg s (Alive g) reply Stay s')
     → (creation : ℕ) × (active_row g.name s'.names ≡ Some (record { reg = g; creation = creation; slot = t.slot }))
 took {cfg} {s} {s'} {g} {reply} t =

@@ -1,4 +1,4 @@
--- Names after a run and after a malformed request, and what is seen of a request that was written.
+-- Names after a run and after a malformed request, and the framing of a written request.
 use Rattle.std.specs.Prelude.{◌==◌}
 use Rattle.std.proofs.Common.{◌≡◌, ℕ, ◌+◌, ◌<◌, ◌≤◌, Bool, true, List, [], ◌∷◌, ◌++◌, length, Option, Some, refl, sym}
 use Rattle.std.proofs.{Common.{subst, arith, length-append, rules}, Math.Seq.take-append_seam}
@@ -18,12 +18,12 @@ use Rattle.portmap_core.proofs.Owned.{owned_empty, steps_keep}
 -- ---- names after a run
 
 module _ (cfg : Configuration) where
-  -- a run behind a run
+  -- Two runs join into one run.
   pub runs_join : (es fs : List Entry) (s mid s' : State) → Run cfg s es mid → Run cfg mid fs s' → Run cfg s (es ++ fs) s'
   runs_join [] fs s mid s' run more = subst (λ (x : State). Run cfg x fs s') run more
   runs_join (e ∷ es) fs s mid s' run more = (run.0, run.1, runs_join es fs run.0 mid s' run.2 more)
 
-  -- one step behind it
+  -- A run with one more transition is a run.
   pub run_more : (es : List Entry) (e : Entry) (s mid s' : State) → Run cfg s es mid → Step cfg mid e s' → Run cfg s (es ++ e ∷ []) s'
   run_more es e s mid s' run step = runs_join es (e ∷ []) s mid s' run (s', step, refl)
 
@@ -51,7 +51,7 @@ names_belong cfg es s is run = belongs cfg s (run_owned cfg es _ s (owned_empty 
 pub malformed_keeps : MalformedChangesNoName
 malformed_keeps cfg s s' slot connection received piece reply fate here stage bad says = search rules
 
--- ---- a request that was written
+-- ---- written requests
 
 length-fields : (g : Node) → length (fields g) ≡ 12 + length g.name + length g.extra
 length-fields g = omega (arith, length-append (g.name ++ be2 (length g.extra)) g.extra, length-append g.name (be2 (length g.extra)))
@@ -59,7 +59,7 @@ length-fields g = omega (arith, length-append (g.name ++ be2 (length g.extra)) g
 body_len : (r : Request) → IsRequest r → (0 < length (body_of r)) × (length (body_of r) ≤ BODY_MOST)
 body_len r is = search (rules, length-fields)
 
--- a body behind its length
+-- The framing of a body after its length.
 whole_behind : (body more : List ℕ) (n : ℕ) → n ≡ length body → 0 < length body → length body ≤ BODY_MOST
     → sight_behind n (body ++ more) ≡ Whole body
 whole_behind body more n e some small = search (rules, length-append, take-append_seam)

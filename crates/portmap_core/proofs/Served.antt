@@ -1,4 +1,4 @@
--- What is served, as the code tells it before anything is changed.
+-- The response that the code computes before any change is a correct result.
 use Rattle.std.specs.Prelude.{IfOk, if◌then◌else◌}
 use Rattle.std.proofs.Common.{◌≡◌, ℕ, Bool, true, false, cond, List, Option, Some, None, sym, ap, subst, ◌∙◌, inl, inr}
 use Rattle.std.proofs.{Common.{Result, rules}, lemmas.Result.IfOk-weaker}
@@ -21,7 +21,7 @@ use Rattle.portmap_core.specs.{declared.event.Fate.TheVariants.{Close, Stay}, de
 use Rattle.portmap_core.specs.declared.serve.Response.{Response}
 use Rattle.portmap_core.specs.declared.connection.Phase.TheVariants as phase
 
--- ---- a registration, by how its name stands
+-- ---- a registration, by the status of its name
 
 second : {X : Type 0} (b : Bool) (x y : X) → b ≡ false → cond b x y ≡ y
 second b x y e = search rules
@@ -32,7 +32,7 @@ stands taken full last = if taken then how.Active else if full then how.NoRoom e
 -- ---- a request
 
 module _ (cfg : Configuration) (names : Names) (local : Bool) (slot : ℕ) where
-  -- so is the body that spells it
+  -- The results of a request are the results of the body that spells it.
   all_spelled : {wanted : Option ℕ} {o : Served} (body : List ℕ) (request : Request) → Spells body request
       → IsOnlyResponse (Serves cfg names local slot request) wanted o → IsOnlyResponse (ServesBody cfg names local slot body) wanted o
   all_spelled body request spells all = record {
@@ -45,18 +45,18 @@ module _ (cfg : Configuration) (names : Names) (local : Bool) (slot : ℕ) where
   }
 
 module _ {E : Type 0} (asked : RequestContext) where
-  -- where it is local, as one that is
+  -- A response for a local peer is a response for this peer, which is local.
   pub near : (request : Request) (result : Result Response E) → asked.local ≡ true
       → RespondsAtAnySlot asked result (λ cfg names slot. Serves cfg names true slot request)
       → RespondsAtAnySlot asked result (λ cfg names slot. Serves cfg names asked.local slot request)
   near request result e h =
       subst (λ (l : Bool). RespondsAtAnySlot asked result (λ cfg names slot. Serves cfg names l slot request)) (sym e) h
 
--- a registration for which there is no room
+-- A registration for which there is no room.
 is_full : (taken full : Bool) (last : Option ℕ) → stands taken full last ≡ how.NoRoom → (taken ≡ false) × (full ≡ true)
 is_full taken full last e = search rules
 
--- what is told so
+-- The response refuses a registration for lack of room.
 pub record Refuses (asked : RequestContext) (g : Node) (response : Response) : Type 0 where
   pub stands : name_status asked.config.known_max g.name asked.table.now.names ≡ how.NoRoom
   pub text : response.reply.items ≡ alive_reply g.high 2 0
@@ -87,7 +87,7 @@ no_room {asked} {g} {response} r bytes =
       chosen = subst (IsChosen cfg.port asked.table.now asked.wanted response.reply.items) (sym r.change) tt;
     }
 
--- a registration of a name that is free
+-- A registration of a free name.
 module _ (asked : RequestContext) (g : Node) {last : Option ℕ}
     (stands : name_status asked.config.known_max g.name asked.table.now.names ≡ how.Free last) where
   frees : (is_active g.name asked.table.now.names ≡ false) × (is_full_for asked.config.known_max g.name asked.table.now.names ≡ false)
@@ -125,7 +125,7 @@ responds_to_spelled asked body request result spells =
     let cfg = asked.config in
     let names = asked.table.now.names in
     IfOk-weaker result (λ response. (bytes : List ℕ)
-        → IsResponseAtAnySlot (λ slot. Serves cfg names asked.local slot request) asked bytes response)
+    → IsResponseAtAnySlot (λ slot. Serves cfg names asked.local slot request) asked bytes response)
     (λ response. (bytes : List ℕ) → IsResponseAtAnySlot (λ slot. ServesBody cfg names asked.local slot body) asked bytes response)
     (λ response h bytes. record {
       all = λ slot. all_spelled cfg names asked.local slot body request spells ((h bytes).all slot);
@@ -133,13 +133,13 @@ responds_to_spelled asked body request result spells =
       chosen = (h bytes).chosen;
     })
 
--- ---- all that was sent
+-- ---- all bytes received
 
 pub responds_to_whole : {E : Type 0} (asked : RequestContext) (received body : List ℕ) (sight : Framing) (result : Result Response E)
     → Some body ≡ body_in sight
     → RespondsAtAnySlot asked result (λ cfg names slot. ServesBody cfg names asked.local slot body)
     → IfOk result (λ response. IsResponseAtAnySlot
-        (λ slot. ServesReceived asked.config asked.table.now.names asked.local slot received sight) asked received response)
+    (λ slot. ServesReceived asked.config asked.table.now.names asked.local slot received sight) asked received response)
 responds_to_whole asked received body More result is = absurd cc
 responds_to_whole asked received body Zero result is = absurd cc
 responds_to_whole asked received body (TooLarge n) result is = absurd cc
@@ -148,12 +148,12 @@ responds_to_whole asked received body (Whole whole) result is =
     let cfg = asked.config in
     let names = asked.table.now.names in
     IfOk-weaker result (λ response. (bytes : List ℕ)
-        → IsResponseAtAnySlot (λ slot. ServesBody cfg names asked.local slot body) asked bytes response)
+    → IsResponseAtAnySlot (λ slot. ServesBody cfg names asked.local slot body) asked bytes response)
     (λ response. IsResponseAtAnySlot (λ slot. ServesReceived cfg names asked.local slot received (Whole whole)) asked received response)
     (λ response h. subst (λ (b : List ℕ). IsResponseAtAnySlot (λ slot. ServesBody cfg names asked.local slot b) asked received response) one
-        (h received))
+    (h received))
 
--- what a feed keeps of it tells as much
+-- The bytes that a feed keeps have the results of all bytes.
 module _ (cfg : Configuration) (names : Names) {near local : Bool} (alike : near ≡ local) (slot : ℕ) where
   pub all_kept : {wanted : Option ℕ} {o : Served} (feed all : List ℕ) → feed ≡ kept all
       → IsOnlyResponse (ServesReceived cfg names near slot feed (first_request feed)) wanted o

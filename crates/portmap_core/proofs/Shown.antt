@@ -1,4 +1,4 @@
--- What any host is told of active names, and that other hosts are told nothing else.
+-- Replies about active names for any host, and the silence to all other requests of remote peers.
 use Rattle.std.specs.{List.flat_map, Prelude.{find, option_map, map as list_map}}
 use Rattle.std.proofs.Common.{◌≡◌, ℕ, Bool, true, false, cond, List, [], ◌∷◌, ◌++◌, Option, Some, ap, ◌∙◌, append_assoc}
 use Rattle.std.proofs.{Common.{inl, inr, rules}, lemmas.Option.same_Some}
@@ -14,7 +14,7 @@ use Rattle.portmap_core.specs.{Serving.{Served, ServesBody, names_line_of, serve
 use Rattle.portmap_core.specs.{Step.{Effect, outcome_of}, declared.connection.Connection.Connection}
 use Rattle.portmap_core.proofs.Waits.{WaitsAt, said, settles_at}
 
--- ---- what a request is told that is whole
+-- ---- results of a complete request
 
 module _ (cfg : Configuration) (names : Names) (local : Bool) (slot : ℕ) where
   spelled : (body : List ℕ) (request : Request) (o : Served) → Spells body request → ServesBody cfg names local slot body o
@@ -26,7 +26,7 @@ module _ (cfg : Configuration) (names : Names) (local : Bool) (slot : ℕ) where
   )
   spelled body request o spells (inr p) = absurd (p.malformed request spells)
 
--- and what comes of it
+-- The effect of a complete request.
 pub completed : {cfg : Configuration} {s s' : State} {slot : ℕ} {connection : Connection} {body reply : List ℕ}
     (c : Completes cfg s slot connection body reply s') (request : Request) → Spells body request
     → (creation : ℕ) × (said reply c.fate s' ≡ outcome_of s slot connection (served cfg s.names connection.local slot request creation))
@@ -49,14 +49,14 @@ active_names_are_found cfg s s' slot connection body reply name row c spells act
 
 -- ---- lines
 
--- a text has this part
+-- `part` is a part of `text`.
 abbrev HasPart : List ℕ → List ℕ → Type 0
 HasPart text part = (before : List ℕ) × (after : List ℕ) × (text ≡ before ++ part ++ after)
 
 part_behind : (front text part : List ℕ) → HasPart text part → HasPart (front ++ text) part
 part_behind front text part h = (front ++ h.0, h.1, ap (λ (t : List ℕ). front ++ t) h.2 ∙ simp append_assoc)
 
--- what is found in a list has its line in the text of the list
+-- An element that is found in a list has its line in the text of the list.
 has_line : {X L : Type 0} (p : X → Bool) (line : L → List ℕ) (f : X → L) (xs : List X) (x : X) → find p xs ≡ Some x
     → HasPart (flat_map line (list_map f xs)) (line (f x))
 has_line p line f [] x e = absurd cc
@@ -81,7 +81,7 @@ active_names_are_listed cfg s s' slot connection body reply name row c spells ac
 pub lists_are_exact : ListsAreExact
 lists_are_exact cfg s s' slot connection body reply c spells = (answered c request.Names spells).1
 
--- ---- other hosts
+-- ---- remote peers
 
 pub remote_peers_may_only_look_up : RemotePeersMayOnlyLookUp
 remote_peers_may_only_look_up cfg s s' slot connection piece reply fate here far says = search rules

@@ -16,7 +16,7 @@ same_key q = ap is_eq (sym (nat_cmp_is q q Equal refl))
 pub other_key : (q k : ℕ) → q ≢ k → eq_by_cmp nat_cmp q k ≡ false
 other_key q k ne = grind (arith, nat_tests, ne)
 
--- what is at a slot
+-- No entry is at a slot below the first.
 before : (j q : ℕ) (slots : List (Option Connection)) → q < j → map.find nat_cmp q (entries_from j slots) ≡ None
 before j q [] lt = refl
 before j q (None ∷ slots) lt = before (j + 1) q slots (omega arith)
@@ -32,11 +32,11 @@ at_slot j (suc k) q (Some connection ∷ slots) e = grind (arith, nat_tests, at_
 pub get-connections : (slots : List (Option Connection)) (k : ℕ) → map.get (connections_of slots) k ≡ get_or slots k None
 get-connections slots k = map.get-from_entries nat_cmp_total (entries_from 0 slots) k ∙ at_slot 0 k k slots (omega arith)
 
--- a map is what it has at each key
+-- Two maps are equal if they agree at each key.
 pub same : (m n : ConnectionMap) → ((q : ℕ) → map.get m q ≡ map.get n q) → m ≡ n
 same m n h = map.same_map nat_cmp_total nat_cmp-IsAntisymmetric m n h
 
--- what insert and remove leave at a key
+-- The values at a key after an insertion and a removal.
 pub put_same : (m : ConnectionMap) (k q : ℕ) (connection : Connection) → q ≡ k → map.get (map.insert m k connection) q ≡ Some connection
 put_same m k q connection e = grind (arith, nat_tests, map.get-insert nat_cmp_total m k connection q)
 
@@ -49,7 +49,7 @@ cut_same m k q e = grind (arith, nat_tests, map.get-remove nat_cmp_total m k q)
 pub cut_other : (m : ConnectionMap) (k q : ℕ) → q ≢ k → map.get (map.remove m k) q ≡ map.get m q
 cut_other m k q ne = grind (arith, nat_tests, map.get-remove nat_cmp_total m k q)
 
--- a slot of a slab is written, and one is freed
+-- Writing a slot of the slab inserts into the map. Freeing a slot removes from the map.
 pub connections_put : (old new : Slab Connection) (k : ℕ) (connection : Connection) → Updates old new k (Some connection)
     → connections_of new.slots ≡ map.insert (connections_of old.slots) k connection
 connections_put old new k connection updates =
@@ -59,12 +59,12 @@ pub connections_cut : (old new : Slab Connection) (k : ℕ) → Updates old new 
     → connections_of new.slots ≡ map.remove (connections_of old.slots) k
 connections_cut old new k updates = same _ _ (λ q. grind (arith, nat_tests, map.gets, get-connections, updates.changed, updates.others q))
 
--- a slot is written through a reference
+-- A slot is written through a reference.
 pub connections-with_value : (s : Slab Connection) (k : ℕ) (connection : Connection) → ContainsKey s k
     → connections_of (with_value s k connection).slots ≡ map.insert (connections_of s.slots) k connection
 connections-with_value s k connection here = connections_put s _ k connection (Updates-with_value s k connection here)
 
--- entries rise from slot to slot
+-- The slots of the entries rise.
 put_first : (j k : ℕ) (connection : Connection) (slots : List (Option Connection)) → j < k
     → map.put nat_cmp j connection (entries_from k slots) ≡ (j, connection) ∷ entries_from k slots
 put_first j k connection [] lt = refl
@@ -75,7 +75,7 @@ pub none_open : ◌≡◌ {A = ConnectionMap} (map.from_sorted []) map.empty
 none_open = let none : ConnectionMap = map.from_sorted [] in
     map.empty_of_len none (map.len-entries none ∙ ap length (map.entries-from_sorted nat_cmp [] tt))
 
--- so they are the map's own
+-- These entries are the entries of the map.
 pub entries-connections : (j : ℕ) (slots : List (Option Connection))
     → map.entries {R = nat_cmp} (map.from_entries (entries_from j slots)) ≡ entries_from j slots
 entries-connections j [] = ap map.entries (sym none_open) ∙ map.entries-from_sorted nat_cmp [] tt
@@ -85,7 +85,7 @@ entries-connections j (Some connection ∷ slots) =
     ∙ ap (λ (es : List (ℕ × Connection)). map.put nat_cmp j connection es) (entries-connections (j + 1) slots)
     ∙ put_first j (j + 1) connection slots (omega arith)
 
--- how many slots are taken
+-- The number of occupied slots.
 pub len-connections : (slots : List (Option Connection)) → map.len (connections_of slots) ≡ count_by is_some slots
 len-connections slots = map.len-entries (connections_of slots) ∙ ap length (entries-connections 0 slots) ∙ length-entries_from 0 slots
 
@@ -93,11 +93,11 @@ pub ruleset slot_laws = (get-connections, len-connections, entries-connections, 
 
 -- ---- maps of connections
 
--- the last write at a key counts
+-- Of two insertions at a key, the last counts.
 pub insert_again : (m : ConnectionMap) (k : ℕ) (a b : Connection) → map.insert (map.insert m k a) k b ≡ map.insert m k b
 insert_again m k a b = same _ _ (λ q. grind (arith, nat_tests, map.gets))
 
--- to write what is there changes nothing
+-- Inserting the value at a key again changes nothing.
 pub insert_back : (m : ConnectionMap) (k : ℕ) (a : Connection) → map.get m k ≡ Some a → map.insert m k a ≡ m
 insert_back m k a is = same _ _ (λ q. grind (arith, nat_tests, map.gets, is))
 
@@ -110,7 +110,7 @@ got_ended : (owner q : ℕ) (m : ConnectionMap) (o : Option Connection) → map.
 got_ended owner q m None e = grind (arith, nat_tests, e)
 got_ended owner q m (Some connection) e = map.get-insert nat_cmp_total m owner (at_stage connection Done) q
 
--- a slot that is open stays so, with a peer as near
+-- A slot stays open, with the same locality.
 abbrev pub StaysOpen : ConnectionMap → ℕ → Connection → Type 0
 StaysOpen connections slot connection = (found : Connection) × (map.get connections slot ≡ Some found) × (found.local ≡ connection.local)
 
@@ -123,7 +123,7 @@ ended_open connections owner slot o connection e here =
       grind (arith, nat_tests),
     )
 
--- what was written at a slot before another one is stopped does not matter
+-- The value written at a slot before another slot is stopped does not matter.
 pub stopped_alike : (m : ConnectionMap) (stopped : Option ℕ) (slot : ℕ) (a b c : Connection)
     → map.insert (stopped_in stopped (map.insert m slot a)) slot c ≡ map.insert (stopped_in stopped (map.insert m slot b)) slot c
 stopped_alike m None slot a b c = same _ _ (λ q. grind (arith, nat_tests, map.gets))

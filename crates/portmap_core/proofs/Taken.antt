@@ -1,4 +1,4 @@
--- A name that becomes active gets another creation than the one that was remembered for it.
+-- A name that becomes active gets another creation than the creation remembered for it.
 use Rattle.std.specs.Prelude.{find, not, remove, slice_get}
 use Rattle.std.proofs.Common.{◌≡◌, ◌≢◌, ℕ, zero, suc, Bool, List, [], ◌∷◌, Option, Some, None, sym, ap, subst, ◌∙◌, inl}
 use Rattle.std.proofs.{Common.{inr, rules}, lemmas.Bool.{cases_Bool, cond_both}}
@@ -14,12 +14,12 @@ use Rattle.portmap_core.specs.Laws.{TakenCreationsAreNew}
 use Rattle.portmap_core.specs.{Serving.{MayGet, Served, closed, dump_served, if_local, served, stops}, State.State}
 use Rattle.portmap_core.specs.{Step.Step, declared.connection.Stage.TheVariants.Holding}
 
--- each name that becomes active between the two has another creation than was remembered for it
+-- Each name that becomes active from `names` to `after` gets another creation than was remembered for it.
 abbrev TakesNew : Names → Names → Type 0
 TakesNew names after = (name : List ℕ) (row : Row) (last : ℕ) → active_row name names ≡ None → active_row name after ≡ Some row
     → remembered name names ≡ Some last → row.creation ≢ last
 
--- ---- where no name becomes active
+-- ---- no name becomes active
 
 none_new : (names after : Names) → ((name : List ℕ) → active_row name names ≡ None → active_row name after ≡ None) → TakesNew names after
 none_new names after still name row last none some old = λ e. let both : None ≡ Some row = sym (still name none) ∙ some in cc
@@ -27,7 +27,7 @@ none_new names after still name row last none some old = λ e. let both : None �
 stays : (names : Names) → TakesNew names names
 stays names = none_new names names (λ name none. none)
 
--- none passes in a list from which one is gone
+-- If no element matches, none matches after a removal.
 none_without : {X : Type 0} (p : X → Bool) (xs : List X) (at : ℕ) (x : X) → slice_get xs at ≡ Some x → NonePass p xs
     → NonePass p (remove xs at)
 none_without p [] at x e none = absurd cc
@@ -45,7 +45,7 @@ retired_at_none name names o none = search (rules, retired_last_none)
 retires : (names : Names) (slot : ℕ) → TakesNew names (retired_of slot names)
 retires names slot = search (rules, retired_at_none)
 
--- ---- where one does
+-- ---- a name becomes active
 
 takes : (known_max : ℕ) (names : Names) (slot : ℕ) (g : Node) (creation : ℕ) → IsLegalCreation g.high (remembered g.name names) creation
     → TakesNew names (registered g creation slot (with_room known_max g.name names))
@@ -58,9 +58,9 @@ takes known_max names slot g creation legal name row last none some old =
       | inr other ↦ λ e. let both : None ≡ Some row = sym before ∙ sym (find-push_other (has_name name) active new other) ∙ some in cc
     ]
 
--- ---- what is told
+-- ---- results
 
--- what is told does so, where a connection that is to hold its name may take its creation
+-- The result has this property if a connection that is to hold its name may have its creation.
 abbrev TakesBy : Type 0 → Names → Served → Type 0
 TakesBy P names o = (o.stage ≡ Holding → P) → TakesNew names o.names
 
@@ -81,7 +81,7 @@ module _ (cfg : Configuration) (names : Names) (local : Bool) (slot : ℕ) where
   serves_new Kill creation = search rules
   serves_new (Stop name) creation = search (rules, if_near, stops_new)
 
--- ---- every step
+-- ---- transitions
 
 by_names : (names a b : Names) → a ≡ b → TakesNew names b → TakesNew names a
 by_names names a b e h = subst (λ (x : Names). TakesNew names x) (sym e) h

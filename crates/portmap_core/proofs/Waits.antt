@@ -1,4 +1,4 @@
--- A connection that waits in a slot, and what is said of a piece there.
+-- A connection that waits in a slot, and the answer to a chunk there.
 use Rattle.std.proofs.Common.{◌≡◌, ℕ, Bool, List, ◌++◌, Some, rules}
 use Rattle.std.specs.FinMap as map
 use Rattle.portmap_wire.specs.declared.request.Request.{Request}
@@ -12,7 +12,7 @@ use Rattle.portmap_core.specs.{declared.connection.Stage.TheVariants.{Waiting, H
 abbrev pub said : List ℕ → Fate → State → Effect
 said reply fate after = record { reply = reply; fate = fate; state = after }
 
--- a machine in a state, and the connection in a slot, which has sent these bytes
+-- A machine in a state, with a connection in a slot that has sent these bytes.
 pub record WaitsAt : Type 0 where
   pub config : Configuration
   pub state : State
@@ -22,13 +22,13 @@ pub record WaitsAt : Type 0 where
   pub is_open : map.get state.connections slot ≡ Some connection
   pub stage : connection.stage ≡ Waiting received
 
--- of all that it sent
+-- The effect of a chunk is that of all bytes received.
 pub settles_at : (w : WaitsAt) {after : State} {piece reply : List ℕ} {fate : Fate}
     → Says w.config w.state w.slot piece reply fate after
     → Settles w.config w.state w.slot w.connection (w.received ++ piece) (said reply fate after)
 settles_at w {after} {piece} {reply} {fate} says = search rules
 
--- what holds of each answer that may be told holds of what is told
+-- A property of all possible results holds of the actual result.
 module _ (cfg : Configuration) (names : Names) (local : Bool) (slot : ℕ) (P : Served → Type 0) where
   pub response_by : (received : List ℕ) (sight : Framing) (o : Served) → (sight ≡ More → P (awaits names received)) → P (closed names)
       → ((request : Request) (creation : ℕ)
@@ -37,7 +37,7 @@ module _ (cfg : Configuration) (names : Names) (local : Bool) (slot : ℕ) (P : 
       → ServesReceived cfg names local slot received sight o → P o
   response_by received sight o waits refused each response = search rules
 
--- what holds of a state, and where a connection was told something, holds after a piece, and after a time-out
+-- A property of the state and of all results holds after a chunk and after a timeout.
 module _ (P : State → Type 0) where
   pub expires_leads : {s after : State} {slot : ℕ} {fate : Fate} → Expires s slot fate after → P s
       → ((connection : Connection) → P (settled s slot connection (closed s.names))) → P after

@@ -1,4 +1,4 @@
--- What a port mapper is set to: its port and whether its checks are relaxed (epmd(1)), and its limits (profile).
+-- The configuration of a port mapper: its port and relaxed checks (epmd(1)), and its limits (profile).
 use Rattle.std.specs.Prelude.{ℕ, ◌<◌, ◌≤◌, ◌^◌, Bool, Result, Ok, Err, nat_lt, ◌==◌, if◌then◌else◌}
 use Rattle.portmap_core.specs.declared.config.ConfigFault.{ConfigFault}
 use Rattle.portmap_core.specs.declared.config.ConfigFault.TheVariants.{TooManyConnections, TooManyNames}
@@ -11,7 +11,7 @@ pub record Configuration : Type 0 where
   pub conn_max : ℕ
   pub known_max : ℕ
 
--- a limit is 1 to 65,535
+-- Both limits are 1 to 65,535.
 pub record IsConfiguration (cfg : Configuration) : Type 0 where
   pub port : cfg.port < 2 ^ 16
   pub some_connections : 1 ≤ cfg.conn_max
@@ -19,7 +19,7 @@ pub record IsConfiguration (cfg : Configuration) : Type 0 where
   pub some_names : 1 ≤ cfg.known_max
   pub names : cfg.known_max ≤ LIMIT_MOST
 
--- the configuration of these values, or the first limit that is out of its range
+-- The configuration of these values, or the first limit that is out of range.
 abbrev pub configured : ℕ → Bool → ℕ → ℕ → Result Configuration ConfigFault
 configured port relaxed conn_max known_max =
     if conn_max == 0 then Err ZeroConnections

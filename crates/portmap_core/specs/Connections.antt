@@ -8,26 +8,25 @@ use Rattle.portmap_core.specs.declared.connection.Stage.{Stage, TheVariants.{Don
 abbrev pub ConnectionMap : Type 0
 ConnectionMap = map.FinMap nat_cmp Connection
 
--- the connections in slots, which are numbered from 0
+-- The connections in a list of slots, which are numbered from 0.
 abbrev pub connections_of : List (Option Connection) → ConnectionMap
 connections_of slots = map.from_entries (entries_from 0 slots)
 
--- each slot of a list is above the one before
+-- Each slot in the list is above the slot before it.
 abbrev pub SlotsRise : List (ℕ × Connection) → Type 0
 SlotsRise entries = T (is_sorted nat_cmp entries)
 
--- a slot is open, and its connection holds a name
+-- A slot is open, and its connection holds a name.
 abbrev pub IsHolding : Option Connection → Type 0
 IsHolding None = ⊥
 IsHolding (Some connection) = connection.stage ≡ Holding
 
 -- ---- changes
 
--- the connection at another stage
 abbrev pub at_stage : Connection → Stage → Connection
 at_stage connection stage = record { local = connection.local; stage = stage }
 
--- the connection in a slot, where it is open, waits and holds no more
+-- Ends the connection in a slot, if the slot is open.
 abbrev pub ended_at : ℕ → Option Connection → ConnectionMap → ConnectionMap
 ended_at slot None connections = connections
 ended_at slot (Some connection) connections = map.insert connections slot (at_stage connection Done)
@@ -35,7 +34,7 @@ ended_at slot (Some connection) connections = map.insert connections slot (at_st
 abbrev pub ended : ℕ → ConnectionMap → ConnectionMap
 ended slot connections = ended_at slot (map.get connections slot) connections
 
--- the connection whose name was stopped, where there is one, is done
+-- Ends the connection whose name was stopped, if there is one.
 abbrev pub stopped_in : Option ℕ → ConnectionMap → ConnectionMap
 stopped_in None connections = connections
 stopped_in (Some owner) connections = ended owner connections

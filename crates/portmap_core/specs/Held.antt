@@ -7,14 +7,14 @@ use Rattle.portmap_core.specs.declared.connection.Phase.{Phase, TheVariants.{Don
 use Rattle.portmap_core.specs.declared.connection.Stage.{Stage}
 use Rattle.portmap_core.specs.declared.connection.Stage.TheVariants as stage
 
--- an open connection with its slot
+-- An open connection with its slot.
 pub record HeldValue : Type 0 where
   pub slot : ℕ
   pub local : Bool
   pub phase : Phase
   pub bytes : List ℕ
 
--- the stage of a phase, with the bytes that were sent
+-- The stage of a phase, with the bytes received.
 abbrev pub stage_held : Phase → List ℕ → Stage
 stage_held Waiting bytes = stage.Waiting bytes
 stage_held Holding bytes = stage.Holding
@@ -29,11 +29,11 @@ entry_held h = (h.slot, connection_held h)
 abbrev pub entries_held : List HeldValue → List (ℕ × Connection)
 entries_held held = list_map entry_held held
 
--- the open connections that a list tells of
+-- The map of the open connections in a list.
 abbrev pub connections_held : List HeldValue → ConnectionMap
 connections_held held = map.from_sorted (entries_held held)
 
--- bytes are kept of one that waits alone
+-- Only a waiting connection has bytes.
 abbrev pub IsKeptFor : Phase → List ℕ → Type 0
 IsKeptFor Waiting bytes = Unit {0}
 IsKeptFor Holding bytes = bytes ≡ []
@@ -42,18 +42,18 @@ IsKeptFor Done bytes = bytes ≡ []
 abbrev pub IsHeld : HeldValue → Type 0
 IsHeld h = IsKeptFor h.phase h.bytes
 
--- a list of open connections: their slots rise, and each has the bytes alone that its phase keeps
+-- The slots in the list rise, and only waiting connections have bytes.
 pub record AreHeld (held : List HeldValue) : Type 0 where
   pub rise : SlotsRise (entries_held held)
   pub each : All IsHeld held
 
--- a slot stands at this place
+-- `slot` is open and is at index `i` of the list.
 pub record IsAt (held : List HeldValue) (slot i : ℕ) : Type 0 where
   pub within : i < length held
   pub same : HoldsAt (λ h. h.slot ≡ slot) held i
   pub some : IsSome (map.get (connections_held held) slot)
 
--- no connection has a slot, and it would stand at this place
+-- `slot` is not open, and belongs at index `i` of the list.
 pub record IsGapFor (held : List HeldValue) (slot i : ℕ) : Type 0 where
   pub within : i ≤ length held
   pub parted : IsPartitionPoint (λ h. h.slot < slot) (λ h. slot < h.slot) held i

@@ -1,4 +1,4 @@
--- Laws of the machine, each proved on a public function.
+-- Laws of the machine. Each is the contract of a public function.
 use Rattle.std.specs.Prelude.{◌≡◌, ◌≢◌, ℕ, ◌<◌, ◌≤◌, ◌==◌, true, false, List, [], ◌∷◌, ◌++◌, length, map as list_map}
 use Rattle.std.specs.Prelude.{slice_index_or, ◌⊎◌, Some, None, All, codes, nat_lt, if◌then◌else◌}
 use Rattle.std.specs.FinMap as map
@@ -16,89 +16,88 @@ use Rattle.portmap_core.specs.declared.connection.Connection.{Connection}
 use Rattle.portmap_core.specs.declared.connection.Stage.TheVariants.{Waiting, Holding}
 use Rattle.portmap_core.specs.declared.event.Fate.{Fate, TheVariants.{Close, Halt, Stay}}
 
--- the first request of what was written, whatever follows it, is the request written
+-- The first request of written bytes, whatever follows them, is the request that was written.
 abbrev pub WrittenIsWhole : Type 0
 WrittenIsWhole = (request : Request) (more : List ℕ) → IsRequest request → first_request (sent request ++ more) ≡ Whole (body_of request)
 
--- from a state an entry leads to one state at most
+-- From a state, an entry leads to at most one state.
 abbrev pub EntriesDetermine : Type 0
 EntriesDetermine = (cfg : Configuration) (s a b : State) (e : Entry) → Step cfg s e a → Step cfg s e b → a ≡ b
 
--- each step keeps what holds of states
+-- Each transition keeps the invariant.
 abbrev pub StepsKeepOwned : Type 0
 StepsKeepOwned = (cfg : Configuration) (s s' : State) (e : Entry) → IsOwned cfg s → Step cfg s e s' → IsOwned cfg s'
 
--- the slots of the active names
 abbrev pub owners : Names → List ℕ
 owners names = list_map (λ row. row.slot) names.active
 
--- each active name belongs to exactly one open connection
+-- Each active name belongs to exactly one open connection.
 pub record NamesBelong (s : State) : Type 0 where
-  -- its slot is open, and holds it
+  -- Its slot is open, and the connection there is local and holds a name.
   pub held : (name : List ℕ) (row : Row) → active_row name s.names ≡ Some row
       → (connection : Connection) × (map.get s.connections row.slot ≡ Some connection) × (connection.stage ≡ Holding)
       × (connection.local ≡ true)
-  -- no name is known twice, so it has one slot alone
+  -- No name is known twice, so that each name has one slot.
   pub once : (i j : ℕ) (d : List ℕ) → i < j → j < length (known_names s.names)
       → same_name (slice_index_or (known_names s.names) i d) (slice_index_or (known_names s.names) j d) ≡ false
-  -- and no slot has two names
+  -- No slot owns two names.
   pub alone : (i j d : ℕ) → i < j → j < length (owners s.names)
       → (slice_index_or (owners s.names) i d == slice_index_or (owners s.names) j d) ≡ false
 
--- so it is after any run
+-- After any run, each active name belongs to exactly one open connection.
 abbrev pub NamesBelongToConnections : Type 0
 NamesBelongToConnections = (cfg : Configuration) (es : List Entry) (s : State) → IsConfiguration cfg → Run cfg empty_state es s
     → NamesBelong s
 
--- what was received amounts to a malformed request: a length that none has, or a body that spells none
+-- The bytes received are malformed: a bad length, or a body that spells no request.
 abbrev pub IsBad : Framing → Type 0
 IsBad More = ⊥
 IsBad Zero = Unit {0}
 IsBad (TooLarge n) = Unit {0}
 IsBad (Whole body) = IsMalformed body
 
--- a malformed request changes no name
+-- A malformed request changes no name.
 abbrev pub MalformedChangesNoName : Type 0
 MalformedChangesNoName =
     (cfg : Configuration) (s s' : State) (slot : ℕ) (connection : Connection) (received piece reply : List ℕ) (fate : Fate)
     → map.get s.connections slot ≡ Some connection → connection.stage ≡ Waiting received
     → IsBad (first_request (received ++ piece)) → Says cfg s slot piece reply fate s' → s'.names ≡ s.names
 
--- nothing happens once the port mapper has ended
+-- A machine that has halted makes no transition.
 abbrev pub EndsAreFinal : Type 0
 EndsAreFinal = (cfg : Configuration) (s s' : State) (e : Entry) → s.halted ≡ true → Step cfg s e s' → ⊥
 
--- a connection that holds its name outlasts its time: it stays, and nothing changes
+-- A connection that holds a name outlasts its timeout: it stays, and nothing changes.
 abbrev pub HoldersOutlastTheirTime : Type 0
 HoldersOutlastTheirTime =
     (cfg : Configuration) (s s' : State) (slot : ℕ) (fate : Fate) (connection : Connection) → map.get s.connections slot ≡ Some connection
     → connection.stage ≡ Holding → Step cfg s (Late slot fate) s'
     → (fate ≡ Stay) × (s' ≡ s)
 
--- unless its checks are relaxed, the port mapper ends only where no name is active
+-- Unless its checks are relaxed, the port mapper ends only if no name is active.
 abbrev pub EndsLeaveNoName : Type 0
 EndsLeaveNoName = (cfg : Configuration) (s s' : State) (e : Entry) → cfg.relaxed ≡ false → Step cfg s e s' → s'.halted ≡ true
     → s.names.active ≡ []
 
--- no more names are known and no more connections are open than may be, and one that waits has sent no whole request
+-- Known names and open connections are within their limits, and no waiting connection has sent a complete request.
 pub record KeepsLimits (cfg : Configuration) (s : State) : Type 0 where
   pub known : known_len s.names ≤ cfg.known_max
   pub few : map.len s.connections ≤ cfg.conn_max
   pub waits : (slot : ℕ) (connection : Connection) (received : List ℕ) → map.get s.connections slot ≡ Some connection
       → connection.stage ≡ Waiting received → first_request received ≡ More
 
--- so it is after any run
+-- After any run, the state is within its limits.
 abbrev pub RunsKeepLimits : Type 0
 RunsKeepLimits = (cfg : Configuration) (es : List Entry) (s : State) → Run cfg empty_state es s → KeepsLimits cfg s
 
--- a name that becomes active gets another creation than the one that was remembered for it
+-- A name that becomes active gets another creation than the creation remembered for it.
 abbrev pub TakenCreationsAreNew : Type 0
 TakenCreationsAreNew =
     (cfg : Configuration) (s s' : State) (e : Entry) (name : List ℕ) (row : Row) (last : ℕ) → Step cfg s e s'
     → active_row name s.names ≡ None → active_row name s'.names ≡ Some row
     → remembered name s.names ≡ Some last → row.creation ≢ last
 
--- a piece on a connection that waits, by which what it has sent amounts to this body
+-- A chunk on a waiting connection completes a request with this body, and gets this reply.
 pub record Completes (cfg : Configuration) (s : State) (slot : ℕ) (connection : Connection) (body reply : List ℕ)
     (s' : State) : Type 0 where
   pub received : List ℕ
@@ -109,28 +108,28 @@ pub record Completes (cfg : Configuration) (s : State) (slot : ℕ) (connection 
   pub whole : first_request (received ++ piece) ≡ Whole body
   pub says : Says cfg s slot piece reply fate s'
 
--- whoever asks for an active name is told all that it was registered with
+-- A lookup of an active name returns its whole registration.
 abbrev pub ActiveNamesAreFound : Type 0
 ActiveNamesAreFound =
     (cfg : Configuration) (s s' : State) (slot : ℕ) (connection : Connection) (body reply name : List ℕ) (row : Row)
     → Completes cfg s slot connection body reply s' → Spells body (request.Port name) → active_row name s.names ≡ Some row
     → reply ≡ port2_reply (Some row.reg)
 
--- and it has its line in the list of names
+-- An active name has its line in the list of names.
 abbrev pub ActiveNamesAreListed : Type 0
 ActiveNamesAreListed =
     (cfg : Configuration) (s s' : State) (slot : ℕ) (connection : Connection) (body reply name : List ℕ) (row : Row)
     → Completes cfg s slot connection body reply s' → Spells body request.Names → active_row name s.names ≡ Some row
     → (before : List ℕ) × (after : List ℕ) × (reply ≡ before ++ names_line (names_line_of row) ++ after)
 
--- and the list has the active names alone, in the order in which they were registered
+-- The list has exactly the active names, in order of registration.
 abbrev pub ListsAreExact : Type 0
 ListsAreExact =
     (cfg : Configuration) (s s' : State) (slot : ℕ) (connection : Connection) (body reply : List ℕ)
     → Completes cfg s slot connection body reply s' → Spells body request.Names
     → reply ≡ names_reply cfg.port (list_map names_line_of s.names.active)
 
--- what any host may ask: where a name is, and which there are
+-- A request that any host may make: PORT_PLEASE2 or NAMES.
 abbrev pub IsLook : Request → Type 0
 IsLook (request.Alive g) = ⊥
 IsLook (request.Port name) = Unit {0}
@@ -139,7 +138,7 @@ IsLook request.Dump = ⊥
 IsLook request.Kill = ⊥
 IsLook (request.Stop name) = ⊥
 
--- peers of other hosts are told nothing else
+-- A remote peer gets a reply only to PORT_PLEASE2 or NAMES.
 abbrev pub RemotePeersMayOnlyLookUp : Type 0
 RemotePeersMayOnlyLookUp =
     (cfg : Configuration) (s s' : State) (slot : ℕ) (connection : Connection) (piece reply : List ℕ) (fate : Fate)
@@ -147,9 +146,9 @@ RemotePeersMayOnlyLookUp =
     → (reply ≡ []) ⊎ ((received : List ℕ) × (body : List ℕ) × (request : Request) × (connection.stage ≡ Waiting received)
     × (first_request (received ++ piece) ≡ Whole body) × Spells body request × IsLook request)
 
--- ---- what a local peer is told
+-- ---- replies to local peers
 
--- a request of one, whole by a piece of a connection that waits, and what comes of it
+-- A chunk of a local waiting connection completes this request, and gets this reply and fate.
 pub record IsReplied (cfg : Configuration) (s : State) (request : Request) (reply : List ℕ) (fate : Fate) (s' : State) : Type 0 where
   pub slot : ℕ
   pub connection : Connection
@@ -159,36 +158,37 @@ pub record IsReplied (cfg : Configuration) (s : State) (request : Request) (repl
   pub local : connection.local ≡ true
   pub spells : Spells body request
 
--- this is the reply, and a close, and neither the names nor whether the port mapper has ended are changed
+-- The reply is `text`, the connection closes, and neither the names nor `halted` change.
 pub record IsRefused (s : State) (text reply : List ℕ) (fate : Fate) (s' : State) : Type 0 where
   pub reply_is : reply ≡ text
   pub closes : fate ≡ Close
   pub names : s'.names ≡ s.names
   pub halted : s'.halted ≡ s.halted
 
--- a registration that is refused, as bytes: ALIVE2_X_RESP (118) from version 6 on, else ALIVE2_RESP (121); the result, and creation 0
+-- The bytes of a refused registration: ALIVE2_X_RESP (118) from version 6 on, otherwise ALIVE2_RESP (121), then the
+-- result and creation 0.
 abbrev pub refusal : ℕ → ℕ → List ℕ
 refusal high result = if nat_lt high 6 then 121 ∷ result ∷ 0 ∷ 0 ∷ [] else 118 ∷ result ∷ 0 ∷ 0 ∷ 0 ∷ 0 ∷ []
 
--- a name that is active is refused with result 1
+-- The registration of an active name is refused with result 1.
 abbrev pub ActiveNamesAreTaken : Type 0
 ActiveNamesAreTaken =
     (cfg : Configuration) (s s' : State) (g : Node) (row : Row) (reply : List ℕ) (fate : Fate)
     → IsReplied cfg s (request.Alive g) reply fate s' → active_row g.name s.names ≡ Some row → IsRefused s (refusal g.high 1) reply fate s'
 
--- and one that is not known with result 2, where as many are active as may be known
+-- The registration of a name that is not known is refused with result 2 if as many names are active as may be known.
 abbrev pub NewNamesWantRoom : Type 0
 NewNamesWantRoom =
     (cfg : Configuration) (s s' : State) (g : Node) (reply : List ℕ) (fate : Fate) → IsReplied cfg s (request.Alive g) reply fate s'
     → is_known g.name s.names ≡ false → cfg.known_max ≤ length s.names.active → IsRefused s (refusal g.high 2) reply fate s'
 
--- KILL ends the port mapper where no name is active, or its checks are relaxed
+-- KILL ends the port mapper if no name is active or the checks are relaxed.
 abbrev pub KillsEnd : Type 0
 KillsEnd =
     (cfg : Configuration) (s s' : State) (reply : List ℕ) (fate : Fate) → IsReplied cfg s request.Kill reply fate s'
     → (s.names.active ≡ []) ⊎ (cfg.relaxed ≡ true) → (reply ≡ codes "OK") × (fate ≡ Halt) × (s'.halted ≡ true)
 
--- and is refused elsewhere
+-- Otherwise KILL is refused.
 abbrev pub KillsAreRefused : Type 0
 KillsAreRefused =
     (cfg : Configuration) (s s' : State) (reply : List ℕ) (fate : Fate) → IsReplied cfg s request.Kill reply fate s'
@@ -196,7 +196,7 @@ KillsAreRefused =
 
 -- ---- how long a name stays registered
 
--- a registration of a name that is not active, and known or one for which there is room, succeeds
+-- The registration of a name that is not active succeeds if the name is known or has room.
 abbrev pub FreeNamesRegister : Type 0
 FreeNamesRegister =
     (cfg : Configuration) (s s' : State) (g : Node) (reply : List ℕ) (fate : Fate) (t : IsReplied cfg s (request.Alive g) reply fate s')
@@ -204,7 +204,7 @@ FreeNamesRegister =
     → (creation : ℕ) × IsLegalCreation g.high (remembered g.name s.names) creation × (reply ≡ alive_reply g.high 0 creation) × (fate ≡ Stay)
     × (active_row g.name s'.names ≡ Some (record { reg = g; creation = creation; slot = t.slot }))
 
--- an entry by which the connection in this slot ends, or the registration of some name
+-- The entry may end the connection in `slot`, or the registration of any name.
 abbrev pub MayEnd : ℕ → Entry → Type 0
 MayEnd slot (Connected local other) = ⊥
 MayEnd slot (Piece other piece reply fate) = reply ≡ codes "STOPPED"
@@ -215,13 +215,13 @@ MayEnd slot (Late other fate) = ⊥
 abbrev pub NoneEnds : ℕ → List Entry → Type 0
 NoneEnds slot es = All (λ e. MayEnd slot e → ⊥) es
 
--- a name that is active stays so, as it was registered, until its connection ends or a name is stopped
+-- An active name keeps its registration until its connection ends or any name is stopped.
 abbrev pub NamesStay : Type 0
 NamesStay =
     (cfg : Configuration) (es : List Entry) (s s' : State) (name : List ℕ) (row : Row) → Run cfg s es s'
     → active_row name s.names ≡ Some row → NoneEnds row.slot es → active_row name s'.names ≡ Some row
 
--- who has registered is found by whoever asks, whatever comes between
+-- Until then, every lookup of a registered name finds its registration.
 abbrev pub RegisteredAreFound : Type 0
 RegisteredAreFound =
     (cfg : Configuration) (es : List Entry) (s first last s' : State) (g : Node) (reply : List ℕ)
@@ -229,7 +229,7 @@ RegisteredAreFound =
     → Run cfg first es last → NoneEnds t.slot es → Completes cfg last asker connection body answer s'
     → Spells body (request.Port g.name) → answer ≡ port2_reply (Some g)
 
--- and nobody else can register its name
+-- Until then, every other registration of the name is refused.
 abbrev pub RegisteredAreAlone : Type 0
 RegisteredAreAlone =
     (cfg : Configuration) (es : List Entry) (s first last s' : State) (g other : Node) (reply answer : List ℕ) (fate : Fate)
@@ -238,32 +238,32 @@ RegisteredAreAlone =
 
 -- ---- how a name leaves
 
--- this name is active no more, and each other one as it was
+-- `name` is not active in `after`, and every other active name is unchanged.
 pub record Retires (name : List ℕ) (names after : Names) : Type 0 where
   pub gone : active_row name after ≡ None
   pub others : (other : List ℕ) → same_name name other ≡ false → active_row other after ≡ active_row other names
 
--- a connection that ends retires its name alone
+-- A close or a fault of a connection retires its name and no other.
 abbrev pub EndsRetire : Type 0
 EndsRetire =
     (cfg : Configuration) (s s' : State) (name : List ℕ) (row : Row) (e : Entry) → IsOwned cfg s → Step cfg s e s'
     → (e ≡ Closed row.slot) ⊎ (e ≡ Faulted row.slot) → active_row name s.names ≡ Some row → Retires name s.names s'.names
 
--- where checks are relaxed STOP retires the name that it asks for, and that name alone
+-- If the checks are relaxed, STOP retires the name that it asks for and no other.
 abbrev pub StopsRetire : Type 0
 StopsRetire =
     (cfg : Configuration) (s s' : State) (name : List ℕ) (row : Row) (reply : List ℕ) (fate : Fate) → IsOwned cfg s → cfg.relaxed ≡ true
     → IsReplied cfg s (request.Stop name) reply fate s' → active_row name s.names ≡ Some row
     → (reply ≡ codes "STOPPED") × (fate ≡ Close) × Retires name s.names s'.names
 
--- no step of this run registers the name
+-- No transition of this run registers the name.
 abbrev pub NoneRegisters : (name : List ℕ) (cfg : Configuration) (es : List Entry) (s s' : State) → Run cfg s es s' → Type 0
 NoneRegisters name cfg [] s s' run = Unit {0}
 NoneRegisters name cfg (e ∷ es) s s' run =
     ((g : Node) (reply : List ℕ) → IsReplied cfg s (request.Alive g) reply Stay run.0 → g.name ≢ name)
     × NoneRegisters name cfg es run.0 s' run.2
 
--- a name that is not active is found by nobody until it is registered
+-- A lookup finds no name that is not active, until the name is registered.
 abbrev pub AbsentNamesAreNotFound : Type 0
 AbsentNamesAreNotFound =
     (cfg : Configuration) (es : List Entry) (s last s' : State) (name : List ℕ) (asker : ℕ) (connection : Connection)

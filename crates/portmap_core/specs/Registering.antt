@@ -1,9 +1,9 @@
--- What a piece asks to register, told from its bytes alone: ERTS User's Guide, EPMD Protocol, ALIVE2_REQ.
+-- The name that a chunk asks to register, by its bytes alone. ERTS User's Guide, EPMD Protocol: ALIVE2_REQ.
 use Rattle.std.specs.Prelude.{◌≡◌, ℕ, List}
 use Rattle.portmap_wire.specs.{Node.Node, Request.Spells, declared.request.Request.TheVariants.Alive}
 use Rattle.portmap_feed.specs.Stream.{Whole, first_request}
 
--- the first request in these bytes is whole, and asks to register this name
+-- The first request in `bytes` is complete, and asks to register `name`.
 pub record Registers (bytes name : List ℕ) : Type 0 where
   pub body : List ℕ
   pub node : Node

@@ -1,7 +1,7 @@
--- What a request is told. It depends on the configuration, the names, whether the peer is local, and the slot of the
--- connection that asks, and on nothing else. ERTS User's Guide, EPMD Protocol, for the requests and their replies; epmd(1)
--- for what other hosts may ask and for relaxed checks. A close in answer to a malformed request, and silence towards other
--- hosts: profile. The cases stand in the order of the table of docs/PROTOCOL.md.
+-- The result of a request. It depends only on the configuration, the names, the locality of the peer and the slot of
+-- its connection. ERTS User's Guide, EPMD Protocol: the requests and their replies. epmd(1): the requests of remote
+-- peers, and relaxed checks. Profile: a malformed request closes its connection, and remote peers get no reply to other
+-- requests. The cases are in the order of the table of docs/PROTOCOL.md.
 use Rattle.std.specs.Prelude.{◌≡◌, ℕ, Bool, not, ◌||◌, List, [], ◌++◌, map as list_map, length, ◌==◌, Option, Some}
 use Rattle.std.specs.Prelude.{None, option_map, codes, ◌⊎◌, if◌then◌else◌}
 use Rattle.portmap_wire.specs.{List.{names_reply, dump_reply}, Node.Node, Reply.{alive_reply, port2_reply}}
@@ -14,8 +14,8 @@ use Rattle.portmap_core.specs.Config.{Configuration}
 use Rattle.portmap_core.specs.declared.connection.Stage.{Stage, TheVariants.{Done, Holding, Waiting}}
 use Rattle.portmap_core.specs.declared.event.Fate.{Fate, TheVariants.{Close, Halt, Stay}}
 
--- the reply, what becomes of the connection, its next stage, the names after it, and the slot of another connection whose
--- name was stopped
+-- The reply, the fate of the connection, its next stage, the names, and the slot of another connection whose name was
+-- stopped.
 pub record Served : Type 0 where
   pub reply : List ℕ
   pub fate : Fate
@@ -23,19 +23,19 @@ pub record Served : Type 0 where
   pub names : rows.Names
   pub stopped : Option ℕ
 
--- a reply, and a close
+-- A reply, after which the connection closes.
 abbrev pub replied : rows.Names → List ℕ → Served
 replied names reply = record { reply = reply; fate = Close; stage = Done; names = names; stopped = None }
 
--- no reply, and a close
+-- The connection closes without a reply.
 abbrev pub closed : rows.Names → Served
 closed names = replied names []
 
--- no reply yet, and these are the bytes so far
+-- No reply: the connection waits, with these bytes received.
 abbrev pub awaits : rows.Names → List ℕ → Served
 awaits names received = record { reply = []; fate = Stay; stage = Waiting received; names = names; stopped = None }
 
--- ---- NAMES and PORT_PLEASE2, which any peer may ask
+-- ---- NAMES and PORT_PLEASE2, for any peer
 
 abbrev pub names_line_of : Row → Line
 names_line_of row = record { name = row.reg.name; port = row.reg.port }
@@ -49,7 +49,7 @@ names_served cfg names = replied names (list_of cfg.port names)
 abbrev pub port_served : rows.Names → List ℕ → Served
 port_served names name = replied names (port2_reply (option_map (λ row. row.reg) (rows.active_row name names)))
 
--- ---- the others, of which a remote peer hears nothing
+-- ---- other requests, without a reply to a remote peer
 
 abbrev pub if_local : Bool → rows.Names → Served → Served
 if_local local names response = if not local then closed names else response
@@ -70,7 +70,6 @@ dump_served cfg names = replied names (dump_reply cfg.port (dump_lines names))
 
 -- ---- KILL
 
--- the port mapper ends
 abbrev pub halts : rows.Names → Served
 halts names = record { reply = codes "OK"; fate = Halt; stage = Done; names = names; stopped = None }
 
@@ -79,7 +78,7 @@ kill_served cfg names = if length names.active == 0 || cfg.relaxed then halts na
 
 -- ---- STOP
 
--- a name's registration ends, and its owner is done
+-- The registration of the name ends, and its owner is done.
 abbrev pub stops : rows.Names → Option ℕ → Served
 stops names (Some owner) = record {
   reply = codes "STOPPED";
@@ -95,8 +94,8 @@ stop_served cfg names name = if not cfg.relaxed then closed names else stops nam
 
 -- ---- ALIVE2
 
--- the name becomes active, and the connection holds it; where as many names are known as may be, the one retired longest is forgotten for a
--- new one
+-- The name becomes active, and the connection holds it. If the limit is reached, a new name replaces the name that was
+-- retired longest ago.
 abbrev pub registers : ℕ → rows.Names → ℕ → Node → ℕ → Served
 registers known_max names slot g creation =
     record {
@@ -115,7 +114,7 @@ alive_served cfg names slot g creation =
 
 -- ---- every request
 
--- what a request is told, with this creation where a name registers
+-- The result of a request. A name that registers gets this creation.
 abbrev pub served : Configuration → rows.Names → Bool → ℕ → Request → ℕ → Served
 served cfg names local slot Names creation = names_served cfg names
 served cfg names local slot (Port name) creation = port_served names name
@@ -124,7 +123,7 @@ served cfg names local slot Kill creation = if_local local names (kill_served cf
 served cfg names local slot (Stop name) creation = if_local local names (stop_served cfg names name)
 served cfg names local slot (Alive g) creation = if_local local names (alive_served cfg names slot g creation)
 
--- the creation is one that the name may get
+-- The creation is legal for a name that registers.
 abbrev pub MayGet : rows.Names → Request → ℕ → Type 0
 MayGet names (Alive g) creation = IsLegalCreation g.high (rows.remembered g.name names) creation
 MayGet names (Port name) creation = Unit {0}
@@ -133,7 +132,7 @@ MayGet names Dump creation = Unit {0}
 MayGet names Kill creation = Unit {0}
 MayGet names (Stop name) creation = Unit {0}
 
--- a request is served so. One thing is left open: a connection that is to hold its name has any legal creation
+-- `o` is a correct result of a request. Only the creation is left open: a registration may get any legal creation.
 pub record Serves (cfg : Configuration) (names : rows.Names) (local : Bool) (slot : ℕ) (request : Request) (o : Served) : Type 0 where
   pub creation : ℕ
   pub legal : o.stage ≡ Holding → MayGet names request creation
@@ -141,13 +140,13 @@ pub record Serves (cfg : Configuration) (names : rows.Names) (local : Bool) (slo
 
 -- ---- every body
 
--- a body that spells a request is served as the request is
+-- A body that spells a request has the results of the request.
 pub record ServesSpelled (cfg : Configuration) (names : rows.Names) (local : Bool) (slot : ℕ) (body : List ℕ) (o : Served) : Type 0 where
   pub request : Request
   pub spells : Spells body request
   pub serves : Serves cfg names local slot request o
 
--- one that spells none is closed without a reply
+-- A body that spells no request closes its connection without a reply.
 pub record ServesMalformed (names : rows.Names) (body : List ℕ) (o : Served) : Type 0 where
   pub malformed : IsMalformed body
   pub is : o ≡ closed names
@@ -155,7 +154,7 @@ pub record ServesMalformed (names : rows.Names) (body : List ℕ) (o : Served) :
 abbrev pub ServesBody : Configuration → rows.Names → Bool → ℕ → List ℕ → Served → Type 0
 ServesBody cfg names local slot body o = ServesSpelled cfg names local slot body o ⊎ ServesMalformed names body o
 
--- what a waiting connection is told, by what all that it sent amounts to
+-- `o` is a correct result for a waiting connection that has sent `received`.
 abbrev pub ServesReceived : Configuration → rows.Names → Bool → ℕ → List ℕ → Framing → Served → Type 0
 ServesReceived cfg names local slot received More o = o ≡ awaits names received
 ServesReceived cfg names local slot received Zero o = o ≡ closed names

@@ -9,25 +9,22 @@ use Rattle.portmap_core.specs.declared.connection.Stage.{Stage}
 use Rattle.portmap_core.specs.declared.connection.Stage.TheVariants as stage
 use Rattle.portmap_core.specs.declared.connection.Phase.TheVariants as phase
 
--- the active and the retired names, the open connections by slot, and whether the port mapper has ended
+-- The known names, the open connections by slot, and whether the port mapper has ended.
 pub record State : Type 0 where
   pub names : Names
   pub connections : ConnectionMap
   pub halted : Bool
 
--- nothing is known, nothing is open
 abbrev pub empty_state : State
 empty_state = record { names = no_names; connections = map.empty; halted = false }
 
--- the state of these parts
 abbrev pub state_of : Names → ConnectionMap → Bool → State
 state_of names connections halted = record { names = names; connections = connections; halted = halted }
 
--- the state with this connection at a slot
 abbrev pub with_connection : State → ℕ → Connection → State
 with_connection s slot connection = record { names = s.names; connections = map.insert s.connections slot connection; halted = s.halted }
 
--- the phase of a slot, where it is open
+-- The phase of the connection in a slot, if the slot is open.
 abbrev pub phase_of_stage : Stage → Phase
 phase_of_stage (stage.Waiting bytes) = phase.Waiting
 phase_of_stage stage.Holding = phase.Holding
@@ -40,7 +37,7 @@ phase_of_connection (Some connection) = Some (phase_of_stage connection.stage)
 abbrev pub phase_at : State → ℕ → Option Phase
 phase_at s slot = phase_of_connection (map.get s.connections slot)
 
--- what is known of names, as codes by which values are told apart
+-- Injective codes of names and states.
 abbrev pub retired_code : Coded RetiredName
 retired_code =
     code_by (List ℕ × (ℕ × ℕ)) (coded× (coded_list coded_ℕ) (coded× coded_ℕ coded_ℕ)) (λ old. (old.name, (old.port, old.creation)))
@@ -56,7 +53,7 @@ state_code names connection =
     code_by (Names × (ConnectionMap × Bool)) (coded× names (coded× (map.code coded_ℕ connection) coded_bool))
     (λ s. (s.names, (s.connections, s.halted))) (λ p. record { names = p.0; connections = p.1.0; halted = p.1.1 }) (λ _. refl)
 
--- the machine: its state under its configuration
+-- A state under its configuration.
 pub record Machine : Type 0 where
   pub config : Configuration
   pub state : State

@@ -1,19 +1,17 @@
-//! What a port mapper is set to.
 ghost use Rattle.std.specs.Prelude.{◌≡◌, IfOk, IfErr, Err};
 ghost use Rattle.portmap_core.specs.Config.{configured, IsConfiguration};
 ghost use Rattle.portmap_core.specs.declared.config.TheConstants.{LIMIT_MOST};
 
 use std::marker::Model;
 
-/// The most that a limit may be.
+/// The largest value of a limit. The least is 1.
 pub const LIMIT_MOST: u32 = 65_535;
 
-/// A law: the numbers that definitions take from the code are those of this profile.
+/// Law: the constant that definitions take from the code has the value of this profile.
 pub fn numbers_are_the_profiles()
     ensures { LIMIT_MOST ≡ 65535 }
 {}
 
-/// Why these limits are none.
 #[derive(Clone, Copy, Debug, PartialEq, Eq)]
 pub enum ConfigFault {
     ZeroConnections,
@@ -22,16 +20,16 @@ pub enum ConfigFault {
     TooManyNames,
 }
 
-/// What a port mapper is set to. Both limits are 1 to 65,535.
+/// The configuration of a port mapper. Both limits are 1 to 65,535.
 #[derive(Clone, Copy, Debug, PartialEq, Eq)]
 pub struct Config {
-    /// The port that the port mapper tells of itself.
+    /// The port that the port mapper reports as its own.
     pub port: u16,
-    /// Whether the port mapper may be ended, and names be stopped, while names are active.
+    /// True if names may be stopped, and the port mapper may be ended, while names are active.
     pub relaxed: bool,
-    /// How many connections may be open at once.
+    /// The largest number of open connections.
     pub conn_max: u32,
-    /// How many names may be known at once.
+    /// The largest number of known names.
     pub known_max: u32,
 }
 
@@ -50,7 +48,7 @@ impl Model for Config {
 }
 
 impl Config {
-    /// A configuration of these values; else the first fault that holds, in the order of `ConfigFault`.
+    /// Creates a configuration, or returns the first fault in the order of `ConfigFault`.
     pub fn new(
         port: u16,
         relaxed: bool,

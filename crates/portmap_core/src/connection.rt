@@ -1,22 +1,20 @@
-//! An open connection, and where it stands.
 ghost use Rattle.std.specs.Prelude.{◌≡◌};
 ghost use Rattle.portmap_core.specs.Held.{stage_held};
 ghost use Rattle.portmap_core.specs.State.{phase_of_stage};
 
 use portmap_feed::Feed;
 
-/// Where a connection stands.
 #[derive(Clone, Copy, Debug, PartialEq, Eq)]
 pub enum Phase {
-    /// Its request is not whole yet.
+    /// The request is incomplete.
     Waiting,
-    /// It owns an active name.
+    /// The connection owns an active name.
     Holding,
-    /// It is to be closed.
+    /// The connection is to be closed.
     Done,
 }
 
-/// Where a connection stands, with what it sent so far.
+/// A phase with the bytes received so far.
 #[derive(Debug, Drop)]
 pub(crate) enum Stage {
     Waiting(Feed),
@@ -24,7 +22,6 @@ pub(crate) enum Stage {
     Done,
 }
 
-/// An open connection.
 #[derive(Debug, Drop)]
 pub(crate) struct Connection {
     pub(crate) local: bool,
@@ -32,7 +29,6 @@ pub(crate) struct Connection {
 }
 
 impl Stage {
-    /// Without the bytes.
     pub(crate) fn phase(&self) -> Phase
         ensures { result ≡ phase_of_stage self.now }
     {
@@ -45,7 +41,6 @@ impl Stage {
 }
 
 impl Phase {
-    /// With what was sent so far, where it waits.
     pub(crate) fn stage(self, feed: Feed) -> Stage
         ensures { result ≡ stage_held self feed }
     {

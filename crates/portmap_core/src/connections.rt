@@ -1,4 +1,3 @@
-//! The open connections.
 ghost use Rattle.std.specs.Prelude.{◌≡◌, Some, None, IfOk, OnErr, IsSome};
 ghost use Rattle.std.specs.Option.{option_copied};
 ghost use Rattle.portmap_core.specs.Connections.{at_stage, stopped_in};
@@ -33,7 +32,6 @@ impl Model for Connections {
 
 #[tactic(auto, using(crate::proofs::Slots::slot_laws))]
 impl Connections {
-    /// None is open.
     pub(crate) fn new(alloc: Global) -> Connections
         ensures { result ≡ map.empty }
     {
@@ -41,28 +39,25 @@ impl Connections {
         Connections { open }
     }
 
-    /// How many are open.
     pub(crate) fn len(&self) -> usize
         ensures { result ≡ map.len self.now }
     {
         self.open.len()
     }
 
-    /// The open connections with their slots, by rising slot.
     pub(crate) fn iter(&self) -> Iter<'_, Connection>
         ensures { result ≡ map.entries self.now }
     {
         self.open.iter()
     }
 
-    /// The connection in a slot.
     pub(crate) fn get(&self, slot: u64) -> Option<&Connection>
         ensures { option_copied result ≡ map.get self.now slot }
     {
         self.open.get(slot as usize)
     }
 
-    /// Opens a connection in a free slot, the one that was freed last where there is one.
+    /// Opens a connection in a free slot: the slot that was freed last, if there is one.
     pub(crate) fn add(&mut self, connection: Connection) -> Result<u64, NoMemory>
         ensures fresh { IfOk result (λ slot. map.get self.old slot ≡ None) }
         ensures added { IfOk result (λ slot. self.new ≡ map.insert self.old slot connection) }
@@ -71,14 +66,12 @@ impl Connections {
         Ok(self.open.insert(connection)? as u64)
     }
 
-    /// Frees a slot. It takes no memory.
     pub(crate) fn remove(&mut self, slot: u64)
         ensures { self.new ≡ map.remove self.old slot }
     {
         self.open.try_remove(slot as usize);
     }
 
-    /// The connection in this slot, where there is one, is done.
     pub(crate) fn stop(&mut self, stopped: Option<u64>)
         ensures { self.new ≡ stopped_in stopped self.old }
     {
@@ -87,8 +80,7 @@ impl Connections {
         }
     }
 
-    /// Takes the stage from an open slot, with whether its connection comes from this host. The connection is done,
-    /// until another stage is put there.
+    /// Takes the stage from an open slot. The connection is `Done` until another stage is put there.
     pub(crate) fn take(&mut self, slot: u64) -> Connection
         requires { IsSome (map.get self.old slot) }
         ensures was { map.get self.old slot ≡ Some result }
@@ -100,7 +92,6 @@ impl Connections {
         Connection { local, stage }
     }
 
-    /// Puts another stage at a slot, where it is open.
     pub(crate) fn put(&mut self, slot: u64, stage: Stage)
         ensures open { (connection : Connection) → map.get self.old slot ≡ Some connection
             → self.new ≡ map.insert self.old slot (at_stage connection stage) }

@@ -1,4 +1,3 @@
-//! An open connection of a plain state.
 ghost use Rattle.std.specs.Prelude.{◌≡◌, ◌↔◌, IfOk, IsTrue};
 ghost use Rattle.portmap_core.specs.Connections.{at_stage};
 ghost use Rattle.portmap_core.specs.Held.{IsHeld, connection_held, entry_held};
@@ -12,10 +11,10 @@ use std::marker::Model;
 #[derive(Debug, Drop)]
 pub struct Held {
     pub slot: u64,
-    /// Whether it comes from this host.
+    /// True if the peer is on this host.
     pub local: bool,
     pub phase: Phase,
-    /// What it sent, while its request is not whole.
+    /// The bytes received while the request is incomplete, otherwise none.
     pub bytes: Vec<u8>,
 }
 
@@ -28,7 +27,6 @@ impl Model for Held {
 }
 
 impl Held {
-    /// A second one.
     pub fn try_copy(&self, alloc: Global) -> Result<Held, NoMemory>
         ensures same { IfOk result (λ copy. copy ≡ self.now) }
     {
@@ -40,7 +38,6 @@ impl Held {
         })
     }
 
-    /// Whether it is the same in every respect. It takes no memory.
     pub(crate) fn is_same(&self, other: &Held) -> bool
         ensures { IsTrue result ↔ (self.now ≡ other.now) }
     {
@@ -50,14 +47,12 @@ impl Held {
             && self.bytes.as_slice() == other.bytes.as_slice()
     }
 
-    /// Whether it has the bytes alone that its phase keeps. It takes no memory.
     pub(crate) fn is_held(&self) -> bool
         ensures { IsTrue result ↔ IsHeld self.now }
     {
         self.bytes.is_empty() || matches!(self.phase, Phase::Waiting)
     }
 
-    /// It is at this stage now. It takes no memory.
     pub(crate) fn turn(&mut self, stage: Stage)
         ensures entry { entry_held self.new ≡ (self.old.slot, at_stage (connection_held self.old) stage) }
         ensures held { IsHeld self.new }

@@ -1,4 +1,3 @@
-//! The open connections of a plain state, by rising slot: slots of any number.
 ghost use Rattle.std.specs.Prelude.{◌≡◌, ◌↔◌, [], Some, None, IfOk, IfSome, IsTrue, MatchResult, OnErr, OnOk};
 ghost use Rattle.std.specs.Prelude.{option_map};
 ghost use Rattle.std.specs.FinMap as map;
@@ -14,7 +13,7 @@ use portmap_wire::NoMemory;
 use std::alloc::Global;
 use std::marker::Model;
 
-/// The open connections.
+/// The open connections of a plain state, by rising slot. Slots may be any numbers.
 #[derive(Debug, Drop)]
 pub(crate) struct Slots {
     held: Vec<Held>,
@@ -36,7 +35,6 @@ impl Model for Slots {
     ghost invariant = { λ s. AreHeld s.held.items };
 }
 
-/// Where a slot stands, or where it would.
 fn index_of_slot(held: &[Held], slot: u64) -> Result<usize, usize>
     requires { SlotsRise (entries_held held.now) }
     ensures { MatchResult result (IsAt held.now slot) (IsGapFor held.now slot) }
@@ -44,7 +42,6 @@ fn index_of_slot(held: &[Held], slot: u64) -> Result<usize, usize>
     held.binary_search_by_key(&slot, |h| h.slot)
 }
 
-/// Whether each slot is above the one before, and each has the bytes alone that its phase keeps.
 fn are_held(held: &[Held]) -> bool
     ensures { IsTrue result ↔ AreHeld held.now }
 {
@@ -53,7 +50,6 @@ fn are_held(held: &[Held]) -> bool
 
 #[tactic(auto, using(crate::proofs::HeldLaws::held_laws))]
 impl Slots {
-    /// None is open. It takes no memory.
     pub(crate) fn new(alloc: Global) -> Slots
         ensures { result ≡ map.empty }
     {
@@ -61,14 +57,12 @@ impl Slots {
         Slots { held }
     }
 
-    /// How many are open.
     pub(crate) fn len(&self) -> usize
         ensures { result ≡ map.len self.now }
     {
         self.held.len()
     }
 
-    /// The open connections with their slots, by rising slot. It lends them, and takes no memory.
     pub(crate) fn held(&self) -> &[Held]
         ensures entries { entries_held result.now ≡ map.entries self.now }
         ensures held { AreHeld result.now }
@@ -76,7 +70,6 @@ impl Slots {
         self.held.as_slice()
     }
 
-    /// The connection in a slot.
     pub(crate) fn get(&self, slot: u64) -> Option<&Held>
         ensures { option_map (λ h. connection_held h.now) result ≡ map.get self.now slot }
     {
@@ -84,8 +77,7 @@ impl Slots {
         Some(&self.held[at])
     }
 
-    /// Open connections in this order, unless a slot is not above the one before, or bytes are kept of one that does
-    /// not wait. It takes no memory.
+    /// Returns these connections, or `None` if the slots do not rise or a connection that is not waiting has bytes.
     pub(crate) fn of(held: Vec<Held>) -> Option<Slots>
         ensures same { IfSome result (λ s. s ≡ connections_held held.items) }
         ensures fit { IfSome result (λ s. AreHeld held.items) }
@@ -97,14 +89,12 @@ impl Slots {
         Some(Slots { held })
     }
 
-    /// Whether the connection in a slot holds a name. It takes no memory.
     pub(crate) fn holds(&self, slot: u64) -> bool
         ensures { IsTrue result ↔ IsHolding (map.get self.now slot) }
     {
         matches!(self.get(slot), Some(held) if held.phase == Phase::Holding)
     }
 
-    /// Opens a free slot. The connection waits, and sent nothing yet.
     pub(crate) fn open(&mut self, alloc: Global, slot: u64, local: bool) -> Result<(), NoMemory>
         requires { map.get self.old slot ≡ None }
         ensures ok { OnOk result (self.new ≡ map.insert self.old slot
@@ -126,7 +116,6 @@ impl Slots {
         Ok(())
     }
 
-    /// Frees a slot. It takes no memory.
     pub(crate) fn remove(&mut self, slot: u64)
         ensures { self.new ≡ map.remove self.old slot }
     {
@@ -135,7 +124,6 @@ impl Slots {
         }
     }
 
-    /// Puts another stage at a slot, where it is open. It takes no memory.
     pub(crate) fn put(&mut self, slot: u64, stage: Stage)
         ensures open { (connection : Connection) → map.get self.old slot ≡ Some connection
             → self.new ≡ map.insert self.old slot (at_stage connection stage) }
@@ -146,7 +134,6 @@ impl Slots {
         }
     }
 
-    /// The connection in this slot, where there is one, is done. It takes no memory.
     pub(crate) fn stop(&mut self, stopped: Option<u64>)
         ensures { self.new ≡ stopped_in stopped self.old }
     {
@@ -155,7 +142,6 @@ impl Slots {
         }
     }
 
-    /// A copy of a machine's open connections.
     pub(crate) fn copy_of(alloc: Global, source: &Connections) -> Result<Slots, NoMemory>
         ensures { IfOk result (λ s. s ≡ source.now) }
     {
@@ -175,7 +161,6 @@ impl Slots {
         Ok(Slots { held })
     }
 
-    /// A second one.
     pub(crate) fn try_copy(&self, alloc: Global) -> Result<Slots, NoMemory>
         ensures { IfOk result (λ copy. copy ≡ self.now) }
     {
@@ -187,7 +172,6 @@ impl Slots {
         Ok(Slots { held })
     }
 
-    /// Whether they are the same in every respect. It takes no memory.
     pub(crate) fn same(&self, other: &Slots) -> bool
         ensures { IsTrue result ↔ (self.now ≡ other.now) }
     {

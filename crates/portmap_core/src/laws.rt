@@ -1,4 +1,3 @@
-//! What always holds of the machine, as laws of its definitions.
 ghost use Rattle.portmap_core.specs.Laws.{ActiveNamesAreFound, ActiveNamesAreListed, ActiveNamesAreTaken, EndsAreFinal};
 ghost use Rattle.portmap_core.specs.Laws.{EndsLeaveNoName, EntriesDetermine, HoldersOutlastTheirTime, KillsAreRefused};
 ghost use Rattle.portmap_core.specs.Laws.{KillsEnd, MalformedChangesNoName, NamesBelongToConnections, NewNamesWantRoom};
@@ -8,87 +7,85 @@ ghost use Rattle.portmap_core.specs.Laws.{WrittenIsWhole};
 ghost use Rattle.portmap_core.specs.Laws.{AbsentNamesAreNotFound, EndsRetire, ListsAreExact, StopsRetire};
 ghost use Rattle.portmap_core.specs.Laws.{FreeNamesRegister, NamesStay, RegisteredAreAlone, RegisteredAreFound};
 
-/// The first request of what was written, whatever follows it, is the request written.
+/// Law: the first request of written bytes, whatever follows them, is the request that was written.
 pub fn written_is_whole()
     ensures { WrittenIsWhole }
 {}
 
-/// From a state an event with its answer leads to one state at most.
+/// Law: from a state, an entry leads to at most one state.
 pub fn entries_determine()
     ensures { EntriesDetermine }
 {}
 
-/// Each step keeps that every active name belongs to exactly one open connection, which holds it.
+/// Law: each transition keeps that every active name belongs to exactly one open connection, which holds it.
 pub fn steps_keep_owned()
     ensures { StepsKeepOwned }
 {}
 
-/// After any run each active name belongs to exactly one open connection: its slot is open and holds it, no name is
-/// known twice, and no slot owns two.
+/// Law: after any run, each active name belongs to exactly one open connection, and no slot owns two names.
 pub fn names_belong_to_connections()
     ensures { NamesBelongToConnections }
 {}
 
-/// A malformed request, by its length or its body, changes no name.
+/// Law: a malformed request, by its length or its body, changes no name.
 pub fn malformed_changes_no_name()
     ensures { MalformedChangesNoName }
 {}
 
-/// Nothing happens once the port mapper has ended.
+/// Law: a machine that has halted makes no transition.
 pub fn ends_are_final()
     ensures { EndsAreFinal }
 {}
 
-/// A connection that holds its name outlasts its time: it stays, and nothing changes.
+/// Law: a connection that holds a name outlasts its timeout, which changes nothing.
 pub fn holders_outlast_their_time()
     ensures { HoldersOutlastTheirTime }
 {}
 
-/// Unless its checks are relaxed, the port mapper ends only where no name is active.
+/// Law: unless its checks are relaxed, the port mapper ends only if no name is active.
 pub fn ends_leave_no_name()
     ensures { EndsLeaveNoName }
 {}
 
-/// After any run no more names are known and no more connections are open than may be, and one that waits has sent no
-/// whole request.
+/// Law: after any run, known names and open connections are within their limits, and no waiting connection has sent a
+/// complete request.
 pub fn runs_keep_limits()
     ensures { RunsKeepLimits }
 {}
 
-/// A name that becomes active gets another creation than the one that was remembered for it.
+/// Law: a name that becomes active gets another creation than the creation remembered for it.
 pub fn taken_creations_are_new()
     ensures { TakenCreationsAreNew }
 {}
 
-/// Whoever asks for an active name is told all that it was registered with, and it has its line in the list of names,
-/// which has the active names alone, in the order in which they were registered.
+/// Law: a lookup of an active name returns its whole registration. The list of names has a line for each active name
+/// and no other, in order of registration.
 pub fn active_names_are_shown()
     ensures found { ActiveNamesAreFound }
     ensures listed { ActiveNamesAreListed }
     ensures exact { ListsAreExact }
 {}
 
-/// Peers of other hosts are told where names are and which there are, and nothing else.
+/// Law: a remote peer gets a reply only to PORT_PLEASE2 or NAMES.
 pub fn remote_peers_may_only_look_up()
     ensures { RemotePeersMayOnlyLookUp }
 {}
 
-/// A local peer whose registration is refused is told why: result 1 where the name is active, and 2 where it is not
-/// known and as many are active as may be known.
+/// Law: a local registration is refused with result 1 if the name is active, and with result 2 if the name is not known
+/// and as many names are active as may be known.
 pub fn refusals_give_the_right_result()
     ensures taken { ActiveNamesAreTaken }
     ensures full { NewNamesWantRoom }
 {}
 
-/// A local peer's KILL ends the port mapper where no name is active, or its checks are relaxed, and is refused
-/// elsewhere.
+/// Law: a local KILL ends the port mapper if no name is active or the checks are relaxed. Otherwise it is refused.
 pub fn kills_end_where_they_may()
     ensures ends { KillsEnd }
     ensures refused { KillsAreRefused }
 {}
 
-/// A local peer that registers a free name succeeds; and until its connection ends, or a name is stopped, whoever asks
-/// for the name is told what it was registered with, and nobody else can register it.
+/// Law: a local registration of a free name succeeds. Until its connection ends or a name is stopped, every lookup
+/// finds the registration, and no other registration of the name succeeds.
 pub fn registered_names_stay()
     ensures free { FreeNamesRegister }
     ensures stay { NamesStay }
@@ -96,8 +93,8 @@ pub fn registered_names_stay()
     ensures alone { RegisteredAreAlone }
 {}
 
-/// A connection that ends, and a STOP, retire one name and no other; and a name that is not active is found by nobody
-/// until it is registered.
+/// Law: the end of a connection retires its name and no other, and so does a STOP with relaxed checks. A name that is
+/// not active is not found until it is registered.
 pub fn names_that_left_are_not_found()
     ensures ends { EndsRetire }
     ensures stops { StopsRetire }

@@ -1,4 +1,3 @@
-//! The names that a plain state knows, as plain lists.
 ghost use Rattle.std.specs.Prelude.{◌≡◌, ◌==◌, ◌↔◌, ◌<◌, Some, false, position, vec_len, vec_capacity, IfOk, IsTrue};
 ghost use Rattle.std.specs.Prelude.{OnErr, OnOk};
 ghost use Rattle.portmap_table.specs.Rows.{is_active, owner_of, registered, retired_at, retired_of, same_name};
@@ -10,13 +9,13 @@ use portmap_wire::{Name, NoMemory};
 use std::alloc::Global;
 use std::marker::Model;
 
-/// Names that are known, which may be any: a name or a slot may stand twice among them.
+/// The known names of a plain state. They need not be valid: a name or a slot may occur twice.
 #[derive(Debug, Drop)]
 pub(crate) struct NameLists {
     /// In order of registration.
     pub(crate) active: Vec<Row>,
-    /// In order of retirement. Rows that are registered or copied here reserve room in it, so that in practice they
-    /// retire without asking for memory. No clause says so.
+    /// In order of retirement. Rows that are registered or copied here reserve room, so that in practice retiring them
+    /// does not allocate. No clause states this.
     pub(crate) retired: Vec<Old>,
 }
 
@@ -28,21 +27,18 @@ impl Model for NameLists {
     ghost view = { λ n. record { active = n.active.items; retired = n.retired.items } };
 }
 
-/// Where the name of a slot stands.
 fn slot_index(rows: &[Row], slot: u64) -> Option<usize>
     ensures { result ≡ position (λ row. row.slot == slot) rows.now }
 {
     rows.iter().position(|row| row.slot == slot)
 }
 
-/// Where a retired name stands.
 fn retired_index(names: &[Old], name: &Name) -> Option<usize>
     ensures { result ≡ position (λ old. same_name old.name name.now) names.now }
 {
     names.iter().position(|old| old.name == *name)
 }
 
-/// The active name at this place becomes the last retired one.
 fn leave(active: &mut Vec<Row>, retired: &mut Vec<Old>, at: usize)
     requires index_of_slot { at < vec_len active.old }
     requires room { vec_len retired.old < vec_capacity retired.old }
@@ -53,8 +49,8 @@ fn leave(active: &mut Vec<Row>, retired: &mut Vec<Old>, at: usize)
     retired.push_reserved(Old::of(row));
 }
 
-/// A name is a retired one no more, if it was one; for a new one the name that was retired longest is forgotten where
-/// as many are known as may be.
+/// Removes `name` from the retired names. If it is not there and the limit is reached, removes the name that was
+/// retired longest ago.
 fn make_way(retired: &mut Vec<Old>, name: &Name, is_full: bool)
     ensures { retired.new.items ≡ left_by
         (position (λ old. same_name old.name name.now) retired.old.items) is_full retired.old.items }
@@ -67,7 +63,6 @@ fn make_way(retired: &mut Vec<Old>, name: &Name, is_full: bool)
 }
 
 impl NameLists {
-    /// Copies of the names of a table.
     pub(crate) fn of_table(alloc: Global, table: &Table) -> Result<NameLists, NoMemory>
         ensures { IfOk result (λ names. names ≡ table.now.names) }
     {
@@ -90,7 +85,6 @@ impl NameLists {
         Ok(NameLists { active, retired })
     }
 
-    /// A second one.
     pub(crate) fn try_copy(&self, alloc: Global) -> Result<NameLists, NoMemory>
         ensures { IfOk result (λ copy. copy ≡ self.now) }
     {
@@ -107,14 +101,12 @@ impl NameLists {
         Ok(NameLists { active, retired })
     }
 
-    /// Whether they are the same in every respect. It takes no memory.
     pub(crate) fn same(&self, other: &NameLists) -> bool
         ensures { IsTrue result ↔ (self.now ≡ other.now) }
     {
         self.active == other.active && self.retired == other.retired
     }
 
-    /// The slot that owns an active name.
     pub(crate) fn owner(&self, name: &Name) -> Option<u64>
         ensures { result ≡ owner_of name.now self.now }
     {
@@ -124,8 +116,8 @@ impl NameLists {
             .map(|row| row.slot)
     }
 
-    /// A name that is not active becomes so. Where it is new and as many are known as may be, the one retired longest
-    /// is forgotten. Memory is asked for before anything changes.
+    /// Makes a name active. If the limit is reached, a new name replaces the name that was retired longest ago.
+    /// Allocates before any change.
     pub(crate) fn register(&mut self, known_max: u32, row: Row) -> Result<(), NoMemory>
         requires { is_active row.reg.name self.old ≡ false }
         ensures ok { OnOk result (self.new ≡ registered row.reg row.creation row.slot
@@ -140,7 +132,7 @@ impl NameLists {
         Ok(())
     }
 
-    /// The name that a slot owns, where it owns one, is retired. Memory is asked for before anything changes.
+    /// Retires the name that a slot owns, if any. Allocates before any change.
     pub(crate) fn retire(&mut self, slot: u64) -> Result<(), NoMemory>
         ensures ok { OnOk result (self.new ≡ retired_of slot self.old) }
         ensures err { OnErr result (self.new ≡ self.old) }

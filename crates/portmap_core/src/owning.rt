@@ -1,4 +1,3 @@
-//! Whether names and open connections go together.
 ghost use Rattle.std.specs.Prelude.{◌↔◌, All, ℕ, IfOk, IsSome, IsTrue};
 ghost use Rattle.std.specs.FinMap as map;
 ghost use Rattle.portmap_table.specs.Rows.{owns_name};
@@ -13,21 +12,19 @@ use portmap_table::Table;
 use portmap_wire::NoMemory;
 use std::alloc::Global;
 
-/// Whether an open connection may own a name, where it owns one, or may own none.
 fn may_own(alloc: Global, held: &Held, owns: bool) -> Result<bool, NoMemory>
     ensures { IfOk result (λ may. IsTrue may
         ↔ IsStageFor owns held.now.local (stage_held held.now.phase held.now.bytes)) }
 {
     match held.phase {
         Phase::Waiting if owns => Ok(false),
-        // More must come until these bytes are a request, or can be none.
+        // The bytes must be an incomplete request.
         Phase::Waiting => Ok(matches!(Feed::new(alloc).push(held.bytes.as_slice())?, Seen::More)),
         Phase::Holding => Ok(owns && held.local),
         Phase::Done => Ok(!owns),
     }
 }
 
-/// Whether each active name is owned by an open connection. It takes no memory.
 fn owners_are_open(table: &Table, connections: &Slots) -> bool
     ensures { IsTrue result ↔ All (λ row. IsSome (map.get connections.now row.slot)) table.now.names.active }
 {
@@ -40,7 +37,7 @@ fn owners_are_open(table: &Table, connections: &Slots) -> bool
     true
 }
 
-/// Whether each connection is one that these names are owned by, and each active name is owned by an open one.
+/// Returns true if and only if names and open connections satisfy the invariant together, at every slot.
 pub(crate) fn fit(alloc: Global, table: &Table, connections: &Slots) -> Result<bool, NoMemory>
     ensures { IfOk result (λ fit. IsTrue fit
         ↔ ((slot : ℕ) → IsSlotFor (owns_name slot table.now.names) (map.get connections.now slot))) }

@@ -1,4 +1,3 @@
-//! What a piece asks to register, told from its bytes alone.
 ghost use Rattle.std.specs.Prelude.{IfSome};
 ghost use Rattle.portmap_core.specs.Registering.{Registers};
 
@@ -6,12 +5,12 @@ use portmap_feed::{Feed, Seen};
 use portmap_wire::{ALIVE2_REQ, Name, Request, read_request};
 use std::alloc::Global;
 
-/// The name that a piece asks to register, where it is a whole ALIVE2_REQ from its first byte on. None too where memory
-/// runs out.
+/// Returns the name that a chunk asks to register, if the chunk begins with a complete ALIVE2_REQ. Returns `None` too
+/// if memory runs out.
 pub fn name_to_register(alloc: Global, piece: &[u8]) -> Option<Name>
     ensures { IfSome result (λ name. Registers piece.now name) }
 {
-    // Of any other request this byte tells, before memory is asked for.
+    // The tag excludes every other request before anything is allocated.
     if piece.get(2) != Some(&ALIVE2_REQ) {
         return None;
     }

@@ -1,4 +1,4 @@
-//! What a waiting connection is told, which changes nothing, and the change that is then made.
+//! The response to a waiting connection, computed before any change, and the change that follows.
 ghost use Rattle.std.specs.Prelude.{◌≡◌, true, false, IfOk, IfSome, OnErr, OnOk};
 ghost use Rattle.portmap_feed.specs.Stream.{first_request};
 ghost use Rattle.portmap_feed.specs.Seen.{seen_of};
@@ -25,22 +25,20 @@ use portmap_wire::{
 };
 use std::alloc::Global;
 
-/// What becomes of the names by what is told.
+/// The change to the names that goes with a response.
 #[derive(Drop)]
 pub(crate) enum Change {
-    /// Nothing.
     Nothing,
-    /// Nothing, and the reply is the list of the active names.
+    /// No change, and the reply is the list of the active names.
     Listed,
-    /// A name registers, with this creation.
     Register { reg: Reg, creation: u32 },
-    /// The name that this slot owns retires, and its connection is done.
+    /// The name of this slot retires, and its connection is done.
     Retire(u64),
 }
 
 impl Change {
-    /// It is made, for the connection in this slot: for want of memory nothing changes. The slot of another connection,
-    /// whose name it retired.
+    /// Applies the change for the connection in `slot`, and returns the slot of another connection whose name retired.
+    /// If memory runs out, nothing changes.
     pub(crate) fn commit(self, table: &mut Table, slot: u64) -> Result<Option<u64>, NoMemory>
         requires may { MayChange table.old.known_max table.old.names self }
         requires slot { owns_name slot table.old.names ≡ false }
@@ -63,7 +61,7 @@ impl Change {
     }
 }
 
-/// What a connection is told, and what goes with it.
+/// A response to a connection, with the change that goes with it.
 #[derive(Drop)]
 pub(crate) struct Response {
     pub(crate) phase: Phase,
@@ -72,7 +70,6 @@ pub(crate) struct Response {
     pub(crate) change: Change,
 }
 
-/// A reply, and a close.
 fn replied(reply: Vec<u8>) -> Response
     ensures text { result.reply.items ≡ reply.items }
     ensures fate { result.fate ≡ Close }
@@ -87,7 +84,7 @@ fn replied(reply: Vec<u8>) -> Response
     }
 }
 
-/// How many bytes a line for each active name takes at most, where it has so many beside its name.
+/// Returns an upper bound of the bytes of all active lines, each with `rest` bytes beside its name.
 fn active_room(table: &Table, rest: usize) -> usize {
     let mut room = 0usize;
     for i in 0..table.active_len() {
@@ -98,7 +95,7 @@ fn active_room(table: &Table, rest: usize) -> usize {
     room
 }
 
-/// The same of each retired name.
+/// Returns an upper bound of the bytes of all retired lines, each with `rest` bytes beside its name.
 fn retired_room(table: &Table, rest: usize) -> usize {
     let mut room = 0usize;
     for i in 0..table.retired_len() {
@@ -109,7 +106,6 @@ fn retired_room(table: &Table, rest: usize) -> usize {
     room
 }
 
-/// NAMES_REQ: a line for each active name, in order of registration.
 fn names_text(alloc: Global, port: u16, table: &Table) -> Result<Vec<u8>, NoMemory>
     ensures { IfOk result (λ v. v.items ≡ list_of port table.now.names) }
 {
@@ -124,7 +120,6 @@ fn names_text(alloc: Global, port: u16, table: &Table) -> Result<Vec<u8>, NoMemo
     Ok(reply.into_bytes())
 }
 
-/// DUMP_REQ: a line for each active name, and then one for each retired name in order of retirement.
 fn dump_text(alloc: Global, port: u16, table: &Table) -> Result<Vec<u8>, NoMemory>
     ensures { IfOk result (λ v. v.items ≡ dump_reply port (dump_lines table.now.names)) }
 {
@@ -148,7 +143,7 @@ fn dump_text(alloc: Global, port: u16, table: &Table) -> Result<Vec<u8>, NoMemor
 }
 
 impl RequestContext<'_> {
-    /// NAMES_REQ: the list as it was kept, where it was, else as it is made.
+    /// Serves NAMES_REQ from the cached list, if there is one.
     fn list(&self, alloc: Global) -> Result<Response, NoMemory>
         ensures { Answers self.now result names_served }
     {
@@ -164,7 +159,6 @@ impl RequestContext<'_> {
         })
     }
 
-    /// PORT_PLEASE2_REQ.
     fn port(&self, alloc: Global, name: &Name) -> Result<Response, NoMemory>
         ensures { Answers self.now result (λ cfg names. port_served names name.now) }
     {
@@ -172,14 +166,12 @@ impl RequestContext<'_> {
         Ok(replied(write_port2(alloc, found)?))
     }
 
-    /// DUMP_REQ.
     fn dump(&self, alloc: Global) -> Result<Response, NoMemory>
         ensures { Answers self.now result dump_served }
     {
         Ok(replied(dump_text(alloc, self.config.port, self.table)?))
     }
 
-    /// KILL_REQ.
     fn kill(&self, alloc: Global) -> Result<Response, NoMemory>
         ensures { Answers self.now result kill_served }
     {
@@ -194,7 +186,6 @@ impl RequestContext<'_> {
         })
     }
 
-    /// STOP_REQ.
     fn stop(&self, alloc: Global, name: &Name) -> Result<Response, NoMemory>
         ensures { Answers self.now result (λ cfg names. stop_served cfg names name.now) }
     {
@@ -212,14 +203,13 @@ impl RequestContext<'_> {
         })
     }
 
-    /// How a name stands, where as many may be known as the configuration says.
     fn name_status(&self, name: &Name) -> NameStatus
         ensures { result ≡ name_status self.now.config.known_max name.now self.now.table.now.names }
     {
         self.table.name_status(name)
     }
 
-    /// ALIVE2_REQ of a local peer.
+    /// Serves ALIVE2_REQ of a local peer.
     fn alive(&self, alloc: Global, reg: Reg) -> Result<Response, NoMemory>
         ensures { RespondsAtAnySlot self.now result (λ cfg names slot. Serves cfg names true slot (Alive reg)) }
     {
@@ -269,7 +259,7 @@ impl RequestContext<'_> {
         }
     }
 
-    /// What is told by what was sent in all, and what is seen of that. Nothing is changed yet.
+    /// Returns the response to all bytes received, and changes nothing.
     pub(crate) fn respond(
         &self,
         alloc: Global,

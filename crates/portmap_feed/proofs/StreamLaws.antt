@@ -1,35 +1,35 @@
--- What is seen of a stream, and what is kept of it, depend on the joined bytes alone.
+-- The framing of a stream and its kept bytes depend only on the joined bytes.
 use Rattle.std.proofs.Common.{◌≡◌, ◌≢◌, ℕ, suc, zero, ◌+◌, ◌-◌, ◌*◌, ◌≤◌, ltb, min, List, [], ◌∷◌, ◌++◌, length, take}
 use Rattle.std.proofs.{Common.{refl, sym, ap, ◌∙◌, arith, rules}, Math.Seq.take-append-add}
 use Rattle.std.proofs.lemmas.List.{append-nil, length-take, take_all, take-take, take_min}
 use Rattle.portmap_wire.specs.declared.request.TheConstants.{BODY_MOST}
 use Rattle.portmap_feed.specs.Stream.{More, sight_behind, first_request, awaited, room, kept}
 
--- ---- the room that is taken
+-- ---- the room that is reserved
 
--- what is kept is what fits
+-- The kept bytes are the bytes that fit into the room.
 take-room : (received : List ℕ) → take (room received) received ≡ kept received
 unfolding kept room
 take-room [] = refl
 take-room (high ∷ []) = refl
 take-room (high ∷ low ∷ behind) = take-append-add (high ∷ low ∷ []) behind (awaited (high * 256 + low))
 
--- bytes that keep all of themselves fit into the room of any stream that they begin
+-- Bytes that keep all of themselves fit into the room of any stream that they begin.
 pub length-kept : (held piece : List ℕ) → kept held ≡ held → length held ≤ room (held ++ piece)
 unfolding kept room
 length-kept held piece own = search rules
 
--- once the length is known, what follows takes no more
+-- Once the length is known, later bytes need no more room.
 pub room_known : (held piece : List ℕ) → 2 ≤ length held → room (held ++ piece) ≡ room held
 unfolding room
 room_known held piece known = search rules
 
--- what is kept takes the room of all
+-- The kept bytes need the same room as all bytes.
 pub room-kept : (received : List ℕ) → room (kept received) ≡ room received
 unfolding kept room
 room-kept received = search rules
 
--- a front takes no more
+-- A prefix needs no more room than the whole.
 pub room-take : (n : ℕ) (held : List ℕ) → room (take n held) ≤ room held
 unfolding room
 room-take zero held = omega arith
@@ -40,12 +40,12 @@ room-take (suc (suc n)) [] = omega arith
 room-take (suc (suc n)) (high ∷ []) = omega arith
 room-take (suc (suc n)) (high ∷ low ∷ behind) = omega arith
 
--- once the request is decided, its room is full
+-- Once the framing is decided, the held bytes fill their room.
 pub room_decided : (held piece : List ℕ) → first_request held ≢ More → room (held ++ piece) ≤ length held
 unfolding first_request room
 room_decided held piece decided = search rules
 
--- held bytes and what fits behind them of a piece are what is kept of both
+-- The held bytes, with the part of `piece` that fits after them, are the kept bytes of both.
 pub kept-append : (held piece : List ℕ) (wanted : ℕ) → kept held ≡ held → wanted ≡ min (room (held ++ piece) - length held) (length piece)
     → held ++ take wanted piece ≡ kept (held ++ piece)
 kept-append held piece wanted own is =
@@ -55,14 +55,14 @@ kept-append held piece wanted own is =
     ap (λ (bytes : List ℕ). held ++ bytes) of_piece ∙ sym (take-append-add held piece left) ∙ ap (λ (n : ℕ). take n (held ++ piece)) split
     ∙ take-room (held ++ piece)
 
--- ---- what is kept shows the same
+-- ---- the kept bytes determine the framing
 
 take-append_take : (n : ℕ) (behind piece : List ℕ) → take n (take n behind ++ piece) ≡ take n (behind ++ piece)
 take-append_take zero behind piece = refl
 take-append_take (suc n) [] piece = refl
 take-append_take (suc n) (byte ∷ behind) piece = ap (λ (bytes : List ℕ). byte ∷ bytes) (take-append_take n behind piece)
 
--- what is kept of the joined bytes needs only what was kept of the first of them
+-- Of the first bytes, only their kept bytes decide what is kept of the joined bytes.
 pub kept-append_kept : (received piece : List ℕ) → kept (kept received ++ piece) ≡ kept (received ++ piece)
 unfolding kept
 kept-append_kept received piece = search (rules, take-append_take)
@@ -76,29 +76,29 @@ ltb-length_take n behind = search (rules, length-take)
 sight_behind-take : (n : ℕ) (behind : List ℕ) → sight_behind n (take (awaited n) behind) ≡ sight_behind n behind
 sight_behind-take n behind = search (rules, ltb-length_take, take-take)
 
--- the bytes kept show what all the bytes show
+-- The kept bytes have the framing of all bytes.
 pub first_request-kept : (received : List ℕ) → first_request (kept received) ≡ first_request received
 unfolding first_request kept
 first_request-kept received = search (rules, sight_behind-take)
 
--- no more is kept than a length and the longest body
+-- The kept bytes are at most a length and the longest body.
 pub kept_most : (received : List ℕ) → length (kept received) ≤ BODY_MOST + 2
 unfolding kept
 kept_most received = search (rules, length-take)
 
--- ---- while the request is not whole
+-- ---- while the request is incomplete
 
 all_awaited : (n : ℕ) (behind : List ℕ) → sight_behind n behind ≡ More → take (awaited n) behind ≡ behind
 all_awaited n behind more = search (rules, take_all)
 
--- while the request is not whole every byte is kept
+-- While the request is incomplete every byte is kept.
 pub kept_more : (received : List ℕ) → first_request received ≡ More → kept received ≡ received
 unfolding first_request kept
 kept_more received more = search (rules, all_awaited)
 
 -- ---- after a cut
 
--- a front of bytes that keep all of themselves keeps all of itself
+-- If bytes keep all of themselves, each of their prefixes does too.
 pub kept-take : (n : ℕ) (held : List ℕ) → kept held ≡ held → kept (take n held) ≡ take n held
 unfolding kept
 kept-take zero held own = refl

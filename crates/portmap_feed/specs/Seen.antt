@@ -1,9 +1,8 @@
--- What a push answers.
+-- The result of a push.
 use Rattle.portmap_feed.specs.{Stream.{Framing, More, Zero, TooLarge, Whole}, declared.feed.Seen.Seen}
 use Rattle.portmap_feed.specs.declared.feed.LengthFault.TheVariants as faults
 use Rattle.portmap_feed.specs.declared.feed.Seen.TheVariants as seen
 
--- the answer to what is seen
 abbrev pub seen_of : Framing → Seen
 seen_of More = seen.More
 seen_of Zero = seen.Bad faults.Zero

@@ -1,5 +1,3 @@
-//! A request in the making: the bytes received of it so far, as far as they matter.
-
 ghost use Rattle.std.specs.Prelude.{◌≡◌, ◌≢◌, ◌≤◌, ◌+◌, ◌*◌, ℕ, List, [], ◌++◌, length, take, max, vec_capacity, IsOk};
 ghost use Rattle.std.specs.Prelude.{IfOk, OnOk, OnErr, option_map};
 ghost use Rattle.portmap_wire.specs.declared.request.TheConstants.{BODY_MOST};
@@ -17,8 +15,7 @@ pub enum LengthFault {
     TooLarge(u16),
 }
 
-/// What the bytes show of their first request: not all of it yet, a length that no request may
-/// have, or all of it.
+/// The framing of the first request: incomplete, a bad length, or complete.
 #[derive(Clone, Copy, Debug, PartialEq, Eq)]
 pub enum Seen {
     More,
@@ -26,14 +23,13 @@ pub enum Seen {
     Whole,
 }
 
-/// The length in the two bytes that precede a request, the higher first.
 fn length_of(high: u8, low: u8) -> u16
     ensures { result ≡ high * 256 + low }
 {
     u16::from_be_bytes([high, low])
 }
 
-/// What the bytes show. It reads the length alone, however many bytes there are.
+/// Returns the framing. Reads only the length, whatever the number of bytes.
 #[tactic(auto, unfolding(crate::specs::Stream::first_request))]
 fn seen_in(bytes: &[u8]) -> Seen
     ensures { result ≡ seen_of (first_request bytes.now) }
@@ -55,7 +51,7 @@ fn seen_in(bytes: &[u8]) -> Seen
     }
 }
 
-/// How much room is taken where `piece` follows `held`. No more is kept of them.
+/// Returns the room for `piece` after `held`, in bytes. No more bytes of them are kept.
 #[tactic(auto, unfolding(crate::specs::Stream::room))]
 fn room_of(held: &[u8], piece: &[u8]) -> usize
     ensures { result ≡ room (held.now ++ piece.now) }
@@ -73,7 +69,7 @@ fn room_of(held: &[u8], piece: &[u8]) -> usize
     }
 }
 
-/// How many bytes of `piece` are kept behind `held`. None once the first request is decided.
+/// Returns how many bytes of `piece` are kept after `held`: 0 once the framing is decided.
 fn wanted_of(held: &[u8], piece: &[u8]) -> usize
     requires { kept held.now ≡ held.now }
     ensures within { result ≤ length piece.now }
@@ -86,8 +82,8 @@ fn wanted_of(held: &[u8], piece: &[u8]) -> usize
         .min(piece.len())
 }
 
-/// Takes room where `piece` follows `held`: for the whole request, if that completes its length, so
-/// that no piece behind it asks for memory.
+/// Reserves the room for `piece` after `held`. If `piece` completes the length, reserves that of the whole request, so
+/// that no later chunk allocates.
 #[tactic(auto, using(crate::proofs::StreamLaws::room_known))]
 fn take_room(held: &mut Vec<u8>, piece: &[u8]) -> Result<(), NoMemory>
     requires { room held.old.items ≤ vec_capacity held.old }
@@ -102,10 +98,10 @@ fn take_room(held: &mut Vec<u8>, piece: &[u8]) -> Result<(), NoMemory>
     held.reserve_exact(room.saturating_sub(held.len()))
 }
 
-/// The front of a stream that decides what its first request is: every byte while the request is
-/// not whole, its length and body once it is, and the length alone where no request may have it.
-/// So it holds two bytes more than the longest body at most. Once the length is known there is room
-/// for all that will be held.
+/// The prefix of a byte stream that determines its first request.
+///
+/// A feed keeps every byte while the request is incomplete, then its length and body, or a bad length alone. It keeps
+/// at most `BODY_MOST` + 2 bytes. Once the length is known, the buffer has room for every byte that will be kept.
 #[derive(Debug, Drop)]
 pub struct Feed {
     bytes: Vec<u8>,
@@ -124,7 +120,7 @@ impl Model for Feed {
 }
 
 impl Feed {
-    /// A feed that has received nothing. It takes no memory.
+    /// Creates a feed that has received nothing. Never allocates.
     #[tactic(auto, unfolding(crate::specs::Stream::kept, crate::specs::Stream::room))]
     pub fn new(alloc: Global) -> Feed
         ensures { result ≡ [] }
@@ -134,33 +130,32 @@ impl Feed {
         }
     }
 
-    /// Takes the next piece of the stream, of any length, and says what is seen of the first
-    /// request. Bytes behind that request are not kept, and take no time and no memory. The push
-    /// that completes the length takes room for the whole request, and those behind it take none.
+    /// Appends the next chunk of the stream, of any length, and returns the framing of the first request.
+    ///
+    /// Bytes after that request are not kept and cost no time. The push that completes the length reserves room for the
+    /// whole request. An error changes nothing. After the length is known, or with an empty chunk, a push never
+    /// allocates.
     pub fn push(&mut self, piece: &[u8]) -> Result<Seen, NoMemory>
-        // Whatever was received before, in whatever pieces, the answer is that to all of it.
+        // The result depends on all bytes received, and not on their division into chunks.
         ensures seen { IfOk result (λ seen. (received : List ℕ) → self.old ≡ kept received
             → seen ≡ seen_of (first_request (received ++ piece.now))) }
         ensures kept { OnOk result ((received : List ℕ) → self.old ≡ kept received
             → self.new ≡ kept (received ++ piece.now)) }
 
-        // The same of the bytes kept alone.
+        // The kept bytes alone have the same framing.
         ensures joined { OnOk result (first_request self.new ≡ first_request (self.old ++ piece.now)) }
         ensures answer { IfOk result (λ seen. seen ≡ seen_of (first_request self.new)) }
 
-        // While the request is not whole no byte is dropped.
         ensures more { result ≡ Ok Seen.More → self.new ≡ self.old ++ piece.now }
 
-        // A `cut` to the length before the push undoes it.
+        // A `cut` to the length before the push undoes the push.
         ensures prefix { OnOk result (take (length self.old) self.new ≡ self.old) }
         ensures longer { length self.old ≤ length self.new }
 
         ensures err { OnErr result (self.new ≡ self.old) }
 
-        // Once the request is whole or its length is bad, a push changes nothing.
         ensures settled { first_request self.old ≢ More → self.new ≡ self.old }
 
-        // Once the length is known a push takes no memory, nor does one of an empty piece.
         ensures known { 2 ≤ length self.old → IsOk result }
         ensures empty { piece.now ≡ [] → IsOk result }
     {
@@ -172,8 +167,7 @@ impl Feed {
         Ok(seen_in(self.bytes.as_slice()))
     }
 
-    /// The first request's body, of 1 to `BODY_MOST` bytes, once it is whole. It lends the bytes kept,
-    /// and takes no memory.
+    /// Returns the body of the first request, of 1 to `BODY_MOST` bytes, once it is complete. Never allocates.
     #[tactic(auto, unfolding(crate::specs::Stream::first_request))]
     pub fn body(&self) -> Option<&[u8]>
         ensures { option_map (λ body. body.now) result ≡ body_in (first_request self.now) }
@@ -191,7 +185,7 @@ impl Feed {
         }
     }
 
-    /// The bytes that it keeps. It lends them, and takes no memory.
+    /// Returns the kept bytes. Never allocates.
     pub fn kept(&self) -> &[u8]
         ensures bytes { result.now ≡ self.now }
         ensures own { kept self.now ≡ self.now }
@@ -200,15 +194,14 @@ impl Feed {
         &self.bytes
     }
 
-    /// The bytes that it keeps, as a value. It takes no memory.
+    /// Converts the feed into its kept bytes. Never allocates.
     pub fn into_bytes(self) -> Vec<u8>
         ensures { result.items ≡ self }
     {
         self.bytes
     }
 
-    /// Forgets every byte kept but the first `len`, as if no more had been received. It takes no
-    /// memory.
+    /// Drops every kept byte after the first `len`, as if no more had been received. Never allocates.
     pub fn cut(&mut self, len: usize)
         requires { len ≤ length self.old }
         ensures { self.new ≡ take len self.old }

@@ -9,9 +9,9 @@ use Rattle.portmap_link.specs.declared.device.Put.{Put, TheVariants.{Fault as Pu
 use Rattle.portmap_link.specs.declared.outbox.Flush.{Flush, TheVariants.{Empty, Fault, Later}}
 use Rattle.portmap_link.specs.declared.putting.Limit.{Limit, TheVariants.{Laters, Puts}}
 
--- ---- one put more
+-- ---- one more put
 
--- so many bytes are written, with so many Laters, and this is left of the limit
+-- `count` bytes are written, with `laters` results `Later`, and `left` remains of the limit.
 pub record HasPut (limit : Limit) (size : ℕ) (old new : List Put) (count laters : ℕ) (left : Limit) : Type 0 where
   pub added : List Put
   pub puts_on : PutsOn limit size added left (size - count)
@@ -33,15 +33,15 @@ later_first : (answer : Put) (answers : List Put)
     → count_by is_put_later (answer ∷ answers) ≡ cond (is_put_later answer) 1 0 + count_by is_put_later answers
 later_first answer answers = sum_by-cons (λ (p : Put). cond (is_put_later p) 1 0) answer answers
 
--- no put adds to what is left of a limit
+-- A put never raises the remaining limit.
 pub left_less : (limit : Limit) (answer : Put) → left_in (left_after limit answer) ≤ left_in limit
 left_less limit answer = search rules
 
--- a Later takes from it
+-- A `Later` lowers the remaining limit.
 pub left_for_later : (limit : Limit) → 0 < left_in limit → 1 + left_in (left_after limit PutLater) ≡ left_in limit
 left_for_later limit some = search rules
 
--- with a put more
+-- One more put is made.
 pub has_put_more : {limit : Limit} {size : ℕ} {old mid new : List Put} {count laters : ℕ} {left : Limit} (count' laters' : ℕ) (answer : Put)
     → HasPut limit size old mid count laters left → IsDue left (size - count)
     → PutsSome (size - count) answer → new ≡ mid ++ answer ∷ [] → count' ≡ count + bytes_put answer
@@ -57,9 +57,9 @@ has_put_more {limit} {size} {old} {mid} {new} {count} {laters} {left} count' lat
   met = let one = both_laters so_far.added (answer ∷ []) in omega (arith, one, so_far.met, mets);
 }
 
--- ---- what puts under a limit were
+-- ---- properties of puts under a limit
 
--- the output was asked again after each
+-- The output allowed another call after each put.
 pub puts_again : (limit : Limit) (size : ℕ) (added : List Put) (left : Limit) (rest : ℕ) → PutsOn limit size added left rest
     → AllByRecursion IsPutAgain added
 puts_again limit size [] left rest on = tt
@@ -67,7 +67,7 @@ puts_again limit size (Wrote n ∷ added) left rest on = (tt, puts_again (left_a
 puts_again limit size (PutLater ∷ added) left rest on = (tt, puts_again (left_after limit PutLater) (size - 0) added left rest on.2)
 puts_again limit size (PutFault ∷ added) left rest on = absurd on.1
 
--- each counts where puts are counted
+-- Under `Puts`, each put counts.
 pub puts_count : (n size : ℕ) (added : List Put) (left : Limit) (rest : ℕ) → PutsOn (Puts n) size added left rest
     → length added + left_in left ≡ n
 puts_count n size [] left rest on = let same = ap left_in on.0 in omega (arith, same)
@@ -75,7 +75,7 @@ puts_count n size (answer ∷ added) left rest on =
     let more = puts_count (n - 1) (size - bytes_put answer) added left rest on.2 in
     omega (arith, more, on.0.1)
 
--- where Laters are counted, each of them does
+-- Under `Laters`, each `Later` counts.
 pub laters_count : (n size : ℕ) (added : List Put) (left : Limit) (rest : ℕ) → PutsOn (Laters n) size added left rest
     → count_by is_put_later added + left_in left ≡ n
 laters_count n size [] left rest on = let same = ap left_in on.0 in omega (arith, same)
@@ -85,7 +85,7 @@ laters_count n size (PutLater ∷ added) left rest on = let more = laters_count 
     omega (arith, more, on.0.1, later_first PutLater added)
 laters_count n size (PutFault ∷ added) left rest on = absurd on.1
 
--- once all is written no Later reaches the limit
+-- If all bytes are written, the limit of `Later` results is not reached.
 pub laters_few : (n size : ℕ) (added : List Put) (left : Limit) (rest : ℕ) → 0 < n → PutsOn (Laters n) size added left rest → rest ≡ 0
     → 0 < left_in left
 laters_few n size [] left rest some on none = let same = ap left_in on.0 in omega (arith, same, some)
@@ -95,7 +95,7 @@ laters_few n size (PutLater ∷ answer ∷ added) left rest some on none =
     laters_few (n - 1) (size - 0) (answer ∷ added) left rest on.2.0.1 on.2 none
 laters_few n size (PutFault ∷ added) left rest some on none = absurd on.1
 
--- the puts before the last one, which was a Later
+-- The puts before the last put, which was a `Later`.
 pub record BeforeLater (n size : ℕ) (added : List Put) (rest : ℕ) : Type 0 where
   pub before : List Put
   pub left : Limit
@@ -103,7 +103,7 @@ pub record BeforeLater (n size : ℕ) (added : List Put) (rest : ℕ) : Type 0 w
   pub last : added ≡ before ++ PutLater ∷ []
   pub few : count_by is_put_later before + 1 ≡ n
 
--- a limit of Laters is reached at one
+-- A limit of `Later` results is reached at a `Later`.
 pub laters_end : (n size : ℕ) (added : List Put) (left : Limit) (rest : ℕ) → 0 < n → PutsOn (Laters n) size added left rest
     → left_in left ≡ 0
     → BeforeLater n size added rest
@@ -129,9 +129,9 @@ laters_end n size (PutLater ∷ answer ∷ added) left rest some on none =
     }
 laters_end n size (PutFault ∷ added) left rest some on none = absurd on.1
 
--- ---- where the first Later is the last
+-- ---- the first `Later` is the last
 
--- what was written, by puts none of which was a Later
+-- Puts wrote these bytes, and no put was a `Later`.
 record OnlyWrote (size : ℕ) (added : List Put) (rest : ℕ) : Type 0 where
   counts : List ℕ
   all : added ≡ map Wrote counts
@@ -161,12 +161,12 @@ sends_then {old = old} flush within wrote answers = record {
   answers = answers ∙ ap (λ (t : List Put). old ++ t ++ ending_of flush) wrote.all;
 }
 
--- the Later behind the other puts is the last one
+-- The `Later` after the other puts is the last result.
 ends_later : (old new added before : List Put) → new ≡ old ++ added ++ [] → added ≡ before ++ PutLater ∷ []
     → new ≡ old ++ before ++ PutLater ∷ []
 ends_later old new added before answers last = search (rules, append_assoc)
 
--- a sending that ends at the first Later
+-- Sending that ends at the first `Later`.
 pub sends_once : {size : ℕ} {old new : List Put} {count laters : ℕ} (flush : Flush) → count ≤ size
     → SendsOn (Laters 1) size old new count laters flush
     → Sends old new count flush
@@ -184,27 +184,27 @@ sends_once {size} {old} {count = count} Fault within on =
     omega (arith, laters_count 1 size on.added on.left (size - count) on.puts_on, on.ends.1) in
     sends_then Fault within (only_wrote (Laters 1) size on.added on.left (size - count) on.puts_on none) on.answers
 
--- ---- what a sending was
+-- ---- properties of sending
 
--- all was written, or not
+-- The result is `Empty` if and only if all bytes were written.
 pub sends_whole : {limit : Limit} {size : ℕ} {old new : List Put} {count laters : ℕ} (flush : Flush) → count ≤ size
     → SendsOn limit size old new count laters flush → (flush ≡ Empty) ↔ (count ≡ size)
 sends_whole flush within on = search rules
 
--- where some was not written, something is left
+-- Otherwise bytes are left.
 pub sends_part : {limit : Limit} {size : ℕ} {old new : List Put} {count laters : ℕ} (flush : Flush) → count ≤ size
     → SendsOn limit size old new count laters flush → flush ≢ Empty → count < size
 sends_part {size = size} {count = count} flush within on part = let some : count ≢ size = λ e. part ((sends_whole flush within on).1 e) in
     omega (arith, some, within)
 
--- all turns were made where it was given up
+-- If sending ended by the limit of puts, all puts were made.
 pub sends_all_turns : {n size : ℕ} {old new : List Put} {count laters : ℕ} → SendsOn (Puts n) size old new count laters Later
     → length new ≡ length old + n
 sends_all_turns {n} {size} {old} {count = count} on =
     let made = ap length (on.answers ∙ append-nil (old ++ on.added)) in
     omega (arith, made, length-append old on.added, puts_count n size on.added on.left (size - count) on.puts_on, on.ends.1)
 
--- unless one fails the output is asked again after each put
+-- Unless a put fails, every put allows another.
 pub sends_again : {limit : Limit} {size : ℕ} {old new : List Put} {count laters : ℕ} (flush : Flush) → fault_of flush ≡ []
     → SendsOn limit size old new count laters flush → GoesOn IsPutAgain old new
 sends_again {limit} {size} {old} {count = count} flush whole on = record {
@@ -213,15 +213,15 @@ sends_again {limit} {size} {old} {count = count} flush whole on = record {
   again = puts_again limit size on.added on.left (size - count) on.puts_on;
 }
 
--- ---- Laters of a sending
+-- ---- `Later` results of sending
 
--- as many were met as are told
+-- The number of `Later` results is `laters`.
 pub sends_laters : {limit : Limit} {size : ℕ} {old new : List Put} {count laters : ℕ} {flush : Flush}
     → SendsOn limit size old new count laters flush
     → count_by is_put_later new ≡ count_by is_put_later old + laters
 sends_laters {old = old} {flush = flush} on = grind (arith, common_steps)
 
--- how many they are where so many end a sending
+-- The number of `Later` results under a limit of `n`, by the way in which sending ended.
 abbrev pub LatersAt : ℕ → ℕ → Flush → Type 0
 LatersAt n laters Empty = laters < n
 LatersAt n laters Later = laters ≡ n
@@ -238,14 +238,14 @@ sends_laters_at {n} {size} {count = count} Later some on =
 sends_laters_at {n} {size} {count = count} Fault some on =
     omega (arith, laters_count n size on.added on.left (size - count) on.puts_on, on.ends.1, on.met)
 
--- the puts before the one that ended a sending, if one did: fewer than so many of them were Laters
+-- The puts before the put that ended sending, if any. Fewer than `n` of them were `Later`.
 pub record SendsEnd (n : ℕ) (old new : List Put) (flush : Flush) : Type 0 where
   pub before : List Put
   pub goes_on : GoesOn IsPutAgain old before
   pub few : count_by is_put_later before < count_by is_put_later old + n
   pub outcome : new ≡ before ++ ending_of flush
 
--- all puts but a failed one
+-- All puts but a failed put.
 before_fault : {n size : ℕ} {old new : List Put} {count laters : ℕ} (flush : Flush) → SendsOn (Laters n) size old new count laters flush
     → laters < n
     → fault_of flush ≡ ending_of flush → SendsEnd n old new flush

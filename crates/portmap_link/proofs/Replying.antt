@@ -1,4 +1,4 @@
--- A request was heard, and its reply was written in part.
+-- A request was read, and its reply was written in part.
 use Rattle.std.specs.Io.KnownBytes.{Appends}
 use Rattle.std.proofs.Common.{◌≡◌, ℕ, ◌<◌, List, length, take, Err, inl, refl}
 use Rattle.portmap_core.specs.{Config.Configuration, declared.event.Fate.Fate}

@@ -1,4 +1,3 @@
-//! Devices over the readers and writers of the standard library.
 ghost use Rattle.std.specs.Prelude.{◌≡◌, ◌<◌, true, length};
 ghost use Rattle.std.specs.IoError.{error_kind};
 ghost use Rattle.portmap_link.specs.Device.{PullConsumes, PutAppends, pull_is_fault, put_is_fault};
@@ -15,7 +14,6 @@ mod reader;
 mod stream;
 mod writer;
 
-// Reads once, unless the reader has failed before.
 fn read_once<R: Read>(inner: &mut R, failed: &mut bool, buffer: &mut [u8]) -> Pull
     requires { 0 < length buffer.old }
     ensures bytes { PullConsumes (R.remaining inner.old) (R.remaining inner.new) result buffer.new }
@@ -31,7 +29,6 @@ fn read_once<R: Read>(inner: &mut R, failed: &mut bool, buffer: &mut [u8]) -> Pu
     answer
 }
 
-// Writes once, unless the writer has failed before.
 fn write_once<W: Write>(inner: &mut W, failed: &mut bool, bytes: &[u8]) -> Put
     requires { 0 < length bytes.now }
     ensures bytes { PutAppends (W.contents inner.old) (W.contents inner.new) result bytes.now }
@@ -47,8 +44,7 @@ fn write_once<W: Write>(inner: &mut W, failed: &mut bool, bytes: &[u8]) -> Put
     answer
 }
 
-/// What a device answers to a pull, by what a read into a buffer with room told: one that gave nothing has found the
-/// end.
+/// Converts the result of a read into a buffer with room. A read of 0 bytes is the end of the input.
 pub fn pull_from(outcome: io::Result<usize>) -> Pull
     ensures { result ≡ pull_of outcome }
 {
@@ -60,7 +56,7 @@ pub fn pull_from(outcome: io::Result<usize>) -> Pull
     }
 }
 
-/// What a device answers to a put, by what a write of some bytes told: one that took none will never take any.
+/// Converts the result of a write of at least one byte. A write of 0 bytes is a failure.
 pub fn put_from(outcome: io::Result<usize>) -> Put
     ensures { result ≡ put_of outcome }
 {
@@ -72,7 +68,7 @@ pub fn put_from(outcome: io::Result<usize>) -> Put
     }
 }
 
-// Whether the call may be made again: a signal cut it short, or the device isn't ready.
+// The call may be repeated: a signal interrupted it, or the device would block.
 fn is_passing(error: &io::Error) -> bool
     ensures { result ≡ is_passing (error_kind error.now) }
 {

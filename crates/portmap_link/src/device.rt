@@ -1,55 +1,49 @@
-//! What gives bytes and what takes them, one call at a time.
 ghost use Rattle.std.specs.Prelude.{◌≡◌, ℕ, ◌<◌, Bool, true, List, [], ◌∷◌, ◌++◌, length, Option};
 ghost use Rattle.std.specs.Io.KnownBytes.{Keeps};
 ghost use Rattle.portmap_link.specs.Device.{PullConsumes, PutAppends, pull_is_fault, put_is_fault};
 ghost use Rattle.portmap_link.specs.declared.device.Pull.{Pull};
 ghost use Rattle.portmap_link.specs.declared.device.Put.{Put};
 
-/// What a pull answers.
 #[derive(Clone, Copy, Debug, PartialEq, Eq)]
 pub enum Pull {
-    /// So many bytes were read, to the front of the buffer.
+    /// This number of bytes was read, to the beginning of the buffer.
     Piece(usize),
-    /// No more bytes will come.
+    /// The input has ended.
     End,
-    /// None can be had now: ask again when there is news of the device.
+    /// The pull would block: retry after the poll reports an event.
     Later,
-    /// The device has failed, for good.
+    /// The device has failed permanently.
     Fault,
 }
 
-/// What a put answers.
 #[derive(Clone, Copy, Debug, PartialEq, Eq)]
 pub enum Put {
-    /// So many bytes were written, from the front of what was offered.
+    /// This number of bytes was written, from the beginning of the bytes offered.
     Wrote(usize),
-    /// None can be written now: ask again when there is news of the device.
+    /// The put would block: retry after the poll reports an event.
     Later,
-    /// The device has failed, for good.
+    /// The device has failed permanently.
     Fault,
 }
 
-/// A device as contracts see it.
+/// The model of a device in contracts.
 pub trait Device {
-    /// The bytes that are left to read. `None`: the device doesn't tell.
+    /// The bytes left to read, or `None` if unknown.
     ghost left: { Self → Option (List ℕ) };
 
-    /// The bytes that were written. `None`: the device doesn't tell.
+    /// The bytes written, or `None` if unknown.
     ghost held: { Self → Option (List ℕ) };
 
-    /// What each pull answered, the first one first.
     ghost pulls: { Self → List Pull };
 
-    /// What each put answered, the first one first.
     ghost puts: { Self → List Put };
 
-    /// Whether it has failed.
     ghost broken: { Self → Bool };
 }
 
 /// A device that gives bytes.
 pub trait Input: Device {
-    /// Asks once for bytes, which come to the front of the buffer. What stands behind them is not said.
+    /// Pulls bytes once, to the beginning of the buffer. The rest of the buffer is unspecified.
     fn pull(&mut self, buffer: &mut [u8]) -> Pull
         requires { 0 < length buffer.old }
         ensures bytes { PullConsumes (Self.left self.old) (Self.left self.new) result buffer.new }
@@ -57,18 +51,17 @@ pub trait Input: Device {
         ensures fault { Self.broken self.new ≡ pull_is_fault result }
         ensures for_good { Self.broken self.old ≡ true → Self.broken self.new ≡ true }
 
-        // What was written is left alone.
         ensures held { Keeps (Self.held self.old) (Self.held self.new) }
         ensures puts { Self.puts self.new ≡ Self.puts self.old };
 
-    /// Whether the device has failed, so that every call answers Fault.
+    /// Returns true if the device has failed. Then every call returns `Fault`.
     fn failed(&self) -> bool
         ensures { result ≡ Self.broken self.now };
 }
 
 /// A device that takes bytes.
 pub trait Output: Device {
-    /// Offers bytes once. The output takes some from the front, or none.
+    /// Offers bytes once. The device takes a prefix of them, or no byte.
     fn put(&mut self, bytes: &[u8]) -> Put
         requires { 0 < length bytes.now }
         ensures bytes { PutAppends (Self.held self.old) (Self.held self.new) result bytes.now }
@@ -76,11 +69,10 @@ pub trait Output: Device {
         ensures fault { Self.broken self.new ≡ put_is_fault result }
         ensures for_good { Self.broken self.old ≡ true → Self.broken self.new ≡ true }
 
-        // What is left to read is left alone.
         ensures left { Keeps (Self.left self.old) (Self.left self.new) }
         ensures pulls { Self.pulls self.new ≡ Self.pulls self.old };
 
-    /// Whether the device has failed, so that every call answers Fault.
+    /// Returns true if the device has failed. Then every call returns `Fault`.
     fn failed(&self) -> bool
         ensures { result ≡ Self.broken self.now };
 }

@@ -1,4 +1,3 @@
-//! Bytes that wait to be written.
 ghost use Rattle.std.specs.Prelude.{◌≡◌, ℕ, ◌+◌, ◌-◌, ◌≤◌, ◌||◌, ◌↔◌, List, [], ◌++◌, length, take, drop, vec_len};
 ghost use Rattle.std.specs.Prelude.{vec_capacity, IfOk, OnOk, OnErr};
 ghost use Rattle.std.specs.Io.KnownBytes.{Keeps, Appends};
@@ -8,18 +7,17 @@ use crate::{Limit, NoMemory, Output, send_all};
 use std::alloc::Global;
 use std::marker::Model;
 
-/// How a flush ended.
 #[derive(Clone, Copy, Debug, PartialEq, Eq)]
 pub enum Flush {
-    /// All was written.
+    /// All bytes were written.
     Empty,
-    /// The output takes no more now.
+    /// The output would block.
     Later,
-    /// The output has failed, for good.
+    /// The output has failed permanently.
     Fault,
 }
 
-/// Puts the bytes until all of them are written or the output answers otherwise, and says how many were written.
+/// Puts the bytes until all are written, or the output would block or fails. Returns the number of bytes written.
 pub fn send<W: Output>(output: &mut W, bytes: &[u8]) -> (usize, Flush)
     ensures within { result.0 ≤ length bytes.now }
     ensures written { Appends (W.held output.old) (W.held output.new) (take result.0 bytes.now) }
@@ -34,7 +32,7 @@ pub fn send<W: Output>(output: &mut W, bytes: &[u8]) -> (usize, Flush)
     (sent.count, sent.flush)
 }
 
-/// Bytes in the order in which they are to be written, as clauses see it: those that wait.
+/// A send buffer: bytes in the order in which they are to be written. Contracts see the bytes not written yet.
 #[derive(Drop)]
 pub struct Outbox {
     bytes: Vec<u8>,
@@ -52,7 +50,7 @@ impl Model for Outbox {
 }
 
 impl Outbox {
-    /// An outbox in which nothing waits. It takes memory at the first push.
+    /// Creates an empty send buffer. The first push allocates.
     pub fn new(alloc: Global) -> Outbox
         ensures { result ≡ [] }
     {
@@ -62,7 +60,7 @@ impl Outbox {
         }
     }
 
-    /// Adds bytes at the end. It fails only where memory runs out.
+    /// Appends bytes. Fails only if memory runs out.
     pub fn push(&mut self, bytes: &[u8]) -> Result<(), NoMemory>
         ensures ok { OnOk result (self.new ≡ self.old ++ bytes.now) }
         ensures err { OnErr result (self.new ≡ self.old) }
@@ -71,7 +69,7 @@ impl Outbox {
         self.bytes.extend_from_slice(bytes)
     }
 
-    /// The bytes that wait, the first one first.
+    /// Returns the bytes not written yet, in order.
     pub fn pending(&self) -> &[u8]
         ensures { result.now ≡ self.now }
     {
@@ -79,7 +77,7 @@ impl Outbox {
         rest
     }
 
-    /// Puts what waits until nothing does or the output answers otherwise. What was not written waits on.
+    /// Puts the waiting bytes until none is left, or the output would block or fails. The other bytes keep waiting.
     #[tactic(auto, using(crate::proofs::Sending::drop_is_nil))]
     pub fn flush<W: Output>(&mut self, output: &mut W) -> Flush
         ensures written { Moves (W.held output.old) (W.held output.new) self.old self.new }
@@ -95,9 +93,8 @@ impl Outbox {
         flush
     }
 
-    /// Adds bytes at the end, and puts what waits, as `push` and `flush` after it would. Room is taken before anything
-    /// is put, so where memory runs out nothing is. Bytes before which none wait are put as they are, and copied only
-    /// as far as they are not taken.
+    /// Appends bytes and flushes, as `push` and `flush` would. Room is reserved before any put, so that nothing is put
+    /// if memory runs out. If no bytes wait, `bytes` are put directly, and only the bytes not taken are copied.
     pub fn write<W: Output>(&mut self, output: &mut W, bytes: &[u8]) -> Result<Flush, NoMemory>
         ensures written { OnOk result (Moves (W.held output.old) (W.held output.new) (self.old ++ bytes.now) self.new) }
         ensures empty { IfOk result (λ flush. (flush ≡ Flush.Empty) ↔ (self.new ≡ [])) }
@@ -121,7 +118,6 @@ impl Outbox {
         Ok(flush)
     }
 
-    // The first n bytes were written.
     fn advance(&mut self, n: usize)
         requires { n ≤ length self.old }
         ensures { self.new ≡ drop n self.old }
@@ -130,7 +126,6 @@ impl Outbox {
     }
 }
 
-// Adds bytes for which there is room.
 fn keep(kept: &mut Vec<u8>, bytes: &[u8])
     requires { vec_len kept.old + length bytes.now ≤ vec_capacity kept.old }
     ensures { kept.new.items ≡ kept.old.items ++ bytes.now }
@@ -140,8 +135,8 @@ fn keep(kept: &mut Vec<u8>, bytes: &[u8])
     };
 }
 
-// Drops the bytes that were sent once they are as many as the rest, so that they don't pile up. No more bytes move than
-// are dropped, so all calls together take time in proportion to what was sent.
+// Drops the written bytes once they are as many as the rest, which bounds the buffer. A call moves no more bytes than
+// it drops, so that the time of all calls is proportional to the bytes sent.
 fn drop_sent(bytes: &mut Vec<u8>, sent: &mut usize)
     requires { sent.old ≤ vec_len bytes.old }
     ensures rest { drop sent.new bytes.new.items ≡ drop sent.old bytes.old.items }

@@ -1,4 +1,3 @@
-//! Bytes that are put until all of them are taken, or for so long.
 ghost use Rattle.std.specs.Prelude.{◌≡◌, ℕ, ◌+◌, ◌<◌, ◌≤◌, ◌||◌, ◌↔◌, true, length, take};
 ghost use Rattle.std.specs.Io.KnownBytes.{Keeps, Appends};
 ghost use Rattle.portmap_link.specs.Flush.{flush_is_fault};
@@ -6,28 +5,24 @@ ghost use Rattle.portmap_link.specs.Limit.{SendsOn, left_after, left_in, puts_mo
 
 use crate::{Flush, Output, Put};
 
-/// When bytes are offered no more.
+/// The limit at which no more puts are made.
 #[derive(Clone, Copy, Debug, PartialEq, Eq)]
 pub enum Limit {
-    /// After so many puts.
     Puts(u64),
-    /// After so many puts that were answered Later.
+    /// The number of puts that would block.
     Laters(u64),
 }
 
-/// What came of bytes that were offered.
 #[derive(Clone, Copy, Debug, PartialEq, Eq)]
 pub struct Sent {
-    /// How many were written.
     pub count: usize,
-    /// How many puts were answered Later.
+    /// The number of puts that would block.
     pub laters: u64,
-    /// How it ended: Later where the limit was reached before all were written.
+    /// `Later` if the limit was reached before all bytes were written.
     pub flush: Flush,
 }
 
 impl Limit {
-    // Whether no put is left.
     fn is_reached(self) -> bool
         ensures { (result ≡ true) ↔ (left_in self ≡ 0) }
     {
@@ -35,7 +30,6 @@ impl Limit {
         left == 0
     }
 
-    // What is left of it after a put with this answer.
     fn after(self, answer: Put) -> Limit
         requires { 0 < left_in self }
         ensures { result ≡ left_after self answer }
@@ -48,7 +42,7 @@ impl Limit {
     }
 }
 
-/// Puts the bytes until all of them are written, the limit is reached, or the output fails.
+/// Puts the bytes until all are written, the limit is reached, or the output fails.
 pub fn send_all<W: Output>(output: &mut W, bytes: &[u8], limit: Limit) -> Sent
     ensures within { result.count ≤ length bytes.now }
     ensures written { Appends (W.held output.old) (W.held output.new) (take result.count bytes.now) }

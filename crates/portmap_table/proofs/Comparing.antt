@@ -1,4 +1,4 @@
--- Rows and old names are compared by what they are.
+-- Rows and retired names are equal if and only if their values are.
 use Rattle.std.specs.{Bool.Decides, Prelude.◌&&◌}
 use Rattle.std.proofs.Common.{◌≡◌, rules}
 use Rattle.portmap_table.specs.declared.row.Row.{Row}

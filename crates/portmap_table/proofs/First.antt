@@ -4,11 +4,10 @@ use Rattle.std.proofs.Common.{◌≡◌, ℕ, zero, suc, ◌+◌, ◌<◌, Bool,
 use Rattle.std.proofs.Common.{◌⊎◌, Some, None, refl, sym, ap, ◌∙◌, arith, inl, inr, rules}
 
 module _ {X : Type 0} (p : X → Bool) where
-  -- none passes
   abbrev pub NonePass : List X → Type 0
   NonePass xs = AllByRecursion (λ x. p x ≡ false) xs
 
-  -- the element at this place is the first that passes
+  -- The element at index `at` is the first that passes.
   abbrev pub IsFirst : List X → ℕ → Type 0
   IsFirst [] at = ⊥
   IsFirst (x ∷ xs) zero = p x ≡ true
@@ -19,7 +18,7 @@ module _ {X : Type 0} (p : X → Bool) where
   within (x ∷ xs) zero f = omega arith
   within (x ∷ xs) (suc at) f = let lt : at < length xs = within xs at f.1 in omega arith
 
-  -- ---- what `position` says
+  -- ---- `position`
 
   one_on : (x : X) (n : ℕ) (b : Bool) → p x ≡ b → cond (not (p x)) (1 + n) 0 ≡ cond (not b) (1 + n) 0
   one_on x n b e = ap (λ (c : Bool). cond (not c) (1 + n) 0) e
@@ -64,7 +63,7 @@ module _ {X : Type 0} (p : X → Bool) where
   pub any_place : (xs : List X) → is_some (position p xs) ≡ list_any p xs
   any_place xs = search (rules, any_first, any_none, either, first_place, no_index)
 
-  -- ---- what `find` says
+  -- ---- `find`
 
   pub first_found : (xs : List X) (at : ℕ) (x : X) → IsFirst xs at → slice_get xs at ≡ Some x → find p xs ≡ Some x
   first_found [] at x f e = absurd f

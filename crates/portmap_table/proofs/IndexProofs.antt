@@ -1,4 +1,4 @@
--- Names at places: what is found by name and by slot, and what a registration and a retirement leave.
+-- Names at indices: lookups by name and by slot, and the effect of a registration and a retirement.
 use Rattle.std.specs.Prelude.{◌&&◌, ◌||◌, if◌then◌else◌, nat_le, drop, find, position, remove, slice_get, is_some}
 use Rattle.std.specs.Prelude.{option_map}
 use Rattle.std.proofs.Common.{◌≡◌, ◌≢◌, ℕ, Bool, true, false, not, List, [], ◌∷◌, ◌++◌, length, map, Option, Some, None}
@@ -21,7 +21,7 @@ use Rattle.portmap_table.proofs.{Owners.has_slot, Indexes.{each_pushed, each_rem
 use Rattle.portmap_table.proofs.Indexes.{left_others, map_read, none_pass, puts_last, stands_as}
 use Rattle.portmap_table.specs.declared.name_status.NameStatus.TheVariants as how
 
--- ---- what stands at a place: an active name or a retired one
+-- ---- an entry is active or retired
 
 record Kind (X : Type 0) : Type 0 where
   entry_of : X → Entry
@@ -37,7 +37,7 @@ olds = record { entry_of = retired_entry; value = old_in; value_is = λ old. ref
 same_itself : (name other : List ℕ) → other ≡ name → same_name other name ≡ true
 same_itself name other e = ap (λ (n : List ℕ). same_name n name) e ∙ nat_list_eq_equiv.refl name
 
--- not both
+-- No entry is both active and retired.
 never_both : (entries : List Entry) (index : ℕ) → IsActiveAt entries index → IsRetiredAt entries index → ⊥
 never_both entries index active retired = search rules
 
@@ -54,7 +54,7 @@ module _ {X : Type 0} (k : Kind X) where
   there : (entries : List Entry) (index : ℕ) (x : X) → slice_get entries index ≡ Some (k.entry_of x) → value_at entries index ≡ x
   there entries index x e = ap k.value e ∙ k.value_is x
 
-  -- it stands in the list of those of its kind
+  -- The value of the entry is in the list of its kind.
   read : (entries : List Entry) (indexes : List ℕ) (i index : ℕ) (x : X) → slice_get indexes i ≡ Some index
       → slice_get entries index ≡ Some (k.entry_of x) → slice_get (map (value_at entries) indexes) i ≡ Some x
   read entries indexes i index x at e = search (rules, slice_get-map)
@@ -97,9 +97,9 @@ module _ {X : Type 0} (k : Kind X) where
         → find (is_named name) (map (value_at entries) indexes) ≡ None
     finds_not none = finds_none (is_named name) (map (value_at entries) indexes) (named_nowhere none)
 
-  -- ---- an entry is put
+  -- ---- an entry is written
 
-  -- the places of this kind, and what stands at them
+  -- The indices of this kind, and the values at them.
   record Stand (entries : List Entry) (indexes : List ℕ) (values : List X) : Type 0 where
     each : HasEach (IsAt entries) indexes
     values_are : map (value_at entries) indexes ≡ values
@@ -119,7 +119,7 @@ module _ {X : Type 0} (k : Kind X) where
     others_there : (IsAt entries index → ⊥) → (i q : ℕ) → slice_get indexes i ≡ Some q → q ≢ index
     others_there free i q e same = free (subst (IsAt entries) same (each.sound i q e))
 
-    -- one of this kind, where none was
+    -- The new entry is of this kind, the old entry was not.
     one_more : (x : X) → entry ≡ k.entry_of x → (IsAt entries index → ⊥)
         → Stand new (indexes ++ index ∷ []) (map (value_at entries) indexes ++ x ∷ [])
     one_more x is free =
@@ -129,7 +129,7 @@ module _ {X : Type 0} (k : Kind X) where
           values_are = search (rules, map-append, same_values);
         }
 
-    -- another one in its place
+    -- The old entry was of this kind, the new entry is not.
     one_less : (i : ℕ) → slice_get indexes i ≡ Some index → (IsAt new index → ⊥)
         → Stand new (remove indexes i) (remove (map (value_at entries) indexes) i)
     one_less i at gone = record {
@@ -138,7 +138,7 @@ module _ {X : Type 0} (k : Kind X) where
           ∙ map-remove (value_at entries) indexes i;
     }
 
-    -- another one, where none was
+    -- Neither the old nor the new entry is of this kind.
     no_more : (IsAt entries index → ⊥) → (IsAt new index → ⊥) → Stand new indexes (map (value_at entries) indexes)
     no_more free gone = record {
       each = each_same indexes each (λ q is. stays q (λ same. free (subst (IsAt entries) same is)) is)
@@ -146,14 +146,14 @@ module _ {X : Type 0} (k : Kind X) where
       values_are = same_values indexes (others_there free);
     }
 
--- ---- what is found by a name
+-- ---- lookups by name
 
--- a name that is looked up
+-- A name that a lookup finds at `index` is at no other index.
 pub stands_once : (name : List ℕ) (entries : List Entry) (found : Option ℕ) (index : ℕ) → found ≡ Some index
     → ((q : ℕ) (kept : NameEntry) → slice_get entries q ≡ Some (name, kept) → found ≡ Some q) → StandsOnce name entries index
 stands_once name entries found index e only q kept there = let both : Some q ≡ Some index = sym (only q kept there) ∙ e in cc
 
--- how it stands
+-- The status of a name, from its active row and its retired entry.
 abbrev how_found : ℕ → ℕ → Option Row → Option RetiredName → NameStatus
 how_found known_max active row old =
     if is_some row then how.Active
@@ -170,7 +170,7 @@ how_retired over old = search rules
 
 module _ {entries : List Entry} {active retired : List ℕ} {owner : ℕ → Option ℕ} (indexed : IsIndex entries active retired owner)
     (name : List ℕ) where
-  -- what is found is what is kept where the name stands
+  -- A lookup by name returns the entry at the name's index.
   pub found_active : (index : ℕ) → StandsAs name entries index → StandsOnce name entries index
       → active_row name (names_at entries active retired) ≡ active_in (slice_get entries index)
   found_active index (inl row) once = finds actives name entries indexed.active_indexes index row.0 row.1 row.2 once
@@ -212,12 +212,12 @@ module _ {entries : List Entry} {active retired : List ℕ} {owner : ℕ → Opt
       → name_status known_max name (names_at entries active retired) ≡ (if over then how.NoRoom else how.Free None)
   stands_new known_max over fresh e = search (rules, finds_none, length-map, no_active, no_old)
 
-  -- a name that is not active stands at no active place
+  -- A name that is not active is in no active entry.
   pub inactive_there : is_active name (names_at entries active retired) ≡ false → (index : ℕ) (row : Row)
       → slice_get entries index ≡ Some (active_entry row) → row.reg.name ≡ name → ⊥
   inactive_there inactive index row e named = not_there actives name entries indexed.active_indexes inactive index row e named
 
-  -- and one that is not known at none
+  -- A name that is not known is in no entry.
   pub unknown_there : is_known name (names_at entries active retired) ≡ false → AreNamed entries → IsNew name entries
   unknown_there not_known named index kept e = elim (stands_as name entries index kept named e) [
     | inl row ↦ inactive_there (or_parts _ _ not_known).0 index row.0 row.1 row.2
@@ -225,7 +225,7 @@ module _ {entries : List Entry} {active retired : List ℕ} {owner : ℕ → Opt
         (or_parts (is_active name (names_at entries active retired)) _ not_known).1 index old.0 old.1 old.2
   ]
 
--- ---- what is found by a slot
+-- ---- lookups by slot
 
 module _ {entries : List Entry} {active retired : List ℕ} {owner : ℕ → Option ℕ} (indexed : IsIndex entries active retired owner)
     (slot : ℕ) where
@@ -260,15 +260,15 @@ module _ {entries : List Entry} {active retired : List ℕ} {owner : ℕ → Opt
   pub stays_whole : owner slot ≡ None → retired_of slot (names_at entries active retired) ≡ names_at entries active retired
   stays_whole none = ap (λ (o : Option ℕ). retired_at o (names_at entries active retired)) (no_slot_place none)
 
--- ---- the slots
+-- ---- owners
 
--- an active name comes
+-- An active name is added.
 owners_more : {entries new : List Entry} {at : ℕ} {row : Row} {owner owner' : ℕ → Option ℕ} → Puts entries new at (active_entry row)
     → (IsActiveAt entries at → ⊥) → AreOwners entries owner → owner row.slot ≡ None
     → owner' row.slot ≡ Some at → ((q : ℕ) → q ≢ row.slot → owner' q ≡ owner q) → AreOwners new owner'
 owners_more {entries} {new} {at} {row} {owner} {owner'} puts free owners none there others = search rules
 
--- none of the active names is that of this place any more
+-- The active name at `at` retires.
 owners_less : {entries new : List Entry} {at : ℕ} {old : RetiredName} {owner owner' : ℕ → Option ℕ}
     → Puts entries new at (retired_entry old) → AreOwners entries owner
     → ((q index : ℕ) → index ≢ at → owner q ≡ Some index → owner' q ≡ Some index)
@@ -281,7 +281,7 @@ owners_less {entries} {new} {at} {old} puts owners stay were = record {
   slots = search rules;
 }
 
--- ---- a name retires, whole
+-- ---- a retirement, complete
 
 module _ {entries new : List Entry} {active retired : List ℕ} {owner : ℕ → Option ℕ} (owner' : ℕ → Option ℕ) (slot index i : ℕ)
     (indexed : IsIndex entries active retired owner) (owned : owner slot ≡ Some index)
@@ -315,7 +315,7 @@ module _ {entries new : List Entry} {active retired : List ℕ} {owner : ℕ →
     count = search (rules, length-append, length-remove, slice_get_within);
   }
 
--- ---- a retired name comes behind the others
+-- ---- a retired name is appended
 
 module _ {entries : List Entry} {active retired : List ℕ} {owner : ℕ → Option ℕ} (indexed : IsIndex entries active retired owner)
     (old : RetiredName) where
@@ -348,7 +348,7 @@ module _ {entries : List Entry} {active retired : List ℕ} {owner : ℕ → Opt
     count = omega (arith, length-append retired (last ∷ []), length-append entries (retired_entry old ∷ []), indexed.count);
   }
 
--- ---- a name comes, whole
+-- ---- a registration, complete
 
 no_first : (xs : List RetiredName) → remove xs 0 ≡ drop 1 xs
 no_first xs = search rules
@@ -374,7 +374,7 @@ module _ {entries new : List Entry} {active retired left : List ℕ} {owner : �
   rows_with : Stand actives new (active ++ index ∷ []) (map (row_at entries) active ++ row ∷ [])
   rows_with = one_more actives settles.puts indexed.active_indexes row refl free
 
-  -- the retired ones, once the name is none of them
+  -- The retired names after the name was removed from them.
   taken : (o : Option ℕ) (xs : List RetiredName) → roomy.retired ≡ xs → position (had_name row.reg.name) xs ≡ o
       → without_at o xs ≡ without_at (position (had_name row.reg.name) roomy.retired) roomy.retired
   taken o xs is at = search rules

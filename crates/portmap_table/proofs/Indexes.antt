@@ -1,4 +1,4 @@
--- Entries at places: what is read there after one is written, added, or takes the place of another.
+-- Entries at indices, after an entry is overwritten, added or replaced.
 use Rattle.std.specs.{List.IsDistinct, Map.lookup}
 use Rattle.std.specs.Prelude.{is_some, option_map, position, slice_get, slice_set, swap_remove, remove}
 use Rattle.std.proofs.Common.{◌≡◌, ◌≢◌, ℕ, zero, suc, ◌<◌, Bool, true, false, List, [], ◌∷◌, ◌++◌, length, map, get_or}
@@ -13,7 +13,7 @@ use Rattle.portmap_table.specs.{Indexes.{AreNamed, Entry, IsNamed, IsNew, Puts, 
 use Rattle.portmap_table.specs.declared.entries.NameEntry.{NameEntry, TheVariants.{Active, Retired}}
 use Rattle.portmap_table.proofs.{Finding.is_none, First.{IsFirst, NonePass}}
 
--- ---- elements at places
+-- ---- elements at indices
 
 pub push_there : {X : Type 0} (xs : List X) (x : X) → slice_get (xs ++ x ∷ []) (length xs) ≡ Some x
 push_there [] x = refl
@@ -36,22 +36,22 @@ set_others (y ∷ xs) zero x (suc i) other = refl
 set_others (y ∷ xs) (suc at) x zero other = refl
 set_others (y ∷ xs) (suc at) x (suc i) other = set_others xs at x i (λ e. other (ap suc e))
 
--- the last one in the place of another
+-- Appending an element and swap-removing at `at` replaces the element at `at`.
 swap_remove_push : {X : Type 0} (xs : List X) (x d : X) (at : ℕ) → at < length xs → swap_remove (xs ++ x ∷ []) at d ≡ slice_set xs at x
 swap_remove_push xs x d at lt = search (rules, get_or-append_seam, length-append, set-append_left, take_at)
 
 -- ---- entries
 
--- an entry that is added
+-- Appending puts the entry at the last index.
 pub puts_last : (entries : List Entry) (entry : Entry) → Puts entries (entries ++ entry ∷ []) (length entries) entry
 puts_last entries entry = record { there = push_there entries entry; others = push_others entries entry }
 
--- one that takes the place of another
+-- Appending an entry and swap-removing at `at` puts the entry at `at`.
 pub puts_swapped : (entries : List Entry) (entry d : Entry) (at : ℕ) → at < length entries
     → Puts entries (swap_remove (entries ++ entry ∷ []) at d) at entry
 puts_swapped entries entry d at lt = search (rules, set_others, set_there, swap_remove_push)
 
--- one of the same name
+-- Overwriting the value of an entry keeps its name.
 written_there : (entries : List Entry) (at : ℕ) (name : List ℕ) (was kept : NameEntry) → slice_get entries at ≡ Some (name, was)
     → slice_get (set_value_at entries at kept) at ≡ Some (name, kept)
 written_there [] at name was kept e = absurd cc
@@ -82,7 +82,7 @@ pub named_before : (entries : List Entry) (entry : Entry) → AreNamed (entries 
 named_before entries entry all index other e =
     all index other (push_others entries entry index (λ same. absurd (omega (arith, same, slice_get_within entries index other e))) ∙ e)
 
--- ---- the place of a name
+-- ---- the index of a name
 
 abbrev pub key_of : Entry → List ℕ
 key_of entry = entry.0
@@ -110,12 +110,12 @@ new_found name entries none = is_none (lookup (same_name name) entries)
     by None e = e
     by (Some index) e = let read = place_read name entries index e in absurd (none index read.0 read.1)
 
--- what is kept at a place
+-- The value of the entry at index `i`.
 pub read_kept : (entries : List Entry) (i : ℕ) (entry : Entry) → slice_get entries i ≡ Some entry
     → slice_get (map (λ (e : Entry). e.1) entries) i ≡ Some (entry.1)
 read_kept entries i entry e = slice_get-map (λ (e : Entry). e.1) entries i ∙ ap (option_map (λ (e : Entry). e.1)) e
 
--- an entry is that of an active name or of a retired one
+-- An entry is that of an active or of a retired name.
 pub stands_as : (name : List ℕ) (entries : List Entry) (index : ℕ) (kept : NameEntry) → AreNamed entries
     → slice_get entries index ≡ Some (name, kept) → StandsAs name entries index
 stands_as name entries index (Active row) named e =
@@ -127,11 +127,11 @@ pub kept_there : (name : List ℕ) (entries : List Entry) (index : ℕ) → Stan
     → (kept : NameEntry) × (slice_get entries index ≡ Some (name, kept))
 kept_there name entries index o = search rules
 
--- ---- lists that have each place of a kind once: one is added
+-- ---- lists that contain each index of a kind once: an index is added
 
 module _ {Is Is' : ℕ → Type 0} (indexes : List ℕ) (index : ℕ) (each : HasEach Is indexes) (fresh : Is index → ⊥) (there : Is' index)
     (stay : (q : ℕ) → q ≢ index → Is q → Is' q) (were : (q : ℕ) → q ≢ index → Is' q → Is q) where
-  -- the place that is read is the new one, at the end, or one of before
+  -- An index that is read is the new index, at the end, or an old index.
   read_pushed : (i q : ℕ) → slice_get (indexes ++ index ∷ []) i ≡ Some q
       → ((i ≡ length indexes) × (q ≡ index)) ⊎ ((slice_get indexes i ≡ Some q) × (q ≢ index))
   read_pushed i q e = search (rules, push_others, push_there)
@@ -156,9 +156,9 @@ module _ {Is Is' : ℕ → Type 0} (indexes : List ℕ) (index : ℕ) (each : Ha
     once = once_pushed;
   }
 
--- ---- one is taken out
+-- ---- an index is removed
 
--- where an element stood before the one at k was taken out
+-- The position, before the element at `k` was removed, of the element that is now at `i`.
 skip : ℕ → ℕ → ℕ
 skip zero i = suc i
 skip (suc k) zero = zero
@@ -212,19 +212,19 @@ module _ {Is Is' : ℕ → Type 0} (indexes : List ℕ) (k index : ℕ) (each : 
     once = search (rules, read_removed, skip_once);
   }
 
-  -- what is left is not the place itself
+  -- The remaining indices differ from the removed index.
   pub left_others : (i q : ℕ) → slice_get (remove indexes k) i ≡ Some q → q ≢ index
   left_others = other_left
 
--- ---- none comes or goes
+-- ---- no index is added or removed
 
 pub each_same : {Is Is' : ℕ → Type 0} (indexes : List ℕ) → HasEach Is indexes → ((q : ℕ) → Is q → Is' q) → ((q : ℕ) → Is' q → Is q)
     → HasEach Is' indexes
 each_same indexes each to from = search rules
 
--- ---- what is found there
+-- ---- values at the indices
 
--- what is made of each place is the same
+-- Two functions that agree on all listed indices map the list alike.
 pub map_read : {X : Type 0} (f g : ℕ → X) (indexes : List ℕ) → ((i q : ℕ) → slice_get indexes i ≡ Some q → f q ≡ g q)
     → map f indexes ≡ map g indexes
 map_read f g [] same = refl

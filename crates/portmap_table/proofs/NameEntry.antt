@@ -1,4 +1,4 @@
--- What always holds of a table's names holds after a registration and after a retirement.
+-- The invariant of a table's names holds after a registration and after a retirement.
 use Rattle.std.specs.{Cmp.Lexicographic.same_text, List.IsDistinct, Prelude.{drop, position, remove, is_some}}
 use Rattle.std.specs.Prelude.{slice_get, nat_le, All, MatchBool, ◌==◌, ◌&&◌, ◌||◌, if◌then◌else◌}
 use Rattle.std.proofs.Common.{◌≡◌, ℕ, ◌<◌, ◌≤◌, ◌^◌, Bool, true, false, not, List, [], ◌∷◌, ◌++◌, length, map, get_or}
@@ -17,7 +17,7 @@ use Rattle.portmap_table.specs.declared.row.Row.{Row}
 use Rattle.portmap_table.proofs.Finding.{key_is_new, distinct_with, distinct_forward, distinct_back, distinct_without}
 use Rattle.portmap_table.proofs.{Finding.keys_moved, First.{NonePass, none_at, none_found, finds_none}}
 
--- ---- short names for what is scanned
+-- ---- abbreviations of tests and keys
 
 abbrev pub has_name : List ℕ → Row → Bool
 has_name name row = same_name row.reg.name name
@@ -37,7 +37,7 @@ IsOldKept old = (1 ≤ old.creation) × (old.creation < 2 ^ 32)
 All-remove : {X : Type 0} (P : X → Type 0) (xs : List X) (at : ℕ) → All P xs → All P (remove xs at)
 All-remove P xs at all = All-append P _ _ (All-take P at xs all) (All-drop P (suc at) xs all)
 
--- ---- nothing is known
+-- ---- the empty table
 
 pub kept_empty : (known_max : ℕ) → AreKept known_max (record { active = []; retired = [] })
 unfolding IsDistinct
@@ -45,7 +45,7 @@ kept_empty known_max = search rules
 
 -- ---- a name registers
 
--- a table that is not full for a name that it does not know has room
+-- A table that is not full for an unknown name has room.
 has_room : (known_max known : ℕ) (taken old : Bool) → (nat_le known_max known && not (taken || old)) ≡ false → taken ≡ false → old ≡ false
     → known < known_max
 has_room known_max known taken old e t o = grind (arith, nat_tests)
@@ -57,7 +57,7 @@ new_owner rows row slot d free e =
     (key_is_new nat_eq_equiv slot_of slot rows (none_at (λ row. row.slot == slot) rows free)) tt (rw append-nil d) in
     rw (map-append slot_of rows (row ∷ []), e) (rw append-nil at keys)
 
--- a name that is to be registered: it is not active, its slot owns none, and its creation is one that it may have
+-- A name that may be registered: it is not active, its slot owns no name, and its creation is in range.
 pub record IsNew (known_max : ℕ) (names : Names) (g : Node) (creation slot : ℕ) : Type 0 where
   pub kept : AreKept known_max names
   pub inactive : is_active g.name names ≡ false
@@ -102,7 +102,7 @@ kept_with {known_max} {c} {slot} {names} {g} (Some at) is room found =
       retired_creations = All-remove IsOldKept names.retired at is.kept.retired_creations;
     }
 
--- ---- the oldest is forgotten
+-- ---- the oldest retired name is forgotten
 
 oldest_out : (active : List (List ℕ)) (olds : List RetiredName) → IsDistinct same_name (active ++ map old_name_of olds)
     → IsDistinct same_name (active ++ map old_name_of (drop 1 olds))
@@ -120,7 +120,7 @@ kept_without known_max names k = record {
   retired_creations = All-drop IsOldKept 1 names.retired k.retired_creations;
 }
 
--- what always holds of names does so after a registration
+-- The invariant holds after a registration.
 pub kept_enters : {known_max c slot : ℕ} {names : Names} {g : Node} → IsNew known_max names g c slot
     → is_full_for known_max g.name names ≡ false → AreKept known_max (registered g c slot (with_room known_max g.name names))
 kept_enters {known_max} {c} {slot} {names} {g} is room = by (nat_le known_max (known_len names) && not (is_known g.name names)) refl

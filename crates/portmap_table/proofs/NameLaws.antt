@@ -1,4 +1,4 @@
--- What a registration and a retirement do to each name.
+-- The effect of a registration and of a retirement on each name.
 use Rattle.std.specs.{Cmp.IsEquivalence, Cmp.Lexicographic.same_text}
 use Rattle.std.specs.{List.{AllByRecursion, IsDistinct, position_or_len}, List.Sorted.IsPermutation, Prelude.◌&&◌}
 use Rattle.std.specs.Prelude.{if◌then◌else◌, nat_le, find, position, remove, is_some, slice_get, ◌==◌, option_map, ◌||◌}
@@ -29,7 +29,7 @@ registered_names_are_active names reg creation slot inactive =
     find-push (has_name reg.name) names.active (record { reg = reg; creation = creation; slot = slot })
     (is_none (find (has_name reg.name) names.active) inactive) (nat_list_eq_equiv.refl reg.name)
 
--- a name that differs from each that is known
+-- A name that differs from each known name is in neither list.
 pub none_known : (name : List ℕ) (names : Names) → AllByRecursion (λ y. same_name name y ≡ false) (known_names names)
     → (find (has_name name) names.active ≡ None) × (find (had_name name) names.retired ≡ None)
 none_known name names differ =
@@ -40,7 +40,7 @@ none_known name names differ =
 
 -- ---- the row that retires
 
--- where the slot's row stands, and what its retirement leaves
+-- The position of the slot's row, and the names after its retirement.
 pub record Leaves (names : Names) (slot : ℕ) (row : Row) : Type 0 where
   pub at : ℕ
   pub there : slice_get names.active at ≡ Some row
@@ -75,9 +75,9 @@ names_outlive_connections known_max names slot row k e =
           ∙ find-push (had_name n) names.retired (old_name row) none.1 (nat_list_eq_equiv.refl n),
     )
 
--- ---- the others
+-- ---- other names
 
--- a retired name that is removed is not another one
+-- Removing a retired name changes no search for another name.
 others_without : (olds : List RetiredName) (name other : List ℕ) (o : Option ℕ) → position (had_name name) olds ≡ o
     → same_name name other ≡ false → find (had_name other) (without_at o olds) ≡ find (had_name other) olds
 others_without olds name other None e differs = refl
@@ -152,7 +152,7 @@ last_creations_are_remembered known_max names slot row k e =
     let old = (names_outlive_connections known_max names slot row k e).1 in
     (old, ap (option_map (λ (x : RetiredName). x.creation)) old)
 
--- ---- names that are added one by one, in their order: a key differs from those before it
+-- ---- names that are added in order: a key differs from all earlier keys
 
 distinct_second : {K : Type 0} (same : K → K → Bool) (xs ys : List K) → IsDistinct same (xs ++ ys) → IsDistinct same ys
 unfolding IsDistinct
@@ -165,7 +165,7 @@ part_read P key [] ys i all e = absurd cc
 part_read P key (y ∷ xs) ys zero {x} all e = rw (let same : x ≡ y = cc in same) all.0
 part_read P key (y ∷ xs) ys (suc i) all e = part_read P key xs ys i all.1 e
 
--- and from those of a second part
+-- A key differs from the earlier keys and from the keys of a second part.
 differs_before : {X K : Type 0} {same : K → K → Bool} → IsEquivalence same → (key : X → K) (xs : List X) (ys : List K) (i : ℕ) {x : X}
     → IsDistinct same (map key xs ++ ys) → slice_get xs i ≡ Some x
     → AllByRecursion (λ y. same (key x) y ≡ false) (map key (take i xs) ++ ys)
@@ -202,10 +202,10 @@ module _ {known_max : ℕ} {names : Names} (k : AreKept known_max names) (i : �
       (rw append-nil at (differs_before nat_list_eq_equiv old_name_of names.retired [] i
       (rw append-nil (distinct_second same_name (map name_of names.active) (map old_name_of names.retired) k.distinct)) e))
 
--- ---- one more
+-- ---- a name is added
 
 module _ (known_max : ℕ) (names : Names) (lt : known_len names < known_max) where
-  -- an active one
+  -- An active name is added.
   pub admitted : (row : Row) → is_known row.reg.name names ≡ false
       → registered row.reg row.creation row.slot (with_room known_max row.reg.name names)
       ≡ record { active = names.active ++ row ∷ []; retired = names.retired }
@@ -223,7 +223,7 @@ module _ (known_max : ℕ) (names : Names) (lt : known_len names < known_max) wh
       (key_is_new nat_list_eq_equiv name_of name names.active (none_found (has_name name) names.active two.0))
       (key_is_new nat_list_eq_equiv old_name_of name names.retired (none_found (had_name name) names.retired two.1))
 
-  -- a retired one
+  -- A retired name is added.
   pub kept_appended : (old : RetiredName) → AreKept known_max names → is_known old.name names ≡ false
       → (1 ≤ old.creation) × (old.creation < 2 ^ 32) → AreKept known_max (and_retired names old)
   kept_appended old k unknown range = record {

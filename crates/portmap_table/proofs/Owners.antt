@@ -1,4 +1,4 @@
--- Which slots own a name after a registration and after a retirement.
+-- The slots that own a name after a registration and after a retirement.
 use Rattle.std.specs.List.{IsDistinct, list_any, position_or_len}
 use Rattle.std.specs.Prelude.{position, remove, is_some, slice_get, nat_le, ◌==◌, ◌&&◌, ◌||◌, if◌then◌else◌}
 use Rattle.std.proofs.Common.{◌≡◌, ◌≢◌, ℕ, ◌<◌, Bool, true, false, not, List, ◌∷◌, length, map, get_or, Option, Some}
@@ -16,7 +16,7 @@ use Rattle.portmap_table.proofs.{Finding.{keys_moved, keys_pass_not}, First.{any
 abbrev pub has_slot : ℕ → Row → Bool
 has_slot slot row = row.slot == slot
 
--- a slot owns a name where it is the slot of an active one
+-- A slot owns a name if and only if an active row has this slot.
 pub owns : (slot : ℕ) (names : Names) → owns_name slot names ≡ list_any (has_slot slot) names.active
 owns slot names = any_place (has_slot slot) names.active
 
@@ -36,16 +36,16 @@ registered_owns : (q : ℕ) (g : Node) (creation slot : ℕ) (names : Names)
     → owns_name q (registered g creation slot names) ≡ (owns_name q names || (slot == q || false))
 registered_owns q g creation slot names = search (rules, list_any-append, owns)
 
--- the slot owns a name then
+-- The slot of a registered name owns a name.
 pub owns_registered : (g : Node) (creation slot : ℕ) (names : Names) → owns_name slot (registered g creation slot names) ≡ true
 owns_registered g creation slot names = search (rules, registered_owns)
 
--- and no other slot does that did not before
+-- A registration changes nothing for other slots.
 pub owns_registered_other : (q : ℕ) (g : Node) (creation slot : ℕ) (names : Names) → q ≢ slot
     → owns_name q (registered g creation slot names) ≡ owns_name q names
 owns_registered_other q g creation slot names other = search (rules, registered_owns)
 
--- room for a name is made at the cost of no owner
+-- Forgetting the oldest retired name changes no owner.
 owns_by : (b : Bool) (q : ℕ) (names : Names) → owns_name q (if b then without_oldest names else names) ≡ owns_name q names
 owns_by b q names = search rules
 
@@ -63,7 +63,7 @@ gone rows at row lt here d =
     any_none (has_slot row.slot) (remove rows at)
     (keys_pass_not nat_eq_equiv slot_of row.slot (remove rows at) (IsDistinct-head ◌==◌ row.slot (map slot_of (remove rows at)) first))
 
--- by the place of the slot's row, and the row there
+-- After the row at `at` retires, its slot owns no name, and nothing changes for other slots.
 last_owns : (slot : ℕ) (names : Names) (at : ℕ) (o : Option Row) → slice_get names.active at ≡ o
     → position (has_slot slot) names.active ≡ Some at → IsDistinct ◌==◌ (map slot_of names.active)
     → (owns_name slot (retired_last at o names) ≡ false) × ((q : ℕ) → q ≢ slot → owns_name q (retired_last at o names) ≡ owns_name q names)
@@ -89,11 +89,11 @@ retired_owns : (slot : ℕ) (names : Names) (o : Option ℕ) → position (has_s
 retired_owns slot names None found d = (ap is_some found, λ q other. refl)
 retired_owns slot names (Some at) found d = last_owns slot names at (slice_get names.active at) refl found d
 
--- the slot owns no name then
+-- A slot that retires owns no name.
 pub owns_retired : (slot : ℕ) (names : Names) → IsDistinct ◌==◌ (map slot_of names.active) → owns_name slot (retired_of slot names) ≡ false
 owns_retired slot names d = (retired_owns slot names (position (has_slot slot) names.active) refl d).0
 
--- and each other slot owns what it owned
+-- A retirement changes nothing for other slots.
 pub owns_retired_other : (q slot : ℕ) (names : Names) → IsDistinct ◌==◌ (map slot_of names.active) → q ≢ slot
     → owns_name q (retired_of slot names) ≡ owns_name q names
 owns_retired_other q slot names d other = (retired_owns slot names (position (has_slot slot) names.active) refl d).1 q other

@@ -1,4 +1,4 @@
--- What a registration and a retirement do to each name.
+-- The effect of a registration and of a retirement on each name.
 use Rattle.std.specs.Prelude.{◌≡◌, ◌<◌, ◌≤◌, ℕ, true, false, List, [], ◌∷◌, ◌++◌, length, drop, take, Option, Some}
 use Rattle.std.specs.Prelude.{find, ◌==◌}
 use Rattle.portmap_wire.specs.Node.{Node}
@@ -6,25 +6,25 @@ use Rattle.portmap_table.specs.{Creation.IsLegalCreation, Rows.{Names, AreKept, 
 use Rattle.portmap_table.specs.Rows.{retired_row, is_full_for, is_known, known_len, registered, remembered, retired_of}
 use Rattle.portmap_table.specs.{Rows.{old_name, with_room}, declared.row.Row.Row}
 
--- the row that a slot owns
+-- The row of the active name that a slot owns.
 abbrev pub row_of : ℕ → Names → Option Row
 row_of slot names = find (λ row. row.slot == slot) names.active
 
--- a name that registers is active, with its registration, its creation and its slot
+-- A registered name is active, with its registration, its creation and its slot.
 abbrev pub RegisteredNamesAreActive : Type 0
 RegisteredNamesAreActive = (names : Names) (reg : Node) (creation slot : ℕ) → is_active reg.name names ≡ false
     → active_row reg.name (registered reg creation slot names) ≡ Some (record { reg = reg; creation = creation; slot = slot })
 
--- a name outlives its connection: it is active no more, and its port and its creation are remembered
+-- A name whose slot retires is not active, and its port and its creation are remembered.
 abbrev pub NamesOutliveConnections : Type 0
 NamesOutliveConnections = (known_max : ℕ) (names : Names) (slot : ℕ) (row : Row) → AreKept known_max names → row_of slot names ≡ Some row
     → (is_active row.reg.name (retired_of slot names) ≡ false) × (retired_row row.reg.name (retired_of slot names) ≡ Some (old_name row))
 
--- what is known of one name is the same in both
+-- `names` and `names'` agree about `name`.
 abbrev pub KnowsAlike : List ℕ → Names → Names → Type 0
 KnowsAlike name names names' = (active_row name names' ≡ active_row name names) × (retired_row name names' ≡ retired_row name names)
 
--- what is known of the other names stays
+-- `registered` and `retired_of` leave what is known of other names unchanged.
 abbrev pub OthersStayAtRegistration : Type 0
 OthersStayAtRegistration = (names : Names) (reg : Node) (creation slot : ℕ) (other : List ℕ) → same_name reg.name other ≡ false
     → KnowsAlike other names (registered reg creation slot names)
@@ -34,7 +34,7 @@ OthersStayAtRetirement = (names : Names) (slot : ℕ) (row : Row) (other : List 
     → same_name row.reg.name other ≡ false
     → KnowsAlike other names (retired_of slot names)
 
--- the newest stand last, and those that stood there stay where they are
+-- The newest name is last in its list, and older retired names keep their positions.
 abbrev pub RegisteredNamesStandLast : Type 0
 RegisteredNamesStandLast = (names : Names) (reg : Node) (creation slot : ℕ)
     → (registered reg creation slot names).active ≡ names.active ++ record { reg = reg; creation = creation; slot = slot } ∷ []
@@ -46,34 +46,34 @@ RetiredNamesStandLast = (names : Names) (slot : ℕ) (row : Row) → row_of slot
 abbrev pub RetiredNamesStay : Type 0
 RetiredNamesStay = (names : Names) (slot : ℕ) → take (length names.retired) (retired_of slot names).retired ≡ names.retired
 
--- room for a name is made at the cost of no active name, and of no name where the name is known
+-- Making room forgets no active name, and no name at all if `name` is known.
 abbrev pub ActiveNamesStay : Type 0
 ActiveNamesStay = (known_max : ℕ) (names : Names) (name : List ℕ) → (with_room known_max name names).active ≡ names.active
 
 abbrev pub KnownNamesCostNone : Type 0
 KnownNamesCostNone = (known_max : ℕ) (names : Names) (name : List ℕ) → is_known name names ≡ true → with_room known_max name names ≡ names
 
--- it costs none where fewer are known than may be
+-- Making room forgets no name if fewer than `known_max` names are known.
 abbrev pub RoomCostsNone : Type 0
 RoomCostsNone = (known_max : ℕ) (names : Names) (name : List ℕ) → known_len names < known_max → with_room known_max name names ≡ names
 
--- and else a new name costs the one that was retired longest
+-- At the limit, making room for a new name forgets the name that was retired longest ago.
 abbrev pub OldestMakesRoom : Type 0
 OldestMakesRoom = (known_max : ℕ) (names : Names) (name : List ℕ) → known_max ≤ known_len names → is_known name names ≡ false
     → (with_room known_max name names).retired ≡ drop 1 names.retired
 
--- none is refused where a retired one may be forgotten for it
+-- A name is refused for lack of room only if no name is retired.
 abbrev pub NoneIsRefusedForRetiredNames : Type 0
 NoneIsRefusedForRetiredNames = (known_max : ℕ) (names : Names) (name : List ℕ) → AreKept known_max names
     → is_full_for known_max name names ≡ true → names.retired ≡ []
 
--- what is remembered of a name that outlives its connection: its port, and the creation that it had last
+-- The port and the last creation of a retired name are remembered.
 abbrev pub LastCreationsAreRemembered : Type 0
 LastCreationsAreRemembered = (known_max : ℕ) (names : Names) (slot : ℕ) (row : Row) → AreKept known_max names → row_of slot names ≡ Some row
     → (retired_row row.reg.name (retired_of slot names)
     ≡ Some (record { name = row.reg.name; port = row.reg.port; creation = row.creation }))
     × (remembered row.reg.name (retired_of slot names) ≡ Some row.creation)
 
--- a name that returns gets another creation than its last one
+-- A name that returns does not get its last creation.
 abbrev pub ReturningNamesGetAnother : Type 0
 ReturningNamesGetAnother = (high last c : ℕ) → IsLegalCreation high (Some last) c → c ≡ last → ⊥

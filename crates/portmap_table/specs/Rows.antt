@@ -1,5 +1,5 @@
--- The names that a port mapper knows: the active ones, each with its registration, and the retired ones. ERTS User's
--- Guide, EPMD Protocol: a registration lasts as long as its connection. What is remembered of old names: profile.
+-- The names that a port mapper knows. ERTS User's Guide, EPMD Protocol: a registration lasts as long as its connection.
+-- Profile: what is remembered of retired names.
 use Rattle.std.specs.{Cmp.Lexicographic.pointwise, List.IsDistinct, Prelude.{ℕ, ◌+◌, ◌≤◌, ◌<◌, ◌^◌, Bool, not, nat_le}}
 use Rattle.std.specs.Prelude.{◌&&◌, ◌||◌, List, [], ◌∷◌, ◌++◌, length, map, drop, remove, position, find, Option, Some}
 use Rattle.std.specs.Prelude.{None, is_some, option_map, slice_get, ◌==◌, All, if◌then◌else◌}
@@ -8,15 +8,15 @@ use Rattle.portmap_table.specs.{Creation.IsCreationFor, declared.row.Old.Old, de
 use Rattle.portmap_table.specs.{declared.row.Row.Row, declared.name_status.NameStatus.NameStatus}
 use Rattle.portmap_table.specs.declared.name_status.NameStatus.TheVariants as how
 
--- an old name, the port that it had, and its last creation
+-- A retired name, its port and its last creation.
 abbrev pub RetiredName : Type 0
 RetiredName = Old
 
--- what is lent of an old name
+-- A borrowed retired name, as a value.
 abbrev pub retired_name : Retired → RetiredName
 retired_name old = record { name = old.name.now; port = old.port; creation = old.creation }
 
--- the active names in order of registration, and the retired ones in order of retirement
+-- The active names in order of registration, and the retired names in order of retirement.
 pub record Names : Type 0 where
   pub active : List Row
   pub retired : List RetiredName
@@ -24,7 +24,7 @@ pub record Names : Type 0 where
 abbrev pub no_names : Names
 no_names = record { active = []; retired = [] }
 
--- ---- looking
+-- ---- lookups
 
 abbrev pub name_of : Row → List ℕ
 name_of row = row.reg.name
@@ -32,7 +32,7 @@ name_of row = row.reg.name
 abbrev pub slot_of : Row → ℕ
 slot_of row = row.slot
 
--- two names are one, byte for byte
+-- Compares two names byte for byte.
 abbrev pub same_name : List ℕ → List ℕ → Bool
 same_name = pointwise ◌==◌
 
@@ -45,54 +45,51 @@ is_active name names = is_some (active_row name names)
 abbrev pub retired_row : List ℕ → Names → Option RetiredName
 retired_row name names = find (λ old. same_name old.name name) names.retired
 
--- a name is known where it is active or retired
 abbrev pub is_known : List ℕ → Names → Bool
 is_known name names = is_active name names || is_some (retired_row name names)
 
 abbrev pub known_len : Names → ℕ
 known_len names = length names.active + length names.retired
 
--- as many names are active as may be known, and this name is not known
+-- As many names are active as may be known, and this name is not known.
 abbrev pub is_full_for : ℕ → List ℕ → Names → Bool
 is_full_for known_max name names = nat_le known_max (length names.active) && not (is_known name names)
 
--- the creation that is remembered for a name
+-- The creation that is remembered for a name.
 abbrev pub remembered : List ℕ → Names → Option ℕ
 remembered name names = option_map (λ old. old.creation) (retired_row name names)
 
--- how a name stands: active, one too many, or free to be registered
+-- A name is active, has no room, or is free to be registered.
 abbrev pub name_status : ℕ → List ℕ → Names → NameStatus
 name_status known_max name names =
     if is_active name names then how.Active
     else if is_full_for known_max name names then how.NoRoom
     else how.Free (remembered name names)
 
--- the slot that owns a name
 abbrev pub owner_of : List ℕ → Names → Option ℕ
 owner_of name names = option_map (λ row. row.slot) (active_row name names)
 
 abbrev pub owns_name : ℕ → Names → Bool
 owns_name slot names = is_some (position (λ row. row.slot == slot) names.active)
 
--- ---- changing
+-- ---- changes
 
 abbrev pub without_at : {X : Type 0} → Option ℕ → List X → List X
 without_at None xs = xs
 without_at (Some at) xs = remove xs at
 
--- with one more retired name
 abbrev pub and_retired : Names → RetiredName → Names
 and_retired names old = record { active = names.active; retired = names.retired ++ old ∷ [] }
 
--- the name that was retired longest is known no more
+-- Forgets the name that was retired longest ago.
 abbrev pub without_oldest : Names → Names
 without_oldest names = record { active = names.active; retired = drop 1 names.retired }
 
--- where a name comes that is not known, and as many are as may be, the one retired longest is forgotten
+-- Forgets the name that was retired longest ago if the limit is reached and `name` is not known.
 abbrev pub with_room : ℕ → List ℕ → Names → Names
 with_room known_max name names = if nat_le known_max (known_len names) && not (is_known name names) then without_oldest names else names
 
--- a name that registers is the last active one, and no retired one any more
+-- The registered name becomes the last active name, and is not retired.
 abbrev pub registered : Node → ℕ → ℕ → Names → Names
 registered reg creation slot names = record {
   active = names.active ++ record { reg = reg; creation = creation; slot = slot } ∷ [];
@@ -110,16 +107,16 @@ abbrev pub retired_at : Option ℕ → Names → Names
 retired_at None names = names
 retired_at (Some at) names = retired_last at (slice_get names.active at) names
 
--- the name that a slot owns is active no more and goes last into the retired list
+-- The name that a slot owns becomes the last retired name.
 abbrev pub retired_of : ℕ → Names → Names
 retired_of slot names = retired_at (position (λ row. row.slot == slot) names.active) names
 
--- ---- what always holds
+-- ---- the invariant
 
 abbrev pub known_names : Names → List (List ℕ)
 known_names names = map (λ row. row.reg.name) names.active ++ map (λ old. old.name) names.retired
 
--- no name is known twice, none more than the most are known, no slot owns two, and creations are in their range
+-- No name is known twice, at most `known_max` names are known, no slot owns two names, and all creations are in range.
 pub record AreKept (known_max : ℕ) (names : Names) : Type 0 where
   pub distinct : IsDistinct same_name (known_names names)
   pub few : known_len names ≤ known_max

@@ -1,4 +1,4 @@
--- A table of names with its limit and the counter from which wide creations are taken.
+-- A table of names with its limit and the counter for wide creations.
 use Rattle.std.specs.Prelude.{◌≡◌, ℕ, List, Result, Ok, Err, max, if◌then◌else◌}
 use Rattle.portmap_wire.specs.Node.{Node}
 use Rattle.portmap_table.specs.Creation.{choice, counter_after}
@@ -14,18 +14,17 @@ pub record TableState : Type 0 where
 abbrev pub new_table : ℕ → ℕ → TableState
 new_table known_max first = record { names = no_names; known_max = known_max; counter = max first COUNTER_LEAST }
 
--- the table with these names in place of its own
 abbrev pub with_names : TableState → Names → TableState
 with_names t names = record { names = names; known_max = t.known_max; counter = t.counter }
 
--- the creation that a name would get, or why it would get none
+-- The creation that a name would get, or the reason for a refusal.
 abbrev pub offered : TableState → List ℕ → ℕ → Result ℕ RegFault
 offered t name high =
     if is_active name t.names then Err fault.Taken
     else if is_full_for t.known_max name t.names then Err fault.NoRoom
     else Ok (choice t.counter high (remembered name t.names))
 
--- the table after a registration with this creation
+-- The table after a registration with this creation.
 abbrev pub with_registration : TableState → Node → ℕ → ℕ → TableState
 with_registration t reg slot creation = record {
   names = registered reg creation slot (with_room t.known_max reg.name t.names);
@@ -33,7 +32,7 @@ with_registration t reg slot creation = record {
   counter = counter_after t.counter reg.high creation;
 }
 
--- what was answered is what the table offers, unless memory ran out
+-- The result is `said` or `NoMemory`.
 abbrev pub GivesOffer : Result ℕ RegFault → Result ℕ RegFault → Type 0
 GivesOffer (Ok c) said = said ≡ Ok c
 GivesOffer (Err fault.NoMemory) said = Unit {0}

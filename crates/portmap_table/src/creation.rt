@@ -1,4 +1,3 @@
-//! Which creation a node is given.
 ghost use Rattle.std.specs.Prelude.{◌≡◌, ◌↔◌, ℕ, IsTrue, Some, None};
 ghost use Rattle.portmap_table.specs.declared.creation.TheConstants.{COUNTER_LEAST, SHORT_MOST};
 ghost use Rattle.portmap_table.specs.Creation.{IsCounter, IsLegalCreation, IsCreationFor, ChoiceIsLegal, choice};
@@ -9,10 +8,10 @@ use portmap_wire::WIDE_VERSION;
 /// The largest of the short creations, which begin at 1.
 const SHORT_MOST: u32 = 3;
 
-/// The least number of the counter: the short creations are below it.
+/// The least value of the counter, above all short creations.
 pub const COUNTER_LEAST: u32 = SHORT_MOST + 1;
 
-/// A law: the numbers that definitions take from the code are those of this profile.
+/// Law: the constants that definitions take from the code have the values of this profile.
 pub fn numbers_are_the_profiles()
     ensures { (SHORT_MOST ≡ 3) × (COUNTER_LEAST ≡ 4) }
 {}
@@ -45,7 +44,6 @@ fn short_choice(last: Option<u32>) -> u32
     }
 }
 
-/// Whether a creation is in the range of a node of this highest version.
 pub(crate) fn is_creation_for(high: u16, creation: u32) -> bool
     ensures { IsTrue result ↔ IsCreationFor high creation }
 {
@@ -56,14 +54,12 @@ pub(crate) fn is_creation_for(high: u16, creation: u32) -> bool
     }
 }
 
-/// Whether a name may get this creation from a node of this highest version, where the last one is remembered for it.
 fn is_legal(high: u16, last: Option<u32>, creation: u32) -> bool
     ensures { IsTrue result ↔ IsLegalCreation high last creation }
 {
     is_creation_for(high, creation) && last != Some(creation)
 }
 
-/// A creation for a node of this highest version, whose name had the last one.
 fn choice(counter: u32, high: u16, last: Option<u32>) -> u32
     requires { IsCounter counter }
     ensures exact { result ≡ choice counter high last }
@@ -76,8 +72,8 @@ fn choice(counter: u32, high: u16, last: Option<u32>) -> u32
     }
 }
 
-/// The creation that is wanted, where a node of this highest version may get it whose name had the last one; else the
-/// choice.
+/// Returns `wanted` if a node of this highest version may get it for a name whose last creation is `last`. Otherwise
+/// returns the choice of this profile.
 pub fn creation_for(wanted: Option<u32>, counter: u32, high: u16, last: Option<u32>) -> u32
     requires { IsCounter counter }
     ensures wanted { (creation : ℕ) → wanted ≡ Some creation → IsLegalCreation high last creation → creation ≡ result }
@@ -90,7 +86,6 @@ pub fn creation_for(wanted: Option<u32>, counter: u32, high: u16, last: Option<u
     }
 }
 
-/// The counter once a node of this highest version was given a creation.
 pub(crate) fn counter_after(counter: u32, high: u16, taken: u32) -> u32
     requires counter { IsCounter counter }
     requires taken { IsCreationFor high taken }
@@ -103,7 +98,7 @@ pub(crate) fn counter_after(counter: u32, high: u16, taken: u32) -> u32
     successor(taken)
 }
 
-/// The choice is always legal, so there is always a legal creation.
+/// Law: the choice is always legal.
 pub fn choice_is_legal()
     ensures { ChoiceIsLegal }
 {}

@@ -1,4 +1,4 @@
-//! What is kept of each name, at a place that stays the name's own for as long as it is known.
+//! The known names with their rows. A name keeps its index for as long as it is known.
 ghost use Rattle.std.specs.Prelude.{◌≡◌, ◌<◌, ◌^◌, ℕ, length, slice_get, option_copied, option_map, Some, None, IfSome};
 ghost use Rattle.std.specs.Prelude.{IfOk, OnOk, OnErr, [], ◌++◌, ◌∷◌};
 ghost use Rattle.portmap_table.specs.declared.entries.NameEntry.{NameEntry};
@@ -13,16 +13,13 @@ use portmap_wire::{Name, NoMemory};
 use std::alloc::Global;
 use std::marker::Model;
 
-/// What is kept of a name.
+/// The row of an active name, or what is remembered of a retired name.
 #[derive(Debug, Drop)]
 pub(crate) enum NameEntry {
-    /// It is active.
     Active(Row),
-    /// It was, with this port and this creation.
     Retired { port: u16, creation: u32 },
 }
 
-/// Names, each at a place of its own.
 #[derive(Debug, Drop)]
 pub(crate) struct Entries {
     kept: IndexMap<Name, NameEntry>,
@@ -44,7 +41,6 @@ impl Model for Entries {
 }
 
 impl Entries {
-    /// No name. It takes no memory.
     pub(crate) fn new(alloc: Global) -> Entries
         ensures { result ≡ [] }
     {
@@ -53,7 +49,6 @@ impl Entries {
         }
     }
 
-    /// How many names there are.
     pub(crate) fn len(&self) -> usize
         ensures len { result ≡ length self.now }
         ensures small { result < 2 ^ 63 }
@@ -62,7 +57,6 @@ impl Entries {
         self.kept.len()
     }
 
-    /// The place of a name.
     pub(crate) fn index(&self, name: &Name) -> Option<usize>
         ensures found { IfSome result (λ index. StandsAs name.now self.now index) }
         ensures within { IfSome result (λ index. index < length self.now) }
@@ -72,14 +66,12 @@ impl Entries {
         self.kept.get_index_of(name)
     }
 
-    /// What is kept of the name at this place.
     pub(crate) fn at(&self, index: usize) -> Option<(&Name, &NameEntry)>
         ensures { option_map (λ e. (e.0.now, e.1.now)) result ≡ slice_get self.now index }
     {
         self.kept.get_index(index)
     }
 
-    /// The row of the active name at this place.
     pub(crate) fn row(&self, index: usize) -> Option<&Row>
         ensures { option_copied result ≡ active_in (slice_get self.now index) }
     {
@@ -89,7 +81,6 @@ impl Entries {
         }
     }
 
-    /// What is remembered of the retired name at this place.
     pub(crate) fn retired(&self, index: usize) -> Option<Retired<'_>>
         ensures { option_map retired_name result ≡ retired_in (slice_get self.now index) }
     {
@@ -103,7 +94,6 @@ impl Entries {
         }
     }
 
-    /// A new name that is retired gets a place behind all others.
     pub(crate) fn append(&mut self, old: &Old) -> Result<(), NoMemory>
         requires { IsNew old.now.name self.old }
         ensures ok { OnOk result (self.new ≡ self.old ++ retired_entry old.now ∷ []) }
@@ -119,7 +109,6 @@ impl Entries {
         )
     }
 
-    /// A new name gets a place behind all others.
     fn insert(&mut self, name: Name, kept: NameEntry) -> Result<(), NoMemory>
         requires new { IsNew name self.old }
         requires named { IsNamed (name, kept) }
@@ -132,7 +121,6 @@ impl Entries {
         }
     }
 
-    /// A new name that is active gets a place behind all others.
     pub(crate) fn push(&mut self, row: Row) -> Result<(), NoMemory>
         requires { IsNew row.reg.name self.old }
         ensures ok { OnOk result (self.new ≡ self.old ++ active_entry row ∷ []) }
@@ -142,7 +130,7 @@ impl Entries {
         self.insert(name, NameEntry::Active(row))
     }
 
-    /// A new name gets the place of another one, which is forgotten. Memory is asked for first.
+    /// Replaces the name at `index`, which is forgotten, by a new name. Allocates before any change.
     pub(crate) fn replace(&mut self, index: usize, row: Row) -> Result<(), NoMemory>
         requires index { index < length self.old }
         requires name { IsNew row.reg.name self.old }
@@ -155,7 +143,6 @@ impl Entries {
         Ok(())
     }
 
-    /// The retired name at this place is active again. It takes no memory.
     pub(crate) fn activate(&mut self, index: usize, row: Row)
         requires { StandsAs row.reg.name self.old index }
         ensures puts { Puts self.old self.new index (active_entry row) }
@@ -164,7 +151,6 @@ impl Entries {
         self.kept[index] = NameEntry::Active(row);
     }
 
-    /// The active name at this place is so no more. It takes no memory.
     pub(crate) fn retire(&mut self, index: usize)
         requires { IsActiveAt self.old index }
         ensures puts { (row : Row) → slice_get self.old index ≡ Some (active_entry row)

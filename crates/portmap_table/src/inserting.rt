@@ -1,4 +1,3 @@
-//! The places of names.
 ghost use Rattle.std.specs.Prelude.{◌≡◌, ℕ, ◌+◌, ◌<◌, ◌≤◌, length, remove, slice_get, vec_len, vec_capacity, IfOk};
 ghost use Rattle.std.specs.Prelude.{OnErr, Some};
 ghost use Rattle.portmap_table.specs.declared.row.Row.{Row};
@@ -8,7 +7,7 @@ use crate::entries::Entries;
 use crate::row::Row;
 use portmap_wire::NoMemory;
 
-/// Where a place stands in a list that has it. Looked for from both ends: the newest and the oldest are found at once.
+/// Searches from both ends, so that the newest and the oldest name are found at once.
 fn index_of(indexes: &[u32], index: u32) -> usize
     requires { (i : ℕ) × (slice_get indexes.now i ≡ Some index) }
     ensures { slice_get indexes.now result ≡ Some index }
@@ -28,7 +27,6 @@ fn index_of(indexes: &[u32], index: u32) -> usize
     unreachable!()
 }
 
-/// A place is taken out of a list that has it.
 pub(crate) fn take_out(indexes: &mut Vec<u32>, index: u32)
     requires { (i : ℕ) × (slice_get indexes.old.items i ≡ Some index) }
     ensures items { (i : ℕ) × (slice_get indexes.old.items i ≡ Some index)
@@ -40,8 +38,8 @@ pub(crate) fn take_out(indexes: &mut Vec<u32>, index: u32)
     indexes.remove(at);
 }
 
-/// A name settles at a place: a retired one at its own, a new one behind all others, or, where as many are known as may
-/// be, at that of the name retired longest, which is forgotten. Memory is asked for before anything changes.
+/// Stores `row` and returns its index: that of a retired name stays, and a new name is appended. If `known_max` names
+/// are known, a new name replaces the name that was retired longest ago. Allocates before any change.
 pub(crate) fn settle(
     entries: &mut Entries,
     retired: &mut Vec<u32>,

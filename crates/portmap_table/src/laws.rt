@@ -1,24 +1,23 @@
-//! What registering and retiring do to each name.
 ghost use Rattle.portmap_table.specs.Laws.{ActiveNamesStay, KnownNamesCostNone, LastCreationsAreRemembered};
 ghost use Rattle.portmap_table.specs.Laws.{NamesOutliveConnections, NoneIsRefusedForRetiredNames, OldestMakesRoom};
 ghost use Rattle.portmap_table.specs.Laws.{OthersStayAtRegistration, OthersStayAtRetirement, RegisteredNamesAreActive};
 ghost use Rattle.portmap_table.specs.Laws.{RegisteredNamesStandLast, RetiredNamesStandLast, RetiredNamesStay};
 ghost use Rattle.portmap_table.specs.Laws.{ReturningNamesGetAnother, RoomCostsNone};
 
-/// A name that registers is active. When its connection is lost it is so no more, and its port and its creation are
+/// Law: a registered name is active. Once its slot retires, the name is inactive, and its port and creation are
 /// remembered.
 pub fn names_outlive_connections()
     ensures registered { RegisteredNamesAreActive }
     ensures retired { NamesOutliveConnections }
 {}
 
-/// What is known of a name stays as other names register and retire.
+/// Law: once there is room, neither a registration nor a retirement changes what is known of other names.
 pub fn other_names_stay()
     ensures registered { OthersStayAtRegistration }
     ensures retired { OthersStayAtRetirement }
 {}
 
-/// A name that registers stands behind each active one, and a name that retires behind each retired one.
+/// Law: a registered name is the last active name, and a name that retires is the last retired name.
 #[tactic(auto, using(crate::proofs::NameLaws::retired_names_stand_last, crate::proofs::NameLaws::retired_names_stay))]
 pub fn newest_names_stand_last()
     ensures registered { RegisteredNamesStandLast }
@@ -26,8 +25,8 @@ pub fn newest_names_stand_last()
     ensures stay { RetiredNamesStay }
 {}
 
-/// Where a new name comes and as many are known as may be, the one retired longest is forgotten; else none is, and an
-/// active one never.
+/// Law: a new name at the limit costs the name that was retired longest ago. In all other cases no name is forgotten,
+/// and an active name never is.
 #[tactic(auto, using(crate::proofs::NameLaws::forgetting))]
 pub fn oldest_names_are_forgotten()
     ensures active { ActiveNamesStay }
@@ -36,14 +35,13 @@ pub fn oldest_names_are_forgotten()
     ensures oldest { OldestMakesRoom }
 {}
 
-/// No name is refused where one that is retired may be forgotten for it: all that may be known are active then.
+/// Law: a name is refused for lack of room only if no name is retired.
 #[tactic(auto, using(crate::proofs::NameLaws::none_is_refused_for_retired_names))]
 pub fn none_is_refused_for_retired_names()
     ensures { NoneIsRefusedForRetiredNames }
 {}
 
-/// What is remembered of a name that outlives its connection is its port and the creation that it had, and it gets
-/// another one when it returns.
+/// Law: the port and the last creation of a retired name are remembered. A name that returns gets another creation.
 pub fn returning_names_get_another_creation()
     ensures remembered { LastCreationsAreRemembered }
     ensures another { ReturningNamesGetAnother }

@@ -7,8 +7,8 @@
 //!   the slot owns no active name. If the name is not known and the limit is reached, the name that was retired longest
 //!   ago is forgotten.
 //! - Lookups and `retire` never allocate.
-//! - `name_status` returns, by one lookup, whether a name is active, exceeds the limit, or is free, and then the creation
-//!   that is remembered for it.
+//! - `name_status` returns, by one lookup, whether a name is active, exceeds the limit, or is free, and then the
+//!   creation that is remembered for it.
 //! - `Table::of` returns a table of these names if and only if they meet the first rule.
 //!
 //! The `README.md` of this crate shows a proved caller, and lists errors and allocation.

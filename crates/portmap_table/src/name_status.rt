@@ -1,13 +1,10 @@
-//! How a name stands among those that are known.
-
-/// How a name stands: whether it may be registered, and what is remembered of it then.
+/// The status of a name: whether it may be registered, and which creation is remembered for it.
 #[derive(Clone, Copy, Debug, PartialEq, Eq)]
 pub enum NameStatus {
-    /// It is active.
     Active,
-    /// It is not known, and as many names are active as may be known.
+    /// The name is not known, and as many names are active as may be known.
     NoRoom,
-    /// It may be registered. This creation is remembered for it, where it is retired. A new name may take the room of
-    /// the one that was retired longest.
+    /// The name may be registered. If it is retired, this is the creation remembered for it. A new name may replace the
+    /// name that was retired longest ago.
     Free(Option<u32>),
 }

@@ -1,23 +1,19 @@
-//! What is kept of each name.
 ghost use Rattle.std.specs.Prelude.{◌≡◌, ◌↔◌, IfOk, IsTrue};
 ghost use Rattle.portmap_table.specs.Rows.{old_name, retired_name};
 
 use portmap_wire::{Name, NoMemory, Reg};
 use std::alloc::Global;
 
-/// A name that is registered.
+/// An active name.
 #[derive(Debug, Drop, PartialEq, Eq)]
 pub struct Row {
-    /// What its node registered.
     pub reg: Reg,
-    /// The creation that the node was given.
     pub creation: u32,
-    /// The connection that owns the name.
+    /// The slot of the connection that owns the name.
     pub slot: u64,
 }
 
 impl Row {
-    /// A second one.
     pub fn try_copy(&self, alloc: Global) -> Result<Row, NoMemory>
         ensures same { IfOk result (λ copy. copy ≡ self.now) }
     {
@@ -29,17 +25,17 @@ impl Row {
     }
 }
 
-/// A name that was registered once.
+/// A retired name.
 #[derive(Debug, Drop, PartialEq, Eq)]
 pub struct Old {
     pub name: Name,
     /// The port that its node listened on.
     pub port: u16,
-    /// The creation that its node was given last.
+    /// The last creation of its node.
     pub creation: u32,
 }
 
-/// A name that was registered once, as a table lends it.
+/// A retired name, borrowed from a table.
 #[derive(Clone, Copy, Debug)]
 pub struct Retired<'a> {
     pub name: &'a Name,
@@ -48,7 +44,7 @@ pub struct Retired<'a> {
 }
 
 impl Old {
-    /// What is remembered of a row.
+    /// Returns what is remembered of a row.
     pub fn of(row: Row) -> Old
         ensures { result ≡ old_name row }
     {
@@ -61,7 +57,6 @@ impl Old {
         }
     }
 
-    /// A second one.
     pub fn try_copy(&self, alloc: Global) -> Result<Old, NoMemory>
         ensures same { IfOk result (λ copy. copy ≡ self.now) }
     {
@@ -75,7 +70,6 @@ impl Old {
 }
 
 impl Retired<'_> {
-    /// A copy that is the caller's own.
     pub fn try_copy(&self, alloc: Global) -> Result<Old, NoMemory>
         ensures same { IfOk result (λ copy. copy ≡ retired_name self.now) }
     {

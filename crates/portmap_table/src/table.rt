@@ -1,4 +1,3 @@
-//! The table of names.
 ghost use Rattle.std.specs.Prelude.{◌≡◌, false, length, slice_get, option_copied, option_map, Ok, Err, None, IfOk};
 ghost use Rattle.std.specs.Prelude.{IfSome, OnOk, OnErr, IsOk, ◌^◌, ◌<◌, ◌≤◌};
 ghost use Rattle.portmap_table.specs.Creation.{IsCounter, IsCreationFor, IsLegalCreation};
@@ -17,12 +16,11 @@ use portmap_wire::{Name, NoMemory, Reg};
 use std::alloc::Global;
 use std::marker::Model;
 
-/// Why a name is not registered.
 #[derive(Clone, Copy, Debug, PartialEq, Eq)]
 pub enum RegFault {
     /// The name is active.
     Taken,
-    /// The name is not known, and as many are active as may be known.
+    /// The name is not known, and as many names are active as may be known.
     NoRoom,
     NoMemory,
 }
@@ -37,20 +35,20 @@ impl From<NoMemory> for RegFault {
     }
 }
 
-/// The names that a port mapper knows, with what it gives creations from. Each name has a place of its own; their
-/// orders are lists of places.
+/// The names that a port mapper knows, and the counter for creations. Each name has an index of its own, and two lists
+/// of indices hold the orders.
 #[derive(Debug, Drop)]
 pub struct Table {
     entries: Entries,
-    // The places of the active names, in order of registration.
+    // Indices of the active names, in order of registration.
     active: Vec<u32>,
-    // Those of the retired names, in order of retirement, with room for each active one besides: so retiring takes no
-    // memory.
+    // Indices of the retired names, in order of retirement. The list has room for each active name too, so that
+    // retiring never allocates.
     retired: Vec<u32>,
-    // The place of the active name of each slot that owns one.
+    // By slot, the index of the active name that the slot owns.
     owners: IndexMap<u64, u32>,
     known_max: u32,
-    // What the next wide creation is taken from.
+    // The source of the next wide creation.
     counter: u32,
 }
 
@@ -77,8 +75,7 @@ impl Model for Table {
 }
 
 impl Table {
-    /// A table with no names, that will know at most so many. The counter starts at `first`, or at 4 where that is
-    /// less.
+    /// Creates an empty table for at most `known_max` names. The counter starts at `first`, or at 4 if `first` is less.
     pub fn new(alloc: Global, known_max: u32, first: u32) -> Result<Table, NoMemory>
         ensures empty { IfOk result (λ t. t ≡ new_table known_max first) }
         ensures kept { IfOk result (λ t. AreKept t.known_max t.names) }
@@ -93,7 +90,7 @@ impl Table {
         })
     }
 
-    /// A table that knows these names, in these orders, exactly where a machine may have come to them.
+    /// Returns a table of these names in these orders, or `None` if and only if they break the invariant of a table.
     pub fn of(
         alloc: Global,
         known_max: u32,
@@ -130,7 +127,7 @@ impl Table {
         Ok(Some(table))
     }
 
-    /// A retired name that is not known comes behind the others. Memory is asked for before anything changes.
+    /// Adds a retired name that is not known. Allocates before any change.
     fn append(&mut self, old: &Old) -> Result<(), NoMemory>
         requires unknown { is_known old.now.name self.old.names ≡ false }
         requires room { known_len self.old.names < self.old.known_max }
@@ -145,8 +142,8 @@ impl Table {
         Ok(())
     }
 
-    /// A name becomes active. Where it is new and as many are known as may be, the one retired longest is forgotten.
-    /// Memory is asked for before anything changes.
+    /// Makes a name active. If `known_max` names are known, a new name replaces the name that was retired longest ago.
+    /// Allocates before any change.
     fn enter(&mut self, row: Row) -> Result<(), NoMemory>
         requires name { is_active row.reg.name self.old.names ≡ false }
         requires room { is_full_for self.old.known_max row.reg.name self.old.names ≡ false }
@@ -169,7 +166,7 @@ impl Table {
         }
     }
 
-    /// What the next wide creation is taken from.
+    /// Returns the source of the next wide creation, at least 4.
     pub fn counter(&self) -> u32
         ensures same { result ≡ self.now.counter }
         ensures counter { IsCounter result }
@@ -177,7 +174,7 @@ impl Table {
         self.counter
     }
 
-    /// The creation that a name would get from a node of this highest version, or why it would get none.
+    /// Returns the creation that `name` would get from a node of this highest version, or the reason for a refusal.
     pub fn offer(&self, name: &Name, high: u16) -> Result<u32, RegFault>
         ensures exact { result ≡ offered self.now name.now high }
         ensures legal { IfOk result (λ c. IsLegalCreation high (remembered name.now self.now.names) c) }
@@ -190,15 +187,16 @@ impl Table {
         }
     }
 
-    /// Registers a name for the connection in this slot, and returns its creation. Where the name is new and as many
-    /// are known as may be, the one retired longest is forgotten.
+    /// Registers a name for the connection in `slot` and returns its creation.
+    ///
+    /// If the limit is reached, a new name replaces the name that was retired longest ago. An error changes nothing.
+    /// `NoMemory` is the last error: it is returned only if there is an offer for the name.
     pub fn register(&mut self, reg: Reg, slot: u64) -> Result<u32, RegFault>
         requires { owns_name slot self.old.names ≡ false }
         ensures gives { GivesOffer result (offered self.old reg.name reg.high) }
         ensures ok { IfOk result (λ c. self.new ≡ with_registration self.old reg slot c) }
         ensures err { OnErr result (self.new ≡ self.old) }
         ensures legal { IfOk result (λ c. IsLegalCreation reg.high (remembered reg.name self.old.names) c) }
-        // Memory is asked for last.
         ensures memory { result ≡ Err RegFault.NoMemory → IsOk (offered self.old reg.name reg.high) }
         ensures kept { AreKept self.new.known_max self.new.names }
     {
@@ -207,7 +205,7 @@ impl Table {
         Ok(creation)
     }
 
-    /// Registers a name that is free for the connection in this slot, with this creation.
+    /// Registers a free name for the connection in `slot`, with this creation. An error changes nothing.
     pub fn admit(&mut self, reg: Reg, creation: u32, slot: u64) -> Result<(), NoMemory>
         requires active { is_active reg.name self.old.names ≡ false }
         requires room { is_full_for self.old.known_max reg.name self.old.names ≡ false }
@@ -227,7 +225,7 @@ impl Table {
         Ok(())
     }
 
-    /// Retires the name that a slot owns, and says whether it owned one. It takes no memory.
+    /// Retires the name that `slot` owns, and returns true if and only if it owned a name. Never allocates.
     pub fn retire(&mut self, slot: u64) -> bool
         ensures found { result ≡ owns_name slot self.old.names }
         ensures retired { self.new ≡ with_names self.old (retired_of slot self.old.names) }
@@ -243,7 +241,6 @@ impl Table {
         true
     }
 
-    /// How a name stands.
     pub fn name_status(&self, name: &Name) -> NameStatus
         ensures { result ≡ name_status self.now.known_max name.now self.now.names }
     {
@@ -257,7 +254,6 @@ impl Table {
         }
     }
 
-    /// Whether a name is active or retired.
     fn is_known(&self, name: &Name) -> bool
         ensures { result ≡ is_known name.now self.now.names }
     {
@@ -267,38 +263,36 @@ impl Table {
         )
     }
 
-    /// Whether a name is active.
     pub fn is_active(&self, name: &Name) -> bool
         ensures { result ≡ is_active name.now self.now.names }
     {
         self.find(name).is_some()
     }
 
-    /// The slot that owns an active name.
+    /// Returns the slot that owns `name`, if the name is active.
     pub fn owner(&self, name: &Name) -> Option<u64>
         ensures { result ≡ owner_of name.now self.now.names }
     {
         self.find(name).map(|row| row.slot)
     }
 
-    /// The row of an active name.
+    /// Returns the row of `name`, if the name is active.
     pub fn find(&self, name: &Name) -> Option<&Row>
         ensures { option_copied result ≡ active_row name.now self.now.names }
     {
         self.entries.row(self.entries.index(name)?)
     }
 
-    /// Whether a slot owns an active name.
+    /// Returns true if and only if `slot` owns an active name.
     pub fn holds(&self, slot: u64) -> bool
         ensures { result ≡ owns_name slot self.now.names }
     {
         self.owners.contains_key(&slot)
     }
 
-    /// How many names are active.
     pub fn active_len(&self) -> usize
         ensures len { result ≡ length self.now.names.active }
-        // What always holds of a table.
+        // The invariant of every table.
         ensures kept { AreKept self.now.known_max self.now.names }
         ensures known_max { self.now.known_max < 2 ^ 32 }
         ensures counter { IsCounter self.now.counter }
@@ -306,7 +300,7 @@ impl Table {
         self.active.len()
     }
 
-    /// The active name at this place, in order of registration.
+    /// Returns the active name at position `i` in order of registration, from 0.
     pub fn active_at(&self, i: usize) -> Option<&Row>
         ensures { option_copied result ≡ slice_get self.now.names.active i }
     {
@@ -314,14 +308,13 @@ impl Table {
         self.entries.row(*index as usize)
     }
 
-    /// How many names are retired.
     pub fn retired_len(&self) -> usize
         ensures { result ≡ length self.now.names.retired }
     {
         self.retired.len()
     }
 
-    /// The retired name at this place, in order of retirement.
+    /// Returns the retired name at position `i` in order of retirement, from 0.
     pub fn retired_at(&self, i: usize) -> Option<Retired<'_>>
         ensures { option_map retired_name result ≡ slice_get self.now.names.retired i }
     {

@@ -1,4 +1,4 @@
--- What was written is read back.
+-- Replies that were written are read back.
 use Rattle.std.specs.Prelude.{IfOk, IfSome}
 use Rattle.std.proofs.Common.{◌≡◌, ℕ, suc, ◌+◌, ◌≤◌, Bool, true, false, cond, ltb, eqb, List, [], ◌∷◌, ◌++◌, length}
 use Rattle.std.proofs.{Common.{Option, Some, None, Result, Ok, refl, subst, rules}, lemmas.Bool.{ltb-false, eqb-true}}
@@ -15,7 +15,7 @@ pub look_ups : LookUpsAreReadBack
 look_ups None more h = refl
 look_ups (Some g) more is = search (rules, fields_again, name_again)
 
--- ---- what is found is spelled so
+-- ---- the bytes spell what is found
 
 coded : (b : Bool) (r : Result (Option Node) ReplyFault) (g : Node) → cond b r (Ok None) ≡ Ok (Some g) → (b ≡ true) × (r ≡ Ok (Some g))
 coded b r g e = search rules

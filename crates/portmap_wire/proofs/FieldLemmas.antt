@@ -1,4 +1,4 @@
--- Fields that are read are those that were written, and what was written is read again.
+-- The fields that are read are the fields that were written.
 use Rattle.std.specs.Int.{w16, from_be_bytes}
 use Rattle.std.proofs.Common.{◌≡◌, ℕ, ◌+◌, ◌^◌, ◌<◌, ◌≤◌, Bool, false, cond, ltb, List, [], ◌∷◌, ◌++◌, length, get_or}
 use Rattle.std.proofs.Common.{take, drop, Option, Some, None, refl, sym, ap, subst, ◌∙◌, arith, append_assoc, rules}
@@ -8,7 +8,7 @@ use Rattle.std.proofs.lemmas.Nat.{be_bytes_2, from_be_bytes-to_be_bytes_2}
 use Rattle.portmap_wire.specs.{Node.{Node, fields, be2}, RequestReading.{u16_in, fields_in}}
 use Rattle.portmap_wire.proofs.NameLemmas.{IsBytes}
 
--- the numbers are in range
+-- The numbers are in range.
 pub record FitsFields (g : Node) : Type 0 where
   pub port : g.port < 2 ^ 16
   pub kind : g.kind < 2 ^ 8
@@ -44,7 +44,7 @@ regroup : (a b c d e n f x r : List ℕ) → (a ++ b ++ c ++ d ++ e ++ n ++ f ++
     ≡ a ++ (b ++ (c ++ (d ++ (e ++ (n ++ (f ++ (x ++ r)))))))
 regroup a b c d e n f x r = simp append_assoc
 
--- the parts of a text, one behind the other
+-- A text is the concatenation of its parts.
 in_parts : (q : List ℕ) (n x : ℕ) → q ≡ take 2 q
     ++ (take 2 (drop 2 q) ++ (take 2 (drop 4 q)
     ++ (take 2 (drop 6 q) ++ (take 2 (drop 8 q)
@@ -60,7 +60,7 @@ in_parts q n x =
     (cut 2 8 q ∙ ap (λ (t : List ℕ). take 2 (drop 8 q) ++ t)
     (cut n 10 q ∙ ap (λ (t : List ℕ). take n (drop 10 q) ++ t) last)))))
 
--- what is read from the front
+-- The node that the first bytes of `q` encode.
 pub read_at : (q : List ℕ) → Node
 read_at q = record {
   port = u16_in q 0;
@@ -133,7 +133,7 @@ at_extra q front more x i small len e =
 three : (a b c d : List ℕ) → a ++ b ++ c ++ d ≡ a ++ (b ++ (c ++ d))
 three a b c d = simp append_assoc
 
--- reading, from what stands where
+-- `fields_in` yields `g` if each field of `g` is at its offset.
 reads : (q : List ℕ) (g : Node) (rest : List ℕ) (n x : ℕ) → 12 + n + x ≤ length q → u16_in q 8 ≡ n → u16_in q (10 + n) ≡ x
     → u16_in q 0 ≡ g.port → get_or q 2 0 ≡ g.kind → get_or q 3 0 ≡ g.proto → u16_in q 4 ≡ g.high → u16_in q 6 ≡ g.low
     → take n (drop 10 q) ≡ g.name → take x (drop (12 + n) q) ≡ g.extra → drop (12 + n + x) q ≡ rest → fields_in q ≡ Some (g, rest)

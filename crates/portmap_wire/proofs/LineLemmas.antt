@@ -1,4 +1,4 @@
--- Lines, each ended by byte 10, are told in one way.
+-- A text has at most one division into lines that byte 10 ends.
 use Rattle.std.specs.{Fmt.decimal, List.{flat_map, position_or_len}, Prelude.{All, codes, position}}
 use Rattle.std.specs.Str.Parse.{AllDigits}
 use Rattle.std.proofs.Common.{◌≡◌, ◌≢◌, ℕ, suc, ◌<◌, ◌^◌, List, [], ◌∷◌, ◌++◌, length, get_or, take, drop, Some, None}
@@ -80,7 +80,6 @@ uncut (y ∷ text) (x ∷ front) after p e = uncut text front after p.1 cc
 plain_from_all : (text : List ℕ) → HasNoNewline text → Plain text
 plain_from_all text h = plain_by_index text (λ k lt. h k 0 lt)
 
--- the first byte 10 is found
 at_first : (text : List ℕ) (at : ℕ) → Some at ≡ position is_newline text → (at ≡ position_or_len is_newline text) × (at < length text)
 at_first text at e = search rules
 
@@ -97,11 +96,11 @@ cut_at text at e =
 pub not_cut : (text : List ℕ) → None ≡ position is_newline text → HasNoNewline text
 not_cut text e = All-from_get_or (λ (b : ℕ). b ≢ 10) text 0 (λ k lt. eqb-false _ _ (each_fails is_newline text e k lt))
 
--- a text with no byte 10 begins with no line
+-- A text with no byte 10 begins with no line.
 pub strange_uncut : (text : List ℕ) → 0 < length text → HasNoNewline text → IsStrange text
 strange_uncut text some h = record { some = some; unread = λ front after line e r. uncut text front after (plain_from_all text h) e }
 
--- nor does one whose first line has no reading
+-- A text begins with no line if what precedes its first byte 10 has no reading.
 pub strange_cut : (text front after : List ℕ) → IsCut text front after → HasNoReading front → IsStrange text
 strange_cut text front after cut unread = record {
   some = omega (arith, ap length cut.text_is, length-append front (10 ∷ after));
@@ -115,7 +114,7 @@ pub one_more : (lines : List Line) (text rest front after : List ℕ) (line : Li
 one_more [] text rest front after line h cut r = (front, after, h ∙ cut.text_is, r, refl)
 one_more (l ∷ lines) text rest front after line h cut r = (h.0, h.1, h.2, h.3, one_more lines h.1 rest front after line h.4 cut r)
 
--- the lines of a whole text, from those of its front on
+-- The lines of a whole text begin with the lines of its prefix.
 record Goes (lines front : List Line) (rest : List ℕ) : Type 0 where
   pub more : List Line
   pub more_are : ListsTo rest more []
@@ -138,7 +137,7 @@ not_strange : (lines : List Line) (rest : List ℕ) → ListsTo rest lines [] �
 not_strange [] rest h s = omega (arith, ap length h, s.some)
 not_strange (l ∷ lines) rest h s = s.unread h.0 h.1 l h.2 h.3
 
--- ---- what is written is read
+-- ---- lines that were written are read back
 
 writes_port : (port : ℕ) → port < 2 ^ 16 → WritesPort (decimal port) port
 writes_port port small =

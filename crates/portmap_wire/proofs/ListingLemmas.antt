@@ -1,4 +1,4 @@
--- The digits at the end of a line tell where its port begins, and so a line has one reading.
+-- The digits at the end of a line determine where its port begins, hence a line has at most one reading.
 use Rattle.std.specs.{Int.IsInRange, Prelude.{codes, ◌≢◌, MatchBool}, Str.Parse.{AllDigits, digits_value}}
 use Rattle.std.proofs.Common.{◌≡◌, ℕ, ◌+◌, ◌-◌, ◌*◌, ◌<◌, ◌≤◌, Bool, true, false, List, ◌++◌, length, get_or, take}
 use Rattle.std.proofs.{Common.{drop, refl, sym, ap, subst, ◌∙◌, arith, Ok, Err, inl, inr, rules}, lemmas.Bool.cases_lt}
@@ -36,7 +36,7 @@ digits_behind text start ends = (numerals_by_value _ tells_by_index).to (drop st
 pub stem : List ℕ → List ℕ
 stem name = (codes "name " ++ name) ++ codes " at port "
 
--- a text that is not empty and ends in a blank, and digits
+-- If `front` ends in a blank and digits follow it, the last digits begin at its end.
 pub same_split : (text front digits : List ℕ) (n start : ℕ) → text ≡ front ++ digits → AllDigits 10 digits → length front ≡ n + 1
     → get_or front n 0 ≡ 32 → EndsInDigits text start → n + 1 ≡ start
 same_split text front digits n start e each len last ends =
@@ -113,7 +113,7 @@ pub one_reading : LinesHaveOneReading
 one_reading text a b x y = let s = one_shape text a.name b.name a.port b.port x.shape y.shape in λ i.
     record { name = s.name i; port = s.port i }
 
--- ---- what a search for the parts tells
+-- ---- results of the search for the parts
 
 pub no_suffix : (text front : List ℕ) (start : ℕ) → EndsInDigits text start → front ≡ take start text
     → ((head : List ℕ) → front ≢ head ++ codes " at port ") → (name : List ℕ) (port : ℕ) → HasShape text name port → ⊥
@@ -144,7 +144,7 @@ has_shape text front back head name start port e1 e2 suffix prefix port_is = rec
   port_is = port_is;
 }
 
--- a name that is refused, other than for want of memory, is no line's
+-- A line whose name is refused, other than for memory, has no reading.
 pub refused : (text name : List ℕ) (port : ℕ) (f : NameFault) → (f ≡ name_fault.NoMemory → ⊥)
     → (IsName name → GivesName {X = List ℕ} (Err f) (Ok name)) → HasShape text name port → HasNoReading text
 refused text name port f other only shape line r =
@@ -156,7 +156,7 @@ refused text name port f other only shape line r =
     never name_fault.TooLong other g = absurd cc
     never (name_fault.BadByte at) other g = absurd cc
 
--- a text of a line's shape is one exactly where its name is a name
+-- A text of a line's shape is a line if and only if its name is a name.
 pub named_line : (text name : List ℕ) (port : ℕ) (b : Bool) → HasShape text name port → MatchBool b (IsName name) (IsName name → ⊥)
     → MatchBool b ((line : Line) × ReadsLine text line) (HasNoReading text)
 named_line text name port true shape is = (record { name = name; port = port }, record { shape = shape; name = is })

@@ -1,11 +1,11 @@
--- A scan for control characters finds none exactly at a name.
+-- A scan for control characters finds none if and only if the bytes are a name, given their length.
 use Rattle.std.specs.Prelude.{position}
 use Rattle.std.proofs.Common.{◌≡◌, ℕ, ◌<◌, ◌≤◌, Bool, true, false, List, length, get_or, Some, None, sym, arith, rules}
 use Rattle.std.proofs.{lemmas.Bool.Decides.nat_tests, lemmas.List.Elements.All-from_get_or}
 use Rattle.std.proofs.{lemmas.List.Quantifiers.position-Some, lemmas.List.Sums.fails_before_first}
 use Rattle.portmap_wire.specs.{Name.{is_control, IsNameByte, IsName}, declared.name.TheConstants.NAME_MOST}
 
--- each element is in a byte's range
+-- Each element is in the range of a byte.
 abbrev pub IsBytes : List ℕ → Type 0
 IsBytes bytes = (i : ℕ) → get_or bytes i 0 < 256
 
@@ -20,7 +20,7 @@ no_control bytes at e name =
     let found = position-Some is_control bytes at 0 (sym e) in
     fails (get_or bytes at 0) (name.each at 0 found.0) found.1
 
--- where none is found, no byte passes
+-- If the search returns `None`, each byte fails the test.
 pub each_fails : (p : ℕ → Bool) (bytes : List ℕ) → None ≡ position p bytes → (i : ℕ) → i < length bytes → p (get_or bytes i 0) ≡ false
 each_fails p bytes e i lt = search (rules, fails_before_first)
 

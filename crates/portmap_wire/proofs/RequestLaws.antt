@@ -1,4 +1,4 @@
--- The two laws: what is read is spelled so, and what is spelled so is read.
+-- A body that is read as a request spells it, and a body that spells a request is read as it.
 use Rattle.std.specs.Prelude.{IfOk, IfErr, ◌≢◌, position}
 use Rattle.std.proofs.Common.{◌≡◌, ◌⊎◌, ℕ, suc, ◌+◌, ◌≤◌, Bool, true, false, cond, ltb, eqb, List, [], ◌∷◌, ◌++◌}
 use Rattle.std.proofs.Common.{length, Option, Some, None, Result, Ok, Err, refl, sym, ap, subst, ◌∙◌, arith, inl, inr}
@@ -16,14 +16,14 @@ use Rattle.portmap_wire.proofs.FieldLemmas.{FitsFields, fields_take, fields_agai
 use Rattle.portmap_wire.proofs.NameLemmas.{IsBytes, is_name, no_control}
 use Rattle.portmap_wire.specs.declared.request.Malformed.TheVariants as malformed
 
--- which way a test went, where one way fails
+-- A test went the way that does not fail.
 pub guard : {A E : Type 0} (b : Bool) (d : E) (r : Result A E) (y : A) → cond b (Err d) r ≡ Ok y → (b ≡ false) × (r ≡ Ok y)
 guard b d r y e = search rules
 
 pub guard_after : {A E : Type 0} (b : Bool) (d : E) (r : Result A E) (y : A) → cond b r (Err d) ≡ Ok y → (b ≡ true) × (r ≡ Ok y)
 guard_after b d r y e = search rules
 
--- which way a test went
+-- The two cases of a test.
 chosen : {A : Type 0} (b : Bool) (x y z : A) → cond b x y ≡ z → ((b ≡ true) × (x ≡ z)) ⊎ ((b ≡ false) × (y ≡ z))
 chosen b x y z e = search rules
 
@@ -130,13 +130,13 @@ request_again Dump is = refl
 request_again Kill is = refl
 request_again (Stop n) is = rw (name_again n is) refl
 
--- ---- what the reader answered, by what the bytes say
+-- ---- the reader's result for each reading of the bytes
 
 pub found : (body : List ℕ) (answer : Result Request Malformed) → IsBytes body → Gives answer (request_in body)
     → IfOk answer (λ r. Spells body r)
 found body answer fits h = search (rules, request_takes)
 
--- a spelled body is read
+-- A body that spells a request is read as that request.
 spelled_is_read : (body : List ℕ) (r : Request) → Spells body r → request_in body ≡ Ok r
 spelled_is_read body r spells = ap request_in spells.text ∙ request_again r spells.request_is
 

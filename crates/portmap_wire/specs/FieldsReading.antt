@@ -1,4 +1,4 @@
--- Fields where they lie, as a registration and what follows it.
+-- The fields of a registration as a `Node`, with the bytes that follow them.
 use Rattle.std.specs.Prelude.{List, ℕ}
 use Rattle.portmap_wire.specs.{Node.Node, declared.fields_reading.Fields.Fields}
 

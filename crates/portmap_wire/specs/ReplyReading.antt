@@ -1,5 +1,5 @@
--- What a client makes of the bytes that it got: ERTS User's Guide, EPMD Protocol, the replies; that bytes behind an
--- answer are not looked at, and either tag of ALIVE2 is taken: profile.
+-- A client's reading of a reply. ERTS User's Guide, EPMD Protocol. Profile: bytes after the reply are ignored, and either
+-- tag of ALIVE2 is accepted.
 use Rattle.std.specs.{Int.{w16, w32, from_be_bytes}, Prelude.{◌≡◌, ℕ, ◌+◌, ◌<◌, ◌^◌, List, [], ◌∷◌, ◌++◌, length, take}}
 use Rattle.std.specs.Prelude.{Option, Some, None, Result, Ok, Err, IfSome, nat_lt, ◌==◌, if◌then◌else◌}
 use Rattle.portmap_wire.specs.{Node.{Node, IsNode}, Reply.{alive_reply, port2_reply}}
@@ -11,9 +11,9 @@ use Rattle.portmap_wire.specs.declared.request.TheConstants.{BODY_MOST}
 use Rattle.portmap_wire.specs.declared.name.NameFault.TheVariants as name_fault
 use Rattle.portmap_wire.specs.declared.reply_reading.ReplyFault.TheVariants as fault
 
--- ---- the answer to ALIVE2_REQ
+-- ---- the reply to ALIVE2_REQ
 
--- result 0 and a creation of so many bytes, or any other result, whatever follows it
+-- Result 0 with a creation of 4 bytes, or any other result. Bytes after either are ignored.
 abbrev pub wide_answer : List ℕ → Result AliveReply ReplyFault
 wide_answer [] = Err fault.Short
 wide_answer (code ∷ rest) =
@@ -31,16 +31,16 @@ alive_answer [] = Err fault.Short
 alive_answer (tag ∷ rest) = if tag == ALIVE2_X_RESP then wide_answer rest else if tag == ALIVE2_RESP then short_answer rest else Err
     (fault.BadTag tag)
 
--- ---- the answer to PORT_PLEASE2_REQ
+-- ---- the reply to PORT_PLEASE2_REQ
 
--- the fault of a name within an answer
+-- A fault of the name, as a fault of the reply.
 abbrev pub in_reply : NameFault → ReplyFault
 in_reply name_fault.NoMemory = fault.NoMemory
 in_reply name_fault.Empty = fault.Strange
 in_reply name_fault.TooLong = fault.Strange
 in_reply (name_fault.BadByte at) = fault.Strange
 
--- fields that a registration can have
+-- The node, if the name is a name and all fields fit into a registration.
 abbrev pub with_name : Node → Result (List ℕ) NameFault → Result (Option Node) ReplyFault
 with_name g (Ok name) = if nat_lt BODY_MOST (13 + length g.name + length g.extra) then Err fault.Strange else Ok (Some g)
 with_name g (Err e) = Err fault.Strange
@@ -57,13 +57,13 @@ abbrev pub port2_answer : List ℕ → Result (Option Node) ReplyFault
 port2_answer [] = Err fault.Short
 port2_answer (tag ∷ rest) = if tag == PORT2_RESP then port2_result rest else Err (fault.BadTag tag)
 
--- a registration stands, as it is spelled, at the front of an answer
+-- `bytes` begin with the reply that carries the registration `g`.
 pub record IsFound (bytes : List ℕ) (g : Node) : Type 0 where
   pub registration : IsNode g
   pub more : List ℕ
   pub text : bytes ≡ port2_reply (Some g) ++ more
 
--- what was answered is what the bytes say, unless memory ran out
+-- The result is `said` or `NoMemory`.
 abbrev pub GivesReply : {X : Type 0} → Result X ReplyFault → Result X ReplyFault → Type 0
 GivesReply (Ok x) said = said ≡ Ok x
 GivesReply (Err fault.NoMemory) said = Unit {0}
@@ -71,9 +71,9 @@ GivesReply (Err fault.Short) said = said ≡ Err fault.Short
 GivesReply (Err (fault.BadTag tag)) said = said ≡ Err (fault.BadTag tag)
 GivesReply (Err fault.Strange) said = said ≡ Err fault.Strange
 
--- ---- what was written is read, whatever follows it
+-- ---- replies that were written are read back
 
--- code 0 gives the creation, any other refuses
+-- Code 0 yields the creation, any other code is a refusal.
 abbrev pub given_or_refused : ℕ → ℕ → AliveReply
 given_or_refused code creation = if code == 0 then Given creation else Refused code
 

@@ -1,11 +1,11 @@
--- How each request is spelled: ERTS User's Guide, EPMD Protocol. What spells no request is malformed.
+-- The bytes of each request. ERTS User's Guide, EPMD Protocol. A body that spells no request is malformed.
 use Rattle.std.specs.Prelude.{◌≡◌, List, ℕ, [], ◌∷◌, ◌++◌, length}
 use Rattle.portmap_wire.specs.{Name.IsName, Node.{IsNode, fields, be2}}
 use Rattle.portmap_wire.specs.declared.request.Request.{Request, TheVariants.{Alive, Dump, Kill, Names, Port, Stop}}
 use Rattle.portmap_wire.specs.declared.request.TheConstants.{ALIVE2_REQ, PORT_PLEASE2_REQ, NAMES_REQ, DUMP_REQ}
 use Rattle.portmap_wire.specs.declared.request.TheConstants.{KILL_REQ, STOP_REQ}
 
--- the first byte says which request it is; what follows it
+-- The body of a request: its tag, then its fields.
 abbrev pub body_of : Request → List ℕ
 body_of (Alive g) = ALIVE2_REQ ∷ fields g
 body_of (Port name) = PORT_PLEASE2_REQ ∷ name
@@ -14,7 +14,7 @@ body_of Dump = DUMP_REQ ∷ []
 body_of Kill = KILL_REQ ∷ []
 body_of (Stop name) = STOP_REQ ∷ name
 
--- its parts are ones that can be spelled
+-- The name or the registration in the request is valid.
 abbrev pub IsRequest : Request → Type 0
 IsRequest (Alive g) = IsNode g
 IsRequest (Port name) = IsName name
@@ -23,20 +23,19 @@ IsRequest Dump = Unit {0}
 IsRequest Kill = Unit {0}
 IsRequest (Stop name) = IsName name
 
--- the body is that of the request
 pub record Spells (body : List ℕ) (request : Request) : Type 0 where
   pub request_is : IsRequest request
   pub text : body ≡ body_of request
 
--- nothing is spelled so
+-- No request has this body.
 abbrev pub IsMalformed : List ℕ → Type 0
 IsMalformed body = (request : Request) → Spells body request → ⊥
 
--- a request as it is sent: its length in two bytes, and its body
+-- A request on the wire: the length of its body in two bytes, then the body.
 abbrev pub sent : Request → List ℕ
 sent request = be2 (length (body_of request)) ++ body_of request
 
--- a body spells one request at most, and a request has one body
+-- A body spells at most one request, and a request has exactly one body.
 abbrev pub SpellsOneRequest : Type 0
 SpellsOneRequest = (body : List ℕ) (a b : Request) → Spells body a → Spells body b → a ≡ b
 

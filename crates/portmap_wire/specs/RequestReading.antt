@@ -1,5 +1,5 @@
--- Reading by places, from left to right, with the first fault that is met. What is read so is what is spelled: a law
--- of `read_request`.
+-- Reading by offsets, from left to right, up to the first fault. By the contract of `read_request`, this reading finds
+-- exactly what the bytes spell.
 use Rattle.std.specs.{Int.{w16, from_be_bytes}, Prelude.{◌≡◌, ℕ, ◌+◌, List, [], ◌∷◌, length, take, drop, slice_index}}
 use Rattle.std.specs.Prelude.{Option, Some, None, Result, Ok, Err, nat_lt, ◌==◌, position, if◌then◌else◌}
 use Rattle.portmap_wire.specs.{Name.is_control, Node.Node, declared.name.NameFault.NameFault}
@@ -12,7 +12,7 @@ use Rattle.portmap_wire.specs.declared.request.Malformed.TheVariants as malforme
 
 -- ---- names
 
--- the bytes, unless a control character was found
+-- The bytes, unless a control character was found.
 abbrev pub unless_found : Option ℕ → List ℕ → Result (List ℕ) NameFault
 unless_found None bytes = Ok bytes
 unless_found (Some at) bytes = Err (name_fault.BadByte at)
@@ -23,7 +23,7 @@ name_in bytes =
     else if nat_lt NAME_MOST (length bytes) then Err name_fault.TooLong
     else unless_found (position is_control bytes) bytes
 
--- what was answered is what the bytes say, unless memory ran out
+-- The result is `said` or `NoMemory`.
 abbrev pub GivesName : {X : Type 0} → Result X NameFault → Result X NameFault → Type 0
 GivesName (Ok x) said = said ≡ Ok x
 GivesName (Err name_fault.NoMemory) said = Unit {0}
@@ -33,11 +33,11 @@ GivesName (Err (name_fault.BadByte at)) said = said ≡ Err (name_fault.BadByte 
 
 -- ---- the fields of a registration
 
--- the number in the two bytes at a place
+-- The number in the two bytes at offset `at`.
 abbrev pub u16_in : List ℕ → ℕ → ℕ
 u16_in bytes at = from_be_bytes w16 (take 2 (drop at bytes))
 
--- the fields at the front, and what follows them; nothing where they are not all there
+-- The fields at the beginning of `q` and the bytes after them, or `None` if `q` ends before the fields do.
 unfoldable pub fields_in : List ℕ → Option (Node × List ℕ)
 fields_in q =
     if nat_lt (length q) 12 then None
@@ -58,34 +58,34 @@ fields_in q =
 
 -- ---- requests
 
--- the fault of a name within a request
+-- A fault of the name, as a fault of the request.
 abbrev pub in_request : NameFault → Malformed
 in_request name_fault.NoMemory = malformed.NoMemory
 in_request name_fault.Empty = malformed.Name name_fault.Empty
 in_request name_fault.TooLong = malformed.Name name_fault.TooLong
 in_request (name_fault.BadByte at) = malformed.Name (name_fault.BadByte at)
 
--- a request that is a name alone
+-- A request whose body is a tag and a name.
 abbrev pub named : (List ℕ → Request) → Result (List ℕ) NameFault → Result Request Malformed
 named make (Ok name) = Ok (make name)
 named make (Err fault) = Err (in_request fault)
 
--- a request of one byte
+-- A request whose body is its tag.
 abbrev pub alone : Request → List ℕ → Result Request Malformed
 alone request [] = Ok request
 alone request (b ∷ bs) = Err malformed.LengthsDisagree
 
--- a registration whose name was looked at
+-- The registration, if its name is a name.
 abbrev pub with_name : Node → Result (List ℕ) NameFault → Result Request Malformed
 with_name g (Ok name) = Ok (Alive g)
 with_name g (Err fault) = Err (in_request fault)
 
--- fields that fill the body
+-- The registration, if its fields fill the body.
 abbrev pub filled : Option (Node × List ℕ) → Result Request Malformed
 filled None = Err malformed.LengthsDisagree
 filled (Some f) = if length f.1 == 0 then with_name f.0 (name_in f.0.name) else Err malformed.LengthsDisagree
 
--- what stands behind ALIVE2_REQ
+-- Reads the bytes after the tag ALIVE2_REQ.
 unfoldable pub alive_in : List ℕ → Result Request Malformed
 alive_in rest =
     if nat_lt (length rest) 12 then Err malformed.Short
@@ -106,7 +106,7 @@ abbrev pub request_in : List ℕ → Result Request Malformed
 request_in [] = Err malformed.Short
 request_in (tag ∷ rest) = by_tag tag rest
 
--- what was answered is what the bytes say, unless memory ran out
+-- The result is `said` or `NoMemory`.
 abbrev pub Gives : {X : Type 0} → Result X Malformed → Result X Malformed → Type 0
 Gives (Ok x) said = said ≡ Ok x
 Gives (Err malformed.NoMemory) said = Unit {0}

@@ -1,4 +1,3 @@
-//! Reading the two lists of names.
 ghost use Rattle.std.specs.Prelude.{◌≡◌, ◌++◌, ◌<◌, ℕ, List, [], length, position, IfOk, IfSome, IfErr, MatchBool};
 ghost use Rattle.std.specs.Prelude.{MatchOption, None, Err};
 ghost use Rattle.std.specs.Str.Parse.{AllDigits};
@@ -13,12 +12,11 @@ use crate::list::Line;
 use crate::name::{Name, NameFault, is_name};
 use std::alloc::{AllocFailed, Global};
 
-/// Why bytes are no list.
 #[derive(Clone, Copy, Debug, PartialEq, Eq)]
 pub enum ListFault {
     /// There are fewer than 4 bytes.
     Short,
-    /// The line of this number, the first such one, from 0, is not a name's, or is not ended by byte 10.
+    /// The index, from 0, of the first line that is not a line of a name or is not ended by byte 10.
     StrangeLine(usize),
     NoMemory,
 }
@@ -45,7 +43,6 @@ impl<T: Drop> From<AllocFailed<T>> for ListFault {
     }
 }
 
-/// Where the digits at the end begin.
 fn digits_start(text: &[u8]) -> usize
     ensures { EndsInDigits text.now result }
 {
@@ -56,7 +53,6 @@ fn digits_start(text: &[u8]) -> usize
     start
 }
 
-/// The port that these digits write.
 fn port_of(digits: &[u8]) -> Option<u16>
     requires { AllDigits 10 digits.now }
     ensures found { IfSome result (λ port. WritesPort digits.now port) }
@@ -72,7 +68,7 @@ fn port_of(digits: &[u8]) -> Option<u16>
     u16::try_from(value).ok()
 }
 
-/// The name and the port of a line, where it has the shape of one. The name is not looked at.
+/// Splits a line into name and port. Any bytes pass as a name.
 fn split_line(text: &[u8]) -> Option<(&[u8], u16)>
     ensures found { IfSome result (λ f. HasShape text.now f.0.now f.1) }
     ensures none { result ≡ None → (name : List ℕ) (port : ℕ) → HasShape text.now name port → ⊥ }
@@ -90,7 +86,6 @@ fn split_line(text: &[u8]) -> Option<(&[u8], u16)>
     }
 }
 
-/// The line that this text is, without byte 10; none where it is no line.
 fn read_line(alloc: Global, text: &[u8]) -> Result<Option<Line>, NoMemory>
     ensures { IfOk result (λ found. MatchOption found (HasNoReading text.now) (λ line. ReadsLine text.now line)) }
 {
@@ -106,14 +101,12 @@ fn read_line(alloc: Global, text: &[u8]) -> Result<Option<Line>, NoMemory>
     }
 }
 
-/// Where the first byte 10 stands.
 fn first_newline(text: &[u8]) -> Option<usize>
     ensures { result ≡ position is_newline text.now }
 {
     text.iter().position(|b| *b == b'\n')
 }
 
-/// What stands in front of the first byte 10, and what behind it.
 fn cut_line(text: &[u8]) -> Option<(&[u8], &[u8])>
     ensures found { IfSome result (λ cut. IsCut text.now cut.0.now cut.1.now) }
     ensures none { result ≡ None → HasNoNewline text.now }
@@ -128,7 +121,6 @@ fn cut_line(text: &[u8]) -> Option<(&[u8], &[u8])>
     }
 }
 
-/// Whether this text is a line, without byte 10.
 fn is_line(text: &[u8]) -> bool
     ensures { MatchBool result ((line : Line) × ReadsLine text.now line) (HasNoReading text.now) }
 {
@@ -138,7 +130,6 @@ fn is_line(text: &[u8]) -> bool
     }
 }
 
-/// The number of the first line that is none.
 fn first_strange(text: &[u8]) -> Option<usize>
     ensures found { IfSome result (λ at. StrangeIn text.now at) }
     ensures none { result ≡ None → IsLines text.now }
@@ -157,7 +148,7 @@ fn first_strange(text: &[u8]) -> Option<usize>
     None
 }
 
-/// Why lines are not read for which there is no memory: a line that is none comes first.
+/// Returns the fault after memory ran out: a strange line takes precedence over `NoMemory`.
 fn without_memory(text: &[u8]) -> ListFault
     ensures fault { IsLinesFault text.now result }
     ensures memory { result ≡ ListFault.NoMemory → IsLines text.now }
@@ -168,7 +159,6 @@ fn without_memory(text: &[u8]) -> ListFault
     }
 }
 
-/// The lines that this text is, as far as memory goes.
 fn collect_lines(alloc: Global, text: &[u8]) -> Result<Vec<Line>, ListFault>
     ensures found { IfOk result (λ lines. ListsTo text.now lines.items []) }
     ensures fault { IfErr result (λ fault. IsLinesFault text.now fault) }
@@ -189,7 +179,7 @@ fn collect_lines(alloc: Global, text: &[u8]) -> Result<Vec<Line>, ListFault>
     Ok(lines)
 }
 
-/// The lines that this text is.
+/// Reads the lines of `text`. A strange line takes precedence over `NoMemory`.
 fn read_lines(alloc: Global, text: &[u8]) -> Result<Vec<Line>, ListFault>
     ensures found { IfOk result (λ lines. ListsTo text.now lines.items []) }
     ensures fault { IfErr result (λ fault. IsLinesFault text.now fault) }
@@ -201,7 +191,7 @@ fn read_lines(alloc: Global, text: &[u8]) -> Result<Vec<Line>, ListFault>
     }
 }
 
-/// The port at the front of a list, and the text behind it, whatever that is.
+/// Returns the port at the beginning of a list and the text after it. The text is not checked.
 pub fn read_dump(bytes: &[u8]) -> Result<(u32, &[u8]), ListFault>
     ensures found { IfOk result (λ d. bytes.now ≡ be4 d.0 ++ d.1.now) }
     ensures short { IfErr result (λ fault. (fault ≡ ListFault.Short) × (length bytes.now < 4)) }
@@ -212,13 +202,14 @@ pub fn read_dump(bytes: &[u8]) -> Result<(u32, &[u8]), ListFault>
     }
 }
 
-/// The port and the lines of the answer to NAMES_REQ, all of it. The end of a line is byte 10, and the last ` at port `
-/// in it stands between its name and its port.
+/// Returns the port and the lines of a reply to NAMES_REQ, which must fill `bytes`.
+///
+/// Byte 10 ends a line. The last ` at port ` in a line separates name and port. `NoMemory` is the last fault: it is
+/// returned only if `bytes` are a list.
 pub fn read_names(alloc: Global, bytes: &[u8]) -> Result<(u32, Vec<Line>), ListFault>
     ensures found { IfOk result (λ list. Lists bytes.now list.0 list.1.items) }
     ensures fault { IfErr result (λ fault. IsListFault bytes.now fault) }
     ensures short { length bytes.now < 4 → result ≡ Err ListFault.Short }
-    // Memory is asked for last.
     ensures memory { result ≡ Err ListFault.NoMemory → IsList bytes.now }
 {
     let (port, text) = read_dump(bytes)?;
@@ -226,17 +217,17 @@ pub fn read_names(alloc: Global, bytes: &[u8]) -> Result<(u32, Vec<Line>), ListF
     Ok((port, lines))
 }
 
-/// A law: a text is the line of one name and port at most.
+/// Law: a text is the line of at most one name and port.
 pub fn lines_have_one_reading()
     ensures { LinesHaveOneReading }
 {}
 
-/// A law: bytes are one list at most, and then have no fault but want of memory.
+/// Law: bytes are at most one list. If they are a list, their only possible fault is `NoMemory`.
 pub fn lists_have_one_reading()
     ensures { ListsHaveOneReading }
 {}
 
-/// A law: what `write_names` wrote is read as what it was given, and as nothing else.
+/// Law: the output of `write_names` is read back as its arguments, and as nothing else.
 pub fn names_are_read_back()
     ensures { NamesAreReadBack }
 {}

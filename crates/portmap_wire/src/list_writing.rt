@@ -1,4 +1,3 @@
-//! Writing the two lists of names.
 ghost use Rattle.std.specs.Prelude.{◌≡◌, ◌++◌, codes, decimal, IfOk, OnOk};
 ghost use Rattle.portmap_wire.specs.Reply.{be4};
 ghost use Rattle.portmap_wire.specs.List.{names_line, names_reply, dump_line, dump_reply};
@@ -10,14 +9,13 @@ use itoa::Buffer;
 use std::alloc::Global;
 use std::marker::Model;
 
-/// What a line of the answer to NAMES_REQ has beside its name, with a port of five digits, in bytes.
+/// The bytes of a NAMES_REQ line beside its name, at most: the port has up to five digits.
 pub const NAMES_LINE_REST: usize = 20;
 
-/// The same of a line of the answer to DUMP_REQ, with a slot of twenty digits.
+/// The bytes of a DUMP_REQ line beside its name, at most: the slot has up to twenty digits.
 pub const DUMP_LINE_REST: usize = 58;
 
-/// A list's reply in the making: one buffer, to which lines are added with no copy of their names. Where memory runs
-/// out the reply is given up whole.
+/// A list's reply under construction, in one buffer. If memory runs out, the whole reply is dropped.
 #[derive(Debug, Drop)]
 pub struct ListReply {
     bytes: Vec<u8>,
@@ -31,7 +29,6 @@ impl Model for ListReply {
     ghost view = { λ r. r.bytes.items };
 }
 
-// What all lines have in common: a head, the name and its port.
 fn put_name(out: &mut Vec<u8>, head: &[u8], name: &Name, port: u16) -> Result<(), NoMemory>
     ensures { OnOk result (out.new.items ≡ out.old.items ++ head.now ++ name.now ++ codes " at port " ++ decimal port) }
 {
@@ -41,7 +38,6 @@ fn put_name(out: &mut Vec<u8>, head: &[u8], name: &Name, port: u16) -> Result<()
     out.extend_from_slice(Buffer::new().format(port).as_bytes())
 }
 
-/// The line of the answer to NAMES_REQ that tells of this name.
 pub fn put_names_line(out: &mut Vec<u8>, name: &Name, port: u16) -> Result<(), NoMemory>
     ensures { OnOk result (out.new.items ≡ out.old.items ++ names_line (record { name = name.now; port = port })) }
 {
@@ -75,14 +71,14 @@ fn put_dump_line(
 }
 
 impl ListReply {
-    /// The head of a list: the port mapper's own port.
+    /// Begins a reply with the port mapper's own port.
     pub fn new(alloc: Global, port: u16) -> Result<ListReply, NoMemory>
         ensures { IfOk result (λ r. r ≡ be4 port) }
     {
         ListReply::with_room(alloc, port, 0)
     }
 
-    /// The same, with room for lines of so many bytes in all.
+    /// Begins a reply and reserves `room` bytes for its lines.
     pub fn with_room(alloc: Global, port: u16, room: usize) -> Result<ListReply, NoMemory>
         ensures { IfOk result (λ r. r ≡ be4 port) }
     {
@@ -93,7 +89,6 @@ impl ListReply {
         Ok(ListReply { bytes })
     }
 
-    /// With one more line of the answer to NAMES_REQ.
     pub fn with_names_line(mut self, name: &Name, port: u16) -> Result<ListReply, NoMemory>
         ensures { IfOk result (λ r. r ≡ self ++ names_line (record { name = name.now; port = port })) }
     {
@@ -101,7 +96,7 @@ impl ListReply {
         Ok(self)
     }
 
-    /// With one more line of the answer to DUMP_REQ, of an active name where there is a slot, else of a retired one.
+    /// Appends a line of the reply to DUMP_REQ. The name is active if `slot` is given, and retired otherwise.
     pub fn with_dump_line(
         mut self,
         name: &Name,
@@ -114,7 +109,6 @@ impl ListReply {
         Ok(self)
     }
 
-    /// The reply's bytes.
     pub fn into_bytes(self) -> Vec<u8>
         ensures { result.items ≡ self }
     {
@@ -122,7 +116,7 @@ impl ListReply {
     }
 }
 
-/// The answer to NAMES_REQ of a port mapper on this port.
+/// Writes the reply to NAMES_REQ of a port mapper on `port`.
 pub fn write_names(alloc: Global, port: u16, lines: &[Line]) -> Result<Vec<u8>, NoMemory>
     ensures { IfOk result (λ v. v.items ≡ names_reply port lines.now) }
 {
@@ -133,7 +127,7 @@ pub fn write_names(alloc: Global, port: u16, lines: &[Line]) -> Result<Vec<u8>, 
     Ok(reply.into_bytes())
 }
 
-/// The answer to DUMP_REQ of a port mapper on this port.
+/// Writes the reply to DUMP_REQ of a port mapper on `port`.
 pub fn write_dump(alloc: Global, port: u16, lines: &[DumpLine]) -> Result<Vec<u8>, NoMemory>
     ensures { IfOk result (λ v. v.items ≡ dump_reply port lines.now) }
 {

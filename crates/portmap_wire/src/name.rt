@@ -1,4 +1,3 @@
-//! A node's name.
 ghost use Rattle.std.specs.Prelude.{◌≡◌, ◌≢◌, position, IfOk, Ok, Err, IsOk, MatchBool, MatchResult};
 ghost use Rattle.portmap_wire.specs.Name.{IsName, is_control};
 ghost use Rattle.portmap_wire.specs.RequestReading.{GivesName, name_in};
@@ -8,17 +7,15 @@ use std::alloc::Global;
 use std::hash::{Hash, Hasher};
 use std::marker::Model;
 
-/// The most bytes of a name.
+/// The largest length of a name, in bytes.
 pub const NAME_MOST: usize = 1_020;
 
-/// Why bytes are no name.
 #[derive(Clone, Copy, Debug, PartialEq, Eq)]
 pub enum NameFault {
-    /// There is no byte.
     Empty,
     /// There are more than [`NAME_MOST`] bytes.
     TooLong,
-    /// The byte at this place, the first such one, is below 32 or 127.
+    /// The offset of the first control character: a byte below 32, or 127.
     BadByte(usize),
     NoMemory,
 }
@@ -34,7 +31,7 @@ impl From<NoMemory> for NameFault {
     }
 }
 
-/// A node's name: 1 to [`NAME_MOST`] bytes, none of them a control character. Bytes from 128 up are taken as they are.
+/// A node's name: 1 to [`NAME_MOST`] bytes without control characters. Bytes from 128 up pass unchecked.
 #[derive(Debug, Drop)]
 pub struct Name {
     bytes: Vec<u8>,
@@ -51,14 +48,13 @@ impl Model for Name {
     ghost invariant = { λ n. IsName n.bytes.items };
 }
 
-/// Where the first control character stands.
 fn first_control(bytes: &[u8]) -> Option<usize>
     ensures { result ≡ position is_control bytes.now }
 {
     bytes.iter().position(|b| *b < 32 || *b == 127)
 }
 
-/// The first fault of bytes that are no name, in the order of `NameFault`.
+/// Returns the first fault, in the order of `NameFault`.
 fn check_name(bytes: &[u8]) -> Result<(), NameFault>
     ensures name { MatchResult result (λ _. IsName bytes.now) (λ _. IsName bytes.now → ⊥) }
     ensures exact { MatchResult result (λ _. name_in bytes.now ≡ Ok bytes.now)
@@ -77,7 +73,6 @@ fn check_name(bytes: &[u8]) -> Result<(), NameFault>
     }
 }
 
-/// Whether bytes are a name. `Name::read` says why they are none.
 pub(crate) fn is_name(bytes: &[u8]) -> bool
     ensures { MatchBool result (IsName bytes.now) (IsName bytes.now → ⊥) }
 {
@@ -85,13 +80,11 @@ pub(crate) fn is_name(bytes: &[u8]) -> bool
 }
 
 impl Name {
-    /// The name that these bytes are.
+    /// Copies `bytes` into a name, or returns the first fault in the order of `NameFault`.
     pub fn read(alloc: Global, bytes: &[u8]) -> Result<Name, NameFault>
         ensures found { IfOk result (λ n. (n ≡ bytes.now) × IsName bytes.now) }
         ensures only { IsName bytes.now → GivesName result (Ok bytes.now) }
-        // The first fault that holds, in the order of `NameFault`.
         ensures exact { GivesName result (name_in bytes.now) }
-        // Memory is asked for last.
         ensures memory { result ≡ Err NameFault.NoMemory → IsOk (name_in bytes.now) }
     {
         check_name(bytes)?;
@@ -100,7 +93,6 @@ impl Name {
         })
     }
 
-    /// Its bytes.
     pub fn bytes(&self) -> &[u8]
         ensures bytes { result.now ≡ self.now }
         ensures name { IsName self.now }
@@ -108,7 +100,7 @@ impl Name {
         self.bytes.as_slice()
     }
 
-    /// A second one. `Clone` is not derived, since it could not say which error comes.
+    /// Copies the name. `Clone` is not derived, because its contract could not say which error it returns.
     pub fn try_copy(&self, alloc: Global) -> Result<Name, NoMemory>
         ensures same { IfOk result (λ n. n ≡ self.now) }
     {

@@ -1,4 +1,3 @@
-//! What a node registers.
 ghost use Rattle.std.specs.Prelude.{◌≡◌, ◌↔◌, ◌+◌, ◌<◌, ◌≤◌, length, IfOk, OnOk};
 
 use crate::NoMemory;
@@ -7,10 +6,9 @@ use crate::request::BODY_MOST;
 use std::alloc::Global;
 use std::marker::Model;
 
-/// Why extra bytes are refused.
 #[derive(Clone, Copy, Debug, PartialEq, Eq)]
 pub enum ExtraFault {
-    /// With these extra bytes the request would have more than 8,192.
+    /// The request would have more than 8,192 bytes with these extra bytes.
     TooLong,
     NoMemory,
 }
@@ -26,23 +24,22 @@ impl From<NoMemory> for ExtraFault {
     }
 }
 
-/// A node's registration, by the fields of ALIVE2_REQ in the ERTS User's Guide. Any number is taken in each field, and
-/// is given back as it came. A request that holds it has at most 8,192 bytes.
+/// A node's registration, with the fields of ALIVE2_REQ in the ERTS User's Guide. Each number may have any value. A
+/// request with this registration has at most 8,192 bytes.
 #[derive(Debug, Drop)]
 pub struct Reg {
     /// PortNo, the port that the node listens on.
     pub port: u16,
-    /// NodeType: 77 is a normal node, 72 a hidden one.
+    /// NodeType: 77 is a normal node, 72 a hidden node.
     pub kind: u8,
     /// Protocol: 0 is TCP over IPv4.
     pub proto: u8,
     /// HighestVersion of the distribution protocol that the node speaks.
     pub high: u16,
-    /// LowestVersion.
     pub low: u16,
-    /// NodeName, the part of the node's name in front of the `@`.
+    /// NodeName, the part of the node's name before the `@`.
     pub name: Name,
-    /// Extra, which no one reads.
+    /// Extra, which the port mapper stores and returns unread.
     pub extra: Vec<u8>,
 }
 
@@ -73,7 +70,10 @@ impl Model for Reg {
 }
 
 impl Reg {
-    /// A registration of these fields.
+    /// Builds a registration.
+    ///
+    /// # Errors
+    /// `TooLong` if and only if the request would have more than [`BODY_MOST`] bytes.
     pub fn new(
         alloc: Global,
         port: u16,
@@ -95,7 +95,6 @@ impl Reg {
         Ok(Reg::fitting(alloc, port, kind, proto, high, low, name, extra)?)
     }
 
-    /// A registration of these fields, whose size was measured.
     pub(crate) fn fitting(
         alloc: Global,
         port: u16,
@@ -129,7 +128,6 @@ impl Reg {
         })
     }
 
-    /// A second one.
     pub fn try_copy(&self, alloc: Global) -> Result<Reg, NoMemory>
         ensures same { IfOk result (λ g. g ≡ self.now) }
     {

@@ -1,4 +1,3 @@
-//! Reading the answers to a registration and to a look-up.
 ghost use Rattle.std.specs.Prelude.{◌≡◌, ◌≢◌, ◌+◌, ◌<◌, ◌≤◌, List, ℕ, ◌++◌, length, Err, IsOk, IfOk, IfSome};
 ghost use Rattle.portmap_wire.specs.ReplyReading.{wide_answer, short_answer, alive_answer, registered_answer};
 ghost use Rattle.portmap_wire.specs.ReplyReading.{port2_result, port2_answer};
@@ -13,23 +12,22 @@ use crate::reply_writing::{ALIVE2_RESP, ALIVE2_X_RESP, PORT2_RESP};
 use crate::request::BODY_MOST;
 use std::alloc::Global;
 
-/// What a port mapper answered to a registration.
+/// A port mapper's reply to a registration.
 #[derive(Clone, Copy, Debug, PartialEq, Eq)]
 pub enum AliveReply {
-    /// The name is registered, with this creation.
+    /// The name is registered with this creation.
     Given(u32),
-    /// The name is not registered; the result is above 0.
+    /// The name is not registered. The result is above 0.
     Refused(u8),
 }
 
-/// Why bytes are no answer.
 #[derive(Clone, Copy, Debug, PartialEq, Eq)]
 pub enum ReplyFault {
-    /// The bytes end before the answer does.
+    /// The bytes end before the reply does.
     Short,
-    /// The first byte is this one, which opens no such answer.
+    /// The first byte, which begins no such reply.
     BadTag(u8),
-    /// The fields are ones that no registration has.
+    /// No registration has these fields.
     Strange,
     NoMemory,
 }
@@ -59,7 +57,6 @@ impl From<NoMemory> for ReplyFault {
     }
 }
 
-/// What stands behind ALIVE2_X_RESP.
 fn read_wide(rest: &[u8]) -> Result<AliveReply, ReplyFault>
     ensures { result ≡ wide_answer rest.now }
 {
@@ -71,7 +68,6 @@ fn read_wide(rest: &[u8]) -> Result<AliveReply, ReplyFault>
     }
 }
 
-/// What stands behind ALIVE2_RESP.
 fn read_short(rest: &[u8]) -> Result<AliveReply, ReplyFault>
     ensures { result ≡ short_answer rest.now }
 {
@@ -83,8 +79,7 @@ fn read_short(rest: &[u8]) -> Result<AliveReply, ReplyFault>
     }
 }
 
-/// The answer to a registration that is at the front of these bytes: ALIVE2_X_RESP or ALIVE2_RESP. What follows it is
-/// not looked at.
+/// Returns the reply to a registration at the beginning of `bytes`. Later bytes are ignored.
 pub fn read_alive(bytes: &[u8]) -> Result<AliveReply, ReplyFault>
     ensures { result ≡ alive_answer bytes.now }
 {
@@ -96,7 +91,6 @@ pub fn read_alive(bytes: &[u8]) -> Result<AliveReply, ReplyFault>
     }
 }
 
-/// The registration behind a result of 0.
 fn read_registered(alloc: Global, rest: &[u8]) -> Result<Option<Reg>, ReplyFault>
     ensures exact { GivesReply result (registered_answer (fields_in rest.now)) }
     ensures memory { result ≡ Err ReplyFault.NoMemory → IsOk (registered_answer (fields_in rest.now)) }
@@ -111,7 +105,6 @@ fn read_registered(alloc: Global, rest: &[u8]) -> Result<Option<Reg>, ReplyFault
     Ok(Some(registration_of(alloc, &fields, name)?))
 }
 
-/// What stands behind PORT2_RESP.
 fn read_result(alloc: Global, rest: &[u8]) -> Result<Option<Reg>, ReplyFault>
     ensures exact { GivesReply result (port2_result rest.now) }
     ensures memory { result ≡ Err ReplyFault.NoMemory → IsOk (port2_result rest.now) }
@@ -123,7 +116,6 @@ fn read_result(alloc: Global, rest: &[u8]) -> Result<Option<Reg>, ReplyFault>
     }
 }
 
-/// The answer to a look-up by its first byte.
 fn read_tagged(alloc: Global, bytes: &[u8]) -> Result<Option<Reg>, ReplyFault>
     ensures exact { GivesReply result (port2_answer bytes.now) }
     ensures memory { result ≡ Err ReplyFault.NoMemory → IsOk (port2_answer bytes.now) }
@@ -135,20 +127,18 @@ fn read_tagged(alloc: Global, bytes: &[u8]) -> Result<Option<Reg>, ReplyFault>
     }
 }
 
-/// The answer to a look-up that is at the front of these bytes, PORT2_RESP: what is registered, none where the result
-/// is above 0. What follows it is not looked at.
+/// Returns the reply to a lookup at the beginning of `bytes`: the registration, or `None` if the result is above 0.
+/// Later bytes are ignored.
 pub fn read_port2(alloc: Global, bytes: &[u8]) -> Result<Option<Reg>, ReplyFault>
-    // What is found is spelled so.
     ensures found { IfOk result (λ found. IfSome found (λ g. IsFound bytes.now g)) }
     ensures exact { GivesReply result (port2_answer bytes.now) }
-    // Memory is asked for last.
     ensures memory { result ≡ Err ReplyFault.NoMemory → IsOk (port2_answer bytes.now) }
 {
     read_tagged(alloc, bytes)
 }
 
-/// How many bytes more the answer to a registration has at least, where these are its first ones: 0 exactly where
-/// `read_alive` doesn't find it `Short`.
+/// Returns the least number of bytes that are missing from the reply to a registration. The number is 0 if and only if
+/// `read_alive` does not return `Short`.
 pub fn alive_missing(bytes: &[u8]) -> usize
     ensures none { result ≡ 0 → alive_answer bytes.now ≢ Err ReplyFault.Short }
     ensures missing { (more : List ℕ) → length more < result → alive_answer (bytes.now ++ more) ≡ Err ReplyFault.Short }
@@ -162,8 +152,8 @@ pub fn alive_missing(bytes: &[u8]) -> usize
     }
 }
 
-/// How many bytes more the answer to a look-up has at least, where these are its first ones: 0 exactly where
-/// `read_port2` doesn't find it `Short`.
+/// Returns the least number of bytes that are missing from the reply to a lookup. The number is 0 if and only if
+/// `read_port2` does not return `Short`.
 pub fn port2_missing(bytes: &[u8]) -> usize
     ensures none { result ≡ 0 → port2_answer bytes.now ≢ Err ReplyFault.Short }
     ensures missing { (more : List ℕ) → length more < result → port2_answer (bytes.now ++ more) ≡ Err ReplyFault.Short }
@@ -176,12 +166,12 @@ pub fn port2_missing(bytes: &[u8]) -> usize
     }
 }
 
-/// A law: what `write_alive` wrote is read as that creation where the code is 0, else as that refusal.
+/// Law: the output of `write_alive` is read back as its creation for code 0, otherwise as a refusal with its code.
 pub fn alives_are_read_back()
     ensures { AlivesAreReadBack }
 {}
 
-/// A law: what `write_port2` wrote is read as what it was given.
+/// Law: the output of `write_port2` is read back as its argument.
 pub fn look_ups_are_read_back()
     ensures { LookUpsAreReadBack }
 {}

@@ -1,4 +1,3 @@
-//! Writing the answers to a registration and to a look-up.
 ghost use Rattle.std.specs.Prelude.{◌≡◌, ◌<◌, ◌^◌, IfOk, option_map};
 ghost use Rattle.portmap_wire.specs.Reply.{alive_reply, port2_reply};
 
@@ -14,11 +13,13 @@ pub const ALIVE2_RESP: u8 = 121;
 
 pub const PORT2_RESP: u8 = 119;
 
-/// The least highest version of a node that is answered by ALIVE2_X_RESP, with a creation of 4 bytes.
+/// The lowest HighestVersion that gets ALIVE2_X_RESP, with a creation of 4 bytes.
 pub const WIDE_VERSION: u16 = 6;
 
-/// The answer to a registration by a node whose highest version is `high`: ALIVE2_X_RESP with a creation of 4 bytes
-/// where that is at least 6, else ALIVE2_RESP with one of 2 bytes. Code 0 is success; with any other the creation is 0.
+/// Writes the reply to a registration of a node whose highest version is `high`.
+///
+/// The reply is ALIVE2_X_RESP with a creation of 4 bytes from version 6 on, and ALIVE2_RESP with 2 bytes below it. Code
+/// 0 is success. With any other code the daemon passes creation 0.
 pub fn write_alive(alloc: Global, high: u16, code: u8, creation: u32) -> Result<Vec<u8>, NoMemory>
     requires { high < WIDE_VERSION → creation < 2 ^ 16 }
     ensures { IfOk result (λ v. v.items ≡ alive_reply high code creation) }
@@ -32,7 +33,7 @@ pub fn write_alive(alloc: Global, high: u16, code: u8, creation: u32) -> Result<
     }
 }
 
-/// The answer to a look-up, PORT2_RESP: the registration, or that there is none.
+/// Writes the reply to a lookup, PORT2_RESP: the registration, or result 1 for `None`.
 pub fn write_port2(alloc: Global, found: Option<&Reg>) -> Result<Vec<u8>, NoMemory>
     ensures { IfOk result (λ v. v.items ≡ port2_reply (option_map (λ g. g.now) found.entry)) }
 {

@@ -1,11 +1,10 @@
-//! The requests.
 ghost use Rattle.portmap_wire.specs.Request.{SpellsOneRequest, HasOneBody};
 
 use crate::NoMemory;
 use crate::name::{Name, NameFault};
 use crate::registration::Reg;
 
-/// The most bytes of a request's body: its length, in front of it, is 1 to this.
+/// The largest length of a request's body, in bytes. The least is 1.
 pub const BODY_MOST: u16 = 8_192;
 
 // The first byte of each request's body.
@@ -21,34 +20,32 @@ pub const KILL_REQ: u8 = 107;
 
 pub const STOP_REQ: u8 = 115;
 
-/// What a client asks for, by the requests of the ERTS User's Guide.
 #[derive(Debug, Drop)]
 pub enum Request {
-    /// ALIVE2_REQ: register this node.
+    /// ALIVE2_REQ: registers a node.
     Alive(Reg),
-    /// PORT_PLEASE2_REQ: what is registered under this name?
+    /// PORT_PLEASE2_REQ: looks up a name.
     Port(Name),
-    /// NAMES_REQ: which names are registered?
+    /// NAMES_REQ: lists the active names.
     Names,
-    /// DUMP_REQ: all that the port mapper knows.
+    /// DUMP_REQ: lists all known names.
     Dump,
-    /// KILL_REQ: end the port mapper.
+    /// KILL_REQ: ends the port mapper.
     Kill,
-    /// STOP_REQ: end this name's registration.
+    /// STOP_REQ: ends the registration of a name.
     Stop(Name),
 }
 
-/// Why a body is no request.
 #[derive(Clone, Copy, Debug, PartialEq, Eq)]
 pub enum Malformed {
     /// The body is empty, or is an ALIVE2_REQ of fewer than 13 bytes.
     Short,
-    /// Its first byte is none of 100, 107, 110, 115, 120 and 122.
+    /// The first byte is not 100, 107, 110, 115, 120 or 122.
     UnknownTag,
-    /// An ALIVE2_REQ of more than 8,192 bytes, or one whose lengths do not give its size, or more than one byte where
-    /// one is a whole request.
+    /// An ALIVE2_REQ has more than 8,192 bytes or its lengths do not add up to its size, or bytes follow a request of a
+    /// single byte.
     LengthsDisagree,
-    /// Its name is none; never with `NameFault::NoMemory`.
+    /// The name is not a name. The fault is never `NameFault::NoMemory`.
     Name(NameFault),
     NoMemory,
 }
@@ -78,12 +75,12 @@ impl From<NoMemory> for Malformed {
     }
 }
 
-/// A law: a body spells one request at most.
+/// Law: a body spells at most one request.
 pub fn spelling_is_one()
     ensures { SpellsOneRequest }
 {}
 
-/// A law: a request has one body.
+/// Law: a request has exactly one body.
 pub fn bodies_are_one()
     ensures { HasOneBody }
 {}

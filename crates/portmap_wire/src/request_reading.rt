@@ -1,4 +1,3 @@
-//! Reading a request.
 ghost use Rattle.std.specs.Prelude.{◌≡◌, ◌≢◌, IfOk, IfErr, Err, IsOk};
 ghost use Rattle.portmap_wire.specs.RequestReading.{Gives, request_in, alive_in};
 ghost use Rattle.portmap_wire.specs.Request.{Spells, IsMalformed};
@@ -11,7 +10,6 @@ use crate::request::{
 };
 use std::alloc::Global;
 
-/// The registration behind ALIVE2_REQ.
 #[tactic(auto, unfolding(crate::specs::RequestReading::alive_in))]
 fn read_alive_request(alloc: Global, rest: &[u8]) -> Result<Request, Malformed>
     ensures exact { Gives result (alive_in rest.now) }
@@ -33,7 +31,6 @@ fn read_alive_request(alloc: Global, rest: &[u8]) -> Result<Request, Malformed>
     Ok(Request::Alive(registration_of(alloc, &fields, name)?))
 }
 
-/// The request by its first byte.
 #[tactic(auto, unfolding(crate::specs::RequestReading::by_tag))]
 fn read_by_tag(alloc: Global, body: &[u8]) -> Result<Request, Malformed>
     ensures exact { Gives result (request_in body.now) }
@@ -52,15 +49,15 @@ fn read_by_tag(alloc: Global, body: &[u8]) -> Result<Request, Malformed>
     }
 }
 
-/// The request that these bytes spell, all of them: a request's body, without its length.
+/// Returns the request that `body` spells, all of it: a request without its length field.
 pub fn read_request(alloc: Global, body: &[u8]) -> Result<Request, Malformed>
-    // What is read is spelled so.
+    // The body spells the request.
     ensures found { IfOk result (λ request. Spells body.now request) }
-    // What is refused, other than for want of memory, is no spelling of anything.
+    // At any fault but `NoMemory`, the body spells no request.
     ensures refused { IfErr result (λ fault. fault ≢ Malformed.NoMemory → IsMalformed body.now) }
-    // The first fault that holds, by reading from left to right.
+    // The fault is the first from left to right.
     ensures exact { Gives result (request_in body.now) }
-    // Memory is asked for last.
+    // `NoMemory` is the last fault.
     ensures memory { result ≡ Err Malformed.NoMemory → IsOk (request_in body.now) }
 {
     read_by_tag(alloc, body)

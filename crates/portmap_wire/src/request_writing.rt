@@ -1,4 +1,3 @@
-//! Writing a request.
 ghost use Rattle.std.specs.Prelude.{◌≡◌, ◌+◌, ◌≤◌, [], ◌∷◌, ◌++◌, length, IfOk};
 ghost use Rattle.portmap_wire.specs.Name.{IsName};
 ghost use Rattle.portmap_wire.specs.Node.{be2};
@@ -15,7 +14,6 @@ use crate::request::{
 };
 use std::alloc::Global;
 
-/// The length of a body in two bytes, and its first byte.
 fn head(alloc: Global, length: u16, tag: u8) -> Result<Vec<u8>, NoMemory>
     ensures { IfOk result (λ v. v.items ≡ be2 length ++ tag ∷ []) }
 {
@@ -25,7 +23,7 @@ fn head(alloc: Global, length: u16, tag: u8) -> Result<Vec<u8>, NoMemory>
     Ok(out)
 }
 
-/// ALIVE2_REQ as it is sent.
+/// Writes ALIVE2_REQ with its length field.
 pub fn write_registration(alloc: Global, reg: &Reg) -> Result<Vec<u8>, NoMemory>
     ensures text { IfOk result (λ v. v.items ≡ sent (Alive reg.now)) }
     ensures is_request { IsRequest (Alive reg.now) }
@@ -36,7 +34,6 @@ pub fn write_registration(alloc: Global, reg: &Reg) -> Result<Vec<u8>, NoMemory>
     Ok(out)
 }
 
-/// A request that is a name behind its first byte.
 fn write_named(alloc: Global, tag: u8, name: &Name) -> Result<Vec<u8>, NoMemory>
     ensures text { IfOk result (λ v. v.items ≡ be2 (1 + length name.now) ++ tag ∷ name.now) }
     ensures name { IsName name.now }
@@ -46,7 +43,7 @@ fn write_named(alloc: Global, tag: u8, name: &Name) -> Result<Vec<u8>, NoMemory>
     Ok(out)
 }
 
-/// PORT_PLEASE2_REQ as it is sent.
+/// Writes PORT_PLEASE2_REQ with its length field.
 pub fn write_lookup(alloc: Global, name: &Name) -> Result<Vec<u8>, NoMemory>
     ensures text { IfOk result (λ v. v.items ≡ sent (Port name.now)) }
     ensures is_request { IsRequest (Port name.now) }
@@ -54,7 +51,7 @@ pub fn write_lookup(alloc: Global, name: &Name) -> Result<Vec<u8>, NoMemory>
     write_named(alloc, PORT_PLEASE2_REQ, name)
 }
 
-/// STOP_REQ as it is sent.
+/// Writes STOP_REQ with its length field.
 pub fn write_stop(alloc: Global, name: &Name) -> Result<Vec<u8>, NoMemory>
     ensures text { IfOk result (λ v. v.items ≡ sent (Stop name.now)) }
     ensures is_request { IsRequest (Stop name.now) }
@@ -62,11 +59,11 @@ pub fn write_stop(alloc: Global, name: &Name) -> Result<Vec<u8>, NoMemory>
     write_named(alloc, STOP_REQ, name)
 }
 
-/// The request as it is sent: its length in two bytes, and its body.
+/// Writes a request: the length of its body in two bytes, then the body.
 pub fn write_request(alloc: Global, request: &Request) -> Result<Vec<u8>, NoMemory>
     ensures text { IfOk result (λ v. v.items ≡ sent request.now) }
     ensures small { length (body_of request.now) ≤ BODY_MOST }
-    // So `read_request` takes the body, and gives this request.
+    // `read_request` reads the body back as this request, unless memory runs out.
     ensures spells { Spells (body_of request.now) request.now }
 {
     match request {

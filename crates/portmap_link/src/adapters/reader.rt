@@ -1,4 +1,3 @@
-//! A reader of the standard library as a device.
 ghost use Rattle.std.specs.Prelude.{◌≡◌, [], false};
 ghost use Rattle.portmap_link.specs.Adapters.{reading_inner, reading_pulls, reading_broken};
 
@@ -6,7 +5,7 @@ use super::read_once;
 use crate::{Device, GhostList, Input, Pull};
 use std::io::Read;
 
-/// A reader as a device.
+/// A reader of the standard library as a device.
 #[derive(Drop)]
 pub struct Reading<R: Read> {
     inner: R,
@@ -15,7 +14,6 @@ pub struct Reading<R: Read> {
 }
 
 impl<R: Read> Reading<R> {
-    /// A device that was asked nothing yet.
     pub fn new(inner: R) -> Reading<R>
         ensures inner { reading_inner result ≡ inner }
         ensures whole { reading_broken result ≡ false }
@@ -28,7 +26,6 @@ impl<R: Read> Reading<R> {
         }
     }
 
-    /// The reader, as the last call left it.
     pub fn into_inner(self) -> R
         ensures { result ≡ reading_inner self }
     {

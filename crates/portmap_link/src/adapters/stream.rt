@@ -1,4 +1,3 @@
-//! A stream of the standard library as a device, which is read and written.
 ghost use Rattle.std.specs.Prelude.{◌≡◌, [], false};
 ghost use Rattle.std.specs.Borrow.{sem, Lends};
 ghost use Rattle.portmap_link.specs.contracts.adapters.stream.Both.{the_row};
@@ -8,8 +7,8 @@ use super::{read_once, write_once};
 use crate::{Device, GhostList, Input, Output, Pull, Put};
 use std::io::{Read, Write};
 
-/// A stream that is read and written as a device. The standard library doesn't say what a read does to the bytes that
-/// were written, nor a write to those that are left, so this device doesn't tell its bytes.
+/// A stream of the standard library as a device that is read and written. Its bytes are unknown to contracts: std does
+/// not say what a read does to the bytes written, nor what a write does to the bytes left.
 #[derive(Drop)]
 pub struct Both<S: Read + Write> {
     inner: S,
@@ -19,7 +18,6 @@ pub struct Both<S: Read + Write> {
 }
 
 impl<S: Read + Write> Both<S> {
-    /// A device that was asked nothing yet.
     pub fn new(inner: S) -> Both<S>
         ensures inner { both_inner result ≡ inner }
         ensures whole { both_broken result ≡ false }
@@ -34,7 +32,7 @@ impl<S: Read + Write> Both<S> {
         }
     }
 
-    /// The stream within, to be set or registered. Who reads or writes it goes around the device.
+    /// Returns the stream, for settings and registration. Reads and writes of the stream bypass the device.
     pub fn get_mut(&mut self) -> &mut S
         ensures value { result.now ≡ both_inner self.old }
         ensures* writes_back { sem 𝓛 (Lends (the_row S.row) S.row self.entry result
@@ -43,7 +41,6 @@ impl<S: Read + Write> Both<S> {
         &mut self.inner
     }
 
-    /// The stream, as the last call left it.
     pub fn into_inner(self) -> S
         ensures { result ≡ both_inner self }
     {

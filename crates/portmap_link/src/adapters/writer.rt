@@ -1,4 +1,3 @@
-//! A writer of the standard library as a device.
 ghost use Rattle.std.specs.Prelude.{◌≡◌, [], false, true, not};
 ghost use Rattle.std.specs.Io.KnownBytes.{Keeps};
 ghost use Rattle.portmap_link.specs.Adapters.{writing_inner, writing_puts, writing_broken};
@@ -7,7 +6,7 @@ use super::write_once;
 use crate::{Device, GhostList, Output, Put};
 use std::io::Write;
 
-/// A writer as a device.
+/// A writer of the standard library as a device.
 #[derive(Drop)]
 pub struct Writing<W: Write> {
     inner: W,
@@ -16,7 +15,6 @@ pub struct Writing<W: Write> {
 }
 
 impl<W: Write> Writing<W> {
-    /// A device that was asked nothing yet.
     pub fn new(inner: W) -> Writing<W>
         ensures inner { writing_inner result ≡ inner }
         ensures whole { writing_broken result ≡ false }
@@ -29,7 +27,7 @@ impl<W: Write> Writing<W> {
         }
     }
 
-    /// Has the writer pass on all that it took, and says whether it did. One that did not has failed, for good.
+    /// Flushes the writer. Returns false if this or an earlier call failed, and then the device has failed permanently.
     pub fn finish(&mut self) -> bool
         ensures held { Keeps (W.contents (writing_inner self.old)) (W.contents (writing_inner self.new)) }
         ensures puts { writing_puts self.new ≡ writing_puts self.old }
@@ -40,7 +38,6 @@ impl<W: Write> Writing<W> {
         !self.failed
     }
 
-    /// The writer, as the last call left it.
     pub fn into_inner(self) -> W
         ensures { result ≡ writing_inner self }
     {

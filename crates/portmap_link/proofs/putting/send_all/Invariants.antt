@@ -4,7 +4,7 @@ use Rattle.portmap_link.specs.Limit.{left_in, puts_most}
 use Rattle.portmap_link.proofs.PutsOn.{HasPut}
 use Rattle.portmap_link.proofs.putting.send_all.Given as goal
 
--- the first bytes are written, and this is left of the limit
+-- The first `count` bytes are written, and `left` remains of the limit.
 abbrev pub invariant-loop-count : goal.invariant-loop-count
 invariant-loop-count g l = record {
   within : l.count ≤ length l.bytes;

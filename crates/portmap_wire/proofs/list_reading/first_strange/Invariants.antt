@@ -2,7 +2,7 @@ use Rattle.std.proofs.Common.{◌≡◌, ◌+◌, ◌≤◌, List, length}
 use Rattle.portmap_wire.specs.{ListReading.ListsTo, declared.list.Line.Line}
 use Rattle.portmap_wire.proofs.list_reading.first_strange.Given as goal
 
--- so many lines were met, and no more than there are bytes
+-- The loop passed `count` lines, and `count` is at most the number of bytes passed.
 abbrev pub invariant-loop-rest : goal.invariant-loop-rest
 invariant-loop-rest l = record {
   met : (lines : List Line) × ListsTo l.fn.text lines l.rest × (length lines ≡ l.count);

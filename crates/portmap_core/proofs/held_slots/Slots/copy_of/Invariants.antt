@@ -4,7 +4,7 @@ use Rattle.std.specs.FinMap as tree
 use Rattle.portmap_core.specs.Held.{IsHeld, entries_held}
 use Rattle.portmap_core.proofs.held_slots.Slots.copy_of.Given as goal
 
--- what is copied, followed by what is left
+-- The copied connections and the connections left are all connections.
 abbrev pub invariant-loop-slot : goal.invariant-loop-slot
 invariant-loop-slot l = record {
   all : entries_held l.held.items ++ l.slot-iterator ≡ tree.entries l.source;

@@ -3,7 +3,7 @@ use Rattle.portmap_feed.specs.{Seen.seen_of, Stream.{first_request, kept, room}}
 use Rattle.portmap_feed.proofs.StreamLaws.{kept-append_kept, kept-kept, first_request-kept, kept_more, room-kept}
 use Rattle.portmap_feed.proofs.feed.Feed.push.Goals as goal
 
--- the bytes that are held after the push
+-- The bytes held after the push, from the bytes held before.
 held_now : (c : goal.After-seen_in) → c.extend_from_slice.new.self.items ≡ kept (c.args.self.now ++ c.args.piece.now)
 held_now c = search rules
 
@@ -16,7 +16,7 @@ invariant_of-self-2 c =
     let there : room all ≤ vec_capacity c.take_room.new.held = rw (sym c.self.view_is) (omega (arith, c.in_ok-take_room.ensures.exact)) in
     rw (held_now c) (kept-kept all, omega (arith, room-kept all, there, c.extend_from_slice.ensures.capacity))
 
--- the same, from all the bytes received
+-- The bytes held after the push, from all bytes received.
 held_of_all : (c : goal.After-seen_in) (received : List ℕ) → c.args.self.now ≡ kept received
     → c.extend_from_slice.new.self.items ≡ kept (received ++ c.args.piece.now)
 held_of_all c received was = search (rules, kept-append_kept)

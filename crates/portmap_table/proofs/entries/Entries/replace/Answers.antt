@@ -8,7 +8,7 @@ use Rattle.portmap_table.proofs.entries.Entries.replace.Goals as goal
 pushed : (c : goal.Joined-swap_remove_index) → c.self.inside.kept.entries ≡ c.args.self.now ++ active_entry c.args.row ∷ []
 pushed c = c.self.view_is ∙ c.in_ok-push.ensures.ok
 
--- by what was taken out
+-- The effect of the replacement, by the entry that was removed.
 swapped : (c : goal.Joined-swap_remove_index) → (result : Option Entry) → result ≡ slice_get c.self.inside.kept.entries c.args.index
     → IfSome result (λ (entry : Entry). c.swap_remove_index.new.self.entries ≡ swap_remove c.self.inside.kept.entries c.args.index entry)
     → Puts c.args.self.now c.swap_remove_index.new.self.entries c.args.index (active_entry c.args.row)

@@ -8,7 +8,7 @@ use Rattle.portmap_table.proofs.entries.Entries.retire.Goals as goal
 abbrev retired : (c : goal.Joined-index_mut) → NameEntry
 retired c = Retired c.row.inside.0.0.port c.row.inside.0.1.0
 
--- the row that is read is the one that stands there
+-- The row that is read is the row at this index.
 is_row : (c : goal.Joined-index_mut) (row : Row) → slice_get c.args.self.now c.args.index ≡ Some (active_entry row) → c.in-Active.row ≡ row
 is_row c row e = search (rules, read_kept)
 
