@@ -1,7 +1,8 @@
 -- What the daemon counts of its replies: profile.
 use Rattle.std.specs.Prelude.{ℕ, Bool, List, [], ◌∷◌, false, Option, Some, None, ◌==◌, ◌||◌, if◌then◌else◌}
 use Rattle.portmap_core.specs.declared.event.Fate.{Fate, TheVariants.{Close, Halt, Stay}}
-use Rattle.portmap_worker.specs.declared.figures.Counter.{Counter, TheVariants as counter}
+use Rattle.portmap_worker.specs.declared.figures.Counter.{Counter}
+use Rattle.portmap_worker.specs.declared.figures.Counter.TheVariants as counter
 
 -- the second byte of a reply is this one
 abbrev pub has_result : ℕ → List ℕ → Bool
