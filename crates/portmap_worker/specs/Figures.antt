@@ -4,7 +4,7 @@ use Rattle.portmap_core.specs.declared.event.Fate.{Fate, TheVariants.{Close, Hal
 use Rattle.portmap_worker.specs.declared.figures.Counter.{Counter}
 use Rattle.portmap_worker.specs.declared.figures.Counter.TheVariants as counter
 
--- the second byte of a reply is this one
+-- The second byte of a reply is `wanted`.
 abbrev pub has_result : ℕ → List ℕ → Bool
 has_result wanted [] = false
 has_result wanted (result ∷ rest) = result == wanted
