@@ -1,4 +1,4 @@
--- A piece is read between two writings.
+-- Lemmas: a chunk is read between two writes.
 use Rattle.std.specs.Io.KnownBytes.{Keeps, Consumes}
 use Rattle.std.proofs.Common.{◌≡◌, ◌≤◌, ℕ, List, [], ◌∷◌, ◌++◌, length, take, map, Option, Some, None, sym, ap, ◌∙◌}
 use Rattle.std.proofs.{Common.{append_assoc, inl, inr, arith}, KnownBytes.{Appends-trans, Appends-kept}}
@@ -12,7 +12,7 @@ use Rattle.portmap_link.specs.declared.outbox.Flush.TheVariants as flush
 use Rattle.portmap_worker.specs.{Carrying.{IsRead, WritingEnds, FollowsAnswer}, declared.carrier.Next.Next}
 use Rattle.portmap_worker.specs.declared.limits.TheConstants.{PULL_BYTES_MOST}
 
--- bytes are read between two calls that read none
+-- Bytes are read between two calls that read nothing.
 pub read_between : (a b c d : Option (List ℕ)) (bs : List ℕ) → Keeps a b → Consumes b c bs → Keeps c d → Consumes a d bs
 read_between None b c d bs one two three = tt
 read_between (Some x) None c d bs one two three = absurd one
@@ -20,7 +20,7 @@ read_between (Some x) (Some y) None d bs one two three = absurd two
 read_between (Some x) (Some y) (Some z) None bs one two three = absurd three
 read_between (Some x) (Some y) (Some z) (Some w) bs one two three = sym one ∙ two ∙ ap (λ (t : List ℕ). bs ++ t) (sym three)
 
--- the front of the buffer was read
+-- A prefix of the buffer was read.
 pub is_read : (old new : Devices) (n : ℕ) (buffer : List ℕ) → n ≤ length buffer → length buffer ≡ PULL_BYTES_MOST
     → Consumes old.left new.left (take n buffer) → new.pulls ≡ old.pulls ++ pull.Piece n ∷ [] → IsRead old new (take n buffer)
 is_read old new n buffer within room consumed pulled =
@@ -31,7 +31,7 @@ is_read old new n buffer within room consumed pulled =
       few = omega (arith, len, within, room);
     }
 
--- more bytes are to be written after a first writing, and are written by a second one
+-- More bytes are added after a first write, and a second write takes them.
 pub moves_more : (a b c d : Option (List ℕ)) (before mid more after : List ℕ) → Moves a b before mid → Keeps b c
     → Moves c d (mid ++ more) after → Moves a d (before ++ more) after
 moves_more a b c d before mid more after one kept two = (
@@ -41,7 +41,7 @@ moves_more a b c d before mid more after one kept two = (
       ∙ ap (λ (t : List ℕ). t ++ more) one.2,
 )
 
--- the last answer since later on is the last one since before
+-- The last put since `mid` is also the last put since `old`.
 pub last_since : (old mid new more : List Put) (last : Put) → mid ≡ old ++ more → LastPut mid new last → LastPut old new last
 last_since old mid new more last grew told = record {
   before = more ++ told.before;
@@ -56,11 +56,11 @@ ends_since flush.Empty old mid new more waiting grew ends = ends
 ends_since flush.Later old mid new more waiting grew ends = (ends.0, last_since old mid new more put.Later grew ends.1)
 ends_since flush.Fault old mid new more waiting grew ends = last_since old mid new more put.Fault grew ends
 
--- what follows a second flush, by all puts since before the first one
-pub follows_flush : (told : Answer) (old mid new : List Put) (count : ℕ) (ended : Flush) (waiting : List ℕ) (next : Next)
-    → Sends old mid count ended → FollowsAnswer told mid new waiting next → FollowsAnswer told old new waiting next
-follows_flush told old mid new count ended waiting next sent (inl full) = inl full
-follows_flush told old mid new count ended waiting next sent (inr follows) =
+-- The next step after a second flush, by all puts since before the first flush.
+pub follows_flush : (acted : Answer) (old mid new : List Put) (count : ℕ) (ended : Flush) (waiting : List ℕ) (next : Next)
+    → Sends old mid count ended → FollowsAnswer acted mid new waiting next → FollowsAnswer acted old new waiting next
+follows_flush acted old mid new count ended waiting next sent (inl full) = inl full
+follows_flush acted old mid new count ended waiting next sent (inr follows) =
     let more = map Wrote sent.counts ++ ending_of ended in
     inr (
       follows.0,

@@ -1,4 +1,4 @@
--- What is printed of bytes, one byte more at a time.
+-- Lemmas: the printed text grows with each byte.
 use Rattle.std.proofs.Common.{◌≡◌, ℕ, zero, suc, ◌+◌, ◌-◌, ◌<◌, ◌≤◌, List, [], ◌++◌, length, drop, append_assoc, arith}
 use Rattle.std.proofs.Common.{refl, sym, ap, subst, ◌∙◌}
 use Rattle.std.proofs.lemmas.List.{append-nil, at_drop_all, at_drop_more, drop_more}
@@ -20,13 +20,13 @@ none : (count : ℕ) → shown_behind count [] ≡ []
 none zero = refl
 none (suc count) = refl
 
--- a byte of a character that is printed already
+-- The byte belongs to a character that is printed already.
 pub is_passed : (text bytes : List ℕ) (place count : ℕ) → place < length bytes → 0 < count
     → text ++ shown_behind count (drop place bytes) ≡ shown bytes → text ++ shown_behind (count - 1) (drop (place + 1) bytes) ≡ shown bytes
 is_passed text bytes place count there some was =
     ap (λ (rest : List ℕ). text ++ rest) (sym (passed bytes place count there some)) ∙ was
 
--- a byte at which something begins
+-- A character, or a byte outside of any character, begins here.
 pub is_begun : (text bytes : List ℕ) (place : ℕ) → place < length bytes → text ++ shown_behind 0 (drop place bytes) ≡ shown bytes
     → text ++ front (drop place bytes) ++ shown_behind (more (drop place bytes)) (drop (place + 1) bytes) ≡ shown bytes
 is_begun text bytes place there was =

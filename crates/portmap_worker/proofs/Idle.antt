@@ -1,4 +1,4 @@
--- What each call of a worker's links does to them: lemmas.
+-- Lemmas: the effect of each call on the links of a worker.
 use Rattle.std.specs.{Ordering.nat_cmp, Prelude.{drop, fold, IfSome, is_some, option_map, slice_get, unwrap_or}}
 use Rattle.std.specs.FinMap as map
 use Rattle.std.proofs.Common.{◌≡◌, ◌≢◌, ℕ, Bool, true, false, not, ◌&&◌, Option, Some, None, List, [], ◌∷◌, ◌++◌}
@@ -42,7 +42,7 @@ there_still f None = refl
 there_still f (Some a) = refl
 
 module _ {S : Type 0} where
-  -- it is at another state, or is another one, or was reported
+  -- The link gets another state, gets another value, or is reported.
   abbrev to : LinkState → OpenLink S × LinkState → OpenLink S × LinkState
   to state l = (l.0, state)
 
@@ -52,7 +52,7 @@ module _ {S : Type 0} where
   abbrev waked : OpenLink S × LinkState → OpenLink S × LinkState
   waked l = (l.0, place_reported true l.1)
 
-  -- ---- what stands under a key, and under each other one
+  -- ---- the link under a key, and the links under other keys
 
   put_here : (state : LinkState) (k : ℕ) (o : Option (OpenLink S × LinkState)) (m : map.FinMap nat_cmp (OpenLink S × LinkState))
       → map.get m k ≡ o
@@ -98,7 +98,7 @@ module _ {S : Type 0} where
   pub reported_here : (k : ℕ) (r : Links (OpenLink S)) → link_at (reported k r) k ≡ option_map waked (link_at r k)
   reported_here k r = reported_at (link_at r k) k r refl
 
-  -- one is the other but perhaps in what stands under this key
+  -- Both have the same links, except perhaps under this key.
   pub record Alike (k : ℕ) (old new : Links (OpenLink S)) : Type 0 where
     pub others : (q : ℕ) → q ≢ k → link_at new q ≡ link_at old q
     pub there : is_some (link_at new k) ≡ is_some (link_at old k)
@@ -127,20 +127,19 @@ module _ {S : Type 0} where
       here : (k : ℕ) (r : Links (OpenLink S)) (q : ℕ) → q ≢ k → link_at (reported k r) q ≡ link_at r q
       here k r q d = search (rules, put_there)
 
-  -- ---- those that are queued
+  -- ---- queued links
 
-  -- the links, and the queue
   abbrev pub seen : Links (OpenLink S) → map.FinMap nat_cmp (OpenLink S × LinkState) × List ℕ
   seen r = (r.links, r.queue)
 
-  -- each that is queued stays so, behind no more than before
+  -- Every queued link stays queued, behind no more links than before.
   abbrev pub Stays : Links (OpenLink S) → Links (OpenLink S) → Type 0
   Stays old new = (q most : ℕ) → Holds (Ahead q most) old → Holds (Ahead q most) new
 
   pub stays : (old new : Links (OpenLink S)) → new.queue ≡ old.queue → Stays old new
   stays old new e q most h = rw e h
 
-  -- a key may have joined it
+  -- A key may have joined the queue.
   pub joins : (b : Bool) (k : ℕ) (old new : Links (OpenLink S)) → new.queue ≡ pushed b k old.queue → Stays old new
   joins false k old new e q most h = rw e h
   joins true k old new e q most h =
@@ -157,7 +156,7 @@ module _ {S : Type 0} where
       at true e = joins true k r (reported k r) (search (rules, e))
       at false e = stays r (reported k r) (search (rules, e))
 
-  -- what holds of a link goes on to hold, if it does so of this key
+  -- Facts about links stay true, if the link under this key stays safe.
   keep_so : (k : ℕ) (old new : Links (OpenLink S)) → Alike k old new
       → (is_safe (link_at old k) ≡ true → is_safe (link_at new k) ≡ true) → KeepsLinks old new
   keep_so k old new a safe (There q there) l h = elim (cases_eq q k) [
@@ -206,7 +205,7 @@ module _ {S : Type 0} where
 
   -- ---- changes
 
-  -- a link goes elsewhere, and its key to the end of the queue, if it goes there
+  -- The link gets this state. Its key goes to the end of the queue if the state is `Queued`.
   abbrev pub IsMoved : LinkState → ℕ → Links (OpenLink S) → Links (OpenLink S) → Type 0
   IsMoved state k r new = seen new ≡ seen (moved state k r)
 
@@ -221,19 +220,19 @@ module _ {S : Type 0} where
         }) (λ q most h. joins (is_queued state) k r new (ap (λ p. p.1) e) q most (queue q most h))
         (ap is_safe (ap (λ m. map.get m k) links ∙ moved_here state k r) ∙ all_safe (to state) (link_at r k) (λ l _. safe l.0))
 
-  -- it has another value
+  -- The link also gets another value.
   pub placed : (state : LinkState) (k : ℕ) (v : OpenLink S) (old new : Links (OpenLink S)) → IsMoved state k (written k old v) new
       → ((v : OpenLink S) → is_safe (Some (v, state)) ≡ true) → Keeps old new
   placed state k v old new = goes state k old (written k old v) new (then_written k v old old (itself k old)) (λ q most h. h)
 
   module _ (state : LinkState) (k : ℕ) (old r new : Links (OpenLink S)) where
-    -- it has the value that it had, or another one
+    -- The link keeps its value, or gets another value.
     pub sent : ((v : OpenLink S) × (r ≡ written k old v)) ⊎ (r ≡ old) → IsMoved state k r new
         → ((v : OpenLink S) → is_safe (Some (v, state)) ≡ true) → Keeps old new
     sent (inl (v, h)) e = placed state k v old new (e ∙ ap (λ r. seen (moved state k r)) h)
     sent (inr h) e = goes state k old old new (itself k old) (λ q most h. h) (e ∙ ap (λ r. seen (moved state k r)) h)
 
-  -- it has another value, and is idle
+  -- The link gets another value, and is idle.
   pub idles : (k : ℕ) (v : OpenLink S) (old new : Links (OpenLink S)) → new ≡ moved Idle k (written k old v)
       → v.link.is_paused ≡ false → is_quiet (notes_of v) ≡ true → Keeps old new
   idles k v old new e rests quiet =
@@ -245,20 +244,20 @@ module _ {S : Type 0} where
       at (Some l) = both v rests quiet
 
   module _ (k : ℕ) (v : OpenLink S) (old r : Links (OpenLink S)) where
-    -- it has another value, which is quiet
+    -- The link gets another value, which is quiet.
     pub calms : Alike k old r → Stays old r → v.link.is_paused ≡ false → is_quiet (notes_of v) ≡ true → Keeps old (written k r v)
     calms others queue rests quiet =
         keep k old (written k r v) (then_written k v old r others) queue
         (ap is_safe (written_here k v r) ∙ all_safe (with v) (link_at r k) (λ l _. quiet_safe v l.1 (both v rests quiet)))
 
-    -- it was reported
+    -- The link was reported.
     pub wakes : (new : Links (OpenLink S)) → Alike k old r → Stays old r → new ≡ reported k (written k r v) → Keeps old new
     wakes new others queue e =
         rw e (keep k old (reported k (written k r v)) (then_reported k old (written k r v) (then_written k v old r others))
         (λ q most h. reports_stay k (written k r v) q most (queue q most h))
         (ap is_safe (reported_here k (written k r v)) ∙ waked_safe (link_at (written k r v) k)))
 
-  -- it has another value, which is calm if the one before was
+  -- The link gets another value, which is calm if the old value was.
   pub kept_so : (k : ℕ) (r : Links (OpenLink S)) (h v : OpenLink S) → Some h
       ≡ option_map (λ (l : OpenLink S × LinkState). l.0) (link_at r k)
       → (is_calm h ≡ true → is_calm v ≡ true) → Keeps r (written k r v)
@@ -282,14 +281,14 @@ module _ {S : Type 0} where
       kept_so k r h v value (λ calm. ap (λ b. not b && is_quiet (notes_of v)) rests
       ∙ ap (λ n. not h.link.is_paused && is_quiet n) notes ∙ calm)
 
-  -- it was looked at, and there is nothing to tell of it
+  -- The link was scanned, and is not to be served.
   pub looked : (k : ℕ) (r : Links (OpenLink S)) (h v : OpenLink S) → Some h ≡ option_map (λ (l : OpenLink S × LinkState). l.0) (link_at r k)
       → v.link.is_paused ≡ h.link.is_paused → (h.link.is_paused ≡ false → is_quiet (notes_of v) ≡ true) → Keeps r (written k r v)
   looked k r h v value rests quiet = kept_so k r h v value (λ calm.
       let up : h.link.is_paused ≡ false = awake h.link.is_paused (is_quiet (notes_of h)) calm in
       both v (rests ∙ up) (quiet up))
 
-  -- it has another value, and rests
+  -- The link gets another value while it is paused.
   pub rests_on : (k : ℕ) (v : OpenLink S) (r : Links (OpenLink S)) → state_at r k ≡ Some Paused → Keeps r (written k r v)
   rests_on k v r h =
       keep k r (written k r v) (then_written k v r r (itself k r)) (λ q most h. h)
@@ -312,7 +311,7 @@ module _ {S : Type 0} where
       → Keeps old new
   absent k old new others queue e = keep k old new others queue (ap is_safe e)
 
-  -- it was reported before it has another value
+  -- The link was reported before it got another value.
   pub lent : (k : ℕ) (v : OpenLink S) (old r : Links (OpenLink S)) → r ≡ reported k old → Keeps old (written k r v)
   lent k v old r e =
       let alike : Alike k old r = rw e (then_reported k old old (itself k old)) in
@@ -328,7 +327,7 @@ module _ {S : Type 0} where
       at (Some (t, Paused)) = refl
       at (Some (t, Current)) = refl
 
-  -- whether it is there is whether it was
+  -- The link is there if and only if it was there before.
   pub there_before : (k : ℕ) (old r : Links (OpenLink S)) (o : Option (OpenLink S)) → r ≡ reported k old
       → o ≡ option_map (λ (l : OpenLink S × LinkState). l.0) (link_at r k) → Has old k (is_some o)
   there_before k old r o e value =
@@ -340,13 +339,12 @@ module _ {S : Type 0} where
       rw e (keep k old (reported k old) (then_reported k old old (itself k old)) (reports_stay k old)
       (ap is_safe (reported_here k old) ∙ waked_safe (link_at old k)))
 
-  -- what is the same under each key
   same_links : (old new : Links (OpenLink S)) → new.links ≡ old.links → KeepsLinks old new
   same_links old new e (There q there) l h = ap (λ m. is_some (map.get m q)) e ∙ h
   same_links old new e (Safe q) l h = ap (λ m. is_safe (map.get m q)) e ∙ h
   same_links old new e (Ahead q most) l h = absurd l
 
-  -- the first of a list goes elsewhere
+  -- The first key of a list gets another state.
   pub first_goes : (state : LinkState) (o : Option ℕ) (old new : Links (OpenLink S)) → new.links ≡ first_at state o old.links
       → ((v : OpenLink S) → is_safe (Some (v, state)) ≡ true) → KeepsLinks old new
   first_goes state None old new e safe = same_links old new e
@@ -362,7 +360,7 @@ module _ {S : Type 0} where
       keeps_both old new (same_links old new (ap (λ (r : Links (OpenLink S)). r.links) e))
       (stays old new (ap (λ (r : Links (OpenLink S)). r.queue) e))
 
-  -- of those that are pending the first is taken
+  -- The first pending link is taken.
   pub taken : (state : LinkState) (o : Option ℕ) (old new : Links (OpenLink S)) → seen new ≡ (first_at state o old.links, old.queue)
       → ((v : OpenLink S) → is_safe (Some (v, state)) ≡ true) → Keeps old new
   taken state o old new e safe =
@@ -379,7 +377,7 @@ module _ {S : Type 0} where
         there = ap (λ m. is_some (map.get m k)) links ∙ gone.there;
       }
 
-  -- the first of the queue is told, and has another value
+  -- The first queued link becomes the current link, and gets another value.
   pub told_written : (k : ℕ) (old r : Links (OpenLink S)) (v : OpenLink S) → slice_get old.queue 0 ≡ Some k
       → IsButForRoom r (after_next old)
       → KeepsLinks old (written k r v)
@@ -394,7 +392,7 @@ module _ {S : Type 0} where
       at None = refl
       at (Some l) = refl
 
-  -- there is none to be told
+  -- No link is queued.
   pub none_told : (old new : Links (OpenLink S)) → slice_get old.queue 0 ≡ None → IsButForRoom new (after_next old) → Keeps old new
   none_told old new s e =
       keeps_both old new (first_goes Current (slice_get old.queue 0) old new (ap (λ (r : Links (OpenLink S)). r.links) e) (λ v. refl))
@@ -404,7 +402,7 @@ module _ {S : Type 0} where
       at [] e = refl
       at (x ∷ xs) e = absurd (cc)
 
-  -- ---- what a report does to a link
+  -- ---- the effect of a report on a link
 
   module _ (closed : Bool) (k : ℕ) (r new : Links (OpenLink S)) (h v : OpenLink S) where
     pub reported_so : Some h ≡ option_map (λ (l : OpenLink S × LinkState). l.0) (link_at r k) → notes_of v ≡ notes_of h ++ Reported ∷ []
@@ -444,7 +442,7 @@ module _ {S : Type 0} where
       at (Some (t, Pending)) n value paused e = absurd (cc)
       at (Some (t, Current)) n value paused e = absurd (cc)
 
-  -- ---- links that come and go
+  -- ---- links that arrive and end
 
   is_there : (k : ℕ) (l : OpenLink S × LinkState) (m : map.FinMap nat_cmp (OpenLink S × LinkState)) → map.get (map.insert m k l) k ≡ Some l
   is_there k l m = grind (arith, nat_tests, map.gets)
@@ -470,7 +468,7 @@ module _ {S : Type 0} where
   others_stay : (k : ℕ) (m : map.FinMap nat_cmp (OpenLink S × LinkState)) (q : ℕ) → q ≢ k → map.get (map.remove m k) q ≡ map.get m q
   others_stay k m q d = grind (arith, nat_tests, map.gets, d)
 
-  -- one has come, under a key that had none
+  -- A link arrived under a free key.
   pub after_insert : (k : ℕ) (old new : Links (OpenLink S)) (v : OpenLink S) → link_at old k ≡ None
       → IsButForRoom new (inserted k v old) → Has old k false × Changes k true old new
   after_insert k old new v free e =
@@ -485,7 +483,7 @@ module _ {S : Type 0} where
         },
       )
 
-  -- one is gone
+  -- The link has ended.
   pub after_remove : (k : ℕ) (old new : Links (OpenLink S)) → IsButForRoom new (removed k old) → Changes k false old new
   after_remove k old new e =
       let links = ap (λ (r : Links (OpenLink S)). r.links) e in
@@ -514,7 +512,7 @@ module _ {S : Type 0} where
   pub none_there : (new : Links (OpenLink S)) → new.links ≡ map.empty → (k : ℕ) → Has new k false
   none_there new e k = ap is_some (nothing k new.links e)
 
-  -- ---- what is told
+  -- ---- turns
 
   none_before : (key : ℕ) (old r : Links (OpenLink S)) → Keeps old r → Has r key false → Has old key false
   none_before key old r k none = at (is_some (link_at old key)) refl
@@ -523,16 +521,16 @@ module _ {S : Type 0} where
       at false h = h
       at true h = let both : true ≡ false = sym (k (There key true) h) ∙ none in absurd (cc)
 
-  pub nothing_told : (old new : Links (OpenLink S)) (told : Option Turn) → is_some told ≡ false → Tells old new told → Keeps old new
+  pub nothing_told : (old new : Links (OpenLink S)) (turn : Option Turn) → is_some turn ≡ false → Tells old new turn → Keeps old new
   nothing_told old new None e t = t
   nothing_told old new (Some turn) e t = absurd (cc)
 
-  pub none_told_links : (old new : Links (OpenLink S)) (told : Option Turn) → is_some told ≡ false → TellsLinks old new told → Keeps old new
+  pub none_told_links : (old new : Links (OpenLink S)) (turn : Option Turn) → is_some turn ≡ false → TellsLinks old new turn → Keeps old new
   none_told_links old new None e t = t
   none_told_links old new (Some turn) e t = absurd (cc)
 
-  -- what held before goes on to hold
-  pub then_tells : (old r new : Links (OpenLink S)) (told : Option Turn) → Keeps old r → Tells r new told → Tells old new told
+  -- `Keeps` before a turn and `Tells` of the turn are together `Tells`.
+  pub then_tells : (old r new : Links (OpenLink S)) (turn : Option Turn) → Keeps old r → Tells r new turn → Tells old new turn
   then_tells old r new None k t = λ fact h. t fact (k fact h)
   then_tells old r new (Some (Fresh key local)) k t =
       (none_before key old r k t.0, record { now = t.1.now; others = λ fact s h. t.1.others fact s (k fact h) })
@@ -541,8 +539,8 @@ module _ {S : Type 0} where
   then_tells old r new (Some Quiet) k t = λ fact h. t fact (k fact h)
   then_tells old r new (Some Stop) k t = λ fact h. t fact (k fact h)
 
-  -- whether it was taken from the queue or not
-  pub weaker : (old new : Links (OpenLink S)) (told : Option Turn) → Tells old new told → TellsLinks old new told
+  -- `Tells` implies `TellsLinks`.
+  pub weaker : (old new : Links (OpenLink S)) (turn : Option Turn) → Tells old new turn → TellsLinks old new turn
   weaker old new None t = t
   weaker old new (Some (Fresh key local)) t = t
   weaker old new (Some (Ready key)) t = λ fact _. t fact
@@ -550,7 +548,7 @@ module _ {S : Type 0} where
   weaker old new (Some Quiet) t = λ fact _. t fact
   weaker old new (Some Stop) t = λ fact _. t fact
 
-  pub then_told : (old r new : Links (OpenLink S)) (told : Option Turn) → Keeps old r → TellsLinks r new told → TellsLinks old new told
+  pub then_told : (old r new : Links (OpenLink S)) (turn : Option Turn) → Keeps old r → TellsLinks r new turn → TellsLinks old new turn
   then_told old r new None k t = λ fact h. t fact (k fact h)
   then_told old r new (Some (Fresh key local)) k t =
       (none_before key old r k t.0, record { now = t.1.now; others = λ fact s h. t.1.others fact s (k fact h) })
@@ -559,8 +557,8 @@ module _ {S : Type 0} where
   then_told old r new (Some Quiet) k t = λ fact l h. t fact l (k fact h)
   then_told old r new (Some Stop) k t = λ fact l h. t fact l (k fact h)
 
-  -- what is told brings none that is queued further back
-  pub told_stays : (old new : Links (OpenLink S)) (told : Option Turn) → Tells old new told → Stays old new
+  -- No queued link falls back by a turn.
+  pub told_stays : (old new : Links (OpenLink S)) (turn : Option Turn) → Tells old new turn → Stays old new
   told_stays old new None t q most h = t (Ahead q most) h
   told_stays old new (Some (Fresh key local)) t q most h = t.1.others (Ahead q most) tt h
   told_stays old new (Some (Ready key)) t q most h = t (Ahead q most) h
@@ -568,7 +566,7 @@ module _ {S : Type 0} where
   told_stays old new (Some Quiet) t q most h = t (Ahead q most) h
   told_stays old new (Some Stop) t q most h = t (Ahead q most) h
 
-  -- what is told of a link that was there
+  -- If all facts stay true, `Tells` holds of a turn of a known link.
   pub late_tells : (key : Option ℕ) (turn : Turn) (old new : Links (OpenLink S)) → IsOf key turn → Keeps old new → Tells old new (Some turn)
   late_tells key (Fresh k local) old new of keeps = absurd of
   late_tells key (Ready k) old new of keeps = keeps
@@ -626,7 +624,7 @@ module _ {S : Type 0} where
       there o d = grind (arith, nat_tests, d)
 
   module _ (n : ℕ) (event : Report) (old between new : Links (OpenLink S)) where
-    -- one more of the reports is noted
+    -- One more report is noted.
     more_noted : (reports : List Report) → Some event ≡ slice_get reports n → AreNoted (take n reports) old between
         → ((k : ℕ) → noted_at new k ≡ hears k (noted_at between k) event) → AreNoted (take (n + 1) reports) old new
     more_noted reports e noted more k =
@@ -641,7 +639,7 @@ module _ {S : Type 0} where
     more_noted_if (Some reports) e noted more = more_noted reports e noted more
 
   module _ (n most : ℕ) (old new : Links (OpenLink S)) where
-    -- all are that there are
+    -- All reports are noted.
     all_noted : (reports : List Report) → None ≡ slice_get reports n → n ≤ most → AreNoted (take n reports) old new
         → AreNoted (take most reports) old new
     all_noted reports e below noted k = noted k ∙ ap (fold (hears k) (noted_at old k)) (sym no_more)
@@ -659,7 +657,7 @@ module _ {S : Type 0} where
     all_noted_if None e below noted = tt
     all_noted_if (Some reports) e below noted = all_noted reports e below noted
 
-  -- ---- rests that end
+  -- ---- the end of a pause
 
   one_at_most : (test : LinkState → Bool) (o : Option (OpenLink S × LinkState)) → one_at test o ≤ 1
   one_at_most test None = omega arith
@@ -669,7 +667,7 @@ module _ {S : Type 0} where
   still k r e = search rules
 
   module _ (k : ℕ) (v : OpenLink S) (old r new : Links (OpenLink S)) where
-    -- the key of a rest that has ended stands nowhere else among those that rest
+    -- The key of a link that resumes is not in the rest of the paused list.
     pub rest_over : IsConsistent old → slice_get old.paused 0 ≡ Some k → IsButForRoom r (after_resume old) → new
         ≡ reported k (written k r v)
         → new.paused ≡ drop 1 old.paused

@@ -1,4 +1,4 @@
--- A link that is queued is served within so many turns: lemmas.
+-- Lemmas: a queued link is served within a number of turns.
 use Rattle.std.specs.Prelude.{drop, slice_get, unwrap_or, is_some, IfNone, IfSome}
 use Rattle.std.proofs.Common.{◌≡◌, ◌≢◌, ◌⊎◌, inl, inr, ℕ, ◌+◌, ◌<◌, ◌≤◌, true, false, List, [], ◌∷◌, length}
 use Rattle.std.proofs.Common.{refl, sym, ap, ◌∙◌, arith, Option, Some, None}
@@ -21,7 +21,7 @@ patience_most s = elim (cases_Bool s.is_burst) [
   | inr one ↦ grind (arith, nat_tests, one)
 ]
 
--- behind a poll so many connections may be accepted before the queue is asked
+-- After all turns, a poll lowers the patience by at least 1.
 pub polled : (old new : Schedule) → IsPolled old new → TURNS_MOST ≤ old.turns → 1 + patience new ≤ patience old
 polled old new (inl e) most = elim (cases_Bool old.is_burst) [
   | inl many ↦ rw e (grind (arith, nat_tests, many, most))
@@ -35,18 +35,18 @@ polled old new (inr e) most = elim (cases_Bool old.is_burst) [
 abbrev pub burst_again : Schedule → Schedule
 burst_again s = record s { accepted = 0; is_burst = true }
 
--- all turns before a poll are over
+-- The poll sets the count of turns to 0.
 pub asked : (old first waited new : Schedule) → first ≡ old → waited ≡ record first { turns = 0 } → new ≡ waited
     → new ≡ record old { turns = 0 }
 asked old first waited new f w n = rw f at (n ∙ w)
 
--- more connections are to be accepted behind it, or not
+-- A poll has this effect, whether a burst follows or not.
 pub loaded : (old asked load new : Schedule) → asked ≡ record old { turns = 0 }
     → (load ≡ asked) ⊎ (load ≡ record asked { accepted = 0; is_burst = true }) → new ≡ load → IsPolled old new
 loaded old asked load new a (inl e) n = inl (n ∙ e ∙ a)
 loaded old asked load new a (inr e) n = inr (n ∙ e ∙ ap burst_again a)
 
--- a turn was counted, and a connection accepted
+-- A counted turn that accepts a connection lowers the patience by at least 1.
 accepted : (old taken new : Schedule) → old.turns < TURNS_MOST → taken ≡ record old { turns = old.turns + 1 } → HasAccepted taken new
     → 1 + patience new ≤ patience old
 accepted old taken new turns t h =
@@ -56,19 +56,19 @@ accepted old taken new turns t h =
       | inr one ↦ rw (h.1, t) (grind (arith, nat_tests, one, turns, fewer))
     ]
 
-pub again_free : (last : Option ℕ) (told : Option Turn) → IfSome told (IsOf last) → IfSome told (IsFree last)
+pub again_free : (last : Option ℕ) (turn : Option Turn) → IfSome turn (IsOf last) → IfSome turn (IsFree last)
 again_free last None of = tt
-again_free last (Some told) of = inr of
+again_free last (Some turn) of = inr of
 
-pub late_free : (last : Option ℕ) (told : Option Turn) → IfSome told (λ t. (k : ℕ) × (t ≡ Late k)) → IfSome told (IsFree last)
+pub late_free : (last : Option ℕ) (turn : Option Turn) → IfSome turn (λ t. (k : ℕ) × (t ≡ Late k)) → IfSome turn (IsFree last)
 late_free last None late = tt
-late_free last (Some told) late = inl late
+late_free last (Some turn) late = inl late
 
 module _ {S : Type 0} where
   pub longer : (k : ℕ) (scene : Scene S) {least most : ℕ} → least ≤ most → Within k least scene → Within k most scene
   longer k scene l h = let near = h.near in record { queued = h.queued; near = omega (arith, near, l) }
 
-  -- no turn has passed, or one that brings none of those that are queued nearer
+  -- No turn has passed, or a turn that brings no queued link nearer.
   module _ (less : ℕ) (old new : Scene S) where
     moves : Stays old.links new.links → less + patience new.schedule ≤ patience old.schedule → (k most : ℕ) → Within k (less + most) old
         → Within k most new
@@ -82,12 +82,10 @@ module _ {S : Type 0} where
   pub waits : (old new : Scene S) → Stays old.links new.links → new.schedule ≡ old.schedule → Does Lends old new
   waits old new stay e k most h = moves 0 old new stay (rw e (omega arith)) k most (longer k old (omega arith) h)
 
-  -- a link was lent
   pub lends : (key : ℕ) (v : OpenLink S) (old r : Links (OpenLink S)) (s : Schedule) → r ≡ reported key old
       → Does Lends (scene old s) (scene (written key r v) s)
   lends key v old r s e = waits (scene old s) (scene (written key r v) s) (stays_of _ _ (lent key v old r e)) refl
 
-  -- a link has ended
   pub leaves : (key : ℕ) (old new : Scene S) → Changes key false old.links new.links → new.schedule ≡ old.schedule
       → Does (Leaves key) old new
   leaves key old new change e k most d h =
@@ -97,9 +95,9 @@ module _ {S : Type 0} where
       let near = h.near in
       record { queued = kept.0; near = rw e (omega (arith, near, ahead)) }
 
-  -- the first of the queue was served
-  pub passes : (told : Turn) (old new : Scene S) → Passes told old.links new.links → Nears told old new
-  passes told old new pass k most h = elim (pass k (length (before k old.links.queue)) (h.queued, omega arith)) [
+  -- The first queued link was served.
+  pub passes : (turn : Turn) (old new : Scene S) → Passes turn old.links new.links → Nears turn old new
+  passes turn old new pass k most h = elim (pass k (length (before k old.links.queue)) (h.queued, omega arith)) [
     | inl served ↦ inl served
     | inr ahead ↦
         let near = h.near in
@@ -108,10 +106,10 @@ module _ {S : Type 0} where
         inr (record { queued = ahead.0; near = omega (arith, near, fewer, patient) })
   ]
 
-  -- once the first of the queue was taken each other one has one less before it
-  pub passes_first : (key : ℕ) (told : Turn) (old new : Links (OpenLink S)) → slice_get old.queue 0 ≡ Some key
-      → new.queue ≡ drop 1 old.queue → IsOf (Some key) told → Passes told old new
-  passes_first key told old new first e of k most h = elim (cases_eq k key) [
+  -- The first key has left the queue, so every other queued link has one link less before it.
+  pub passes_first : (key : ℕ) (turn : Turn) (old new : Links (OpenLink S)) → slice_get old.queue 0 ≡ Some key
+      → new.queue ≡ drop 1 old.queue → IsOf (Some key) turn → Passes turn old new
+  passes_first key turn old new first e of k most h = elim (cases_eq k key) [
     | inl same ↦ inl (rw same of)
     | inr differs ↦
         let there = h.0 in
@@ -126,30 +124,30 @@ module _ {S : Type 0} where
   -- ---- a step
 
   module _ (old new : Links (OpenLink S)) (s s' : Schedule) where
-    -- a connection was accepted, or one was given up for it
-    pub accepts_so : (taken : Schedule) (told : Option Turn) → s.turns < TURNS_MOST → taken ≡ record s { turns = s.turns + 1 }
-        → Tells old new told → IfSome told (λ _. HasAccepted taken s') → IfSome told (λ t. Nears t (scene old s) (scene new s'))
+    -- A connection was accepted, or a link was evicted for a new connection.
+    pub accepts_so : (taken : Schedule) (turn : Option Turn) → s.turns < TURNS_MOST → taken ≡ record s { turns = s.turns + 1 }
+        → Tells old new turn → IfSome turn (λ _. HasAccepted taken s') → IfSome turn (λ t. Nears t (scene old s) (scene new s'))
     accepts_so taken None turns t tells has = tt
-    accepts_so taken (Some told) turns t tells has = λ k most h.
-        inr (moves 1 (scene old s) (scene new s') (told_stays old new (Some told) tells) (accepted s taken s' turns t has) k most h)
+    accepts_so taken (Some turn) turns t tells has = λ k most h.
+        inr (moves 1 (scene old s) (scene new s') (told_stays old new (Some turn) tells) (accepted s taken s' turns t has) k most h)
 
-    -- a turn that takes no time from those that are queued
-    pub free_so : (told : Option Turn) → is_some told ≡ true → Tells old new told → IfSome told (IsFree old.current) → s' ≡ s
-        → IsStep (scene old s) (scene new s') told
+    -- The turn takes no time from queued links.
+    pub free_so : (turn : Option Turn) → is_some turn ≡ true → Tells old new turn → IfSome turn (IsFree old.current) → s' ≡ s
+        → IsStep (scene old s) (scene new s') turn
     free_so None e tells free same = absurd (cc)
-    free_so (Some told) e tells free same =
-        inr (free, λ k most h. inr (waits (scene old s) (scene new s') (told_stays old new (Some told) tells) same k most h))
+    free_so (Some turn) e tells free same =
+        inr (free, λ k most h. inr (waits (scene old s) (scene new s') (told_stays old new (Some turn) tells) same k most h))
 
   module _ (old r new : Links (OpenLink S)) (s s' : Schedule) where
-    -- the first of the queue was served, if any was queued
-    pub passes_so : (told : Option Turn) → Stays old r → IfSome told (λ t. Passes t r new)
-        → IfSome told (λ t. Nears t (scene old s) (scene new s'))
+    -- The first queued link was served, if any was queued.
+    pub passes_so : (turn : Option Turn) → Stays old r → IfSome turn (λ t. Passes t r new)
+        → IfSome turn (λ t. Nears t (scene old s) (scene new s'))
     passes_so None stay pass = tt
-    passes_so (Some told) stay pass =
-        passes told (scene old s) (scene new s') (λ k most h. pass k most (stay k (1 + most) h))
+    passes_so (Some turn) stay pass =
+        passes turn (scene old s) (scene new s') (λ k most h. pass k most (stay k (1 + most) h))
 
-    pub spent_so : (told : Option Turn) (X : Type 0) → Stays old r → IfNone told ((r.queue ≡ []) × X)
-        → IfNone told (IsSpent (scene old s) (scene new s'))
+    pub spent_so : (turn : Option Turn) (X : Type 0) → Stays old r → IfNone turn ((r.queue ≡ []) × X)
+        → IfNone turn (IsSpent (scene old s) (scene new s'))
     spent_so None X stay none = λ k most h.
         let kept = stay k (1 + length (before k old.queue)) (h.queued, omega arith) in
         let there = kept.0 in
@@ -157,31 +155,31 @@ module _ {S : Type 0} where
       where
         empty : (k : ℕ) (xs : List ℕ) → xs ≡ [] → 0 < times k xs → ⊥
         empty k xs e there = let at : 0 < times k [] = rw e at there in omega (arith, at)
-    spent_so (Some told) X stay none = tt
+    spent_so (Some turn) X stay none = tt
 
-    pub nears_so : (told : Option Turn) → is_some told ≡ true → Stays old r → (mid : Schedule) → mid ≡ s
-        → IfSome told (λ t. Nears t (scene r mid) (scene new s')) → IsStep (scene old s) (scene new s') told
+    pub nears_so : (turn : Option Turn) → is_some turn ≡ true → Stays old r → (mid : Schedule) → mid ≡ s
+        → IfSome turn (λ t. Nears t (scene r mid) (scene new s')) → IsStep (scene old s) (scene new s') turn
     nears_so None e stay mid same nears = absurd (cc)
-    nears_so (Some told) e stay mid same nears =
+    nears_so (Some turn) e stay mid same nears =
         inl (λ k most h. nears k most (waits (scene old s) (scene r mid) stay same k (1 + most) h))
 
   module _ (old r new : Links (OpenLink S)) (s mid s' : Schedule) where
-    pub spends : (told : Option Turn) → is_some told ≡ false → Stays old r → mid ≡ s → IfNone told (IsSpent (scene r mid) (scene new s'))
+    pub spends : (turn : Option Turn) → is_some turn ≡ false → Stays old r → mid ≡ s → IfNone turn (IsSpent (scene r mid) (scene new s'))
         → IsSpent (scene old s) (scene new s')
     spends None e stay same spent = λ k most h. spent k most (waits (scene old s) (scene r mid) stay same k most h)
-    spends (Some told) e stay same spent = absurd (cc)
+    spends (Some turn) e stay same spent = absurd (cc)
 
-  pub past_step : (old new : Scene S) (told : Option Turn) → IsPast old new → IsStep old new told
+  pub past_step : (old new : Scene S) (turn : Option Turn) → IsPast old new → IsStep old new turn
   past_step old new None past = past
-  past_step old new (Some told) past = inl (λ k most h. inr (past k most h))
+  past_step old new (Some turn) past = inl (λ k most h. inr (past k most h))
 
-  -- the poll was asked once all turns were taken
+  -- A poll followed after all turns were taken.
   pub polls_so : (old mid new : Scene S) → IsSpent old mid → Stays mid.links new.links → IsPolled mid.schedule new.schedule → IsPast old new
   polls_so old mid new spent stay poll k most h =
       let there = spent k (1 + most) h in
       moves 1 mid new stay (polled mid.schedule new.schedule poll there.1) k most there.0
 
-  -- ---- steps behind one another
+  -- ---- steps one after another
 
   pub past_again : (count : ℕ) (old mid new : Scene S) → ((count ≡ 0) × (mid ≡ old)) ⊎ IsPast old mid → IsPast mid new → IsPast old new
   past_again count old mid new (inl e) past k most h = past k most (rw e.1 h)
@@ -193,20 +191,20 @@ module _ {S : Type 0} where
   turn_again count told old mid new (inr p) (inl nears) = inl (λ k most h. nears k most (longer k mid (omega arith) (p k most h)))
   turn_again count told old mid new (inr p) (inr free) = inl (λ k most h. free.1 k most (p k most h))
 
-  pub idle_turn : (count : ℕ) (told : Turn) (old new : Scene S) → 0 < count → ((count ≡ 0) × (new ≡ old)) ⊎ IsPast old new
-      → IsTurn told old new
-  idle_turn count told old new some (inl e) = let none = e.0 in absurd (omega (arith, some, none))
-  idle_turn count told old new some (inr p) = inl (λ k most h. inr (p k most h))
+  pub idle_turn : (count : ℕ) (turn : Turn) (old new : Scene S) → 0 < count → ((count ≡ 0) × (new ≡ old)) ⊎ IsPast old new
+      → IsTurn turn old new
+  idle_turn count turn old new some (inl e) = let none = e.0 in absurd (omega (arith, some, none))
+  idle_turn count turn old new some (inr p) = inl (λ k most h. inr (p k most h))
 
   module _ (k most : ℕ) where
     nears : (acts : List Act) (old new : Scene S) → Acts acts old new → Within k (turns acts + most) old → AllSpare k acts
         → Within k most new
     nears [] old new run h s = rw run (longer k old (omega arith) h)
-    nears (Counts told ∷ acts) old new run h s = elim (run.1 k (turns acts + most) (longer k old (omega arith) h)) [
+    nears (Counts turn ∷ acts) old new run h s = elim (run.1 k (turns acts + most) (longer k old (omega arith) h)) [
       | inl served ↦ absurd (s.0 served)
       | inr nearer ↦ nears acts run.0 new run.2 nearer s.1
     ]
-    nears (Free told ∷ acts) old new run h s = elim (run.1.1 k (turns acts + most) h) [
+    nears (Free turn ∷ acts) old new run h s = elim (run.1.1 k (turns acts + most) h) [
       | inl served ↦ absurd (s.0 served)
       | inr still ↦ nears acts run.0 new run.2 still s.1
     ]

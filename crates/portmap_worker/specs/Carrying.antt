@@ -1,4 +1,4 @@
--- What a worker does with a connection that it holds: profile.
+-- The effect of a worker's calls on a connection that it holds: profile.
 use Rattle.std.specs.Io.KnownBytes.{Consumes}
 use Rattle.std.specs.Prelude.{◌≡◌, ◌≢◌, ℕ, ◌≤◌, List, [], ◌∷◌, ◌++◌, length, Bool, true, false, Ok, Err, ◌⊎◌}
 use Rattle.portmap_core.specs.{declared.event.Answer.Answer, declared.event.Fate.Fate}
@@ -17,57 +17,56 @@ use Rattle.portmap_worker.specs.declared.limits.TheConstants.{PULL_BYTES_MOST}
 
 -- ---- one pull
 
--- the one pull of a call gave these bytes
+-- The only pull of a call returned this chunk.
 pub record IsRead (old new : Devices) (piece : List ℕ) : Type 0 where
   pub consumed : Consumes old.left new.left piece
   pub pulled : new.pulls ≡ old.pulls ++ pull.Piece (length piece) ∷ []
   pub few : length piece ≤ PULL_BYTES_MOST
 
--- the one pull of a call answered so
+-- The only pull of a call had this answer.
 abbrev pub Pulls : Pull → Devices → Devices → Type 0
-Pulls told old new = new.pulls ≡ old.pulls ++ told ∷ []
+Pulls returned old new = new.pulls ≡ old.pulls ++ returned ∷ []
 
--- nothing was pulled
 abbrev pub PullsNothing : Devices → Devices → Type 0
 PullsNothing old new = new.pulls ≡ old.pulls
 
--- ---- how a writing ended
+-- ---- the end of a write
 
--- by the last put of the call, or since nothing waits
+-- A write ended so, by the last put of the call, or because no byte waits.
 abbrev pub WritingEnds : Flush → List Put → List Put → List ℕ → Type 0
 WritingEnds flush.Empty old new waiting = waiting ≡ []
 WritingEnds flush.Later old new waiting = (waiting ≢ []) × LastPut old new put.Later
 WritingEnds flush.Fault old new waiting = LastPut old new put.Fault
 
--- ---- a piece that was answered
+-- ---- a chunk that was answered
 
--- the bytes that an answer says
+-- The bytes of the reply in an answer.
 abbrev pub bytes_of : Answer → List ℕ
 bytes_of (answer.Connected slot) = []
 bytes_of (answer.Said bytes becomes) = bytes.items
 bytes_of answer.Gone = []
 
--- what becomes of the connection
+-- The fate of the connection after an answer.
 abbrev pub fate_of : Answer → Fate
 fate_of (answer.Connected slot) = fate.Stay
 fate_of (answer.Said bytes becomes) = becomes
 fate_of answer.Gone = fate.Close
 
--- whether it is to be closed once all is written
+-- The connection is to be closed once all is written.
 abbrev pub is_close : Fate → Bool
 is_close fate.Stay = false
 is_close fate.Close = true
 is_close fate.Halt = false
 
--- the bytes of the answer that are to be written: none where there was no room for them
+-- The bytes of the reply that are to be written: none if there was no room for them.
 abbrev pub added : Answer → Next → List ℕ
-added told Keep = bytes_of told
-added told Close = bytes_of told
-added told Fault = bytes_of told
-added told Halt = bytes_of told
-added told NoMemory = []
+added acted Keep = bytes_of acted
+added acted Close = bytes_of acted
+added acted Fault = bytes_of acted
+added acted Halt = bytes_of acted
+added acted NoMemory = []
 
--- what is next where there was room, by what becomes of the connection and how the writing ended
+-- The next step if there was room for the reply, by the fate of the connection and the end of the write.
 abbrev pub next_after : Fate → Flush → Next
 next_after fate.Halt ended = Halt
 next_after fate.Stay flush.Empty = Keep
@@ -77,14 +76,14 @@ next_after fate.Close flush.Empty = Close
 next_after fate.Close flush.Later = Keep
 next_after fate.Close flush.Fault = Fault
 
--- what is next, where an answer was told
+-- The next step after an answer.
 abbrev pub FollowsAnswer : Answer → List Put → List Put → List ℕ → Next → Type 0
-FollowsAnswer told old new waiting next =
-    (next ≡ NoMemory) ⊎ ((ended : Flush) × WritingEnds ended old new waiting × (next ≡ next_after (fate_of told) ended))
+FollowsAnswer acted old new waiting next =
+    (next ≡ NoMemory) ⊎ ((ended : Flush) × WritingEnds ended old new waiting × (next ≡ next_after (fate_of acted) ended))
 
--- ---- no piece, or none that was answered
+-- ---- no chunk, or a chunk that was refused
 
--- what is next after a refusal
+-- The next step after a refusal.
 abbrev pub next_of : ActFault → Next
 next_of Worn = Close
 next_of (Refused refusal.Halted) = Halt
@@ -92,15 +91,15 @@ next_of (Refused refusal.Full) = Close
 next_of (Refused refusal.NoSlot) = Close
 next_of (Refused refusal.NoMemory) = NoMemory
 
--- the one pull gave a piece, which was refused so that this is next
+-- The only pull returned a chunk, whose refusal leads to this next step.
 abbrev pub Refuses : Next → Devices → Devices → Type 0
 Refuses next old new = (n : ℕ) × (fault : ActFault) × Pulls (pull.Piece n) old new × (next ≡ next_of fault)
 
--- what waits was offered first: nothing of it is left, or the last put said Later
+-- The waiting bytes were offered first: none is left, or the last put answered Later.
 abbrev pub OffersFirst : Devices → Devices → List ℕ → Type 0
 OffersFirst old new waiting = WritingEnds flush.Empty old.puts new.puts waiting ⊎ WritingEnds flush.Later old.puts new.puts waiting
 
--- what is next, where nothing was told, by whether a close was due
+-- The next step without an answer, by whether a close was due.
 abbrev pub FollowsNothing : Bool → Devices → Devices → List ℕ → Next → Type 0
 FollowsNothing true old new waiting Keep = PullsNothing old new × WritingEnds flush.Later old.puts new.puts waiting
 FollowsNothing true old new waiting Close = PullsNothing old new × WritingEnds flush.Empty old.puts new.puts waiting
@@ -114,17 +113,17 @@ FollowsNothing false old new waiting Fault = (PullsNothing old new × WritingEnd
 FollowsNothing false old new waiting Halt = OffersFirst old new waiting × Refuses Halt old new
 FollowsNothing false old new waiting NoMemory = OffersFirst old new waiting × Refuses NoMemory old new
 
--- ---- a time that is over
+-- ---- a timeout
 
--- the desk is told that the time of the connection in a slot is over, and what it says or refuses is what is next
+-- The desk got the timeout of the connection in a slot, and its answer or refusal leads to the next step.
 abbrev pub IsLate : ℕ → SeatView → SeatView → Next → Type 0
 IsLate slot old new next =
-    ((told : ℕ × Answer) × Counts (event.Late slot) old new (Ok told) × (next ≡ next_after (fate_of told.1) flush.Empty))
+    ((acted : ℕ × Answer) × Counts (event.Late slot) old new (Ok acted) × (next ≡ next_after (fate_of acted.1) flush.Empty))
     ⊎ ((fault : ActFault) × Counts (event.Late slot) old new (Err fault) × (next ≡ next_of fault))
 
--- ---- what a worker holds
+-- ---- connections of a worker
 
--- the connection is held no more
+-- The connection is no longer held.
 abbrev pub LetsGo : Next → Type 0
 LetsGo Keep = ⊥
 LetsGo Close = Unit {0}

@@ -1,4 +1,4 @@
--- The links of a worker that are idle, and what a report does: profile.
+-- The idle links of a worker, and the effect of a report: profile.
 use Rattle.std.specs.Prelude.{◌≡◌, ◌≢◌, ℕ, ◌==◌, Bool, true, false, not, ◌&&◌, cond}
 use Rattle.std.specs.Prelude.{List, [], ◌∷◌, ◌++◌, fold, Option, Some, None, length, ◌<◌}
 use Rattle.std.specs.Prelude.{option_map, is_some}
@@ -9,13 +9,13 @@ use Rattle.portmap_worker.specs.declared.readiness.Note.{Note, TheVariants.{Repo
 use Rattle.portmap_worker.specs.declared.source.Turn.{Turn, TheVariants.{Fresh, Idle as Quiet, Late, Ready, Stop}}
 use Rattle.portmap_worker.specs.declared.system.Report.{Report, TheVariants.{Stream}}
 
--- where a link stands that was reported: in the queue, if it was idle, or rested and its peer sends no more
+-- The state of a link after a report: queued, if it was idle, or paused with a peer that sends no more. Otherwise the state is unchanged.
 abbrev pub place_reported : Bool → LinkState → LinkState
 place_reported closed Idle = Queued
 place_reported true Paused = Queued
 place_reported closed place = place
 
--- what is noted of the link with this key, if there is one, behind a report
+-- The notes of the link with this key, if there is such a link, after a report.
 abbrev pub heard : ℕ → Report → Option (List Note) → Option (List Note)
 heard k (Stream key closed) notes = cond (key == k) (option_map (λ notes. notes ++ Reported ∷ []) notes) notes
 heard k report notes = notes
@@ -23,41 +23,40 @@ heard k report notes = notes
 abbrev pub hears : ℕ → Option (List Note) → Report → Option (List Note)
 hears k notes report = heard k report notes
 
--- what may be said of a key: that there is a link, or none; that no news of its link can be missed; or that it is queued behind fewer
--- others than these
+-- A fact about a key: there is a link or not; no event of its link can be missed; or its link is queued behind fewer others than a number.
 pub data Fact : Type 0 where
   There : ℕ → Bool → Fact
   Safe : ℕ → Fact
   Ahead : ℕ → ℕ → Fact
 
--- whether a fact is not changed by the coming of a link under this key, or by its end
+-- The fact stays true when a link arrives under this key, or when a link ends there.
 abbrev pub Spares : ℕ → Bool → Fact → Type 0
 Spares key comes (There k there) = k ≢ key
 Spares key comes (Safe k) = Unit {0}
 Spares key true (Ahead k most) = Unit {0}
 Spares key false (Ahead k most) = k ≢ key
 
--- whether a fact is of a link, and not of the queue
+-- The fact is about a link, and not about the queue.
 abbrev pub IsOfLink : Fact → Type 0
 IsOfLink (There k there) = Unit {0}
 IsOfLink (Safe k) = Unit {0}
 IsOfLink (Ahead k most) = ⊥
 
 module _ {S : Type 0} where
-  -- what was done at its stream, or told of it
+  -- The events of the link's stream.
   abbrev pub notes_of : OpenLink S → List Note
   notes_of held = held.link.readiness.notes
 
-  -- whether it doesn't rest, and no news of it can be missed
+  -- The link is not paused, and no event of it can be missed.
   abbrev pub is_calm : OpenLink S → Bool
   is_calm held = not held.link.is_paused && is_quiet (notes_of held)
 
-  -- whether no news of a link can be missed where it stands: one that isn't idle is looked at again
+  -- No event of the link can be missed in its state. A link that isn't idle is looked at again.
   abbrev pub is_safe : Option (OpenLink S × LinkState) → Bool
   is_safe (Some (held, Idle)) = is_calm held
   is_safe other = true
 
-  -- there is a link under this key, or none
+  -- There is a link under this key, or there is not.
   abbrev pub Has : Links (OpenLink S) → ℕ → Bool → Type 0
   Has links k there = is_some (link_at links k) ≡ there
 
@@ -66,24 +65,24 @@ module _ {S : Type 0} where
   Holds (Safe k) links = is_safe (link_at links k) ≡ true
   Holds (Ahead k most) links = (0 < times k links.queue) × (length (before k links.queue) < most)
 
-  -- of no idle link news can be missed
+  -- No event of an idle link can be missed.
   pub record AllQuiet (links : Links (OpenLink S)) : Type 0 where
     pub safe : (k : ℕ) → Holds (Safe k) links
 
-  -- what holds goes on to hold
+  -- All facts stay true.
   abbrev pub Keeps : Links (OpenLink S) → Links (OpenLink S) → Type 0
   Keeps old new = (fact : Fact) → Holds fact old → Holds fact new
 
-  -- what holds of a link goes on to hold
+  -- All facts about links stay true.
   abbrev pub KeepsLinks : Links (OpenLink S) → Links (OpenLink S) → Type 0
   KeepsLinks old new = (fact : Fact) → IsOfLink fact → Holds fact old → Holds fact new
 
-  -- there is a link now under this key, or none any more, and what else holds goes on to hold
+  -- There is a link under this key now, or no longer, and all other facts stay true.
   pub record Changes (key : ℕ) (there : Bool) (old new : Links (OpenLink S)) : Type 0 where
     pub now : Has new key there
     pub others : (fact : Fact) → Spares key there fact → Holds fact old → Holds fact new
 
-  -- where a link has come it is told so, and else what holds goes on to hold
+  -- If the turn announces a new link, that link has arrived. All other facts stay true.
   abbrev pub Tells : Links (OpenLink S) → Links (OpenLink S) → Option Turn → Type 0
   Tells old new None = Keeps old new
   Tells old new (Some (Fresh key local)) = Has old key false × Changes key true old new
@@ -92,7 +91,7 @@ module _ {S : Type 0} where
   Tells old new (Some Quiet) = Keeps old new
   Tells old new (Some Stop) = Keeps old new
 
-  -- the same, but what is told may have been taken from the queue
+  -- As in `Tells`, but a turn may also have taken a link from the queue, so that only facts about links stay true.
   abbrev pub TellsLinks : Links (OpenLink S) → Links (OpenLink S) → Option Turn → Type 0
   TellsLinks old new None = Keeps old new
   TellsLinks old new (Some (Fresh key local)) = Has old key false × Changes key true old new
@@ -101,7 +100,7 @@ module _ {S : Type 0} where
   TellsLinks old new (Some Quiet) = KeepsLinks old new
   TellsLinks old new (Some Stop) = KeepsLinks old new
 
-  -- a link was reported
+  -- The poll has reported the link.
   abbrev pub IsReported : Bool → Option (OpenLink S × LinkState) → Option (OpenLink S × LinkState) → Type 0
   IsReported closed (Some old) (Some new) =
       (new.1 ≡ place_reported closed old.1) × (notes_of new.0 ≡ notes_of old.0 ++ Reported ∷ [])
@@ -110,6 +109,6 @@ module _ {S : Type 0} where
   abbrev pub noted_at : Links (OpenLink S) → ℕ → Option (List Note)
   noted_at links k = option_map (λ l. notes_of l.0) (link_at links k)
 
-  -- each of these reports is noted at the link that it is of, and nothing else is
+  -- Each report is noted at its link, and nothing else is noted.
   abbrev pub AreNoted : List Report → Links (OpenLink S) → Links (OpenLink S) → Type 0
   AreNoted reports old new = (k : ℕ) → noted_at new k ≡ fold (hears k) (noted_at old k) reports

@@ -1,4 +1,4 @@
--- What a worker's source knows of a connection: profile.
+-- The source's knowledge of a connection: profile.
 use Rattle.portmap_link.specs.declared.device.Put.{Put, TheVariants.{Fault, Wrote}}
 use Rattle.portmap_link.specs.declared.device.Put.TheVariants as put
 use Rattle.std.specs.IoError.{error_kind}
@@ -13,47 +13,47 @@ use Rattle.portmap_worker.specs.declared.source.Turn.{Turn, TheVariants.{Fresh, 
 use Rattle.portmap_worker.specs.declared.system.Interest.{Interest}
 use Rattle.portmap_worker.specs.declared.system.Interest.TheVariants as interest
 
--- whether a call may do more than answer Later: bytes that wait to be written go first
+-- A call may do more than answer Later. Bytes that wait to be written go first.
 abbrev pub may_move : Reading → Writing → Bool
 may_move reading CutShort = true
 may_move reading Waits = false
 may_move Open Free = true
 may_move Dry Free = false
 
--- whether bytes wait to be written
 abbrev pub is_unsent : Writing → Bool
 is_unsent Free = false
 is_unsent CutShort = true
 is_unsent Waits = true
 
--- whether bytes of an answer were ever written
+-- Bytes of a reply were ever written.
 abbrev pub is_answered : ReplyProgress → Bool
 is_answered Asked = false
 is_answered Answered = true
 is_answered Left = true
 
--- whether a peer has only so much time: one that was answered and has read the answer, as each that holds a name, has as much as it likes
+-- A timeout applies: no byte of a reply was ever written, or bytes wait to be written. The owner of a name that has read its reply has no
+-- timeout.
 abbrev pub is_timed : ReplyProgress → Writing → Bool
 is_timed progress writing = not (is_answered progress) || is_unsent writing
 
--- how many bytes wait to be written after so many were offered, by the answer
+-- The number of bytes that wait to be written, after a put of `offered` bytes with this answer.
 abbrev pub unsent_after : Put → ℕ → ℕ
 unsent_after (Wrote n) offered = offered - n
 unsent_after put.Later offered = offered
 unsent_after Fault offered = 0
 
--- what the poll is to report
+-- The interest that the poll has to watch.
 abbrev pub wanted : Writing → Interest
 wanted Free = interest.Reading
 wanted CutShort = interest.Both
 wanted Waits = interest.Both
 
--- the time of a connection that goes on since then was over at this time
+-- The time that began at `since` is over at `then_`.
 abbrev pub IsOver : Option ℕ → ℕ → ℕ → Type 0
 IsOver (Some since) then_ timeout = timeout ≤ then_ - since
 IsOver None then_ timeout = ⊥
 
--- what is told is news of the link with this key, or that its time is over
+-- The turn is `Ready` or `Late` for the link with this key.
 abbrev pub IsOf : Option ℕ → Turn → Type 0
 IsOf key (Ready k) = key ≡ Some k
 IsOf key (Late k) = key ≡ Some k
@@ -61,7 +61,7 @@ IsOf key (Fresh k local) = ⊥
 IsOf key Idle = ⊥
 IsOf key Stop = ⊥
 
--- a call that has failed for good
+-- The call failed with `BrokenPipe`.
 abbrev pub IsBroken : Result ℕ Error → Type 0
 IsBroken (Ok n) = ⊥
 IsBroken (Err e) = error_kind e ≡ kind.BrokenPipe
@@ -70,7 +70,7 @@ abbrev pub is_would_block : ErrorKind → Bool
 is_would_block kind.WouldBlock = true
 is_would_block _ = false
 
--- whether a call would have waited
+-- The call would have blocked.
 abbrev pub would_block : Result ℕ Error → Bool
 would_block (Ok n) = false
 would_block (Err e) = is_would_block (error_kind e)

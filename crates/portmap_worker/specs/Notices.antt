@@ -1,11 +1,11 @@
--- The lines that an operator reads while the daemon runs: profile.
+-- The notices that an operator reads while the daemon runs: profile.
 use Rattle.std.specs.Fmt.{decimal}
 use Rattle.std.specs.Prelude.{ℕ, ◌-◌, ◌==◌, List, ◌++◌, codes, if◌then◌else◌}
 use Rattle.portmap_worker.specs.{Refused.in_use_line, Remote.remote_line}
 use Rattle.portmap_worker.specs.declared.notice.Notice.{Notice, TheVariants.{CannotAccept, FewerPlaces, FiguresLost, InUse}}
 use Rattle.portmap_worker.specs.declared.notice.Notice.TheVariants.{RecordingAgain, RecordingFailed, Remote, ShortOfMemory, Unread}
 
--- the path of a file of a recording, by its number
+-- The path of a recording's file with this number.
 abbrev pub file_path : List ℕ → ℕ → List ℕ
 file_path path number = if number == 0 then path else path ++ codes "." ++ decimal number
 
@@ -22,7 +22,7 @@ notice_line (FiguresLost path) = codes "epmd: cannot write the counters: " ++ pa
 notice_line (FewerPlaces places limit) = codes "epmd: at most " ++ decimal places
     ++ codes " connections, since the limit of descriptors is " ++ decimal limit ++ codes "\n"
 
--- the same where there is no memory for details
+-- The line of a notice if there is no memory for details.
 abbrev pub brief_line : Notice → List ℕ
 brief_line CannotAccept = codes "epmd: cannot accept connections\n"
 brief_line (InUse refused) = codes "epmd: a name is in use\n"

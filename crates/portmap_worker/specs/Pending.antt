@@ -3,30 +3,31 @@ use Rattle.std.specs.Prelude.{◌≡◌, ℕ, ◌+◌, ◌-◌, ◌<◌, ◌≤�
 use Rattle.portmap_worker.specs.declared.limits.TheConstants.{EPOCH_ROUNDS_MOST, EPOCH_TIMEOUT_MS, NAME_TIMEOUT_MS}
 use Rattle.portmap_worker.specs.declared.pending.Waiting.{Waiting, TheVariants.{Asked, Come, Epoch, Name}}
 
--- the earlier of two times, of which one is perhaps not set
+-- The earlier of two times, of which the first may be missing.
 abbrev pub earliest : Option ℕ → ℕ → ℕ
 earliest (Some time) other = min time other
 earliest None other = other
 
--- until when the poll may wait for one that waits so, at this time
+-- The time until which the poll may wait for a pending registration.
 abbrev pub until : Waiting → ℕ → ℕ
 until Come now = now
 until Asked now = now
 until (Name time) now = time
 until (Epoch time epoch rounds) now = time
 
--- one that has waited for its name alone until then, and for its epoch for so many rounds, gives up at this time
+-- A registration stops waiting at `now`. Since its time for the name ended at `until`, at least EPOCH_TIMEOUT_MS have passed, and it was
+-- retried at least EPOCH_ROUNDS_MOST times.
 abbrev pub GivesUp : ℕ → ℕ → ℕ → Type 0
 GivesUp rounds now until = (EPOCH_ROUNDS_MOST ≤ rounds) × (min (until + EPOCH_TIMEOUT_MS) (2 ^ 64 - 1) ≤ now)
 
--- which epoch one waits for at this time: its own unless it was passed, or one that begins. Others say which, and whether it was
+-- The registration waits for this epoch at `now`: its own unless that was passed, or one that begins. Other functions decide which.
 abbrev pub Awaits : Waiting → ℕ → Option ℕ → Type 0
 Awaits Come now epoch = epoch ≡ None
 Awaits Asked now epoch = epoch ≡ None
 Awaits (Name until) now epoch = ((now < until) × (epoch ≡ None)) ⊎ ((until ≤ now) × (begun : ℕ) × (epoch ≡ Some begun))
 Awaits (Epoch until own rounds) now epoch = (epoch ≡ None) ⊎ (epoch ≡ Some own)
 
--- how one whose name is active goes on waiting at this time, for this epoch
+-- A registration of an active name waits so from `now` on, given this epoch.
 abbrev pub GoesOn : Waiting → ℕ → Option ℕ → Option Waiting → Type 0
 GoesOn Come now epoch next = next ≡ Some Asked
 GoesOn Asked now epoch next = next ≡ Some (Name (min (now + NAME_TIMEOUT_MS) (2 ^ 64 - 1)))

@@ -1,4 +1,4 @@
--- Requests of other hosts that are refused, and the line that names them: profile.
+-- Requests of remote peers that are refused, and the line that names them: profile.
 use Rattle.std.specs.Prelude.{ℕ, ◌≡◌, List, [], ◌++◌, codes, Bool, true, false, not, Option, Some, None}
 use Rattle.std.specs.Prelude.{slice_index_or, slice_set}
 use Rattle.portmap_wire.specs.Request.{Spells}
@@ -10,7 +10,7 @@ use Rattle.portmap_core.specs.declared.event.Fate.TheVariants as fate
 use Rattle.portmap_worker.specs.Refused.{and_more}
 use Rattle.portmap_worker.specs.declared.remote.LocalRequest.{LocalRequest, TheVariants.{Dump, Kill, Registration, Stop}}
 
--- which request of this host alone it is, if it is one
+-- The request as a request that only this host may make, if it is of that kind.
 abbrev pub local_of : Request → Option LocalRequest
 local_of (request.Alive node) = Some Registration
 local_of (request.Port name) = None
@@ -19,7 +19,7 @@ local_of request.Dump = Some Dump
 local_of request.Kill = Some Kill
 local_of (request.Stop name) = Some Stop
 
--- the first request in these bytes is whole, and is this one
+-- The first request in these bytes is complete, and is this one.
 pub record AsksFor (bytes : List ℕ) (asked : LocalRequest) : Type 0 where
   pub body : List ℕ
   pub request : Request
@@ -27,7 +27,7 @@ pub record AsksFor (bytes : List ℕ) (asked : LocalRequest) : Type 0 where
   pub spells : Spells body request
   pub is_local : local_of request ≡ Some asked
 
--- by slots, whether a peer of another host has each, behind an entry
+-- The slots of remote peers after an entry.
 abbrev pub remote_after : Entry → List Bool → List Bool
 remote_after (Connected local slot) slots = slice_set slots slot (not local)
 remote_after (Piece slot bytes reply fate) slots = slots
@@ -35,7 +35,7 @@ remote_after (Closed slot) slots = slice_set slots slot false
 remote_after (Faulted slot) slots = slice_set slots slot false
 remote_after (Late slot fate) slots = slots
 
--- a piece in such a slot is this request, and its connection is closed without a reply
+-- A chunk on the slot of a remote peer is this request, and its connection is closed without a reply.
 abbrev pub IsRefusedFrom : List Bool → Entry → LocalRequest → Type 0
 IsRefusedFrom slots (Connected local slot) asked = ⊥
 IsRefusedFrom slots (Piece slot bytes reply end) asked =
@@ -44,7 +44,7 @@ IsRefusedFrom slots (Closed slot) asked = ⊥
 IsRefusedFrom slots (Faulted slot) asked = ⊥
 IsRefusedFrom slots (Late slot end) asked = ⊥
 
--- the first of several, once one more has come
+-- The first refused request, after one more refusal.
 abbrev pub first_of : Option LocalRequest → LocalRequest → Option LocalRequest
 first_of None asked = Some asked
 first_of (Some first) asked = Some first
@@ -55,11 +55,11 @@ words_for Dump = codes "a DUMP"
 words_for Kill = codes "a KILL"
 words_for Stop = codes "a STOP"
 
--- by what was asked, where that is known
+-- The text for the first refused request, if it is known.
 abbrev pub request_words : Option LocalRequest → List ℕ
 request_words None = codes "a request"
 request_words (Some asked) = words_for asked
 
--- the line that names the first one, and counts so many more
+-- The line that names the first refused request and says how many more there were.
 abbrev pub remote_line : Option LocalRequest → ℕ → List ℕ
 remote_line first more = codes "epmd: " ++ request_words first ++ codes " from another host was refused" ++ and_more more ++ codes "\n"

@@ -1,4 +1,4 @@
-//! Which connections are admitted, and which are given up for them.
+//! The admission of connections, and the evictions for them.
 ghost use Rattle.std.specs.Prelude.{◌≡◌, ◌↔◌, ◌⊎◌, ◌+◌, ◌-◌, ◌^◌, ◌<◌, ◌≤◌, true, false, min, None, IfSome, IfNone};
 ghost use Rattle.portmap_worker.specs.declared.limits.TheConstants.{EVICTION_BACKOFF_MS};
 ghost use Rattle.portmap_worker.specs.Listening.{IsFreshFrom};
@@ -24,17 +24,14 @@ use std::rt::Clock;
 use std::sync::Wait;
 use std::sync::ledger::Ledger;
 
-/// A connection that has no place yet.
 #[derive(Drop)]
 pub(crate) struct Incoming<S: Stream> {
     stream: S,
     is_local: bool,
-    /// When it came.
     came: u64,
 }
 
 impl<S: Stream> Incoming<S> {
-    /// One that comes now, with the addresses of its peer and, if it is known, of its own.
     fn new(stream: S, peer: IpAddr, own: Option<IpAddr>, now: u64) -> Incoming<S>
         ensures { result.is_local ≡ is_local_by peer own }
     {
@@ -46,19 +43,16 @@ impl<S: Stream> Incoming<S> {
     }
 }
 
-/// Where connections come to a worker.
 #[derive(Drop)]
 pub(crate) struct Admission<S: Stream> {
-    /// The connection that waits for a place. While it does none is accepted.
+    /// The connection that waits for a permit. No other is accepted meanwhile.
     pub(crate) newcomer: Option<Incoming<S>>,
-    /// No link is looked for before this time that may be given up for another one.
     room_backoff: u64,
-    /// Since when a connection waits at a listener that can't be accepted, for want of descriptors or of memory.
+    /// The time since which a listener has a connection that can't be accepted, for lack of descriptors or memory.
     lacking: Option<u64>,
 }
 
 impl<S: Stream> Admission<S> {
-    /// None has come.
     pub(crate) fn new() -> Admission<S> {
         Admission {
             newcomer: None,
@@ -67,15 +61,13 @@ impl<S: Stream> Admission<S> {
         }
     }
 
-    /// Whether connections are accepted: none is while another one waits for a place.
     pub(crate) fn accepts(&self) -> bool
         ensures { (result ≡ true) ↔ (self.now.newcomer ≡ None) }
     {
         self.newcomer.is_none()
     }
 
-    /// Whether something is to be done here at once: connections may wait at a listener, or, while one waits for a
-    /// place, there may be one for it, unless the last search for one was in vain.
+    /// Returns whether there is something to do at once.
     pub(crate) fn is_busy(&self, is_waiting: bool, now: u64) -> bool
         ensures none { IfNone self.now.newcomer (result ≡ is_waiting) }
         ensures some { IfSome self.now.newcomer (λ _. (result ≡ true) ↔ (self.now.room_backoff ≤ now)) }
@@ -87,7 +79,6 @@ impl<S: Stream> Admission<S> {
         }
     }
 
-    /// The link that goes first of those that may be given up for another one, if it is time to look for one.
     fn candidate(&mut self, links: &Links<'_, S>, with_local: bool, now: u64) -> Option<usize>
         ensures early { now < self.old.room_backoff → (result ≡ None) × (self.new ≡ self.old) }
         ensures found { IfSome result (λ _. self.new ≡ self.old) }
@@ -107,7 +98,6 @@ impl<S: Stream> Admission<S> {
 }
 
 impl<S: System> Sockets<S> {
-    /// The next connection that waits at a listener.
     fn accept(&mut self, shared: &Shared<S::Waker>, now: u64) -> Option<Incoming<S::Stream>> {
         let accepted = self.listeners.accept(&mut self.system, now);
         if self.listeners.take_idle() {
@@ -120,7 +110,6 @@ impl<S: System> Sockets<S> {
 }
 
 impl<'a, L: Ledger, S: System, R: Host + Wait + Clock> SocketSource<'a, L, S, R> {
-    /// The next connection: the one that waits for a place, or one that waits at a listener.
     pub(crate) fn admit(&mut self) -> Option<Turn>
         ensures current { self.new.ready.current ≡ self.old.ready.current }
         ensures links { Tells self.old.ready self.new.ready result }
@@ -140,14 +129,13 @@ impl<'a, L: Ledger, S: System, R: Host + Wait + Clock> SocketSource<'a, L, S, R>
             Some(permit) => self.take(newcomer, permit),
             None => self.evict_for(newcomer),
         };
-        // Whoever else waits for a place wants it again within a millisecond.
+        // A peer at another worker that still waits asks again within a millisecond.
         if has_waited && self.door.accepts() {
             self.shared.quota.want_none();
         }
         turn
     }
 
-    /// Takes a connection that has a place, if there is memory for it. It is closed otherwise.
     fn take(&mut self, newcomer: Incoming<S::Stream>, permit: Permit<'a>) -> Option<Turn>
         ensures fresh { IfSome result (λ turn. IsFreshFrom newcomer.is_local turn) }
         ensures current { self.new.ready.current ≡ self.old.ready.current }
@@ -165,8 +153,8 @@ impl<'a, L: Ledger, S: System, R: Host + Wait + Clock> SocketSource<'a, L, S, R>
         fresh
     }
 
-    /// Holds a new connection. It is looked at without waiting for the poll, since its request is most likely there.
-    /// More are held at once than ever were only if memory is left that others may need.
+    /// Holds a new connection. Its link is queued without a poll, since its request has probably arrived. A worker
+    /// holds more links than ever before only while other memory is left.
     fn hold(&mut self, newcomer: Incoming<S::Stream>, permit: Permit<'a>) -> Option<Turn>
         ensures fresh { IfSome result (λ turn. IsFreshFrom newcomer.is_local turn) }
         ensures current { self.new.ready.current ≡ self.old.ready.current }
@@ -193,8 +181,8 @@ impl<'a, L: Ledger, S: System, R: Host + Wait + Clock> SocketSource<'a, L, S, R>
         })
     }
 
-    /// There is no place for a new connection: one is given up for it, here or, for a local peer, by another worker
-    /// soon. A connection is closed for which none can be.
+    /// Evicts a connection for a peer without a permit. A local peer may wait for another worker to do so. If nobody
+    /// can, the connection of the peer is closed.
     fn evict_for(&mut self, newcomer: Incoming<S::Stream>) -> Option<Turn>
         ensures current { self.new.ready.current ≡ self.old.ready.current }
         ensures links { Tells self.old.ready self.new.ready result }
@@ -221,8 +209,7 @@ impl<'a, L: Ledger, S: System, R: Host + Wait + Clock> SocketSource<'a, L, S, R>
         None
     }
 
-    /// None could be accepted: if that is for want of descriptors or of memory a connection is given up for it, as if
-    /// there were no place, here or by another worker soon. From which host it comes isn't known: remote ones go first.
+    /// Evicts a connection, remote before local, if none can be accepted for lack of descriptors or memory.
     fn free_descriptor(&mut self) -> Option<Turn>
         ensures current { self.new.ready.current ≡ self.old.ready.current }
         ensures links { Tells self.old.ready self.new.ready result }
@@ -244,7 +231,7 @@ impl<'a, L: Ledger, S: System, R: Host + Wait + Clock> SocketSource<'a, L, S, R>
         None
     }
 
-    /// Connections can be accepted, or none waits: none is to be given up for one.
+    /// Withdraws the demand of `free_descriptor`: connections can be accepted again, or none waits.
     fn end_lack(&mut self)
         ensures ready { self.new.ready ≡ self.old.ready }
         ensures schedule { self.new.schedule ≡ self.old.schedule }
@@ -254,7 +241,6 @@ impl<'a, L: Ledger, S: System, R: Host + Wait + Clock> SocketSource<'a, L, S, R>
         }
     }
 
-    /// Gives up a connection, if a local peer waits for a place at another worker and one may be.
     pub(crate) fn evict_for_other_worker(&mut self) -> Option<Turn>
         ensures links { Tells self.old.ready self.new.ready result }
         ensures schedule { self.new.schedule ≡ self.old.schedule }
@@ -269,7 +255,6 @@ impl<'a, L: Ledger, S: System, R: Host + Wait + Clock> SocketSource<'a, L, S, R>
     }
 }
 
-/// The link with this key is given up.
 pub(crate) fn evict<S: Stream>(links: &mut Links<'_, S>, key: usize, now: u64) -> Turn
     ensures current { links.new.current ≡ links.old.current }
     ensures links { Keeps links.old links.new }
@@ -281,8 +266,7 @@ pub(crate) fn evict<S: Stream>(links: &mut Links<'_, S>, key: usize, now: u64) -
     Turn::Late(key as u64)
 }
 
-/// The one that goes first of the links that may be given up for another one: of those of remote peers, and, with local
-/// ones, of all. None that is pending is.
+/// Returns the link to evict first: a remote link, or with `with_local` any link. Pending links are spared.
 fn first_to_evict<S: Stream>(links: &Links<'_, S>, with_local: bool, now: u64) -> Option<usize> {
     let mut first: Option<EvictionCandidate> = None;
     for key in 0..links.keys() {

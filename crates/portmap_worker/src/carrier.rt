@@ -1,4 +1,4 @@
-//! A connection that a worker holds.
+//! The handler of a connection that a worker holds.
 ghost use Rattle.std.specs.Prelude.{◌≡◌, ℕ, ◌+◌, ◌≤◌, List, [], ◌∷◌, ◌++◌, ◌⊎◌, false, IfSome, IfNone};
 ghost use Rattle.std.specs.Io.KnownBytes.{Keeps};
 ghost use Rattle.portmap_core.specs.declared.event.Event.TheVariants as event;
@@ -18,34 +18,32 @@ use std::alloc::Global;
 use std::sync::Wait;
 use std::sync::ledger::Ledger;
 
-/// What is to be done with a connection.
+/// The next thing to do with a connection.
 #[derive(Clone, Copy, Debug, PartialEq, Eq)]
 pub enum Next {
-    /// Nothing, until there is news of its link.
+    /// Nothing, until its link is ready again.
     Keep,
-    /// To close it: its peer has ended it, the desk has refused it, or its close was due and nothing waits to be
-    /// written.
+    /// Close it: its peer has ended it, the desk has refused it, or its close was due and no byte waits to be written.
     Close,
-    /// To give it up as failed: its link has.
+    /// Fault it: its link has failed.
     Fault,
-    /// To end the worker: the port mapper has ended.
+    /// End the worker: the port mapper has halted.
     Halt,
-    /// To close it: memory ran out.
+    /// Close it: memory ran out.
     NoMemory,
 }
 
-/// A connection that a worker holds.
+/// The handler of a connection that a worker holds.
 #[derive(Drop)]
 pub struct Carrier<L: Ledger> {
     conn: Conn<L>,
-    /// The bytes that wait to be written.
     out: Outbox,
-    /// Whether the connection is to be closed once they are.
+    /// The connection is to be closed once the send buffer is empty.
     due: bool,
 }
 
 impl<L: Ledger> Carrier<L> {
-    /// A connection of which nothing waits to be written and no close is due. It takes no memory.
+    /// Returns the handler of a new connection. No byte waits to be written, and no close is due. Never allocates.
     pub fn new(alloc: Global, conn: Conn<L>) -> Carrier<L>
         ensures conn { result.conn ≡ conn }
         ensures out { result.out ≡ [] }
@@ -58,10 +56,11 @@ impl<L: Ledger> Carrier<L> {
         }
     }
 
-    /// Goes on with the connection: writes what waits, and, unless a close is due, pulls once for a piece of
-    /// `PULL_BYTES_MOST` bytes at most, has the desk answer it, and writes the answer as far as the link takes it. The
-    /// gate is passed with the seat's number before the answer is written and after. Gives the place and the answer
-    /// that the desk told, if it did, and what is to be done next.
+    /// Serves the connection. First it writes what waits. Unless a close is due, it then pulls one chunk of at most
+    /// `PULL_BYTES_MOST` bytes, has the desk answer it, and writes the reply as far as the link takes it. It passes the
+    /// gate with the seat's number before the reply is written and after.
+    ///
+    /// Returns the position and the answer, if the desk returned them, and what is to be done next.
     pub fn ready<I: Input + Output, G: Gate, R: Wait>(
         &mut self,
         rt: &R,
@@ -115,7 +114,6 @@ impl<L: Ledger> Carrier<L> {
         }
     }
 
-    /// Has the answer written, as far as the link takes it.
     fn reply<I: Output>(&mut self, link: &mut I, answer: &Answer) -> Next
         requires { self.old.due ≡ false }
         ensures written { Moves (I.held link.old) (I.held link.new)
@@ -134,8 +132,7 @@ impl<L: Ledger> Carrier<L> {
         }
     }
 
-    /// The time that the connection has for its request, or for what waits to be written, is over. What is to be done
-    /// next: what waits does not keep it from being closed.
+    /// Times out the connection, and returns what is to be done next. Bytes that wait do not keep it open.
     pub(crate) fn late<R: Wait>(
         &self,
         rt: &R,
@@ -151,12 +148,12 @@ impl<L: Ledger> Carrier<L> {
         }
     }
 
-    /// Whether the connection was stopped, or its request is done with, and nothing waits to be written.
+    /// Returns whether the connection was stopped or its request is done, and no byte waits to be written.
     pub(crate) fn is_done<R: Wait>(&self, rt: &R, desk: &Desk<L>) -> bool {
         self.out.pending().is_empty() && desk.phase(rt, &self.conn) == Some(Phase::Done)
     }
 
-    /// Writes what waits, as far as the link takes it. Whether some waits on.
+    /// Writes what waits, as far as the link takes it. Returns whether the link would block.
     pub(crate) fn flush<I: Output>(&mut self, link: &mut I) -> bool
         ensures conn { self.new.conn ≡ self.old.conn }
         ensures flushed { let seen = devices I.left I.held I.pulls I.puts in
@@ -166,7 +163,6 @@ impl<L: Ledger> Carrier<L> {
         self.out.flush(link) == Flush::Later
     }
 
-    /// The connection, to be closed. What waits is lost.
     pub(crate) fn into_conn(self) -> Conn<L>
         ensures { result ≡ self.conn }
     {
@@ -179,7 +175,6 @@ impl<L: Ledger> Carrier<L> {
     }
 }
 
-/// The bytes that an answer says.
 fn bytes_of(answer: &Answer) -> &[u8]
     ensures { result.now ≡ bytes_of answer.now }
 {
@@ -189,7 +184,6 @@ fn bytes_of(answer: &Answer) -> &[u8]
     }
 }
 
-/// What becomes of the connection by an answer.
 fn fate_of(answer: &Answer) -> Fate
     ensures { result ≡ fate_of answer.now }
 {
@@ -200,7 +194,6 @@ fn fate_of(answer: &Answer) -> Fate
     }
 }
 
-/// What is next if there was room for the answer, by what becomes of the connection and how the writing ended.
 fn next_after(fate: Fate, flush: Flush) -> Next
     ensures { result ≡ next_after fate flush }
 {
@@ -212,7 +205,6 @@ fn next_after(fate: Fate, flush: Flush) -> Next
     }
 }
 
-/// What is next if the desk has refused.
 pub(crate) fn next_of(fault: ActFault) -> Next
     ensures { result ≡ next_of fault }
 {

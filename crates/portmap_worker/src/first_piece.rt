@@ -1,4 +1,4 @@
-//! The first piece of a connection, which is kept back if it asks to register a name, or for a list while many bytes
+//! The first chunk of a connection. It is kept back if it registers a name, or if it asks for a list while many bytes
 //! wait to be written.
 ghost use Rattle.std.specs.Prelude.{◌≡◌, ◌↔◌, ◌≤◌, ◌⊎◌, ◌∷◌, [], true, length, take};
 ghost use Rattle.std.specs.Io.{ReadsAtMost};
@@ -8,12 +8,10 @@ use std::alloc::Global;
 use std::io::{ErrorKind, Read};
 use std::{io, mem};
 
-/// The first bytes of a piece that asks for the names, or for all that is known.
 const ASKS_NAMES: &[u8] = b"\0\x01n";
 
 const ASKS_DUMP: &[u8] = b"\0\x01d";
 
-/// Whether a piece asks for a list.
 fn asks_list(piece: &[u8]) -> bool
     ensures { (result ≡ true) ↔ ((take 3 piece.now ≡ 0 ∷ 1 ∷ 110 ∷ []) ⊎ (take 3 piece.now ≡ 0 ∷ 1 ∷ 100 ∷ [])) }
 {
@@ -21,14 +19,12 @@ fn asks_list(piece: &[u8]) -> bool
     front == ASKS_NAMES || front == ASKS_DUMP
 }
 
-/// What a piece asks for that is kept back.
 #[derive(Drop)]
 pub(crate) enum Asks {
     Registration(Name),
     List,
 }
 
-/// What a piece asks for that is to be kept back: a list only while many bytes wait to be written.
 fn asked(alloc: Global, piece: &[u8], is_crowded: bool) -> Option<Asks> {
     if is_crowded && asks_list(piece) {
         return Some(Asks::List);
@@ -36,19 +32,15 @@ fn asked(alloc: Global, piece: &[u8], is_crowded: bool) -> Option<Asks> {
     Some(Asks::Registration(name_to_register(alloc, piece)?))
 }
 
-/// Where a connection is with its first piece.
 #[derive(Drop)]
 pub(crate) enum FirstPiece {
-    /// Pieces are given as they come.
     Past,
-    /// It is still to come.
     Expected(Global),
-    /// It asks for this, and is given at the next read.
+    /// The chunk is kept back, and the next read returns it.
     Kept(Asks, Vec<u8>),
 }
 
 impl FirstPiece {
-    /// The name that it asks to register, while it is kept back.
     pub(crate) fn name(&self) -> Option<&Name> {
         match self {
             FirstPiece::Kept(Asks::Registration(name), _) => Some(name),
@@ -56,18 +48,16 @@ impl FirstPiece {
         }
     }
 
-    /// Whether it is kept back.
     pub(crate) fn is_kept(&self) -> bool {
         matches!(self, FirstPiece::Kept(..))
     }
 
-    /// Whether it asks for a list, while it is kept back.
     pub(crate) fn asks_list(&self) -> bool {
         matches!(self, FirstPiece::Kept(Asks::List, _))
     }
 
-    /// Reads the stream. The first piece is kept back if it asks to register a name, or for a list while many bytes
-    /// wait to be written, as long as there is memory for that: then the read is cut short, and the next one gives it.
+    /// Reads the stream. If the first chunk is to be kept back and there is memory for it, the read fails with
+    /// `Interrupted`, and the next read returns the chunk.
     pub(crate) fn read<S: Read>(
         &mut self,
         stream: &mut S,
@@ -83,7 +73,7 @@ impl FirstPiece {
         }
     }
 
-    /// Reads the first piece. It is still to come if nothing could be read.
+    /// Reads the first chunk, which is still expected if the read fails.
     fn read_first<S: Read>(
         &mut self,
         alloc: Global,
@@ -111,7 +101,7 @@ impl FirstPiece {
         Err(io::Error::from(ErrorKind::Interrupted))
     }
 
-    /// Gives what was kept back, as much of it as there is room for. The rest is given next.
+    /// Copies as many of the kept bytes as `buffer` has room for. The next read copies the rest.
     fn give(&mut self, asks: Asks, mut kept: Vec<u8>, buffer: &mut [u8]) -> usize
         ensures { result ≤ length buffer.new }
     {

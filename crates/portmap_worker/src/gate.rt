@@ -1,22 +1,22 @@
 //! Points that a worker passes with no lock held.
 
-/// Where a worker is with a piece that was answered.
+/// A point that a worker passes with a chunk that was answered.
 #[derive(Clone, Copy, Debug, PartialEq, Eq)]
 pub enum Point {
-    /// The desk has answered, and nothing of the answer is written yet.
+    /// The desk has answered, and no byte of the reply is written yet.
     Answered,
-    /// As much of the answer is written as the link takes now.
+    /// As much of the reply is written as the link takes now.
     Sent,
 }
 
-/// What every worker passes, twice for each piece that the desk has answered: at `Answered` and then at `Sent`. So that
-/// a test can hold one worker where it is while others go on.
+/// A hook that each worker passes twice for every chunk that the desk has answered: at `Answered` and then at `Sent`. A
+/// test can hold one worker there while others continue.
 pub trait Gate {
-    /// Returns once the worker may go on.
+    /// Returns once the worker may continue.
     fn pass(&self, worker: u32, point: Point);
 }
 
-/// A gate that lets all pass.
+/// A gate that never waits.
 #[derive(Clone, Copy, Debug, Drop)]
 pub struct Open;
 

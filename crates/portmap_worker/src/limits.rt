@@ -1,4 +1,4 @@
-//! What workers are tuned by. `MS` are milliseconds, `US` microseconds.
+//! The numbers that tune workers. `MS` are milliseconds, `US` microseconds.
 ghost use Rattle.std.specs.Prelude.{◌≡◌, ◌+◌, ◌*◌, ◌^◌};
 ghost use Rattle.portmap_worker.specs.declared.limits.TheConstants.{ACCEPT_BACKOFF_MS, FILE_BYTES_MOST, KEPT_SHARE};
 ghost use Rattle.portmap_worker.specs.declared.limits.TheConstants.{LATERS_MOST};
@@ -11,35 +11,33 @@ use portmap_record::SESSION_MOST;
 
 // ---- connections
 
-/// The most bytes that one pull of a link asks for.
+/// The most bytes of one pull.
 pub const PULL_BYTES_MOST: usize = 4096;
 
-/// How often the last reply is tried again if its link says Later, before the worker ends. With the Later that its
-/// first try ended with, a link has said so a thousand times when it is given up.
+/// The number of times that a worker which ends tries again to write the last reply.
 pub(crate) const LAST_TRIES_MOST: u32 = 999;
 
-/// The last eighth of all places is for local peers alone.
+/// Remote peers leave this share of all permits to local peers: one in eight.
 pub(crate) const KEPT_SHARE: u64 = 8;
 
-/// A connection that is younger is not given up for another one.
+/// The age from which on a connection may be evicted for a permit, and the time for which a peer may read nothing.
 pub(crate) const YOUNG_MS: u64 = 1000;
 
-/// For so long a local peer waits for a place: at first for that of a remote one, which another worker holds.
+/// The time that a local peer waits for a permit. At first only remote connections are evicted for it.
 pub(crate) const PERMIT_TIMEOUT_MS: u64 = 200;
 
 pub(crate) const REMOTE_FIRST_MS: u64 = 50;
 
-/// If no connection may be given up for another one, so much later the next one is looked for.
+/// The time after which a worker that found no candidate looks again.
 pub(crate) const EVICTION_BACKOFF_MS: u64 = 10;
 
-/// So many links are read in a millisecond at most that were answered and go on sending: what they send is of no use,
-/// but is logged.
+/// The most paused links that resume in a millisecond. Bytes after a reply have no effect, but are logged.
 pub(crate) const RESUMES_MOST: u32 = 4;
 
 // ---- pending registrations
 
-/// For so long one waits for its name alone, and then until every worker has passed an epoch, or for so long and so
-/// many rounds.
+/// The time that a pending registration waits for its name. The wait for an epoch after it is limited in time and
+/// retries.
 pub(crate) const NAME_TIMEOUT_MS: u64 = 50;
 
 pub(crate) const EPOCH_TIMEOUT_MS: u64 = 5000;
@@ -48,69 +46,64 @@ pub(crate) const EPOCH_ROUNDS_MOST: u32 = 500;
 
 // ---- polls
 
-/// The most events that one poll reports.
+/// The most events of one poll that a worker handles.
 pub const EVENTS_MOST: usize = 256;
 
-/// After so many turns the poll is asked, also if there is more to do.
+/// After this many turns a worker polls, even if links are queued.
 pub(crate) const TURNS_MOST: u32 = 64;
 
-/// How often the poll is asked within one turn if what it reports comes to nothing: other workers took it.
+/// The most polls in one call of `turn` that lead to no turn, since other workers took what was reported.
 pub(crate) const POLLS_MOST: u32 = 64;
 
-/// So much time passes between two looks at what no event tells: whether another worker has stopped a connection, and
-/// whose time is over.
+/// The time between two scans, which find timeouts and connections that another worker stopped.
 pub(crate) const SCAN_INTERVAL_MS: u64 = 450;
 
-/// How long a poll waits at most if there is nothing to look at: a connection that comes or another thread ends it.
+/// The longest wait of a poll if there is nothing to scan.
 pub(crate) const IDLE_TIMEOUT_MS: u64 = 10_000;
 
-/// How long it waits at most while others are waited for.
+/// The shortest wait of a poll that may wait at all.
 pub(crate) const SHORT_TIMEOUT_MS: u64 = 1;
 
 // ---- replies that wait to be read
 
-/// The most bytes of replies that may wait to be written, over all connections of a daemon. Beyond it connections are
-/// reset whose peers have read nothing for a second.
+/// The most bytes of replies that may wait, over all connections. Beyond it, peers that read nothing are reset.
 pub const UNSENT_BYTES_MOST: u64 = 25_165_824;
 
-/// Only a connection for which more than such a share waits is reset. Of 1,024 connections one has so much if more
-/// waits than may.
+/// Only a connection with more than one part in 1,024 of the limit is reset. If 1,024 connections exceed the limit
+/// together, at least one connection has more than that.
 pub(crate) const UNSENT_HEAVY_SHARE: u64 = 1024;
 
-/// If this share more waits than may, any connection is reset for which much waits: also one of this host while one of
-/// another host has much, and one whose peer may yet read.
+/// If the limit is exceeded by more than a quarter, young and local connections are reset too.
 pub(crate) const UNSENT_SPARED_SHARE: u64 = 4;
 
-/// If such a share waits, a local peer that asks for a list is served after a rest.
+/// If more than one part in 32 of the limit waits, a local peer that asks for a list is served after a pause.
 pub(crate) const UNSENT_CROWDED_SHARE: u64 = 32;
 
 // ---- which workers accept
 
-/// For so long a listener is left alone at which nothing can be accepted.
+/// The time for which a worker leaves a listener alone if it can't accept or watch there.
 pub(crate) const ACCEPT_BACKOFF_MS: u64 = 20;
 
-/// After so many reports in a row that came to nothing, since other workers took what waited, a worker leaves the
-/// listeners.
+/// After this many reports in a row without a connection, a worker leaves the listeners to others.
 pub(crate) const IDLE_REPORTS_MOST: u32 = 2;
 
-/// A worker that accepts and has not polled for so long is held by something.
+/// A worker that accepts and has not polled for this long counts as held.
 pub(crate) const HELD_MS: u64 = 20;
 
-/// So long a poll is a rest. A worker without one for so long, nor in so many polls on end, may want help.
+/// A poll of `REST_US` is a rest. A worker without a rest for `LOAD_US` and `LOAD_POLLS` polls may need help.
 pub(crate) const REST_US: u64 = 10;
 
 pub(crate) const LOAD_US: u64 = 4000;
 
 pub(crate) const LOAD_POLLS: u32 = 4;
 
-/// It does if so many connections wait at once: fewer than the turns between two polls.
+/// The number of connections that a loaded worker accepts in a row before it gets help, below `TURNS_MOST`.
 pub(crate) const BACKLOG_MOST: u32 = 32;
 
 // ---- the log and its recording
 
-/// The log is taken out each time that a second is over, each 50 milliseconds while memory is short (then memory is
-/// looked for too), and at once if its entries take so many bytes: so few that the memory of a log serves the next
-/// ones. Then it is looked at again soon.
+/// The log is drained each second, each 50 milliseconds while memory is short, and at once if it is heavy. A heavy log
+/// is weighed again soon.
 pub(crate) const SECOND_MS: u64 = 1000;
 
 pub(crate) const SHORT_OF_MEMORY_MS: u64 = 50;
@@ -119,46 +112,45 @@ pub(crate) const LOG_BYTES_HEAVY: u64 = 262_144;
 
 pub(crate) const LOG_HEAVY_MS: u64 = 5;
 
-/// A worker weighs the log each time that its links have moved so many bytes.
+/// A worker weighs the log each time that its links have moved this many bytes.
 pub(crate) const WEIGH_BYTES: usize = 65_536;
 
-/// The log is taken out so often in a row at most.
+/// The most drains in a row.
 pub(crate) const TAKES_MOST: u32 = 1024;
 
-/// There is room for so many entries at first, and if there is room for more than so many it is given back.
+/// The first capacity of the lists of drained entries, and the capacity from which on they are shrunk.
 pub(crate) const ENTRIES_ROOM: usize = 64;
 
 pub(crate) const ENTRIES_ROOM_MOST: usize = 8192;
 
-/// How many Laters end a call of a recorder. Each call counts its own.
+/// The number of Laters that end a call of a recorder. Each call counts its own.
 pub(crate) const LATERS_MOST: u64 = 1000;
 
-/// So many entries are recorded at once.
+/// The most entries that are recorded at once.
 pub(crate) const CHUNK_ENTRIES: usize = 256;
 
-/// The most bytes that the entries take which wait to be recorded. If there were more the recording has failed.
+/// The most bytes of entries that wait to be recorded. Beyond it the recording fails.
 pub(crate) const QUEUE_BYTES_MOST: u64 = 16_777_216;
 
-/// A file of a recording that has so many bytes is full. With all that may wait for it, it has no more than are read
-/// again.
+/// A file of a recording with this many bytes is full. With all that may still wait for it, it can be read back.
 pub const FILE_BYTES_MOST: u64 = SESSION_MOST as u64 - QUEUE_BYTES_MOST;
 
-/// A recording that has failed is begun anew each time that it could be for so many seconds.
+/// A recording that failed begins again after this many seconds in a row in which it could.
 pub(crate) const RESUME_SECONDS: u32 = 10;
 
 // ---- memory
 
-/// How many bytes are kept for the time when no other memory can be had: so many that the system has them back at once,
-/// or, as long as these can't be had, the most of the others that can. Names that have left leave memory in pieces.
+/// The sizes of a memory reserve. If the largest is freed, the system has it back at once. The smaller sizes suit a
+/// heap in pieces, which retired names leave.
 pub(crate) const RESERVE_BYTES: [usize; 5] = [1_048_576, 524_288, 262_144, 131_072, 65_536];
 
-/// If so many can't be had memory is short.
+/// Memory is short if this many bytes can't be allocated.
 pub(crate) const PROBE_BYTES: usize = 65_536;
 
-/// After so many seconds on end in which nothing got through for want of memory the daemon ends.
+/// The daemon ends after this many seconds in a row in which lack of memory let nothing through.
 pub(crate) const STARVED_SECONDS_MOST: u32 = 5;
 
-/// Between two lines of a kind that an operator reads so many seconds pass at least.
+/// At least this many seconds pass between two notices of a kind.
 pub(crate) const NOTICE_SECONDS: u32 = 10;
 
 /// A law: the numbers that definitions take from the code are those of this profile.

@@ -1,4 +1,4 @@
-//! A connection that a worker holds: its stream as a device, and what the worker's source has to know of it.
+//! A connection that a worker holds: its stream as a device, and what the source of the worker has to know of it.
 ghost use Rattle.std.specs.Prelude.{◌≡◌, ◌↔◌, ◌+◌, ◌-◌, ◌^◌, ◌<◌, [], ◌∷◌, ◌++◌, min, Some, None, true, false};
 ghost use Rattle.portmap_link.specs.Adapters.{pull_of, put_of};
 ghost use Rattle.portmap_link.specs.Device.{pull_is_fault, put_is_fault};
@@ -21,18 +21,16 @@ use std::alloc::Global;
 use std::io::{ErrorKind, Read, Write};
 use std::{io, mem};
 
-/// How far a connection is.
+/// The progress of the reply to a connection.
 #[derive(Clone, Copy, Debug, PartialEq, Eq)]
 enum ReplyProgress {
-    /// Nothing was ever written to it.
     Asked,
-    /// Bytes of its answer were.
     Answered,
-    /// Its peer has all of its answer, and sends no more.
+    /// All of the reply is written, and the peer sends no more.
     Left,
 }
 
-/// What the calls of a device have answered. Only proofs read the lists.
+/// The answers of a device's calls. Only proofs read the lists.
 #[derive(Drop)]
 struct History {
     failed: bool,
@@ -50,24 +48,19 @@ pub struct Link<S: Read + Write> {
     progress: ReplyProgress,
     timer: Timer,
     pub(crate) is_local: bool,
-    /// When it came.
+    /// The time at which the worker took the connection, or last chose it for eviction.
     pub(crate) came: u64,
-    /// It was answered and goes on sending: what it sends is of no use, and is read piece by piece with rests in
-    /// between. Or it asks for a list while many bytes wait to be written, or the poll has refused to report it.
+    /// The link is not served until a timer fires, for one of three reasons. It has its reply and continues to send
+    /// bytes, which have no effect. It asks for a list while many bytes wait to be written. Or the poll refused it.
     is_paused: bool,
-    /// The poll has refused to report it, so it is asked each time that it has rested.
+    /// The poll has refused to watch the stream, which is tried again after each pause.
     is_refused: bool,
-    /// Many bytes wait to be written, over all connections.
     is_crowded: bool,
-    /// How many bytes wait to be written.
     unsent_bytes: usize,
-    /// How many bytes have moved since that was last asked.
     moved_bytes: usize,
-    /// Bytes were written since that was last asked.
     has_written: bool,
 }
 
-/// Whether a call would have blocked: then there will be a report.
 fn would_block(outcome: &io::Result<usize>) -> bool
     ensures { result ≡ would_block outcome.now }
 {
@@ -75,8 +68,8 @@ fn would_block(outcome: &io::Result<usize>) -> bool
 }
 
 impl<S: Read + Write> Link<S> {
-    /// One that comes now, of which there is something to tell: it may have bytes. If a local peer asks to register a
-    /// name at once, that is kept back for one pull.
+    /// Returns the link of a new connection, which may have bytes. If the first chunk of a local peer registers a name,
+    /// the chunk is kept back for one pull.
     pub fn new(alloc: Global, stream: S, is_local: bool, now: u64) -> Link<S>
         ensures pulls { result.history.pulls ≡ [] }
         ensures puts { result.history.puts ≡ [] }
@@ -110,52 +103,46 @@ impl<S: Read + Write> Link<S> {
         }
     }
 
-    /// Its stream.
     pub fn stream(&self) -> &S
         ensures { result.now ≡ self.now.stream }
     {
         &self.stream
     }
 
-    /// The name that it asks to register, while that is kept back.
+    /// Returns the name that the peer asks to register, while the request is kept back.
     pub fn asked_name(&self) -> Option<&Name> {
         self.first.name()
     }
 
-    /// Whether a call may do more than answer Later.
+    /// Returns whether a call may do more than answer Later.
     pub fn may_move(&self) -> bool
         ensures { result ≡ may_move self.now.readiness.reading self.now.readiness.writing }
     {
         self.readiness.may_move()
     }
 
-    /// Whether a put has ever answered Wrote.
     pub(crate) fn is_answered(&self) -> bool
         ensures { result ≡ is_answered self.now.progress }
     {
         self.progress != ReplyProgress::Asked
     }
 
-    /// How many bytes wait to be written.
     pub(crate) fn unsent_bytes(&self) -> usize
         ensures { result ≡ self.now.unsent_bytes }
     {
         self.unsent_bytes
     }
 
-    /// Whether many bytes wait to be written, over all connections.
     pub(crate) fn note_crowd(&mut self, is_crowded: bool) {
         self.is_crowded = is_crowded;
     }
 
-    /// How many bytes have moved since this was last asked.
     pub(crate) fn take_moved_bytes(&mut self) -> usize
         ensures { self.new.readiness ≡ self.old.readiness }
     {
         mem::replace(&mut self.moved_bytes, 0)
     }
 
-    /// Returns whether bytes were written since this was last asked.
     pub(crate) fn take_written(&mut self) -> bool
         ensures written { result ≡ self.old.has_written }
         ensures readiness { self.new.readiness ≡ self.old.readiness }
@@ -163,17 +150,15 @@ impl<S: Read + Write> Link<S> {
         mem::replace(&mut self.has_written, false)
     }
 
-    /// Whether its peer has only so much time: for its request, or for the bytes that wait to be written. One that was
-    /// answered and has read the answer may be silent for as long as it likes.
+    /// Returns whether a timeout applies. A peer that has read its reply may be silent for any time.
     fn is_timed(&self) -> bool
         ensures { result ≡ is_timed self.now.progress self.now.readiness.writing }
     {
         !self.is_answered() || self.readiness.is_unsent()
     }
 
-    /// Whether it may be given up for another one: it has been there for a while, and waits for its peer. One that is
-    /// answered and has read its answer may not, so none that holds a name, but for the moment in which its answer
-    /// waits to be written.
+    /// Returns whether the link may be evicted for another peer: it is older than `YOUNG_MS`, and a timeout applies. A
+    /// registered connection is safe, except while its reply waits to be written.
     pub(crate) fn is_evictable(&self, now: u64) -> bool
         ensures { (result ≡ true) ↔ ((is_timed self.now.progress self.now.readiness.writing ≡ true)
             × (YOUNG_MS < now - self.now.came)) }
@@ -181,14 +166,13 @@ impl<S: Read + Write> Link<S> {
         self.is_timed() && now.saturating_sub(self.came) > YOUNG_MS
     }
 
-    /// Whether it is to be told that its time is over.
     pub(crate) fn is_late(&self) -> bool
         ensures { result ≡ self.now.timer.is_late }
     {
         self.timer.is_late
     }
 
-    /// It is given up for another one, if it can be. If it is kept it has come anew.
+    /// Restarts the age of the link, which is being evicted, at `now`. If it survives, it counts as new.
     pub(crate) fn evict(&mut self, now: u64)
         ensures came { self.new.came ≡ now }
         ensures timely { self.new.timer.is_late ≡ false }
@@ -199,12 +183,11 @@ impl<S: Read + Write> Link<S> {
         self.timer.is_late = false;
     }
 
-    /// Returns the turn that is due: Late once its time is over, else Ready.
     pub(crate) fn set_late(&mut self, is_late: bool) {
         self.timer.is_late = is_late;
     }
 
-    /// The poll has reported it, and perhaps that its peer sends no more: what is reported goes before what is late.
+    /// Records a report of the poll. A reported event goes before a timeout.
     pub(crate) fn on_event(&mut self, is_closed: bool)
         ensures timely { self.new.timer.is_late ≡ false }
         ensures moves { may_move self.new.readiness.reading self.new.readiness.writing ≡ true }
@@ -220,8 +203,7 @@ impl<S: Read + Write> Link<S> {
         };
     }
 
-    /// Memory is short: a local peer that has sent a part of a request, perhaps of a long registration, is late with
-    /// the rest.
+    /// Times out a local peer that has sent a part of a request, since memory is short and the other part may be long.
     pub(crate) fn refuse_part(&mut self) {
         let is_part = self.is_local && !self.is_answered() && !self.readiness.is_unsent();
         if is_part && matches!(self.first, FirstPiece::Past) {
@@ -229,7 +211,7 @@ impl<S: Read + Write> Link<S> {
         }
     }
 
-    /// It has rested. Whether there is something to tell of it.
+    /// Ends the pause. Returns whether the link is to be served.
     pub(crate) fn resume(&mut self) -> bool
         ensures rests { self.new.is_paused ≡ false }
         ensures quiet { result ≡ false → is_quiet self.new.readiness.notes ≡ true }
@@ -242,7 +224,7 @@ impl<S: Read + Write> Link<S> {
         self.may_move()
     }
 
-    /// What is to be told of it. If one that is late is kept its time begins anew.
+    /// Returns the turn of this link, and takes its timeout. If the link survives, its time begins again.
     pub(crate) fn turn(&mut self, key: usize) -> Turn
         ensures link { IsOf (Some key) result }
         ensures anew { result ≡ Turn.Late key → self.new.timer.since ≡ None }
@@ -256,7 +238,7 @@ impl<S: Read + Write> Link<S> {
         }
     }
 
-    /// Looks at it, now that the poll has reported all up to this time. Whether there is something to tell of it.
+    /// Scans the link, after the poll has reported all up to `rounds.time`. Returns whether the link is to be served.
     pub(crate) fn look(&mut self, rounds: &LoopState, timeout: u64) -> bool
         ensures rests { self.new.is_paused ≡ self.old.is_paused }
         ensures quiet { result ≡ false → self.old.is_paused ≡ false → is_quiet self.new.readiness.notes ≡ true }
@@ -266,21 +248,20 @@ impl<S: Read + Write> Link<S> {
         self.timer.begin(is_timed, self.is_local, rounds.time);
         let is_asked = self.is_refused && !self.is_paused && !self.first.is_kept();
         if self.may_move() && !is_asked {
-            // One that rests goes on when its rest is over: all of them at once would be hundreds of lists.
+            // A paused link is resumed by the timer alone. All of them at once could be hundreds of lists.
             return !self.is_paused;
         }
         if !is_asked && self.readiness.is_watched() {
             return self.timer.expire(rounds.time, timeout);
         }
-        // The poll has refused to report it, so it was asked after the look before, and no more is known of it than up
-        // to then.
+        // The poll refused the stream, which was last tried after the previous scan. Events are known up to that scan
+        // only.
         if !self.timer.expire(rounds.looked, timeout) {
             self.readiness.on_report();
         }
         true
     }
 
-    /// So many bytes have moved.
     fn on_moved(&mut self, count: usize)
         ensures { self.new ≡ record self.old {
           timer = record self.old.timer { has_moved = true };
@@ -291,7 +272,7 @@ impl<S: Read + Write> Link<S> {
         self.moved_bytes = self.moved_bytes.saturating_add(count);
     }
 
-    /// So many bytes were read: one that was answered rests then.
+    /// Counts bytes that were read. A link with a reply is then paused.
     fn on_read(&mut self, count: usize)
         ensures moved { self.new.timer.has_moved ≡ true }
         ensures rests { self.new.is_paused ≡ is_answered self.old.progress }
@@ -303,7 +284,6 @@ impl<S: Read + Write> Link<S> {
         self.is_paused = self.is_answered();
     }
 
-    /// So many bytes were written.
     fn on_written(&mut self, count: usize)
         ensures moved { self.new.timer.has_moved ≡ true }
         ensures answered { is_answered self.new.progress ≡ true }
@@ -318,7 +298,6 @@ impl<S: Read + Write> Link<S> {
         }
     }
 
-    /// A read with so much room has told this. What the pull answers.
     fn on_pull(&mut self, outcome: io::Result<usize>, room: usize) -> Pull
         ensures answer { result ≡ pull_of outcome }
         ensures failed { self.new.history.failed ≡ pull_is_fault result }
@@ -337,7 +316,6 @@ impl<S: Read + Write> Link<S> {
         answer
     }
 
-    /// A write of so many bytes has told this. What the put answers.
     fn on_put(&mut self, outcome: io::Result<usize>, offered: usize) -> Put
         ensures answer { result ≡ put_of outcome }
         ensures failed { self.new.history.failed ≡ put_is_fault result }
@@ -359,8 +337,8 @@ impl<S: Read + Write> Link<S> {
 }
 
 impl<S: Stream> Link<S> {
-    /// Where it goes, now that it was told. If no call on it is to be made the poll is asked to report it, and if that
-    /// refuses, it is asked again once the link has rested.
+    /// Returns what becomes of the link after its turn. If no call is due, the poll has to watch its stream. If the
+    /// poll refuses, the link is paused, and tried again after the pause.
     pub(crate) fn fate<P: System<Stream = S>>(&mut self, system: &mut P, key: usize) -> Fate
         ensures again { result ≡ Fate.Again → may_move self.new.readiness.reading self.new.readiness.writing ≡ true }
         ensures rests { result ≡ Fate.Rests → self.new.is_paused ≡ true }
@@ -386,7 +364,6 @@ impl<S: Stream> Link<S> {
         }
     }
 
-    /// It is given up: it ends by a reset, if bytes wait to be written.
     pub(crate) fn reset_unsent(&mut self) {
         if self.readiness.is_unsent() {
             self.stream.reset();
@@ -408,7 +385,6 @@ impl<S: Read + Write> Device for Link<S> {
     ghost broken = { λ l. l.history.failed };
 }
 
-/// How many bytes wait to be written after so many were offered, by the answer.
 fn unsent_after(answer: &Put, offered: usize) -> usize
     ensures { result ≡ unsent_after answer.now offered }
 {
@@ -419,7 +395,6 @@ fn unsent_after(answer: &Put, offered: usize) -> usize
     }
 }
 
-/// What a device that has failed tells.
 fn broken() -> io::Result<usize>
     ensures { IsBroken result }
 {

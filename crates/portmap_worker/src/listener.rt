@@ -11,29 +11,21 @@ use std::io::ErrorKind;
 use std::mem;
 use std::net::IpAddr;
 
-/// How a worker stands to a listening socket.
 #[derive(Clone, Copy, Debug, PartialEq, Eq)]
 enum ListenerState {
-    /// Others accept its connections.
     Off,
-    /// The poll reports it.
     On,
-    /// It is to be reported from this time on, in milliseconds.
+    /// The poll is asked to report it from this time on, in milliseconds.
     From(u64),
 }
 
-/// Why no connection could be accepted.
 #[derive(Clone, Copy, Debug, PartialEq, Eq)]
 enum AcceptError {
-    /// The one that waited has gone: another one may wait.
     Aborted,
-    /// None waits.
     WouldBlock,
-    /// None can be accepted for a while, for want of descriptors or of memory.
     Exhausted,
 }
 
-/// Why none could be, by the kind of the error.
 fn accept_error(kind: ErrorKind) -> AcceptError
     ensures { result ≡ accept_error kind }
 {
@@ -44,27 +36,23 @@ fn accept_error(kind: ErrorKind) -> AcceptError
     }
 }
 
-/// One worker's share of a listening socket. The system reports it to every worker that watches it, and one of them
-/// gets the connection.
+/// One worker's share of a socket. Each worker that watches the socket gets its reports, and one gets the connection.
 #[derive(Clone, Copy, Debug, PartialEq, Eq)]
 struct Listener {
-    /// Which of them it is.
     place: usize,
     watch: ListenerState,
-    /// Connections may wait at it.
     waiting: bool,
-    /// One was accepted since it was last reported.
+    /// A connection was accepted since the last report.
     took: bool,
 }
 
 impl Listener {
-    /// The poll has reported it. A report that comes before the last one has come to nothing is one with it.
+    /// Records a report. While connections may still wait, it continues the report before.
     fn on_report(&mut self) {
         self.took = self.took && self.waiting;
         self.waiting = true;
     }
 
-    /// None could be accepted.
     fn fail<S: System>(&mut self, system: &mut S, now: u64, kind: ErrorKind) -> AcceptError
         ensures error { result ≡ accept_error kind }
         ensures aborted { result ≡ AcceptError.Aborted → self.new ≡ self.old }
@@ -78,7 +66,7 @@ impl Listener {
         match error {
             AcceptError::Aborted => {}
             AcceptError::WouldBlock => self.waiting = false,
-            // What waits is not reported again, so the poll is to look anew after a while.
+            // Connections that wait are not reported again, so the poll is asked again later.
             AcceptError::Exhausted => {
                 self.leave(system);
                 self.watch = ListenerState::From(now.saturating_add(ACCEPT_BACKOFF_MS));
@@ -87,7 +75,6 @@ impl Listener {
         error
     }
 
-    /// Leaves it to others.
     fn leave<S: System>(&mut self, system: &mut S)
         ensures { self.new.waiting ≡ false }
     {
@@ -98,7 +85,7 @@ impl Listener {
         self.waiting = false;
     }
 
-    /// Watches it, if it is time. Whether it can't be watched.
+    /// Watches the socket, if it is time. Returns true if the poll refused.
     fn rewatch<S: System>(&mut self, system: &mut S, now: u64) -> bool {
         let ListenerState::From(time) = self.watch else {
             return false;
@@ -108,7 +95,7 @@ impl Listener {
         }
         self.watch = match system.listen(self.place) {
             Ok(()) => ListenerState::On,
-            // It was never left, so what waits at it is not reported again.
+            // The poll never left this socket, so connections that wait are not reported again.
             Err(error) if error.kind() == ErrorKind::AlreadyExists => {
                 self.on_report();
                 ListenerState::On
@@ -119,24 +106,18 @@ impl Listener {
     }
 }
 
-/// The listeners of a worker, which are asked in turn.
 #[derive(Drop)]
 pub(crate) struct Listeners {
     listeners: Vec<Listener>,
-    /// The place of the listener that is asked first: behind the one that gave last, so that none is served before the
-    /// others.
+    /// The index of the next listener to ask. It follows the last listener asked, so none is served before the others.
     first: usize,
-    /// The worker accepts.
     is_on: bool,
-    /// How many reports in a row came to nothing.
     idle_reports: u32,
-    /// A connection could not be accepted since that was last asked: by the poll, and by who frees a descriptor.
     exhausted: bool,
     lacks_descriptor: bool,
 }
 
 impl Listeners {
-    /// A worker's shares of so many sockets, which its poll is to report if it accepts.
     pub(crate) fn new(alloc: Global, count: usize, is_on: bool) -> Result<Listeners, NoMemory>
         ensures { IfOk result (λ listeners. listeners.is_on ≡ is_on) }
     {
@@ -164,17 +145,14 @@ impl Listeners {
         })
     }
 
-    /// Whether connections may wait.
     pub(crate) fn is_waiting(&self) -> bool {
         self.listeners.iter().any(|listener| listener.waiting)
     }
 
-    /// How many are watched at most.
     pub(crate) fn len(&self) -> usize {
         self.listeners.len()
     }
 
-    /// The earliest time from which on one is to be watched, or this one if it comes before.
     pub(crate) fn until(&self, time: u64) -> u64 {
         let mut until = time;
         for listener in &self.listeners {
@@ -185,14 +163,12 @@ impl Listeners {
         until
     }
 
-    /// The poll has reported the one at this place.
     pub(crate) fn report(&mut self, place: usize) {
         if let Some(listener) = self.listeners.get_mut(place) {
             listener.on_report();
         }
     }
 
-    /// The next connection that waits, with the address of its peer. The listeners are asked in turn.
     pub(crate) fn accept<S: System>(
         &mut self,
         system: &mut S,
@@ -209,7 +185,6 @@ impl Listeners {
         None
     }
 
-    /// The next one that waits at the listener at this place.
     fn accept_at<S: System>(
         &mut self,
         place: usize,
@@ -239,7 +214,7 @@ impl Listeners {
         None
     }
 
-    /// Whether so many reports came to nothing that the worker may leave the listeners to others. It is asked once.
+    /// Returns true once for every `IDLE_REPORTS_MOST` reports that came to nothing.
     pub(crate) fn take_idle(&mut self) -> bool {
         let is_idle = self.idle_reports >= IDLE_REPORTS_MOST;
         if is_idle {
@@ -248,7 +223,7 @@ impl Listeners {
         is_idle
     }
 
-    /// Whether connections could not be accepted since this was last asked.
+    /// Returns whether connections could not be accepted, or a listener not watched, since the last call.
     pub(crate) fn take_exhausted(&mut self) -> bool
         ensures taken { result ≡ self.old.exhausted }
         ensures asked { self.new.exhausted ≡ false }
@@ -256,7 +231,6 @@ impl Listeners {
         mem::replace(&mut self.exhausted, false)
     }
 
-    /// Whether one could not be accepted since this was last asked.
     pub(crate) fn take_lack(&mut self) -> bool
         ensures taken { result ≡ self.old.lacks_descriptor }
         ensures asked { self.new.lacks_descriptor ≡ false }
@@ -264,8 +238,7 @@ impl Listeners {
         mem::replace(&mut self.lacks_descriptor, false)
     }
 
-    /// Watches the listeners from now on, or leaves them, as the worker accepts or not. Those that are to be watched
-    /// again are, if it is time.
+    /// Begins to watch the listeners or leaves them, when `is_on` changes, and watches those that are due.
     pub(crate) fn pass<S: System>(&mut self, system: &mut S, now: u64, is_on: bool) {
         let turns = is_on != self.is_on;
         if turns {
@@ -285,7 +258,6 @@ impl Listeners {
     }
 }
 
-/// The place behind this one of so many: the first one behind the last one.
 fn next_index(place: usize, count: usize) -> usize
     ensures next { place + 1 < count → result ≡ place + 1 }
     ensures first { count ≤ place + 1 → result ≡ 0 }

@@ -1,4 +1,4 @@
-//! What is done while memory is short.
+//! The work of the main thread while memory is short.
 ghost use Rattle.std.specs.Prelude.{◌≡◌, ◌+◌, ◌||◌, ◌&&◌, not, true, false, min};
 
 use crate::host::Host;
@@ -7,8 +7,7 @@ use crate::news::Activity;
 use std::alloc::Global;
 use std::sync::atomic::{AtomicBool, Ordering};
 
-/// Memory that is kept for the time when no other can be had: as much as can be had and more beside it, if that is more
-/// than is held.
+/// Allocates the largest reserve that leaves other memory, if it is larger than `held`.
 fn reserve<R: Host>(rt: &R, alloc: Global, held: usize) -> Option<Vec<u8>> {
     for size in RESERVE_BYTES {
         if size <= held || !rt.has_memory(alloc) {
@@ -23,8 +22,8 @@ fn reserve<R: Host>(rt: &R, alloc: Global, held: usize) -> Option<Vec<u8>> {
     None
 }
 
-/// For how many seconds on end nothing has got through for want of memory, after one more: in it no peer was answered,
-/// and entries could not be taken out of the log, or memory was short and peers went unanswered.
+/// Returns for how many seconds in a row lack of memory has let nothing through, after one more second. In such a
+/// second no peer got a reply. Besides, the log could not be drained, or memory was short and a peer went unanswered.
 fn starved_for(seconds: u32, stuck: bool, short: bool, news: Activity) -> u32
     ensures goes_on { (not news.answered && (stuck || (short && news.unanswered))) ≡ true
         → result ≡ min (seconds + 1) 4294967295 }
@@ -37,7 +36,6 @@ fn starved_for(seconds: u32, stuck: bool, short: bool, news: Activity) -> u32
     }
 }
 
-/// What is kept for the time when memory is short, and how long nothing has got through.
 #[derive(Drop)]
 pub(crate) struct Memory {
     reserve: Option<Vec<u8>>,
@@ -52,20 +50,17 @@ impl Memory {
         }
     }
 
-    /// Whether the reserve had to be given back, and could not be had again.
     pub(crate) fn is_short(&self) -> bool {
         self.reserve.is_none()
     }
 
-    /// Gives the reserve back, for others to have but for registrations: memory is short from before that on. Whether
-    /// there was one.
+    /// Frees the reserve for everything but registrations. Returns whether there was a reserve.
     pub(crate) fn relieve(&mut self, short: &AtomicBool) -> bool {
         short.store(true, Ordering::SeqCst);
         self.reserve.take().is_some()
     }
 
-    /// A peer went unanswered: if no memory can be had that is why, perhaps, and the reserve is given back. Whether it
-    /// was.
+    /// Frees the reserve if there is no other memory, which may be why a peer went unanswered. Returns whether it did.
     pub(crate) fn relieve_if_short<R: Host>(
         &mut self,
         rt: &R,
@@ -75,14 +70,13 @@ impl Memory {
         self.reserve.is_some() && !rt.has_memory(alloc) && self.relieve(short)
     }
 
-    /// Looks for a reserve, or for a larger one than is held.
     pub(crate) fn regain<R: Host>(&mut self, rt: &R, alloc: Global) {
         let held = self.reserve.as_ref().map_or(0, |held| held.capacity());
         self.reserve = reserve(rt, alloc, held).or(self.reserve.take());
     }
 
-    /// Takes a look, once a second, by whether entries are left in the log that could not be taken out, and what has
-    /// become of connections. Whether nothing has got through for so long that the daemon is to end.
+    /// Adjusts the reserve at the end of a second. The main thread is `stuck` if it could not drain the log. Returns
+    /// whether nothing has got through for so long that the daemon has to end.
     pub(crate) fn look<R: Host>(
         &mut self,
         rt: &R,

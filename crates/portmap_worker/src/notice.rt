@@ -1,4 +1,4 @@
-//! What an operator reads while the daemon runs.
+//! Notices, which an operator reads while the daemon runs.
 ghost use Rattle.std.specs.Prelude.{◌≡◌, ◌++◌, IfOk, codes};
 ghost use Rattle.std.specs.Fmt.{decimal};
 ghost use Rattle.std.specs.String.{string_bytes};
@@ -10,43 +10,42 @@ use itoa::Buffer;
 use portmap_core::NoMemory;
 use std::alloc::Global;
 
-/// What an operator reads.
+/// A notice to the operator.
 #[derive(Drop)]
 pub enum Notice<'a> {
-    /// A connection waits that can't be accepted, for want of descriptors or of memory.
+    /// A connection waits that can't be accepted, for lack of descriptors or memory.
     CannotAccept,
     /// Registrations were refused since their names are in use.
     InUse(Refused),
-    /// Requests of other hosts were refused that only this host may make.
+    /// Requests of remote peers were refused that only this host may make.
     Remote(RemoteRefused),
-    /// So many connections were closed unanswered since memory is short.
+    /// This many requests were refused since memory is short.
     ShortOfMemory(u64),
-    /// So many connections were reset, since too many bytes wait for peers that do not read.
+    /// This many connections were reset, since too many bytes wait for peers that do not read.
     Unread(u64),
-    /// The file of this number of the recording at this path failed, for this reason.
+    /// The file with this number of the recording at this path has failed.
     RecordingFailed {
         path: &'a str,
         number: u32,
         reason: &'a [u8],
     },
-    /// The recording goes on again, in the file of this number.
+    /// The recording continues in the file with this number.
     RecordingAgain {
         path: &'a str,
         number: u32,
     },
     /// The counters cannot be written to the file at this path.
     FiguresLost(&'a str),
-    /// The daemon has so many places, since the limit of descriptors is this.
+    /// The daemon has only `places` permits, since the limit of descriptors is low.
     FewerPlaces {
         places: u64,
         limit: u64,
     },
 }
 
-/// The line for a connection that can't be accepted.
 const CANNOT_ACCEPT: &[u8] = b"epmd: cannot accept connections\n";
 
-// ---- the lines of which there are no details, where there is no memory for these
+// ---- lines without details, if there is no memory for the details
 
 const BRIEF_IN_USE: &[u8] = b"epmd: a name is in use\n";
 
@@ -64,7 +63,7 @@ const BRIEF_FIGURES: &[u8] = b"epmd: the counters cannot be written\n";
 
 const BRIEF_PLACES: &[u8] = b"epmd: the limit of descriptors is low\n";
 
-// ---- what lines have behind their details
+// ---- the ends of lines, after their details
 
 const SHORT_BEHIND: &[u8] = b" requests were refused\n";
 
@@ -72,8 +71,7 @@ const UNREAD_BEHIND: &[u8] = b" connections that did not read their replies were
 
 const PLACES_BEHIND: &[u8] = b" connections, since the limit of descriptors is ";
 
-/// Returns the path of a file of a recording: the first one, of number 0, is at its path, and each other one has a dot
-/// and its number behind that.
+/// Returns the path of a file of a recording: a dot and its number follow the path, except for file 0.
 pub(crate) fn path_of(alloc: Global, path: &str, number: u32) -> Result<String, NoMemory>
     ensures { IfOk result (λ text. string_bytes text ≡ file_path path.now number) }
 {
@@ -85,7 +83,6 @@ pub(crate) fn path_of(alloc: Global, path: &str, number: u32) -> Result<String, 
     Ok(text)
 }
 
-/// Returns this text, the path of a file, and what follows it.
 fn file_line(
     alloc: Global,
     text: &[u8],
@@ -103,7 +100,6 @@ fn file_line(
     Ok(line)
 }
 
-/// Returns this text, a number, and what follows it.
 fn count_line(alloc: Global, text: &[u8], count: u64, behind: &[u8]) -> Result<Vec<u8>, NoMemory>
     ensures { IfOk result (λ line. line.items ≡ text.now ++ decimal count ++ behind.now) }
 {
@@ -113,7 +109,6 @@ fn count_line(alloc: Global, text: &[u8], count: u64, behind: &[u8]) -> Result<V
     Ok(line)
 }
 
-/// Returns the line for a file that failed, and why.
 fn failed_line(alloc: Global, path: &str, number: u32, reason: &[u8]) -> Result<Vec<u8>, NoMemory>
     ensures { IfOk result (λ line. line.items
         ≡ codes "epmd: recording failed: " ++ file_path path.now number ++ codes ": " ++ reason.now ++ codes "\n") }
@@ -123,7 +118,6 @@ fn failed_line(alloc: Global, path: &str, number: u32, reason: &[u8]) -> Result<
     file_line(alloc, b"epmd: recording failed: ", path, number, &behind)
 }
 
-/// Returns the line for a daemon that has so many places, since the limit of descriptors is this.
 fn places_line(alloc: Global, places: u64, limit: u64) -> Result<Vec<u8>, NoMemory>
     ensures { IfOk result (λ line. line.items ≡ codes "epmd: at most " ++ decimal places
         ++ codes " connections, since the limit of descriptors is " ++ decimal limit ++ codes "\n") }
@@ -135,7 +129,6 @@ fn places_line(alloc: Global, places: u64, limit: u64) -> Result<Vec<u8>, NoMemo
 }
 
 impl Notice<'_> {
-    /// Returns the line that an operator reads.
     pub fn line(&self, alloc: Global) -> Result<Vec<u8>, NoMemory>
         ensures { IfOk result (λ line. line.items ≡ notice_line self.now) }
     {
@@ -162,7 +155,7 @@ impl Notice<'_> {
         }
     }
 
-    /// Returns the line that an operator reads if there is no memory for the whole one.
+    /// Returns the line of the notice without details, for which no memory is needed.
     pub fn brief(&self) -> &'static [u8]
         ensures { result.now ≡ brief_line self.now }
     {

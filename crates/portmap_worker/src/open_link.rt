@@ -1,4 +1,4 @@
-//! The links that a worker holds, each at its place.
+//! The links that a worker holds, each in one link state.
 ghost use Rattle.std.specs.Prelude.{◌≡◌, ◌≢◌, ℕ, [], drop, false, Some, None};
 ghost use Rattle.portmap_ready.specs.Links.{link_at};
 ghost use Rattle.portmap_worker.specs.IdleLinks.{IsReported, Keeps};
@@ -11,22 +11,18 @@ use crate::system::{Stream, System};
 use crate::unsent::Unsent;
 use portmap_ready::{LinkState, Scheduler};
 
-/// What becomes of a link that was told.
+/// The next state of a link after its turn.
 #[derive(Clone, Copy, Debug, PartialEq, Eq)]
 pub(crate) enum Fate {
-    /// There is more to tell of it.
     Again,
-    /// It rests.
     Rests,
-    /// The poll is to report it.
+    /// The link is idle until the poll reports it.
     Waits,
 }
 
-/// A link that a worker holds. However it is given up, a peer that doesn't have all of its answer sees that: its
-/// connection ends by a reset in place of an end.
+/// A link that a worker holds. If it is dropped while bytes wait to be written, its connection ends with a reset.
 pub(crate) struct OpenLink<'a, S: Stream> {
     pub(crate) link: Link<S>,
-    /// How long its registration goes on waiting, while it is pending.
     pub(crate) waiting: Waiting,
     pub(crate) permit: Permit<'a>,
     pub(crate) unsent: Unsent<'a>,
@@ -44,20 +40,17 @@ impl<S: Stream> Drop for OpenLink<'_, S> {
     }
 }
 
-/// The links of a worker, by key.
 pub(crate) type Links<'a, S> = Scheduler<OpenLink<'a, S>>;
 
-/// What the turn of a link has moved.
 #[derive(Clone, Copy)]
 pub(crate) struct Moved {
     pub(crate) bytes: usize,
-    /// Bytes of a reply were written.
     pub(crate) has_written: bool,
-    /// More bytes wait to be written than before.
+    /// More bytes wait to be written than before the turn.
     pub(crate) is_unread: bool,
 }
 
-/// The link that was told last is put at the place that it is to stand at, at this time. What it has moved.
+/// Ends the turn of the current link: it is queued, paused, or left to the poll. Returns what it has moved.
 pub(crate) fn finish_turn<S: System>(
     links: &mut Links<'_, S::Stream>,
     system: &mut S,
@@ -91,8 +84,7 @@ pub(crate) fn finish_turn<S: System>(
     }
 }
 
-/// The poll has reported a link, and perhaps that its peer sends no more. There is something to tell of it, unless it
-/// rests and goes on sending.
+/// Records a report of the poll. The link is queued, unless it is paused and its peer continues to send.
 pub(crate) fn report<S: Stream>(links: &mut Links<'_, S>, key: usize, is_closed: bool)
     ensures reported { IsReported is_closed (link_at links.old key) (link_at links.new key) }
     ensures others { (k : ℕ) → k ≢ key → link_at links.new k ≡ link_at links.old k }
@@ -108,7 +100,6 @@ pub(crate) fn report<S: Stream>(links: &mut Links<'_, S>, key: usize, is_closed:
     }
 }
 
-/// A millisecond is over: of the links that have rested longest so many may move again.
 pub(crate) fn resume_paused<S: Stream>(links: &mut Links<'_, S>, most: u32)
     ensures ended { links.new.paused ≡ drop most links.old.paused }
     ensures links { Keeps links.old links.new }
@@ -120,7 +111,6 @@ pub(crate) fn resume_paused<S: Stream>(links: &mut Links<'_, S>, most: u32)
     }
 }
 
-/// The link that has rested longest may move again. False if none rests.
 fn resume_oldest<S: Stream>(links: &mut Links<'_, S>) -> bool
     ensures ended { links.new.paused ≡ drop 1 links.old.paused }
     ensures none { result ≡ false → links.old.paused ≡ [] }
@@ -138,7 +128,6 @@ fn resume_oldest<S: Stream>(links: &mut Links<'_, S>) -> bool
     true
 }
 
-/// Looks at a link, now that the poll has reported all up to this time.
 pub(crate) fn look<S: Stream>(
     links: &mut Links<'_, S>,
     key: usize,

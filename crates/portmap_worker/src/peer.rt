@@ -1,4 +1,4 @@
-//! Whether the peer of a stream is on this host.
+//! The decision whether the peer of a stream is on this host.
 ghost use Rattle.std.specs.Prelude.{◌≡◌};
 ghost use Rattle.portmap_core.specs.Locality.{is_local_to};
 ghost use Rattle.portmap_worker.specs.Peers.{ip_of, is_local_by};
@@ -7,10 +7,9 @@ use crate::system::Stream;
 use portmap_core::{Ip, is_local};
 use std::net::{IpAddr, Ipv4Addr};
 
-/// No peer has this address. It stands for an own one that is not known.
+/// An address that no peer has. It stands for an unknown address of this host.
 const NO_PEER: IpAddr = IpAddr::V4(Ipv4Addr::UNSPECIFIED);
 
-/// The address as the port mapper compares it.
 fn ip_of(address: IpAddr) -> Ip
     ensures { result ≡ ip_of address }
 {
@@ -20,22 +19,21 @@ fn ip_of(address: IpAddr) -> Ip
     }
 }
 
-/// Whether a connection's peer is on this host, by the peer's address and the connection's own.
+/// Returns whether a connection's peer is on this host, by the peer's address and the connection's own.
 pub fn is_local_peer(peer: IpAddr, own: IpAddr) -> bool
     ensures { result ≡ is_local_to (ip_of peer) (ip_of own) }
 {
     is_local(ip_of(peer), ip_of(own))
 }
 
-/// The same, if the own address is perhaps not known.
+/// Returns whether a peer is on this host. If the connection's own address is unknown, the peer's alone decides.
 pub(crate) fn is_local_by(peer: IpAddr, own: Option<IpAddr>) -> bool
     ensures { result ≡ is_local_by peer own }
 {
     is_local_peer(peer, own.unwrap_or(NO_PEER))
 }
 
-/// A connection's own address. It is asked for only if the peer's doesn't decide, since that takes a call of the
-/// system.
+/// Returns a connection's own address, unless the peer's address decides. The system is not called then.
 pub(crate) fn own_ip<S: Stream>(stream: &S, peer: IpAddr) -> Option<IpAddr> {
     if is_local_by(peer, None) {
         None

@@ -1,7 +1,7 @@
 //! Registrations that wait for their names.
 //!
-//! If a name is active when it is asked for, perhaps the connection that owns it has ended, or is ending: then the name
-//! is free soon. What the machine says after that is final.
+//! If a name is active when a node asks for it, the connection that owns it may have ended, or may be ending. The name
+//! is then free soon. What the machine answers after the wait is final.
 ghost use Rattle.std.specs.Prelude.{◌≡◌, ◌↔◌, ◌<◌, ◌≤◌, true, false, Some, None, IfSome};
 ghost use Rattle.portmap_worker.specs.Pending.{Awaits, GivesUp, GoesOn, earliest, until};
 ghost use Rattle.portmap_worker.specs.IdleLinks.{Keeps, Tells};
@@ -20,22 +20,21 @@ use std::sync::Wait;
 use std::sync::atomic::Ordering;
 use std::sync::ledger::Ledger;
 
-/// How long a registration that is pending goes on waiting. Times are in milliseconds since the daemon began.
+/// The wait of a pending registration. Times are in milliseconds since the daemon began.
 #[derive(Clone, Copy)]
 pub(crate) enum Waiting {
-    /// It has come since the poll was asked last.
+    /// It became pending after the last poll began.
     Come,
-    /// The poll was asked since: its time begins with the answer, however old the one before is.
+    /// A poll was begun since then. Its time begins when that poll returns, however long ago the last one did.
     Asked,
     /// It waits for its name alone until this time.
     Name { until: u64 },
-    /// It has, and waits for this epoch. It was looked at so often since then: time alone passes also while the process
-    /// is stopped.
+    /// It has waited for its name, and now waits for this epoch. It was retried `rounds` times since: time alone also
+    /// passes while the process is stopped.
     Epoch { until: u64, epoch: u64, rounds: u32 },
 }
 
 impl Waiting {
-    /// Until when the poll may wait for it, at this time.
     fn until(self, now: u64) -> u64
         ensures { result ≡ until self now }
     {
@@ -45,8 +44,7 @@ impl Waiting {
         }
     }
 
-    /// The epoch that it waits for at this time, if it does: one that begins now, or its own until every worker has
-    /// passed that.
+    /// Returns the epoch to wait for, if there is any. Once the time for the name is over, it begins an epoch.
     fn awaited<W: Wake>(self, now: u64, shared: &Shared<W>, worker: usize) -> Option<u64>
         ensures { Awaits self now result }
     {
@@ -57,8 +55,7 @@ impl Waiting {
         }
     }
 
-    /// How one whose name is active goes on waiting, if it does: for its name, and then for this epoch, until every
-    /// worker has looked for connections that have ended.
+    /// Returns how a registration of an active name waits from now on, if it does.
     fn next(self, now: u64, epoch: Option<u64>) -> Option<Waiting>
         ensures { GoesOn self now epoch result }
     {
@@ -83,8 +80,7 @@ impl Waiting {
     }
 }
 
-/// What is told at once of the link with this key that keeps a registration back; none if it is to wait, since its name
-/// is active. There are no more that wait than places.
+/// Returns the turn of a link that keeps a registration back, or `None` if it waits. Permits limit how many wait.
 fn immediate_turn(key: u64, is_short: bool, is_active: bool) -> Option<Turn>
     ensures short { is_short ≡ true → result ≡ Some (Turn.Late key) }
     ensures free { is_short ≡ false → is_active ≡ false → result ≡ Some (Turn.Ready key) }
@@ -99,8 +95,6 @@ fn immediate_turn(key: u64, is_short: bool, is_active: bool) -> Option<Turn>
     }
 }
 
-/// Whether one that waits for an epoch gives up after so many rounds, at this time: it has waited for its name alone
-/// until then.
 fn gives_up(rounds: u32, now: u64, until: u64) -> bool
     ensures { (result ≡ true) ↔ GivesUp rounds now until }
 {
@@ -108,14 +102,12 @@ fn gives_up(rounds: u32, now: u64, until: u64) -> bool
 }
 
 impl<L: Ledger, S: System, R: Host + Wait + Clock> SocketSource<'_, L, S, R> {
-    /// Whether the name is active that the link with this key asks to register; none if it keeps nothing back.
     fn is_name_active(&self, key: usize) -> Option<bool> {
         let name = self.ready.get(key)?.link.asked_name()?;
         Some(self.desk.is_active(self.rt, name))
     }
 
-    /// Whether a registration is not taken, since no memory is left that others may need. One that this worker alone
-    /// finds so is counted here.
+    /// Returns whether registrations are refused for lack of memory. Counts what this worker alone finds.
     fn refuses(&mut self) -> bool
         ensures ready { self.new.ready ≡ self.old.ready }
         ensures schedule { self.new.schedule ≡ self.old.schedule }
@@ -130,8 +122,7 @@ impl<L: Ledger, S: System, R: Host + Wait + Clock> SocketSource<'_, L, S, R> {
         is_short
     }
 
-    /// What the link that was told last keeps back is told at once, unless its name is active, or no memory is left
-    /// that others may need.
+    /// Makes the current link pending if its name is active. Returns a turn at once otherwise, or if memory is short.
     pub(crate) fn defer_registration(&mut self) -> Option<Turn>
         ensures links { Tells self.old.ready self.new.ready result }
         ensures again { IfSome result (λ turn. IsOf self.old.ready.current turn) }
@@ -149,8 +140,7 @@ impl<L: Ledger, S: System, R: Host + Wait + Clock> SocketSource<'_, L, S, R> {
         None
     }
 
-    /// Has the registrations told whose names are free by now, or that have waited for long enough. The poll is asked
-    /// next.
+    /// Queues pending registrations whose names are free, or that have waited long enough. A poll has to follow.
     pub(crate) fn retry_pending(&mut self)
         requires { self.old.ready.current ≡ None }
         ensures links { Keeps self.old.ready self.new.ready }
@@ -175,7 +165,6 @@ impl<L: Ledger, S: System, R: Host + Wait + Clock> SocketSource<'_, L, S, R> {
         self.publish_pending();
     }
 
-    /// How one goes on waiting, if it does.
     fn goes_on(&self, key: usize) -> Option<Waiting> {
         if self.is_name_active(key) != Some(true) {
             return None;
@@ -185,14 +174,12 @@ impl<L: Ledger, S: System, R: Host + Wait + Clock> SocketSource<'_, L, S, R> {
         waiting.next(now, waiting.awaited(now, self.shared, self.sockets.worker))
     }
 
-    /// The other workers are to know how many wait.
     fn publish_pending(&self) {
         let count = self.ready.pending() as u64;
         self.state.pending.store(count, Ordering::SeqCst);
     }
 }
 
-/// The link that was told last goes on waiting for its name.
 fn wait_on<S: Stream>(
     links: &mut Links<'_, S>,
     rounds: &mut LoopState,
@@ -212,7 +199,7 @@ fn wait_on<S: Stream>(
     rounds.set_deadline(waiting.until(rounds.time));
 }
 
-/// What the link that was told last keeps back is to be told, or that no registration is taken.
+/// Queues the current link, to serve what it keeps back, or to time out if memory is short.
 fn resume<S: Stream>(links: &mut Links<'_, S>, key: usize, is_short: bool)
     requires { links.old.current ≡ Some key }
     ensures current { links.new.current ≡ None }

@@ -1,4 +1,4 @@
-//! What a worker asks of its poll, and what it makes of the answers.
+//! The polls of a worker, and the handling of their reports.
 ghost use Rattle.std.specs.Prelude.{◌≡◌, ◌⊎◌, ◌<◌, [], None, true};
 ghost use Rattle.portmap_worker.specs.IdleLinks.{Keeps, Tells};
 ghost use Rattle.portmap_worker.specs.Schedule.{IsPolled};
@@ -19,7 +19,8 @@ use std::sync::atomic::Ordering;
 use std::sync::ledger::Ledger;
 
 impl<L: Ledger, S: System, R: Host + Wait + Clock> SocketSource<'_, L, S, R> {
-    /// Polls. What is to be told by the time alone, or if the poll has failed.
+    /// Polls, and scans all links if that is due. Returns `Stop` if the poll failed or the daemon ends. Returns `Late`
+    /// for a link that is evicted for another worker, and otherwise `Idle` after a scan.
     pub(crate) fn poll(&mut self) -> Option<Turn>
         requires { self.old.ready.current ≡ None }
         ensures links { Tells self.old.ready self.new.ready result }
@@ -53,7 +54,7 @@ impl<L: Ledger, S: System, R: Host + Wait + Clock> SocketSource<'_, L, S, R> {
         }
     }
 
-    /// The poll has answered at this time, in microseconds: with each millisecond a few of the links that rest go on.
+    /// Records that the poll returned at this time, in microseconds. With a new millisecond, paused links resume.
     fn on_polled(&mut self, after: u64)
         ensures links { Keeps self.old.ready self.new.ready }
         ensures schedule { self.new.schedule ≡ self.old.schedule }
@@ -64,8 +65,6 @@ impl<L: Ledger, S: System, R: Host + Wait + Clock> SocketSource<'_, L, S, R> {
         }
     }
 
-    /// The poll was asked and has answered at these times. Another worker is to accept too, if this one has too much to
-    /// do.
     fn note_load(&mut self, before: u64, after: u64)
         ensures ready { self.new.ready ≡ self.old.ready }
         ensures schedule { (self.new.schedule ≡ self.old.schedule)
@@ -77,7 +76,6 @@ impl<L: Ledger, S: System, R: Host + Wait + Clock> SocketSource<'_, L, S, R> {
         }
     }
 
-    /// Watches the listeners or leaves them, as the worker accepts or not.
     fn pass_listeners(&mut self)
         ensures ready { self.new.ready ≡ self.old.ready }
         ensures schedule { self.new.schedule ≡ self.old.schedule }
@@ -90,7 +88,6 @@ impl<L: Ledger, S: System, R: Host + Wait + Clock> SocketSource<'_, L, S, R> {
         }
     }
 
-    /// The poll has failed: the worker ends, and with it the others.
     fn fail(&self) -> Turn
         ensures { result ≡ Turn.Stop }
     {
@@ -98,7 +95,7 @@ impl<L: Ledger, S: System, R: Host + Wait + Clock> SocketSource<'_, L, S, R> {
         Turn::Stop
     }
 
-    /// Until when a poll may wait if there is nothing to do.
+    /// Returns the time until which the poll may wait: a moment, if links are paused or a peer waits for a permit.
     fn until(&self) -> u64 {
         if !self.door.accepts() || self.ready.paused() > 0 {
             return self.rounds.time;
@@ -107,8 +104,7 @@ impl<L: Ledger, S: System, R: Host + Wait + Clock> SocketSource<'_, L, S, R> {
         self.sockets.listeners.until(self.rounds.until(is_idle))
     }
 
-    /// For how many milliseconds the poll may wait: not at all while something is to be told, something is to be done
-    /// at the door, or this epoch is not passed.
+    /// Returns for how many milliseconds the poll may wait: not at all if there is anything to do.
     fn timeout(&self, begun: Begun) -> u64
         ensures queue { 0 < result → self.now.ready.queue ≡ [] }
     {
@@ -120,7 +116,6 @@ impl<L: Ledger, S: System, R: Host + Wait + Clock> SocketSource<'_, L, S, R> {
         poll_timeout(is_busy, self.rounds.time, self.until())
     }
 
-    /// Polls, and waits if there is nothing else to do. False if the poll has failed.
     fn wait(&mut self) -> bool
         ensures links { Keeps self.old.ready self.new.ready }
         ensures schedule { self.new.schedule ≡ record self.old.schedule { turns = 0 } }
@@ -141,9 +136,8 @@ impl<L: Ledger, S: System, R: Host + Wait + Clock> SocketSource<'_, L, S, R> {
         is_all
     }
 
-    /// Looks at every link, if that is due: whether its time is over, and whether the poll has refused to report it.
-    /// The time was read before, and however long this thread was stopped since, all that came meanwhile is noted
-    /// first. False if the poll has failed.
+    /// Scans all links if that is due. The time was read before, and all reports are handled first, however long this
+    /// thread was stopped. Returns false if the poll failed.
     fn look_round(&mut self, is_due: bool) -> bool
         ensures links { Keeps self.old.ready self.new.ready }
         ensures schedule { self.new.schedule ≡ self.old.schedule }

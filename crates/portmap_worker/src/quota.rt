@@ -1,4 +1,4 @@
-//! How many connections may be open, from this host and from others, and which is given up for another one.
+//! The permits for connections, and the order of eviction.
 ghost use Rattle.std.specs.Prelude.{◌≡◌, ◌↔◌, ◌<◌, true, Some, None, IfSome};
 ghost use Rattle.portmap_worker.specs.Quota.{remote_most, IsFree, GoesBefore};
 ghost use Rattle.portmap_worker.specs.declared.limits.TheConstants.{REMOTE_FIRST_MS};
@@ -7,19 +7,18 @@ ghost use Rattle.portmap_worker.specs.declared.quota.EvictionCandidate.{Eviction
 use crate::limits::{KEPT_SHARE, REMOTE_FIRST_MS};
 use std::sync::atomic::{AtomicBool, AtomicU64, Ordering};
 
-/// A connection, as one that may be given up for another one.
 #[derive(Clone, Copy, Debug, PartialEq, Eq)]
 pub(crate) struct EvictionCandidate {
     pub(crate) is_local: bool,
-    /// It is to be told, and not that its time is over.
+    /// It is queued, and not because of a timeout.
     pub(crate) is_ready: bool,
-    /// When it came, in milliseconds.
+    /// The time at which the worker took it, or since which its peer has read nothing, in milliseconds.
     pub(crate) came: u64,
     pub(crate) key: usize,
 }
 
-/// How many places remote peers may have together while local ones have so many: all others but the kept ones, or but a
-/// half if that is less.
+/// Returns how many permits remote peers may have together, while local peers have `local`. These are all others but
+/// the reserved share, or but half of the others if that is less.
 fn remote_most(most: u64, local: u64) -> u64
     ensures { result ≡ remote_most most local }
 {
@@ -27,7 +26,6 @@ fn remote_most(most: u64, local: u64) -> u64
     left - (most / KEPT_SHARE).min(left / 2)
 }
 
-/// Whether there is a place for one more peer, while local and remote ones have so many.
 fn is_free(is_local: bool, most: u64, local: u64, remote: u64) -> bool
     ensures { (result ≡ true) ↔ IsFree is_local most local remote }
 {
@@ -38,8 +36,7 @@ fn is_free(is_local: bool, most: u64, local: u64, remote: u64) -> bool
     }
 }
 
-/// Whether a connection is given up before another one: a remote one before a local one, of two alike one without news,
-/// and else the older.
+/// Returns whether `one` goes first: remote before local, then without an event before with one, then the older.
 fn is_evicted_before(one: EvictionCandidate, other: EvictionCandidate) -> bool
     ensures { (result ≡ true) ↔ GoesBefore one other }
 {
@@ -52,7 +49,6 @@ fn is_evicted_before(one: EvictionCandidate, other: EvictionCandidate) -> bool
     }
 }
 
-/// Which of those that may go goes first: the first one so far, if there is one, or another one.
 pub(crate) fn first_of(
     first: Option<EvictionCandidate>,
     other: EvictionCandidate,
@@ -67,16 +63,14 @@ pub(crate) fn first_of(
     }
 }
 
-/// Whether a local peer that has waited for so many milliseconds still spares local connections, while remote ones have
-/// so many places: another worker may hold one of those.
+/// Returns whether a local peer still spares local connections, as another worker may evict a remote connection.
 pub(crate) fn spares_local(waited: u64, remote: u64) -> bool
     ensures { (result ≡ true) ↔ ((waited < REMOTE_FIRST_MS) × (0 < remote)) }
 {
     waited < REMOTE_FIRST_MS && remote > 0
 }
 
-/// A place that a connection has. Nobody else makes one than `Quota::take`, and the place is free again once it is
-/// dropped: so what is taken is what its holders have.
+/// A permit for one connection. Only `Quota::take` makes it, and dropping it releases it.
 pub(crate) struct Permit<'a> {
     quota: &'a Quota,
     is_local: bool,
@@ -94,21 +88,18 @@ impl Drop for Permit<'_> {
     }
 }
 
-/// The places of a daemon, which all workers share.
 #[derive(Drop)]
 pub(crate) struct Quota {
     most: u64,
-    /// How many are taken by peers on this host, and by others.
     local: AtomicU64,
     remote: AtomicU64,
-    /// A local peer waits for a place, and who holds the connection of a remote peer that may be given up is to do so.
+    /// A worker asks the others to evict a remote connection.
     wants_remote: AtomicBool,
-    /// The same of any connection.
+    /// A worker asks the others to evict any connection.
     wants_any: AtomicBool,
 }
 
 impl Quota {
-    /// None of so many places is taken.
     pub(crate) fn new(most: u32) -> Quota {
         Quota {
             most: u64::from(most),
@@ -119,7 +110,6 @@ impl Quota {
         }
     }
 
-    /// Takes a place for a peer, if there is one.
     pub(crate) fn take(&self, is_local: bool) -> Option<Permit<'_>>
         ensures { IfSome result (λ permit. permit.is_local ≡ is_local) }
     {
@@ -136,12 +126,11 @@ impl Quota {
         is_free(is_local, self.most, local, remote).then_some(permit)
     }
 
-    /// How many places remote peers have.
     pub(crate) fn remote(&self) -> u64 {
         self.remote.load(Ordering::SeqCst)
     }
 
-    /// A place is wanted, that of a remote peer or of any. Whether that is new.
+    /// Asks the other workers to evict a connection. Returns true if that was not asked already.
     pub(crate) fn want(&self, is_remote: bool) -> bool {
         let wanted = if is_remote {
             &self.wants_remote
@@ -151,13 +140,13 @@ impl Quota {
         !wanted.swap(true, Ordering::SeqCst)
     }
 
-    /// Whether a place is wanted, and whether that of a local peer will do.
+    /// Returns whether an eviction is asked for, and whether a local connection will do.
     pub(crate) fn wanted(&self) -> (bool, bool) {
         let is_any = self.wants_any.load(Ordering::SeqCst);
         (is_any || self.wants_remote.load(Ordering::SeqCst), is_any)
     }
 
-    /// None is wanted any more: a connection is given up, or nobody waits.
+    /// Ends all demands: a connection was evicted, or no peer waits.
     pub(crate) fn want_none(&self) {
         self.wants_remote.store(false, Ordering::SeqCst);
         self.wants_any.store(false, Ordering::SeqCst);

@@ -1,4 +1,4 @@
-//! Which calls of a link may move bytes, and what of that its poll reports.
+//! The readiness of a stream: the calls that may move bytes, and the reports that are to come.
 ghost use Rattle.std.specs.Prelude.{◌≡◌, [], ◌∷◌, ◌++◌, true, Some, is_ok, is_some};
 ghost use Rattle.portmap_worker.specs.Link.{is_unsent, may_move, wanted};
 ghost use Rattle.portmap_worker.specs.Quiet.{asked, covers, is_left, is_read_due, is_room_due, watches};
@@ -10,39 +10,34 @@ use crate::system::Interest;
 use portmap_link::{GhostList, Pull, Put};
 use std::io;
 
-/// Whether a stream may have bytes. Its news are reported once.
+/// The read state of a stream. The poll is edge-triggered.
 #[derive(Clone, Copy, Debug, PartialEq, Eq)]
 pub(crate) enum Reading {
     Open,
-    /// It had none left, and nothing was reported since.
+    /// No byte was left, and nothing was reported since.
     Dry,
 }
 
-/// How the last write of a stream went, if there was one.
+/// The write state of a stream, by its last write.
 #[derive(Clone, Copy, Debug, PartialEq, Eq)]
 pub(crate) enum Writing {
-    /// Nothing waits to be written.
     Free,
-    /// Bytes wait, and may be written: a signal cut the write short, or the stream was reported since.
+    /// Bytes wait and may be written: a signal cut the write short, or the stream was reported since.
     CutShort,
     /// Bytes wait until the stream is reported.
     Waits,
 }
 
-/// What was done at a stream, or told of it.
+/// An event of a stream. Only proofs read notes.
 #[derive(Drop)]
 pub(crate) enum Note {
-    /// A read, which would have waited or not.
     Read { would_wait: bool },
-    /// A write with this answer.
     Wrote { answer: Put, would_wait: bool },
-    /// The poll was asked to report it.
     Watched(Interest),
-    /// The poll has reported it, or it is to be asked without that.
+    /// The poll has reported the stream, or the stream is tried without a report.
     Reported,
 }
 
-/// Which calls may move bytes, and what of that the poll reports. Only proofs read the notes.
 #[derive(Drop)]
 pub(crate) struct Readiness {
     pub(crate) reading: Reading,
@@ -56,7 +51,6 @@ pub(crate) struct Readiness {
 }
 
 impl Readiness {
-    /// That of a stream which has just come: it may have bytes.
     pub(crate) fn new() -> Readiness
         ensures { result.notes ≡ [] }
     {
@@ -68,7 +62,6 @@ impl Readiness {
         }
     }
 
-    /// Whether a call may do more than answer Later.
     pub(crate) fn may_move(&self) -> bool
         ensures { result ≡ may_move self.now.reading self.now.writing }
     {
@@ -79,14 +72,12 @@ impl Readiness {
         }
     }
 
-    /// Whether bytes wait to be written.
     pub(crate) fn is_unsent(&self) -> bool
         ensures { result ≡ is_unsent self.now.writing }
     {
         self.writing != Writing::Free
     }
 
-    /// What the poll is to report: that it may be read, and written too if bytes wait.
     pub(crate) fn wanted(&self) -> Interest
         ensures { result ≡ wanted self.now.writing }
     {
@@ -97,21 +88,18 @@ impl Readiness {
         }
     }
 
-    /// Whether the poll reports something of it.
     pub(crate) fn is_known(&self) -> bool
         ensures { result ≡ is_some self.now.watched }
     {
         self.watched.is_some()
     }
 
-    /// Whether the poll reports all that is wanted.
     pub(crate) fn is_watched(&self) -> bool
         ensures { result ≡ covers (is_unsent self.now.writing) self.now.watched }
     {
         self.watched == Some(Interest::Both) || self.watched == Some(self.wanted())
     }
 
-    /// The poll was asked to report all that is wanted, and has answered so. Whether it does from now on.
     pub(crate) fn note_watch(&mut self, outcome: io::Result<()>) -> bool
         ensures answer { result ≡ is_ok outcome }
         ensures reading { self.new.reading ≡ self.old.reading }
@@ -128,7 +116,7 @@ impl Readiness {
         true
     }
 
-    /// The poll has reported it, or it is to be asked without that.
+    /// Records a report, or that the stream is to be tried without one.
     pub(crate) fn on_report(&mut self)
         ensures moves { may_move self.new.reading self.new.writing ≡ true }
         ensures noted { self.new.notes ≡ self.old.notes ++ Reported ∷ [] }
@@ -140,9 +128,8 @@ impl Readiness {
         }
     }
 
-    /// A pull with so much room has answered so, and would have waited or not. If fewer bytes came than there was room
-    /// for no more were there. A stream that no poll reports yet is reported, once it is to be, with all that has come
-    /// by then: so it needn't be asked whether it is dry.
+    /// Records a pull into `room` bytes. After a short read of a stream that is not watched yet, no byte is left: once
+    /// watched, the stream is reported with all that arrived earlier.
     pub(crate) fn on_pull(&mut self, answer: &Pull, room: usize, is_blocked: bool)
         ensures { self.new.notes ≡ self.old.notes ++ Read is_blocked ∷ [] }
     {
@@ -157,7 +144,6 @@ impl Readiness {
         });
     }
 
-    /// A put has answered so, and would have waited or not.
     pub(crate) fn on_put(&mut self, answer: &Put, is_blocked: bool)
         ensures { self.new.notes ≡ self.old.notes ++ Wrote answer.now is_blocked ∷ [] }
     {

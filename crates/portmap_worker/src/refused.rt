@@ -1,4 +1,4 @@
-//! Names that were refused since they are in use, and the line that tells of them.
+//! Registrations that were refused since their names are in use, and the line that names them.
 ghost use Rattle.std.specs.Prelude.{◌≡◌, ◌↔◌, ◌+◌, ◌-◌, ◌^◌, ◌⊎◌, ◌++◌, min, true, Some, None, IfOk, IfSome};
 ghost use Rattle.std.specs.Prelude.{OnOk};
 ghost use Rattle.portmap_core.specs.Entry.{entry_in};
@@ -9,28 +9,26 @@ use itoa::Buffer;
 use portmap_core::{Entry, Name, NoMemory, name_to_register};
 use std::alloc::Global;
 
-/// What a node is told whose name is in use, by the version that it speaks.
+/// The reply to a registration of a name in use, by the version that the node speaks.
 const IN_USE: &[u8] = b"v\x01\0\0\0\0";
 
 const IN_USE_SHORT: &[u8] = b"y\x01\0\0";
 
-/// Whether a reply tells that a name is in use.
 fn says_in_use(reply: &[u8]) -> bool
     ensures { (result ≡ true) ↔ SaysInUse reply.now }
 {
     reply == IN_USE || reply == IN_USE_SHORT
 }
 
-/// The registrations that were refused since the operator was told of some.
+/// The registrations of names in use that were refused since the last notice of them.
 #[derive(Drop)]
 pub struct Refused {
-    /// The name that was asked for first. It is known of requests that came in one piece.
+    /// The first name that could be read from a request. A request has to arrive in one chunk for that.
     name: Option<Name>,
     count: u64,
 }
 
 impl Refused {
-    /// None was.
     pub fn new() -> Refused
         ensures name { result.name ≡ None }
         ensures count { result.count ≡ 0 }
@@ -41,14 +39,13 @@ impl Refused {
         }
     }
 
-    /// How many there were.
     pub fn count(&self) -> u64
         ensures { result ≡ self.now.count }
     {
         self.count
     }
 
-    /// Counts an entry of the log, if it refuses a name that is in use.
+    /// Counts an entry of the log if it refuses a name in use.
     pub fn note(&mut self, alloc: Global, entry: &Entry)
         ensures counted { IsInUse (entry_in entry.now) → self.new.count ≡ min (self.old.count + 1) (2 ^ 64 - 1) }
         ensures passed { (IsInUse (entry_in entry.now) → ⊥) → self.new ≡ self.old }
@@ -68,7 +65,7 @@ impl Refused {
         }
     }
 
-    /// The line that tells of the first of them, and how many more there were.
+    /// Returns the line that names the first refused name, and says how many more there were.
     pub fn line(&self, alloc: Global) -> Result<Vec<u8>, NoMemory>
         ensures { IfOk result (λ line. line.items ≡ in_use_line self.now.name (self.now.count - 1)) }
     {
@@ -87,7 +84,6 @@ impl Refused {
     }
 }
 
-/// Appends how many more there were of so many than the one that a line names.
 pub(crate) fn put_more(line: &mut Vec<u8>, count: u64) -> Result<(), NoMemory>
     ensures { OnOk result (line.new.items ≡ line.old.items ++ and_more (count - 1)) }
 {

@@ -1,4 +1,4 @@
-//! Requests of other hosts that were refused, and the line that names them.
+//! Refused requests of remote peers, and the line that names them.
 ghost use Rattle.std.specs.Prelude.{◌≡◌, ◌+◌, ◌-◌, ◌^◌, ◌⊎◌, min, false, None, IfOk, IfSome, slice_index_or, slice_set};
 ghost use Rattle.portmap_core.specs.Entry.{entry_in};
 ghost use Rattle.portmap_worker.specs.Remote.{AsksFor, IsRefusedFrom, first_of, remote_after, remote_line, words_for};
@@ -19,11 +19,9 @@ pub enum LocalRequest {
     Stop,
 }
 
-/// The words for a request that is not known.
 const A_REQUEST: &[u8] = b"a request";
 
 impl LocalRequest {
-    /// Returns the words that name it.
     fn words(self) -> &'static [u8]
         ensures { result.now ≡ words_for self }
     {
@@ -36,7 +34,6 @@ impl LocalRequest {
     }
 }
 
-/// Returns which of these requests a piece is, from its first byte on. Returns `None` too if memory runs out.
 fn local_request(alloc: Global, piece: &[u8]) -> Option<LocalRequest>
     ensures { IfSome result (λ asked. AsksFor piece.now asked) }
 {
@@ -53,20 +50,20 @@ fn local_request(alloc: Global, piece: &[u8]) -> Option<LocalRequest>
     }
 }
 
-/// The slots that peers of other hosts have, by the log: one flag for each slot.
+/// The slots of remote peers, by the log: one flag for each slot.
 #[derive(Drop)]
 pub struct RemoteSlots {
     flags: Vec<bool>,
 }
 
 impl RemoteSlots {
-    /// Returns the slots of a log that has no entry, of which there are so many.
+    /// Returns the slots of an empty log, `places` in number.
     pub fn new(alloc: Global, places: u32) -> Result<RemoteSlots, NoMemory> {
         let flags = vec![in alloc; false; places as usize]?;
         Ok(RemoteSlots { flags })
     }
 
-    /// Notes an entry of the log. It takes no memory.
+    /// Applies an entry of the log. Never allocates.
     pub fn note(&mut self, entry: &Entry)
         ensures { self.new.flags.items ≡ remote_after (entry_in entry.now) self.old.flags.items }
     {
@@ -85,7 +82,7 @@ impl RemoteSlots {
         }
     }
 
-    /// Returns whether a peer of another host has this slot.
+    /// Returns whether a remote peer has this slot.
     pub fn has(&self, slot: u64) -> bool
         ensures { result ≡ slice_index_or self.now.flags.items slot false }
     {
@@ -93,7 +90,7 @@ impl RemoteSlots {
     }
 }
 
-/// The requests of other hosts that were refused since the operator read of some.
+/// The refused requests of remote peers since the last notice of them.
 #[derive(Drop)]
 pub struct RemoteRefused {
     first: Option<LocalRequest>,
@@ -101,7 +98,6 @@ pub struct RemoteRefused {
 }
 
 impl RemoteRefused {
-    /// Returns the value for which none was refused.
     pub fn new() -> RemoteRefused
         ensures first { result.first ≡ None }
         ensures count { result.count ≡ 0 }
@@ -112,21 +108,19 @@ impl RemoteRefused {
         }
     }
 
-    /// Returns how many there were.
     pub fn count(&self) -> u64
         ensures { result ≡ self.now.count }
     {
         self.count
     }
 
-    /// Returns what the first of them asked for.
     pub fn first(&self) -> Option<LocalRequest>
         ensures { result ≡ self.now.first }
     {
         self.first
     }
 
-    /// Counts an entry of the log if it refuses such a request to a peer of another host, which have these slots.
+    /// Counts an entry of the log if it refuses such a request to a peer with one of these slots.
     pub fn note(&mut self, alloc: Global, slots: &RemoteSlots, entry: &Entry)
         ensures { (self.new ≡ self.old) ⊎ ((asked : LocalRequest)
             × IsRefusedFrom slots.now.flags.items (entry_in entry.now) asked
@@ -139,7 +133,7 @@ impl RemoteRefused {
         }
     }
 
-    /// Returns the line that names the first of them, and how many more there were.
+    /// Returns the line that names the first refused request, and says how many more there were.
     pub fn line(&self, alloc: Global) -> Result<Vec<u8>, NoMemory>
         ensures { IfOk result (λ line. line.items ≡ remote_line self.now.first (self.now.count - 1)) }
     {
@@ -153,8 +147,7 @@ impl RemoteRefused {
     }
 }
 
-/// Returns what a peer of another host asked for and was refused, if the entry is such a refusal. Returns `None` too if
-/// memory runs out.
+/// Returns what a remote peer asked for, if the entry refuses that. Returns `None` too if memory runs out.
 fn refused_in(alloc: Global, slots: &RemoteSlots, entry: &Entry) -> Option<LocalRequest>
     ensures { IfSome result (λ asked. IsRefusedFrom slots.now.flags.items (entry_in entry.now) asked) }
 {

@@ -1,5 +1,4 @@
-//! When a worker asks its poll, and when it looks at all of its links. Times are in milliseconds since the daemon
-//! began.
+//! The times of a worker's polls and scans, in milliseconds since the daemon began.
 ghost use Rattle.std.specs.Prelude.{◌≡◌, ◌↔◌, ◌+◌, ◌-◌, ◌/◌, ◌≤◌, ◌<◌, ◌^◌, true, false, cond, min, max, Some};
 ghost use Rattle.portmap_worker.specs.Pending.{earliest};
 ghost use Rattle.portmap_worker.specs.declared.limits.TheConstants.{IDLE_TIMEOUT_MS, SCAN_INTERVAL_MS};
@@ -9,8 +8,6 @@ use crate::accept_scheduler::LoadMeter;
 use crate::epochs::Pass;
 use crate::limits::{IDLE_TIMEOUT_MS, SCAN_INTERVAL_MS, SHORT_TIMEOUT_MS};
 
-/// How many milliseconds a poll may wait: not at all while there is something to do; else until this time, but at least
-/// a moment.
 pub(crate) fn poll_timeout(is_busy: bool, now: u64, until: u64) -> u64
     ensures busy { is_busy ≡ true → result ≡ 0 }
     ensures waits { is_busy ≡ false → result ≡ max (until - now) SHORT_TIMEOUT_MS }
@@ -22,7 +19,6 @@ pub(crate) fn poll_timeout(is_busy: bool, now: u64, until: u64) -> u64
     }
 }
 
-/// The earlier of two times, of which one is perhaps not set.
 fn earliest(time: Option<u64>, other: u64) -> u64
     ensures { result ≡ earliest time other }
 {
@@ -32,22 +28,17 @@ fn earliest(time: Option<u64>, other: u64) -> u64
     }
 }
 
-/// What a worker knows of its polls.
 #[derive(Drop)]
 pub(crate) struct LoopState {
-    /// The time when the poll answered last.
     pub(crate) time: u64,
     pub(crate) pass: Pass,
-    /// Until when the poll may wait for those that are pending, if any is.
     pub(crate) pending_until: Option<u64>,
-    /// When the next look is due, and the time of the last one.
     look_due: u64,
     pub(crate) looked: u64,
     pub(crate) load: LoadMeter,
 }
 
 impl LoopState {
-    /// The poll was never asked.
     pub(crate) fn new() -> LoopState {
         LoopState {
             time: 0,
@@ -59,7 +50,7 @@ impl LoopState {
         }
     }
 
-    /// The poll has answered at this time, in microseconds. Whether a millisecond is over since it answered last.
+    /// Records that the poll returned at `after`, in microseconds. Returns whether a new millisecond began since then.
     pub(crate) fn on_polled(&mut self, after: u64) -> bool
         ensures over { (result ≡ true) ↔ (self.old.time < after / 1000) }
         ensures time { self.new ≡ record self.old { time = after / 1000 } }
@@ -69,15 +60,13 @@ impl LoopState {
         before < self.time
     }
 
-    /// The poll may wait until this time for one more that is pending.
     pub(crate) fn set_deadline(&mut self, until: u64)
         ensures { self.new ≡ record self.old { pending_until = Some (earliest self.old.pending_until until) } }
     {
         self.pending_until = Some(earliest(self.pending_until, until));
     }
 
-    /// Until when a poll may wait: for what is pending, and for the next look, or a while where there is nothing to
-    /// look at.
+    /// Returns the time until which a poll may wait, for pending registrations and for the next scan.
     pub(crate) fn until(&self, is_idle: bool) -> u64
         ensures { result ≡ earliest self.now.pending_until
             (cond is_idle (min (self.now.time + IDLE_TIMEOUT_MS) (2 ^ 64 - 1)) self.now.look_due) }
@@ -90,14 +79,12 @@ impl LoopState {
         earliest(self.pending_until, look)
     }
 
-    /// Whether all links are to be looked at.
     pub(crate) fn is_scan_due(&self) -> bool
         ensures { (result ≡ true) ↔ (self.now.look_due ≤ self.now.time) }
     {
         self.time >= self.look_due
     }
 
-    /// All links were looked at.
     pub(crate) fn on_scan(&mut self)
         ensures { self.new ≡ record self.old {
           looked = self.old.time;

@@ -1,4 +1,4 @@
-//! One worker: it serves what a source brings.
+//! One worker, which serves the links of a source.
 ghost use Rattle.std.specs.Prelude.{◌≡◌, ◌≢◌, ◌+◌, ◌≤◌, ℕ, false, None, is_ok, is_some};
 ghost use Rattle.std.specs.Ordering.{nat_cmp};
 ghost use Rattle.std.specs.BTreeMap.{get};
@@ -18,15 +18,14 @@ use std::collections::btree_map::Entry;
 use std::sync::Wait;
 use std::sync::ledger::Ledger;
 
-/// What a worker ends with.
+/// The end of a worker.
 #[derive(Drop)]
 pub struct Outcome<L: Ledger> {
     pub seat: Seat<L>,
-    /// How many acts it made at the desk.
+    /// The number of acts that the worker made at the desk.
     pub served: u64,
 }
 
-/// The connections that a worker holds, and what it serves them with.
 #[derive(Drop)]
 struct Holder<'a, L: Ledger, G: Gate, R: Wait> {
     rt: &'a R,
@@ -35,7 +34,6 @@ struct Holder<'a, L: Ledger, G: Gate, R: Wait> {
     number: u32,
     gate: &'a G,
     seat: Seat<L>,
-    /// By the keys of their links.
     held: BTreeMap<u64, Carrier<L>>,
 }
 
@@ -45,7 +43,7 @@ impl<I: Input + Output, L: Ledger, G: Gate, R: Wait> Serve<I> for Holder<'_, L, 
 
     ghost becomes = { λ old new. (old.seat.count ≤ new.seat.count) × HeldAlike old.held new.held };
 
-    /// At the last there are at most `LAST_TRIES_MOST` tries.
+    /// If `is_last`, it flushes at most `LAST_TRIES_MOST` times.
     fn serve(&mut self, key: u64, is_last: bool, link: &mut I) -> Next {
         let Some(carrier) = self.held.get_mut(&key) else {
             return Next::Keep;
@@ -72,8 +70,7 @@ impl<I: Input + Output, L: Ledger, G: Gate, R: Wait> Serve<I> for Holder<'_, L, 
 }
 
 impl<L: Ledger, G: Gate, R: Wait> Holder<'_, L, G, R> {
-    /// Holds a new connection, whose link it is by now. Room for it is taken first, so that what the desk has opened is
-    /// held.
+    /// Holds a connection. Room for it is reserved first, so that all that the desk has opened is held.
     fn hold(&mut self, key: u64, local: bool) -> Result<(), ActFault>
         ensures count { self.old.seat.count ≤ self.new.seat.count }
         ensures held { is_some (get nat_cmp self.new.held key) ≡ is_ok result }
@@ -92,7 +89,6 @@ impl<L: Ledger, G: Gate, R: Wait> Holder<'_, L, G, R> {
         }
     }
 
-    /// The time of a connection is over. What is next for it, if it is held.
     fn expire(&mut self, key: u64) -> Option<Next>
         ensures count { self.old.seat.count ≤ self.new.seat.count }
         ensures held { self.new.held ≡ self.old.held }
@@ -101,7 +97,6 @@ impl<L: Ledger, G: Gate, R: Wait> Holder<'_, L, G, R> {
         Some(carrier.late(self.rt, self.alloc, self.desk, &mut self.seat))
     }
 
-    /// The connections that are done and of which nothing waits to be written: as many of them as there is memory for.
     fn done(&self) -> Vec<u64> {
         let mut done = Vec::new(self.alloc);
         for (key, carrier) in &self.held {
@@ -112,7 +107,6 @@ impl<L: Ledger, G: Gate, R: Wait> Holder<'_, L, G, R> {
         done
     }
 
-    /// Gives up a connection, if it is held, as one that was closed.
     fn release(&mut self, key: u64)
         ensures count { self.old.seat.count ≤ self.new.seat.count }
         ensures gone { get nat_cmp self.new.held key ≡ None }
@@ -124,7 +118,6 @@ impl<L: Ledger, G: Gate, R: Wait> Holder<'_, L, G, R> {
         }
     }
 
-    /// Gives up a connection, if it is held, as one that failed.
     fn fail(&mut self, key: u64)
         ensures count { self.old.seat.count ≤ self.new.seat.count }
         ensures gone { get nat_cmp self.new.held key ≡ None }
@@ -136,7 +129,6 @@ impl<L: Ledger, G: Gate, R: Wait> Holder<'_, L, G, R> {
         }
     }
 
-    /// Closes all that it holds, and gives its seat back.
     fn leave(self) -> Seat<L>
         ensures { self.entry.seat.count ≤ result.count }
     {
@@ -159,7 +151,7 @@ pub struct Worker<'a, L: Ledger, S: LinkSource, G: Gate, R: Wait> {
 }
 
 impl<'a, L: Ledger, S: LinkSource + Drop, G: Gate, R: Wait> Worker<'a, L, S, G, R> {
-    /// A worker that holds no connection. It has the number of its seat.
+    /// Returns a worker that holds no connection. It has the number of its seat.
     pub fn new(
         rt: &'a R,
         alloc: Global,
@@ -183,7 +175,7 @@ impl<'a, L: Ledger, S: LinkSource + Drop, G: Gate, R: Wait> Worker<'a, L, S, G, 
         Worker { source, holder }
     }
 
-    /// Does what its source tells next. Whether there is more to do.
+    /// Does what its source returns next. Returns whether there is more to do.
     pub fn turn(&mut self) -> bool
         ensures count { self.old.holder.seat.count ≤ self.new.holder.seat.count }
         ensures agree { Agree self.old.holder.held (S.has self.old.source)
@@ -193,19 +185,16 @@ impl<'a, L: Ledger, S: LinkSource + Drop, G: Gate, R: Wait> Worker<'a, L, S, G, 
         self.take(turn)
     }
 
-    /// Where its links come from.
     pub fn source(&mut self) -> &mut S {
         &mut self.source
     }
 
-    /// How many acts it made at the desk with its seat.
     pub fn acts(&self) -> u64
         ensures { result ≡ self.now.holder.seat.count }
     {
         self.holder.seat.count()
     }
 
-    /// Goes on with what the source tells. Whether there is more to do.
     fn take(&mut self, turn: Turn) -> bool
         ensures count { self.old.holder.seat.count ≤ self.new.holder.seat.count }
         ensures agree { AgreeBut turn self.old.holder.held (S.has self.old.source)
@@ -220,7 +209,6 @@ impl<'a, L: Ledger, S: LinkSource + Drop, G: Gate, R: Wait> Worker<'a, L, S, G, 
         }
     }
 
-    /// A connection has come. Whether there is more to do.
     fn open(&mut self, key: u64, local: bool) -> bool
         ensures count { self.old.holder.seat.count ≤ self.new.holder.seat.count }
         ensures agree { AgreeBut (Turn.Fresh key local) self.old.holder.held (S.has self.old.source)
@@ -233,7 +221,6 @@ impl<'a, L: Ledger, S: LinkSource + Drop, G: Gate, R: Wait> Worker<'a, L, S, G, 
         next_of(fault) != Next::Halt
     }
 
-    /// There is news of a link.
     fn go_on(&mut self, key: u64) -> bool
         ensures count { self.old.holder.seat.count ≤ self.new.holder.seat.count }
         ensures agree { Agree self.old.holder.held (S.has self.old.source)
@@ -246,7 +233,6 @@ impl<'a, L: Ledger, S: LinkSource + Drop, G: Gate, R: Wait> Worker<'a, L, S, G, 
         }
     }
 
-    /// The time of a connection is over.
     fn expire(&mut self, key: u64) -> bool
         ensures count { self.old.holder.seat.count ≤ self.new.holder.seat.count }
         ensures agree { Agree self.old.holder.held (S.has self.old.source)
@@ -258,7 +244,6 @@ impl<'a, L: Ledger, S: LinkSource + Drop, G: Gate, R: Wait> Worker<'a, L, S, G, 
         }
     }
 
-    /// Does what is next for a connection. Whether there is more to do.
     fn follow(&mut self, key: u64, next: Next) -> bool
         ensures count { self.old.holder.seat.count ≤ self.new.holder.seat.count }
         ensures agree { Agree self.old.holder.held (S.has self.old.source)
@@ -284,7 +269,7 @@ impl<'a, L: Ledger, S: LinkSource + Drop, G: Gate, R: Wait> Worker<'a, L, S, G, 
         }
     }
 
-    /// Closes the connections that another one has stopped. Whether the port mapper goes on.
+    /// Closes the connections that another worker has stopped. Returns false if the port mapper has halted.
     fn look_round(&mut self) -> bool
         ensures count { self.old.holder.seat.count ≤ self.new.holder.seat.count }
         ensures agree { Agree self.old.holder.held (S.has self.old.source)
@@ -300,7 +285,7 @@ impl<'a, L: Ledger, S: LinkSource + Drop, G: Gate, R: Wait> Worker<'a, L, S, G, 
         true
     }
 
-    /// Closes all that it holds, and gives its seat back.
+    /// Closes all connections, and returns the seat.
     pub fn leave(self) -> Seat<L>
         ensures { self.entry.holder.seat.count ≤ result.count }
     {
@@ -312,9 +297,9 @@ impl<'a, L: Ledger, S: LinkSource + Drop, G: Gate, R: Wait> Worker<'a, L, S, G, 
     }
 }
 
-/// Serves what the source brings at the desk, until the source stops or the port mapper has ended, and closes what it
-/// still holds. The gate is passed with this number, which is the seat's. It waits: for the desk's lock, and as the
-/// source does.
+/// Serves the links of a source at the desk, until the source stops or the port mapper has halted. Then it closes all
+/// connections that are left. The gate is passed with `number`, which is the seat's. This call blocks: for the desk's
+/// lock, and as the source does.
 pub fn serve<'a, L: Ledger, S: Source + Drop, G: Gate, R: Wait>(
     rt: &'a R,
     alloc: Global,

@@ -1,4 +1,4 @@
-//! What the threads of a daemon share.
+//! The values that the threads of a daemon share.
 ghost use Rattle.std.specs.Prelude.{◌≡◌, vec_len, IfOk};
 
 use crate::ending::Shutdown;
@@ -13,25 +13,22 @@ use std::rt::Clock;
 use std::sync::atomic::{AtomicBool, AtomicU64, Ordering};
 use std::time::Duration;
 
-/// A worker that waits at its poll is busy since then.
+/// The value of `busy_since` while a worker waits at its poll.
 pub(crate) const IDLE: u64 = u64::MAX;
 
-/// What the other threads know of a worker.
+/// The part of a worker that the other threads know.
 #[derive(Drop)]
 pub struct WorkerState<W: Wake> {
     waker: W,
-    /// How many registrations are pending at it.
     pub(crate) pending: AtomicU64,
-    /// The last poll epoch that it has passed.
     pub(crate) epoch: AtomicU64,
-    /// Since when it has been busy, in milliseconds.
+    /// The time since which the worker is busy, in milliseconds, or `IDLE`.
     pub(crate) busy_since: AtomicU64,
-    /// How many acts it made, once it has ended.
     pub(crate) served: AtomicU64,
 }
 
 impl<W: Wake> WorkerState<W> {
-    /// A worker that has not begun, whose poll this waker ends. Until it has polled it is busy since the daemon began.
+    /// Returns the state of a worker that has not begun. Until its first poll it counts as busy since the daemon began.
     pub fn new(waker: W) -> WorkerState<W> {
         WorkerState {
             waker,
@@ -42,35 +39,33 @@ impl<W: Wake> WorkerState<W> {
         }
     }
 
-    /// Ends its wait.
     pub(crate) fn wake(&self) {
         self.waker.wake();
     }
 }
 
-/// What threads share. Workers have numbers from 0.
+/// The values that the threads of a daemon share. Workers have indices from 0.
 #[derive(Drop)]
 pub struct Shared<W: Wake> {
     pub workers: Vec<WorkerState<W>>,
-    /// Ends the wait of the thread that takes out the log.
+    /// The waker of the main thread, which drains the log.
     drain: W,
-    /// When the daemon began, by the clock that only goes on; if it could not be read, when that began.
+    /// The time when the daemon began, by the monotonic clock, or 0 if that could not be read.
     begun: Duration,
     pub(crate) quota: Quota,
     pub(crate) unsent: AllUnsent,
-    /// How many workers accept connections: the first ones, at least one.
+    /// The number of workers that accept connections: at least 1, and those with the lowest indices.
     pub(crate) acceptors: AtomicU64,
-    /// The last poll epoch that has begun.
     pub(crate) epoch: AtomicU64,
-    /// The reserve of memory is given back, for the log and for look-ups: no registration is taken.
+    /// The reserve of memory is freed, for the log and for lookups. Registrations are refused.
     pub(crate) short: AtomicBool,
     pub ending: Shutdown,
     pub noted: SharedActivity,
 }
 
 impl<W: Wake> Shared<W> {
-    /// What the threads of a daemon share that begins, with so many places for connections, and room for so many bytes
-    /// that wait to be written.
+    /// Returns what the threads of a new daemon share. It has `places` permits, and resets connections if more than
+    /// `unsent_bytes_most` bytes wait to be written.
     pub fn new<R: Clock>(
         rt: &R,
         workers: Vec<WorkerState<W>>,
@@ -94,13 +89,11 @@ impl<W: Wake> Shared<W> {
         }
     }
 
-    /// The microseconds since the daemon began; none if the clock can't be read.
     pub(crate) fn time_us<R: Clock>(&self, rt: &R) -> Option<u64> {
         let time = rt.monotonic().ok()?.saturating_sub(self.begun);
         u64::try_from(time.as_micros()).ok()
     }
 
-    /// Ends the wait of every worker but this one.
     pub(crate) fn wake_others(&self, worker: usize) {
         for (other, state) in self.workers.iter().enumerate() {
             if other != worker {
@@ -109,7 +102,7 @@ impl<W: Wake> Shared<W> {
         }
     }
 
-    /// A connection of a worker has ended: perhaps it had a name for which a registration is pending at another one.
+    /// Wakes the other workers that have pending registrations, since an ended connection may have freed a name.
     pub(crate) fn wake_pending(&self, worker: usize) {
         for (other, state) in self.workers.iter().enumerate() {
             if other != worker && state.pending.load(Ordering::SeqCst) > 0 {
@@ -118,12 +111,11 @@ impl<W: Wake> Shared<W> {
         }
     }
 
-    /// Ends the wait of the thread that takes out the log.
     pub(crate) fn wake_drain(&self) {
         self.drain.wake();
     }
 
-    /// A worker has ended after so many acts, and all others are to end.
+    /// Records that a worker has ended after `served` acts, and stops all others.
     pub fn end_worker(&self, worker: usize, served: u64) {
         if let Some(state) = self.workers.get(worker) {
             state.served.store(served, Ordering::SeqCst);
@@ -132,7 +124,7 @@ impl<W: Wake> Shared<W> {
         self.stop_all();
     }
 
-    /// Has every worker end, and the thread that takes out the log look for that.
+    /// Stops every worker, and wakes the main thread.
     pub fn stop_all(&self) {
         self.ending.stop();
         for state in &self.workers {
@@ -141,7 +133,7 @@ impl<W: Wake> Shared<W> {
         self.wake_drain();
     }
 
-    /// How many acts each worker made.
+    /// Returns how many acts each worker made.
     pub fn counts(&self, alloc: Global) -> Result<Vec<u64>, NoMemory>
         ensures { IfOk result (λ counts. vec_len counts ≡ vec_len self.now.workers) }
     {

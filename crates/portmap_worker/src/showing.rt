@@ -1,4 +1,4 @@
-//! Bytes as they are printed: what a terminal may obey is escaped.
+//! Bytes as they are printed, with escapes for what a terminal may obey.
 ghost use Rattle.std.specs.Prelude.{◌≡◌, ◌<◌, ◌≤◌, ◌^◌, ◌++◌, get_or, length, IfOk, IfSome, OnOk};
 ghost use Rattle.portmap_record.specs.Transcript.{hex_digits};
 ghost use Rattle.portmap_worker.specs.Showing.{ControlsAreEscaped, PlainTextStays, character, continues, escape, front};
@@ -15,7 +15,7 @@ fn is_within(code: u32, least: u32, most: u32) -> bool
     least <= code && code <= most
 }
 
-/// Returns the byte at `place`, or 0 behind the end: 0 continues no character.
+/// Returns the byte at `place`, or 0 after the end. A 0 continues no character.
 fn byte_at(bytes: &[u8], place: usize) -> u32
     ensures value { result ≡ get_or bytes.now place 0 }
     ensures small { result < 2 ^ 8 }
@@ -33,14 +33,12 @@ fn continues(byte: u32) -> bool
     is_within(byte, 128, 191)
 }
 
-/// Returns true for the codes that take three bytes: not those of less, and no surrogates.
 fn is_of_three(code: u32) -> bool
     ensures { result ≡ is_of_three code }
 {
     is_within(code, 2048, 55_295) || is_within(code, 57_344, 65_535)
 }
 
-/// Returns the code of the character whose UTF-8 `bytes` begin with, and how many bytes it takes.
 fn character(bytes: &[u8]) -> Option<(u32, usize)>
     requires { 0 < length bytes.now }
     ensures is { result ≡ character bytes.now }
@@ -70,7 +68,7 @@ fn character(bytes: &[u8]) -> Option<(u32, usize)>
     None
 }
 
-/// Returns true for controls but the end of a line, and for what is printed as nothing or turns the text around.
+/// Returns true for controls except the end of a line, for characters without width, and for marks of direction.
 fn is_hidden(code: u32) -> bool
     ensures { result ≡ is_hidden code }
 {
@@ -97,7 +95,7 @@ fn put_hex(text: &mut Vec<u8>, byte: u32) -> Result<(), NoMemory>
     text.extend_from_slice(&[high, low])
 }
 
-/// Appends a code with as many digits as Python writes it with: two, four or eight.
+/// Appends an escape with as many digits as Python uses: two, four or eight.
 fn put_escape(text: &mut Vec<u8>, code: u32) -> Result<(), NoMemory>
     requires { code < 2 ^ 24 }
     ensures { OnOk result (text.new.items ≡ text.old.items ++ escape code) }
@@ -116,8 +114,8 @@ fn put_escape(text: &mut Vec<u8>, code: u32) -> Result<(), NoMemory>
     put_hex(text, code % 256)
 }
 
-/// Appends what is printed of the first character, or of the first byte where none begins. Returns how many bytes
-/// behind the first one belong to it.
+/// Appends what is printed of the first character, or of the first byte if no character begins there. Returns how many
+/// more bytes belong to it.
 fn put_front(text: &mut Vec<u8>, bytes: &[u8]) -> Result<usize, NoMemory>
     requires { 0 < length bytes.now }
     ensures text { OnOk result (text.new.items ≡ text.old.items ++ front bytes.now) }
@@ -139,7 +137,7 @@ fn put_front(text: &mut Vec<u8>, bytes: &[u8]) -> Result<usize, NoMemory>
     }
 }
 
-/// Returns `bytes` as they are printed: characters that a terminal may obey, and bytes that are no UTF-8, are escaped
+/// Returns `bytes` as they are printed. Characters that a terminal may obey, and bytes that are not UTF-8, are escaped
 /// as epmd-log does it.
 #[tactic(auto, using(crate::proofs::Escaping::steps))]
 pub fn shown(alloc: Global, bytes: &[u8]) -> Result<Vec<u8>, NoMemory>
@@ -157,12 +155,12 @@ pub fn shown(alloc: Global, bytes: &[u8]) -> Result<Vec<u8>, NoMemory>
     Ok(text)
 }
 
-/// Text of printable ASCII and ends of lines is printed as it is.
+/// Printable ASCII and ends of lines are printed unchanged.
 pub fn plain_text_stays()
     ensures { PlainTextStays }
 {}
 
-/// What is printed has no control of ASCII but ends of lines.
+/// A printed text has no ASCII controls except ends of lines.
 pub fn controls_are_escaped()
     ensures { ControlsAreEscaped }
 {}

@@ -27,30 +27,26 @@ use std::sync::Wait;
 use std::sync::atomic::Ordering;
 use std::sync::ledger::Ledger;
 
-/// A worker's sockets and links, with the desk and what it shares with the other workers. Times are in milliseconds
-/// since the daemon began.
+/// A worker's sockets, its links and what it shares. Times are in milliseconds since the daemon began.
 #[derive(Drop)]
 pub struct SocketSource<'a, L: Ledger, S: System, R: Host + Wait + Clock> {
     pub(crate) rt: &'a R,
     pub(crate) alloc: Global,
     pub(crate) desk: &'a Desk<L>,
     pub(crate) shared: &'a Shared<S::Waker>,
-    /// What the others know of this worker.
     pub(crate) state: &'a WorkerState<S::Waker>,
     pub(crate) sockets: Sockets<S>,
-    /// The links, each at its place.
     pub(crate) ready: Links<'a, S::Stream>,
     pub(crate) door: Admission<S::Stream>,
     pub(crate) schedule: Schedule,
     pub(crate) rounds: LoopState,
-    /// What is to be told to others soon.
     pub(crate) tally: WorkerActivity,
-    /// More bytes may wait to be written than may, over all connections.
+    /// More bytes may wait to be written, over all connections, than the limit allows.
     pub(crate) looks_for_unread: bool,
 }
 
 impl<'a, L: Ledger, S: System, R: Host + Wait + Clock> SocketSource<'a, L, S, R> {
-    /// The source of a worker that has no link yet; none if it is none of those that share this.
+    /// Returns the source of a worker without links, or `None` if `shared` has no worker of this number.
     pub fn new(
         rt: &'a R,
         alloc: Global,
@@ -78,14 +74,12 @@ impl<'a, L: Ledger, S: System, R: Host + Wait + Clock> SocketSource<'a, L, S, R>
         })
     }
 
-    /// The microseconds since the daemon began. If the clock can't be read, a millisecond passes with each answer of
-    /// the poll.
+    /// Returns the microseconds since the daemon began. Without a clock, each poll takes a millisecond.
     pub(crate) fn time_us(&self) -> u64 {
         let next = self.rounds.time.saturating_add(1).saturating_mul(1000);
         self.shared.time_us(self.rt).unwrap_or(next)
     }
 
-    /// A link has moved so many bytes. Has the log taken out if it has become heavy.
     fn on_moved(&mut self, bytes: usize)
         ensures ready { self.new.ready ≡ self.old.ready }
         ensures schedule { self.new.schedule ≡ self.old.schedule }
@@ -95,7 +89,7 @@ impl<'a, L: Ledger, S: System, R: Host + Wait + Clock> SocketSource<'a, L, S, R>
         }
     }
 
-    /// A link is given up, and is no longer among those that are held.
+    /// Publishes the end of a link that has left the scheduler, and wakes workers with pending registrations.
     fn note_end(&mut self, mut held: OpenLink<'a, S::Stream>)
         ensures ready { self.new.ready ≡ self.old.ready }
         ensures schedule { self.new.schedule ≡ self.old.schedule }
@@ -112,7 +106,7 @@ impl<'a, L: Ledger, S: System, R: Host + Wait + Clock> SocketSource<'a, L, S, R>
         }
     }
 
-    /// What was told last goes where there is more to tell of it, where it rests, or where the poll is to report it.
+    /// Ends the turn of the current link: it is queued again, paused, or left until the poll reports it.
     fn requeue(&mut self)
         ensures current { self.new.ready.current ≡ None }
         ensures links { Keeps self.old.ready self.new.ready }
@@ -128,7 +122,7 @@ impl<'a, L: Ledger, S: System, R: Host + Wait + Clock> SocketSource<'a, L, S, R>
         self.tally.on_written(moved.has_written);
     }
 
-    /// What is to be told without a poll. A connection that comes and a link that is held are told by turns.
+    /// Returns a turn without a poll. New connections and queued links alternate, except in a burst.
     fn next(&mut self) -> Option<Turn>
         requires { self.old.ready.current ≡ None }
         ensures none { IfNone result (self.new.ready.current ≡ None) }
@@ -150,7 +144,7 @@ impl<'a, L: Ledger, S: System, R: Host + Wait + Clock> SocketSource<'a, L, S, R>
         self.pop()
     }
 
-    /// A new connection, if one is served before the queue, and what is given up for it.
+    /// Returns the turn of a new connection, or of a link that is evicted for it, if admission is next.
     fn accept(&mut self) -> Option<Turn>
         ensures current { self.new.ready.current ≡ self.old.ready.current }
         ensures links { Tells self.old.ready self.new.ready result }
@@ -167,12 +161,12 @@ impl<'a, L: Ledger, S: System, R: Host + Wait + Clock> SocketSource<'a, L, S, R>
         Some(turn)
     }
 
-    /// The link with this key, if there is one, to look at.
+    /// Returns the link with this key, to look at.
     pub fn held(&self, key: u64) -> Option<&Link<S::Stream>> {
         Some(&self.ready.get(key as usize)?.link)
     }
 
-    /// The next thing to do, if there is one without a poll or by the next one.
+    /// Returns the next turn, or `None` after a poll that yields none.
     pub fn step(&mut self) -> Option<Turn>
         ensures links { TellsLinks self.old.ready self.new.ready result }
         ensures nears { IsStep
@@ -194,7 +188,7 @@ impl<'a, L: Ledger, S: System, R: Host + Wait + Clock> SocketSource<'a, L, S, R>
         self.poll()
     }
 
-    /// The link that has waited longest of those of which there is something to tell.
+    /// Returns the turn of the first link in the queue, after it has become the current link.
     fn pop(&mut self) -> Option<Turn>
         requires { self.old.ready.current ≡ None }
         ensures first { IfSome result (λ turn. IsOf (slice_get self.old.ready.queue 0) turn) }
@@ -240,7 +234,7 @@ impl<L: Ledger, S: System, R: Host + Wait + Clock> LinkSource for SocketSource<'
         Turn::Idle
     }
 
-    /// The link is queued first, so that whatever is done to it, no news of it are missed.
+    /// The link is queued first, so that no event of it is missed, whatever is done to it.
     fn lend<U: Serve<Self::Link>>(
         &mut self,
         key: u64,

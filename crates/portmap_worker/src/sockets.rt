@@ -13,16 +13,16 @@ use std::alloc::Global;
 /// The sockets of one worker.
 #[derive(Drop)]
 pub struct Sockets<S: System> {
-    /// Which worker it is, from 0.
+    /// The index of the worker, from 0.
     pub worker: usize,
-    /// How many milliseconds a link may move no byte.
+    /// The time after which a connection times out, in milliseconds.
     pub timeout: u64,
     pub(crate) system: S,
     pub(crate) listeners: Listeners,
 }
 
 impl<S: System> Sockets<S> {
-    /// The sockets of this worker. The first one accepts.
+    /// Returns the sockets of a worker. At first the worker with index 0 accepts alone.
     pub fn new(
         alloc: Global,
         worker: usize,
@@ -42,15 +42,14 @@ impl<S: System> Sockets<S> {
         })
     }
 
-    /// The number of its seat: workers have them from 1.
+    /// Returns the number of the worker's seat. Seats are numbered from 1.
     pub fn number(&self) -> u32
         ensures { result ≡ min (self.now.worker + 1) (2 ^ 32 - 1) }
     {
         u32::try_from(self.worker.saturating_add(1)).unwrap_or(u32::MAX)
     }
 
-    /// Asks the poll, which may wait for so many milliseconds where nothing is to be told, and notes what it reports.
-    /// False if it has failed.
+    /// Polls, and handles the reports. It waits only while no link is queued. Returns false if the poll failed.
     pub(crate) fn ask(&mut self, links: &mut Links<'_, S::Stream>, timeout: u64) -> bool
         requires { 0 < timeout → links.old.queue ≡ [] }
         ensures noted { result ≡ true → IfSome (S.reports self.new.system)
@@ -64,7 +63,6 @@ impl<S: System> Sockets<S> {
         true
     }
 
-    /// Notes what the poll has reported.
     fn take_events(&mut self, links: &mut Links<'_, S::Stream>)
         ensures system { self.new.system ≡ self.old.system }
         ensures noted { IfSome (S.reports self.old.system)
@@ -79,7 +77,6 @@ impl<S: System> Sockets<S> {
         }
     }
 
-    /// Notes one of the reports.
     fn take_event(&mut self, links: &mut Links<'_, S::Stream>, event: Report)
         ensures system { self.new.system ≡ self.old.system }
         ensures noted { (key : ℕ) → noted_at links.new key ≡ hears key (noted_at links.old key) event }
@@ -92,8 +89,8 @@ impl<S: System> Sockets<S> {
         }
     }
 
-    /// Has the poll report all that there is, without waiting. It tells what came first before what came later, so as
-    /// many answers as hold one report of each that is watched are enough. False if it has failed.
+    /// Polls without a wait until nothing is left to report. The poll reports events in order, so as many calls are
+    /// enough as hold one report of each stream and listener. Returns false if a poll failed.
     pub(crate) fn ask_for_all(&mut self, links: &mut Links<'_, S::Stream>) -> bool
         ensures { Keeps links.old links.new }
     {

@@ -1,63 +1,61 @@
-//! Where links come from, and what there is to do with them.
+//! Sources of links, and the turns of a worker.
 ghost use Rattle.std.specs.Prelude.{◌≡◌, ℕ, Bool, IfNone, IfSome, is_some};
 ghost use Rattle.portmap_worker.specs.Keys.{Comes, Ends, Stay};
 
 use crate::Next;
 use portmap_link::{Input, Output};
 
-/// What a source has to tell.
+/// The next thing that a worker has to do.
 #[derive(Clone, Copy, Debug, PartialEq, Eq)]
 pub enum Turn {
-    /// A connection has come, from this host or from another one, and its link has this key from now on.
+    /// A new connection, local or remote, whose link has this key.
     Fresh { key: u64, local: bool },
-    /// There is news of the link with this key: it may have bytes, may take some, has ended or has failed.
+    /// A link to serve: it may have bytes, may take bytes, has ended or has failed.
     Ready(u64),
-    /// The link with this key has moved no byte for as long as it may, and there is no news of it.
+    /// A link whose connection times out: its time is over, it is evicted, or memory is short.
     Late(u64),
-    /// A while has passed: a few times a second at most.
+    /// No link: time has passed, and the worker closes the connections that another worker stopped.
     Idle,
-    /// Nothing more will come.
+    /// The end: nothing more will come.
     Stop,
 }
 
-/// What gives a worker its links. A source over edges tells Ready for a key again until a pull or a put of its link has
-/// answered Later.
+/// A source of links that hands them out. With edge-triggered events, it returns `Ready` for a link again until a pull
+/// or a put of that link would block.
 pub trait Source {
     type Link: Input + Output;
 
-    /// The next thing to do.
     fn turn(&mut self) -> Turn;
 
-    /// The link with this key, if there is one.
     fn link(&mut self, key: u64) -> Option<&mut Self::Link>;
 
-    /// The link with this key is given up.
+    /// Drops the link with this key.
     fn end(&mut self, key: u64);
 }
 
-/// What serves the links of a source.
+/// A server of the links of a source.
 pub trait Serve<I: Input + Output> {
-    /// What it may become as it serves one.
+    /// The relation between a server before a call of `serve` and after it.
     ghost becomes: { Self → Self → Type 0 };
 
-    /// Serves the link with this key, and returns what is next for its connection. At the last it writes all that waits
-    /// for the link, and reads nothing.
+    /// Serves the link, and returns what is next for its connection. If `is_last`, it only writes what waits for the
+    /// link.
     fn serve(&mut self, key: u64, is_last: bool, link: &mut I) -> Next
         ensures { becomes self.old self.new };
 }
 
-/// A source that lends its links to what serves them, so that contracts know which links it has.
+/// A source that lends its links to a server, so that contracts know which links it has.
 pub trait LinkSource {
     type Link: Input + Output;
 
-    /// Whether it has a link with a key. Of a source that doesn't show its links both may be said.
+    /// `has source key there`: the source has a link with `key`, or has none, as `there` says. If it hides its links,
+    /// both hold.
     ghost has: { Self → ℕ → Bool → Type 0 } = { λ _ _ _. Unit };
 
-    /// The next thing to do.
     fn turn(&mut self) -> Turn
         ensures { Comes (Self.has self.old) (Self.has self.new) result };
 
-    /// Lends the link with this key to what serves it. Returns what is next for its connection, if there is such a
+    /// Lends the link with this key to `server`. Returns what is next for its connection, or `None` without such a
     /// link.
     fn lend<U: Serve<Self::Link>>(
         &mut self,
@@ -70,12 +68,12 @@ pub trait LinkSource {
         ensures served { IfSome result (λ _. U.becomes server.old server.new) }
         ensures none { IfNone result (server.new ≡ server.old) };
 
-    /// The link with this key is given up.
+    /// Drops the link with this key.
     fn end(&mut self, key: u64)
         ensures { Ends key (Self.has self.old) (Self.has self.new) };
 }
 
-/// A source whose links are handed out, and which shows none of them to contracts.
+/// A source whose links are handed out, and hidden from contracts.
 #[derive(Drop)]
 pub struct HandsOut<S: Source>(pub S);
 

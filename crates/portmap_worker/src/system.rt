@@ -1,5 +1,5 @@
-//! What workers ask of the system: readiness, connections and each other's attention. The daemon has it of `mio` and
-//! the kernel; a simulation has a world of its own.
+//! The system that workers call: readiness, connections and wake-ups. The daemon has it from `mio` and the kernel, a
+//! simulation from a world of its own.
 ghost use Rattle.std.specs.Prelude.{◌≡◌, ℕ, ◌++◌, List, Option, Some, None, IfSome, slice_get};
 ghost use Rattle.portmap_worker.specs.Quiet.{taken};
 ghost use Rattle.portmap_worker.specs.declared.system.{Interest.Interest, Report.Report};
@@ -8,67 +8,64 @@ use std::io;
 use std::io::{Read, Write};
 use std::net::IpAddr;
 
-/// What a poll is to report of a stream.
+/// The readiness that a poll reports of a stream.
 #[derive(Clone, Copy, Debug, PartialEq, Eq)]
 pub enum Interest {
-    /// That it may be read.
     Reading,
-    /// That it may be read, and that it may be written.
+    /// Readability and writability.
     Both,
 }
 
-/// What a poll has reported.
+/// An event that a poll has reported.
 #[derive(Clone, Copy, Debug, PartialEq, Eq)]
 pub enum Report {
-    /// Connections may wait at the listener at this place.
+    /// Connections may wait at the listener with this index.
     Listener(usize),
-    /// There is news of the stream that is watched under this key. It is closed if its peer sends no more and it has
-    /// not failed.
+    /// The stream with this key is ready. It `is_closed` if its peer sends no more and it has not failed.
     Stream { key: usize, is_closed: bool },
     /// Another thread has ended the wait.
     Woken,
 }
 
-/// The stream of a connection. Its calls don't wait.
+/// The stream of a connection. Its calls never block.
 pub trait Stream: Read + Write + Drop {
-    /// The connection's own address, if the system tells it.
+    /// Returns the connection's own address, if the system knows it.
     fn own_ip(&self) -> Option<IpAddr>;
 
-    /// Has the connection end by a reset, if the system does that.
+    /// Makes the connection end with a reset, if the system can.
     fn reset(&mut self);
 }
 
-/// What ends the wait of another thread.
+/// A handle by which another thread ends a wait.
 pub trait Wake: Drop {
-    /// Ends its wait, or its next one.
+    /// Ends the present wait of the thread, or else its next wait.
     fn wake(&self);
 }
 
-/// What one thread asks of the system. News are reported once: edges.
+/// The system of one thread. Events are edge-triggered: each is reported once.
 pub trait System: Drop {
     type Stream: Stream;
 
     type Waker: Wake;
 
-    /// What the last poll has reported. `None`: the system doesn't tell.
+    /// The events that the last poll has reported. `None`: the system hides them.
     ghost reports: { Self → Option (List Report) } = { λ _. None };
 
-    /// The keys under which the poll has accepted to report streams, each with what it reports. `None`: the system
-    /// doesn't show it.
+    /// The keys and interests that the poll has accepted to report. `None`: the system hides them.
     ghost watched: { Self → Option (List (ℕ × Interest)) } = { λ _. None };
 
-    /// Polls, and waits for news for so many milliseconds at most. False if the poll has failed.
+    /// Polls, and waits for an event for at most `timeout_ms` milliseconds. Returns false if the poll failed.
     fn poll(&mut self, timeout_ms: u64) -> bool;
 
-    /// What the last poll has reported at this place: places go from 0 on without a gap.
+    /// Returns the event of the last poll with this index. Indices begin at 0 and have no gap.
     fn report(&self, place: usize) -> Option<Report>
         ensures { IfSome (Self.reports self.now) (λ reports. result ≡ slice_get reports place) };
 
-    /// Whether the last poll has reported as much as it can at once, so that there may be more.
+    /// Returns whether the last poll has reported as many events as it can, so that there may be more.
     fn is_full(&self) -> bool;
 
-    /// Has the poll report a stream under this key from now on, with what there is to report already. It was watched
-    /// before, or wasn't.
+    /// Watches a stream under this key. From now on the poll reports it, with what is there already. `was_watched` if
+    /// this changes an earlier interest.
     fn watch(
         &mut self,
         stream: &mut Self::Stream,
@@ -79,16 +76,15 @@ pub trait System: Drop {
         ensures { IfSome (Self.watched self.old)
             (λ before. Self.watched self.new ≡ Some (before ++ taken key result interest)) };
 
-    /// How many listeners this thread has.
     fn listeners(&self) -> usize;
 
-    /// Has the poll report the listener at this place from now on, with what waits already.
+    /// Watches the listener with this index. The poll also reports connections that wait already.
     fn listen(&mut self, place: usize) -> io::Result<()>;
 
-    /// Has the poll report the listener at this place no more.
+    /// Stops watching the listener with this index.
     fn leave(&mut self, place: usize);
 
-    /// The next connection that waits at the listener at this place, with the address of its peer, or `WouldBlock` if
-    /// none waits.
+    /// Accepts the next connection at the listener with this index, with the address of its peer. The error is
+    /// `WouldBlock` if no connection waits.
     fn accept(&mut self, place: usize) -> io::Result<(Self::Stream, IpAddr)>;
 }

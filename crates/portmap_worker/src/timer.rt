@@ -2,8 +2,8 @@
 ghost use Rattle.std.specs.Prelude.{◌≡◌, ◌↔◌, ◌-◌, ◌≤◌, ℕ, Some, None, true, false};
 ghost use Rattle.portmap_worker.specs.Link.{IsOver};
 
-/// Since when the time of a connection goes on, after a look at this time: that of a local peer whose bytes have moved
-/// is renewed. Those of a remote one renew nothing, since who sends one now and then would have its place for ever.
+/// Returns when the time of a connection began, at a scan at `now`. Moved bytes renew the time of a local peer alone. A
+/// remote peer that sends a byte now and then would otherwise keep its permit without end.
 fn since_at(since: Option<u64>, is_timed: bool, renews: bool, now: u64) -> Option<u64>
     ensures untimed { is_timed ≡ false → result ≡ None }
     ensures begins { is_timed ≡ true → since ≡ None → result ≡ Some now }
@@ -19,7 +19,6 @@ fn since_at(since: Option<u64>, is_timed: bool, renews: bool, now: u64) -> Optio
     }
 }
 
-/// Whether the time of a connection that goes on since then was over at this time.
 fn is_over(since: Option<u64>, then: u64, timeout: u64) -> bool
     ensures { (result ≡ true) ↔ IsOver since then timeout }
 {
@@ -29,31 +28,26 @@ fn is_over(since: Option<u64>, then: u64, timeout: u64) -> bool
     }
 }
 
-/// The time that a peer has: for its request, or for the bytes that wait to be written.
+/// The time that a peer has for its request, or to read the bytes that wait to be written.
 ///
-/// It begins anew at looks alone: at the first look after it came, or, for a local peer, after bytes have moved. The
-/// time of a look is read before the poll is asked for all that it has to report, so whatever pauses come, one whose
-/// time is over by it had no news up to it. So a connection times out up to about a second after its time was over, and
-/// never before.
+/// Only scans restart it. A scan reads the clock before it polls for all that there is to report. If the time of a
+/// connection is over by that reading, no event arrived before it, whatever paused the process. Timeouts therefore come
+/// up to about a second late, and never early.
 #[derive(Clone, Copy, Default)]
 pub(crate) struct Timer {
-    /// At which look it began.
     pub(crate) since: Option<u64>,
-    /// Bytes have moved since the last look.
     pub(crate) has_moved: bool,
-    /// It is over, which is to be told. There was no report since.
+    /// The time is over, no event was reported since, and the timeout is not delivered yet.
     pub(crate) is_late: bool,
 }
 
 impl Timer {
-    /// A look: it begins, if it is to begin, or to begin anew.
     pub(crate) fn begin(&mut self, is_timed: bool, is_local: bool, now: u64) {
         let renews = self.has_moved && is_local;
         self.has_moved = false;
         self.since = since_at(self.since, is_timed, renews, now);
     }
 
-    /// Whether it was over at this time, which is to be told.
     pub(crate) fn expire(&mut self, then: u64, timeout: u64) -> bool
         ensures over { (result ≡ true) ↔ IsOver self.old.since then timeout }
         ensures late { self.new ≡ record self.old { is_late = result } }
@@ -62,7 +56,7 @@ impl Timer {
         self.is_late
     }
 
-    /// Whether it is over, which is told now. Then it begins anew at the next look.
+    /// Takes the timeout, if it is due. The time then begins again at the next scan.
     pub(crate) fn take_late(&mut self) -> bool
         ensures late { result ≡ self.old.is_late }
         ensures anew { result ≡ true → self.new ≡ record self.old { since = None; is_late = false } }

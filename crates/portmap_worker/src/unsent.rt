@@ -20,15 +20,13 @@ use std::sync::Wait;
 use std::sync::atomic::{AtomicBool, AtomicU64, Ordering};
 use std::sync::ledger::Ledger;
 
-/// Whether so many of the bytes that may wait over all connections are many for one.
 fn are_many(most: u64, bytes: u64) -> bool
     ensures { (result ≡ true) ↔ AreMany most bytes }
 {
     bytes > most / UNSENT_HEAVY_SHARE
 }
 
-/// How many links that rest may move again in a millisecond. Where many bytes wait these may be lists, each of which
-/// takes milliseconds, and meanwhile no connection is accepted.
+/// Returns how many paused links may resume in a millisecond. Lists take long, and nothing is accepted meanwhile.
 pub(crate) fn rests_most(is_crowded: bool) -> u32
     ensures crowded { is_crowded ≡ true → result ≡ 1 }
     ensures few { is_crowded ≡ false → result ≡ RESUMES_MOST }
@@ -36,8 +34,8 @@ pub(crate) fn rests_most(is_crowded: bool) -> u32
     if is_crowded { 1 } else { RESUMES_MOST }
 }
 
-/// Whether a connection may be reset, whose peer has read nothing for a while or is young, where so many bytes may
-/// wait, so many do, and so many of these for remote peers with many each.
+/// Returns whether a connection with many unsent bytes may be reset. Its peer `is_young` if it may still read. `remote`
+/// of the `total` bytes wait for remote peers that have many each.
 fn may_reset(is_local: bool, is_young: bool, most: u64, total: u64, remote: u64) -> bool
     ensures { (result ≡ true) ↔ MayReset is_local is_young most total remote }
 {
@@ -47,14 +45,12 @@ fn may_reset(is_local: bool, is_young: bool, most: u64, total: u64, remote: u64)
     total - most > most / UNSENT_SPARED_SHARE || (!is_young && (!is_local || remote == 0))
 }
 
-/// Whether a peer that has read nothing since then may yet read.
 fn is_young(since: u64, now: u64) -> bool
     ensures { (result ≡ true) ↔ (now - since < YOUNG_MS) }
 {
     now.saturating_sub(since) < YOUNG_MS
 }
 
-/// How many of the bytes that wait for a connection count as those of a remote peer with many.
 fn counted(is_local: bool, most: u64, bytes: u64) -> u64
     ensures local { is_local ≡ true → result ≡ 0 }
     ensures many { is_local ≡ false → AreMany most bytes → result ≡ bytes }
@@ -67,7 +63,6 @@ fn counted(is_local: bool, most: u64, bytes: u64) -> u64
     }
 }
 
-/// Since when a peer has read nothing while bytes wait: since then, or since now if it has read or none waited.
 fn unread_since(since: u64, before: u64, bytes: u64, now: u64) -> u64
     ensures read { bytes < before → result ≡ now }
     ensures begins { before ≡ 0 → result ≡ now }
@@ -80,20 +75,16 @@ fn unread_since(since: u64, before: u64, bytes: u64, now: u64) -> u64
     }
 }
 
-/// The bytes that wait over all connections.
 #[derive(Drop)]
 pub(crate) struct AllUnsent {
-    /// So many may wait.
     most: u64,
     total: AtomicU64,
-    /// Those that wait for remote peers of which each has many.
+    /// The bytes that wait for remote peers with many bytes each.
     remote: AtomicU64,
-    /// A worker has asked the others to reset connections.
     is_asked: AtomicBool,
 }
 
 impl AllUnsent {
-    /// None wait of so many that may.
     pub(crate) fn new(most: u64) -> AllUnsent {
         AllUnsent {
             most,
@@ -107,18 +98,15 @@ impl AllUnsent {
         self.total.load(Ordering::SeqCst)
     }
 
-    /// Whether so many bytes wait that who asks for a list is served after a rest.
     pub(crate) fn is_crowded(&self) -> bool {
         self.total() > self.most / UNSENT_CROWDED_SHARE
     }
 
-    /// Whether such a connection may be reset.
     fn may_reset(&self, is_local: bool, is_young: bool) -> bool {
         let remote = self.remote.load(Ordering::SeqCst);
         may_reset(is_local, is_young, self.most, self.total(), remote)
     }
 
-    /// A connection for which so many bytes waited has so many now.
     fn change(&self, is_local: bool, before: u64, bytes: u64) {
         self.total.fetch_add(bytes, Ordering::SeqCst);
         self.total.fetch_sub(before, Ordering::SeqCst);
@@ -131,12 +119,12 @@ impl AllUnsent {
     }
 }
 
-/// The bytes that wait for one connection. They are counted among all until it is dropped.
+/// The bytes that wait for one connection, which count among all until this value is dropped.
 pub(crate) struct Unsent<'a> {
     all: &'a AllUnsent,
     is_local: bool,
     bytes: u64,
-    /// Since when its peer has read nothing, in milliseconds.
+    /// The time since which the peer has read nothing, in milliseconds.
     since: u64,
 }
 
@@ -153,7 +141,6 @@ impl Drop for Unsent<'_> {
 }
 
 impl<'a> Unsent<'a> {
-    /// None wait for a connection that comes now.
     pub(crate) fn new(all: &'a AllUnsent, is_local: bool, now: u64) -> Unsent<'a> {
         Unsent {
             all,
@@ -163,7 +150,7 @@ impl<'a> Unsent<'a> {
         }
     }
 
-    /// So many wait now. Whether these are more than before.
+    /// Sets how many bytes wait. Returns true if they are more than before.
     pub(crate) fn set(&mut self, bytes: u64, now: u64) -> bool {
         let before = self.bytes;
         if bytes == before {
@@ -177,8 +164,8 @@ impl<'a> Unsent<'a> {
 }
 
 impl<L: Ledger, S: System, R: Host + Wait + Clock> SocketSource<'_, L, S, R> {
-    /// Gives up the connection whose peer has read nothing for longest, if more bytes wait than may. If none of this
-    /// worker's may go, the other workers are to look.
+    /// Resets a connection if more bytes wait than may. Remote peers come first, then those that have read nothing for
+    /// the longest time. If this worker has no such connection, it wakes the others.
     pub(crate) fn give_up_unread(&mut self) -> Option<Turn>
         ensures current { self.new.ready.current ≡ self.old.ready.current }
         ensures links { Tells self.old.ready self.new.ready result }
@@ -205,7 +192,6 @@ impl<L: Ledger, S: System, R: Host + Wait + Clock> SocketSource<'_, L, S, R> {
     }
 }
 
-/// The one that goes first of the links for which many bytes wait.
 fn first_unread<S: Stream>(links: &Links<'_, S>, all: &AllUnsent, now: u64) -> Option<usize> {
     let mut first: Option<EvictionCandidate> = None;
     for key in 0..links.keys() {

@@ -1,4 +1,4 @@
-//! What the workers of a daemon have around them, and how each of them works there.
+//! The values that the workers of a daemon share, and the work of each worker.
 use crate::host::Host;
 use crate::shared::Shared;
 use crate::socket_source::SocketSource;
@@ -11,7 +11,7 @@ use std::rt::Clock;
 use std::sync::Wait;
 use std::sync::ledger::Ledger;
 
-/// What the workers of a daemon have around them.
+/// The values that the workers of a daemon share.
 #[derive(Drop)]
 pub struct WorkerContext<'a, L: Ledger, W: Wake, G: Gate> {
     pub desk: &'a Desk<L>,
@@ -20,8 +20,8 @@ pub struct WorkerContext<'a, L: Ledger, W: Wake, G: Gate> {
 }
 
 impl<L: Ledger, W: Wake, G: Gate> WorkerContext<'_, L, W, G> {
-    /// Serves as the worker that has these sockets, until the port mapper has ended or nothing more can be served. Then
-    /// all others are to end too. It waits.
+    /// Serves as the worker with these sockets, until the port mapper has halted or nothing more can be served. Then it
+    /// stops all other workers. This call blocks.
     pub fn work<S: System<Waker = W>, R: Host + Wait + Clock>(
         &self,
         rt: &R,
@@ -33,7 +33,7 @@ impl<L: Ledger, W: Wake, G: Gate> WorkerContext<'_, L, W, G> {
         self.shared.end_worker(worker, served);
     }
 
-    /// The same. How many acts it made; none if there is no seat for it, or it is none of those that share this.
+    /// Returns how many acts the worker made, or `None` if there is no seat or no worker of its index.
     fn serve<S: System<Waker = W>, R: Host + Wait + Clock>(
         &self,
         rt: &R,

@@ -12,18 +12,18 @@ use Rattle.portmap_worker.proofs.laws.only_answers_are_written.Goals as goal
 abbrev Sends : List ℕ → Carried → Carried → Type 0
 Sends text old new = Moves old.link.held new.link.held (old.out ++ text) new.out
 
--- a call appends its reply to what waits, or nothing where memory ran out
-one : (slot : ℕ) (told : Option (ℕ × Answer)) (next : Next) (old new : Carried) → Does slot told next old new
-    → ((next ≡ NoMemory) × Sends [] old new) ⊎ Sends (reply_of told) old new
+-- A call appends its reply to the waiting bytes, or nothing if memory ran out.
+one : (slot : ℕ) (acted : Option (ℕ × Answer)) (next : Next) (old new : Carried) → Does slot acted next old new
+    → ((next ≡ NoMemory) × Sends [] old new) ⊎ Sends (reply_of acted) old new
 one slot None next old new did =
     inr (subst (λ (text : List ℕ). Moves old.link.held new.link.held text new.out) (sym (append-nil old.out)) did.writes)
-one slot (Some told) Keep old new did = inr did.writes
-one slot (Some told) Close old new did = inr did.writes
-one slot (Some told) Fault old new did = inr did.writes
-one slot (Some told) Halt old new did = inr did.writes
-one slot (Some told) NoMemory old new did = inl (refl, did.writes)
+one slot (Some acted) Keep old new did = inr did.writes
+one slot (Some acted) Close old new did = inr did.writes
+one slot (Some acted) Fault old new did = inr did.writes
+one slot (Some acted) Halt old new did = inr did.writes
+one slot (Some acted) NoMemory old new did = inl (refl, did.writes)
 
--- with the calls behind it
+-- The calls after the first call are added.
 more : (call : Returned) (calls : List Returned) (old mid new : Carried) → Sends (reply_of call.0) old mid → AreWritten calls mid new
     → AreWritten (call ∷ calls) old new
 more call calls old mid new sent rest = record {
@@ -35,7 +35,7 @@ more call calls old mid new sent rest = record {
   all = λ kept. rest.all (All-tail (λ other. other.1 ≢ NoMemory) call calls kept);
 }
 
--- memory ran out at it, and the reply is lost
+-- Memory ran out at the last call, and its reply is lost.
 last : (call : Returned) (old new : Carried) → call.1 ≡ NoMemory → Sends [] old new → AreWritten (call ∷ []) old new
 last call old new short sent = record {
   lost = replies (call ∷ []);
@@ -68,11 +68,11 @@ written slot [] old new same = record {
 written slot (call ∷ calls) old new runs =
     joined slot call calls old runs.0 new (one slot call.0 call.1 old runs.0 runs.1) runs.2 runs.3 (written slot calls runs.0 new runs.3)
 
--- a close that is due stays due, and nothing is answered
-quiet : (slot : ℕ) (told : Option (ℕ × Answer)) (next : Next) (old new : Carried) → Does slot told next old new → old.due ≡ true
-    → (told ≡ None) × (new.due ≡ true)
+-- A close that is due stays due, and the desk answers nothing.
+quiet : (slot : ℕ) (acted : Option (ℕ × Answer)) (next : Next) (old new : Carried) → Does slot acted next old new → old.due ≡ true
+    → (acted ≡ None) × (new.due ≡ true)
 quiet slot None next old new did due = (refl, did.due ∙ due)
-quiet slot (Some told) next old new did due = absurd (false≢true (sym did.not_due ∙ due))
+quiet slot (Some acted) next old new did due = absurd (false≢true (sym did.not_due ∙ due))
 
 closes : ClosesAreFinal
 closes slot [] old new runs due = All-nil (λ call. call.0 ≡ None)

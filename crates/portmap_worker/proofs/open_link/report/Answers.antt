@@ -5,8 +5,8 @@ use Rattle.portmap_ready.specs.declared.LinkState.TheVariants.{Paused}
 use Rattle.portmap_worker.proofs.Idle.{itself, reported_so, rests_on, rests_so, then_reported, then_written, wakes}
 use Rattle.portmap_worker.proofs.open_link.report.Goals as goal
 
-pub returns-then-is_closed-clause-told : goal.returns-then-is_closed-clause-told
-returns-then-is_closed-clause-told g c =
+pub returns-then-is_closed-clause-reported : goal.returns-then-is_closed-clause-reported
+returns-then-is_closed-clause-reported g c =
     let k = c.args.key in
     let r = c.args.links.now in
     let unless : (c.args.is_closed ≡ true) ⊎ (state_at r k ≡ Some Paused → ⊥) =
@@ -30,8 +30,8 @@ returns-then-is_closed-clause-links g c =
     wakes c.args.key _ c.args.links.now c.args.links.now _ (itself c.args.key c.args.links.now) (λ q most h. h)
     c.report.ensures
 
-pub returns-else-not-rests-clause-told : goal.returns-else-not-rests-clause-told
-returns-else-not-rests-clause-told g c =
+pub returns-else-not-rests-clause-reported : goal.returns-else-not-rests-clause-reported
+returns-else-not-rests-clause-reported g c =
     let k = c.args.key in
     let r = c.args.links.now in
     let v = record c.in-Some.held.now { link = c.on_event.new.self } in

@@ -1,7 +1,7 @@
 use Rattle.std.proofs.Common.{◌≤◌, length}
 use Rattle.portmap_worker.proofs.serving.Holder.leave.Given as goal
 
--- the seat only rises
+-- The count of the seat only rises.
 abbrev pub invariant-loop-carrier : goal.invariant-loop-carrier
 invariant-loop-carrier g l = l.fn.self.seat.count ≤ l.holder.seat.count
 

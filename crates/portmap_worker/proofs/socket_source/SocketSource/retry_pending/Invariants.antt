@@ -2,7 +2,7 @@ use Rattle.std.proofs.Common.{◌≡◌, None}
 use Rattle.portmap_worker.specs.IdleLinks.{Keeps}
 use Rattle.portmap_worker.proofs.socket_source.SocketSource.retry_pending.Given as goal
 
--- nothing is told, what holds goes on to hold, and no turn is counted
+-- No link is current, all facts stay true, and no turn is counted.
 abbrev pub invariant-loop-turn : goal.invariant-loop-turn
 invariant-loop-turn g l = record {
   current : l.self.ready.current ≡ None;

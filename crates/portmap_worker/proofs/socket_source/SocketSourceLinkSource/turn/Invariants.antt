@@ -2,7 +2,7 @@ use Rattle.std.proofs.Common.{◌≡◌, ◌⊎◌}
 use Rattle.portmap_worker.specs.{IdleLinks.Keeps, Schedule.{IsPast, scene}}
 use Rattle.portmap_worker.proofs.socket_source.SocketSourceLinkSource.turn.Given as goal
 
--- either no step was made, or each that is queued is a turn nearer
+-- No step was made, or every queued link is one turn nearer.
 abbrev pub invariant-loop : goal.invariant-loop
 invariant-loop g l = record {
   links : Keeps l.fn.self.ready l.self.ready;

@@ -3,7 +3,7 @@ use Rattle.std.specs.Prelude.{IfSome}
 use Rattle.portmap_worker.specs.IdleLinks.{AreNoted, Keeps}
 use Rattle.portmap_worker.proofs.sockets.Sockets.take_events.Given as goal
 
--- the reports before this place are noted
+-- The reports before index `place` are noted.
 abbrev pub invariant-loop-place : goal.invariant-loop-place
 invariant-loop-place g l = record {
   system : l.self.system ≡ l.fn.self.system;
