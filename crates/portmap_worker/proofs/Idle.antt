@@ -12,7 +12,7 @@ use Rattle.portmap_ready.{specs.Links.{is_queued, is_quiet as is_quiet_place, pu
 use Rattle.portmap_ready.{specs.Runs.{Queue, PutBack, Remove}, proofs.Turns.wait_is_bounded}
 use Rattle.portmap_ready.specs.declared.LinkState.{LinkState, TheVariants.{Idle, Pending, Queued, Paused, Current}}
 use Rattle.portmap_worker.specs.IdleLinks.{Ahead, AllQuiet, AreNoted, Changes, Fact, Has, Holds, IsReported, Keeps, KeepsLinks}
-use Rattle.portmap_worker.specs.IdleLinks.{Safe, Spares, Tells, TellsLinks, There}
+use Rattle.portmap_worker.specs.IdleLinks.{Safe, Spares, Returns, ReturnsLinks, There}
 use Rattle.portmap_worker.specs.IdleLinks.{hears, is_calm, is_safe, noted_at, notes_of, place_reported}
 use Rattle.portmap_worker.specs.Keys.{Comes, Ends, come}
 use Rattle.portmap_worker.specs.Link.{IsOf}
@@ -378,10 +378,10 @@ module _ {S : Type 0} where
       }
 
   -- The first queued link becomes the current link, and gets another value.
-  pub told_written : (k : ℕ) (old r : Links (OpenLink S)) (v : OpenLink S) → slice_get old.queue 0 ≡ Some k
+  pub current_written : (k : ℕ) (old r : Links (OpenLink S)) (v : OpenLink S) → slice_get old.queue 0 ≡ Some k
       → IsButForRoom r (after_next old)
       → KeepsLinks old (written k r v)
-  told_written k old r v s h =
+  current_written k old r v s h =
       let links = ap (λ (r : Links (OpenLink S)). r.links) h in
       keep_so k old (written k r v) (then_written k v old r (first_others Current k (slice_get old.queue 0) old r s links))
       (λ _. ap is_safe (written_here k v r
@@ -393,8 +393,8 @@ module _ {S : Type 0} where
       at (Some l) = refl
 
   -- No link is queued.
-  pub none_told : (old new : Links (OpenLink S)) → slice_get old.queue 0 ≡ None → IsButForRoom new (after_next old) → Keeps old new
-  none_told old new s e =
+  pub none_current : (old new : Links (OpenLink S)) → slice_get old.queue 0 ≡ None → IsButForRoom new (after_next old) → Keeps old new
+  none_current old new s e =
       keeps_both old new (first_goes Current (slice_get old.queue 0) old new (ap (λ (r : Links (OpenLink S)). r.links) e) (λ v. refl))
       (stays old new (ap (λ (r : Links (OpenLink S)). r.queue) e ∙ at old.queue s))
     where
@@ -521,26 +521,27 @@ module _ {S : Type 0} where
       at false h = h
       at true h = let both : true ≡ false = sym (k (There key true) h) ∙ none in absurd (cc)
 
-  pub nothing_told : (old new : Links (OpenLink S)) (turn : Option Turn) → is_some turn ≡ false → Tells old new turn → Keeps old new
-  nothing_told old new None e t = t
-  nothing_told old new (Some turn) e t = absurd (cc)
+  pub returned_none : (old new : Links (OpenLink S)) (turn : Option Turn) → is_some turn ≡ false → Returns old new turn → Keeps old new
+  returned_none old new None e t = t
+  returned_none old new (Some turn) e t = absurd (cc)
 
-  pub none_told_links : (old new : Links (OpenLink S)) (turn : Option Turn) → is_some turn ≡ false → TellsLinks old new turn → Keeps old new
-  none_told_links old new None e t = t
-  none_told_links old new (Some turn) e t = absurd (cc)
+  pub returned_none_links : (old new : Links (OpenLink S)) (turn : Option Turn) → is_some turn ≡ false → ReturnsLinks old new turn
+      → Keeps old new
+  returned_none_links old new None e t = t
+  returned_none_links old new (Some turn) e t = absurd (cc)
 
-  -- `Keeps` before a turn and `Tells` of the turn are together `Tells`.
-  pub then_tells : (old r new : Links (OpenLink S)) (turn : Option Turn) → Keeps old r → Tells r new turn → Tells old new turn
-  then_tells old r new None k t = λ fact h. t fact (k fact h)
-  then_tells old r new (Some (Fresh key local)) k t =
+  -- `Keeps` before a turn and `Returns` of the turn are together `Returns`.
+  pub then_returns : (old r new : Links (OpenLink S)) (turn : Option Turn) → Keeps old r → Returns r new turn → Returns old new turn
+  then_returns old r new None k t = λ fact h. t fact (k fact h)
+  then_returns old r new (Some (Fresh key local)) k t =
       (none_before key old r k t.0, record { now = t.1.now; others = λ fact s h. t.1.others fact s (k fact h) })
-  then_tells old r new (Some (Ready key)) k t = λ fact h. t fact (k fact h)
-  then_tells old r new (Some (Late key)) k t = λ fact h. t fact (k fact h)
-  then_tells old r new (Some Quiet) k t = λ fact h. t fact (k fact h)
-  then_tells old r new (Some Stop) k t = λ fact h. t fact (k fact h)
+  then_returns old r new (Some (Ready key)) k t = λ fact h. t fact (k fact h)
+  then_returns old r new (Some (Late key)) k t = λ fact h. t fact (k fact h)
+  then_returns old r new (Some Quiet) k t = λ fact h. t fact (k fact h)
+  then_returns old r new (Some Stop) k t = λ fact h. t fact (k fact h)
 
-  -- `Tells` implies `TellsLinks`.
-  pub weaker : (old new : Links (OpenLink S)) (turn : Option Turn) → Tells old new turn → TellsLinks old new turn
+  -- `Returns` implies `ReturnsLinks`.
+  pub weaker : (old new : Links (OpenLink S)) (turn : Option Turn) → Returns old new turn → ReturnsLinks old new turn
   weaker old new None t = t
   weaker old new (Some (Fresh key local)) t = t
   weaker old new (Some (Ready key)) t = λ fact _. t fact
@@ -548,39 +549,41 @@ module _ {S : Type 0} where
   weaker old new (Some Quiet) t = λ fact _. t fact
   weaker old new (Some Stop) t = λ fact _. t fact
 
-  pub then_told : (old r new : Links (OpenLink S)) (turn : Option Turn) → Keeps old r → TellsLinks r new turn → TellsLinks old new turn
-  then_told old r new None k t = λ fact h. t fact (k fact h)
-  then_told old r new (Some (Fresh key local)) k t =
+  pub then_returns_links : (old r new : Links (OpenLink S)) (turn : Option Turn) → Keeps old r → ReturnsLinks r new turn
+      → ReturnsLinks old new turn
+  then_returns_links old r new None k t = λ fact h. t fact (k fact h)
+  then_returns_links old r new (Some (Fresh key local)) k t =
       (none_before key old r k t.0, record { now = t.1.now; others = λ fact s h. t.1.others fact s (k fact h) })
-  then_told old r new (Some (Ready key)) k t = λ fact l h. t fact l (k fact h)
-  then_told old r new (Some (Late key)) k t = λ fact l h. t fact l (k fact h)
-  then_told old r new (Some Quiet) k t = λ fact l h. t fact l (k fact h)
-  then_told old r new (Some Stop) k t = λ fact l h. t fact l (k fact h)
+  then_returns_links old r new (Some (Ready key)) k t = λ fact l h. t fact l (k fact h)
+  then_returns_links old r new (Some (Late key)) k t = λ fact l h. t fact l (k fact h)
+  then_returns_links old r new (Some Quiet) k t = λ fact l h. t fact l (k fact h)
+  then_returns_links old r new (Some Stop) k t = λ fact l h. t fact l (k fact h)
 
   -- No queued link falls back by a turn.
-  pub told_stays : (old new : Links (OpenLink S)) (turn : Option Turn) → Tells old new turn → Stays old new
-  told_stays old new None t q most h = t (Ahead q most) h
-  told_stays old new (Some (Fresh key local)) t q most h = t.1.others (Ahead q most) tt h
-  told_stays old new (Some (Ready key)) t q most h = t (Ahead q most) h
-  told_stays old new (Some (Late key)) t q most h = t (Ahead q most) h
-  told_stays old new (Some Quiet) t q most h = t (Ahead q most) h
-  told_stays old new (Some Stop) t q most h = t (Ahead q most) h
+  pub returned_stays : (old new : Links (OpenLink S)) (turn : Option Turn) → Returns old new turn → Stays old new
+  returned_stays old new None t q most h = t (Ahead q most) h
+  returned_stays old new (Some (Fresh key local)) t q most h = t.1.others (Ahead q most) tt h
+  returned_stays old new (Some (Ready key)) t q most h = t (Ahead q most) h
+  returned_stays old new (Some (Late key)) t q most h = t (Ahead q most) h
+  returned_stays old new (Some Quiet) t q most h = t (Ahead q most) h
+  returned_stays old new (Some Stop) t q most h = t (Ahead q most) h
 
-  -- If all facts stay true, `Tells` holds of a turn of a known link.
-  pub late_tells : (key : Option ℕ) (turn : Turn) (old new : Links (OpenLink S)) → IsOf key turn → Keeps old new → Tells old new (Some turn)
-  late_tells key (Fresh k local) old new of keeps = absurd of
-  late_tells key (Ready k) old new of keeps = keeps
-  late_tells key (Late k) old new of keeps = keeps
-  late_tells key Quiet old new of keeps = absurd of
-  late_tells key Stop old new of keeps = absurd of
+  -- If all facts stay true, `Returns` holds of a turn of a known link.
+  pub late_returns : (key : Option ℕ) (turn : Turn) (old new : Links (OpenLink S)) → IsOf key turn → Keeps old new
+      → Returns old new (Some turn)
+  late_returns key (Fresh k local) old new of keeps = absurd of
+  late_returns key (Ready k) old new of keeps = keeps
+  late_returns key (Late k) old new of keeps = keeps
+  late_returns key Quiet old new of keeps = absurd of
+  late_returns key Stop old new of keeps = absurd of
 
-  pub tells_of : (key : Option ℕ) (turn : Turn) (old new : Links (OpenLink S)) → IsOf key turn → KeepsLinks old new
-      → TellsLinks old new (Some turn)
-  tells_of key (Fresh k local) old new of keeps = absurd of
-  tells_of key (Ready k) old new of keeps = keeps
-  tells_of key (Late k) old new of keeps = keeps
-  tells_of key Quiet old new of keeps = absurd of
-  tells_of key Stop old new of keeps = absurd of
+  pub returns_of : (key : Option ℕ) (turn : Turn) (old new : Links (OpenLink S)) → IsOf key turn → KeepsLinks old new
+      → ReturnsLinks old new (Some turn)
+  returns_of key (Fresh k local) old new of keeps = absurd of
+  returns_of key (Ready k) old new of keeps = keeps
+  returns_of key (Late k) old new of keeps = keeps
+  returns_of key Quiet old new of keeps = absurd of
+  returns_of key Stop old new of keeps = absurd of
 
   none_come : (turn : Turn) (old new : Links (OpenLink S)) → come turn ≡ None → KeepsLinks old new → Comes (Has old) (Has new) turn
   none_come turn old new none keeps = record {
@@ -589,7 +592,7 @@ module _ {S : Type 0} where
     others = λ k there d h. keeps (There k there) tt h;
   }
 
-  pub comes : (turn : Turn) (old new : Links (OpenLink S)) → TellsLinks old new (Some turn) → Comes (Has old) (Has new) turn
+  pub comes : (turn : Turn) (old new : Links (OpenLink S)) → ReturnsLinks old new (Some turn) → Comes (Has old) (Has new) turn
   comes (Fresh key local) old new t = record {
     free = λ k e. rw (sym (same k e)) t.0;
     there = λ k e. rw (sym (same k e)) t.1.now;

@@ -11,9 +11,9 @@ use Rattle.portmap_worker.specs.declared.{open_link.OpenLink.OpenLink, source.Tu
 use Rattle.portmap_worker.specs.Schedule.{Act, Acts, AllSpare, Does, IsPolled, HasAccepted, IsFree, IsPast, IsSpent, IsStep, IsTurn, Nears}
 use Rattle.portmap_worker.specs.Schedule.{Passes, QueuedAreServed, Scene, Within, scene}
 use Rattle.portmap_worker.specs.Schedule.{burst, patience, share, turns, Counts, Free, Lends, Leaves}
-use Rattle.portmap_worker.specs.{IdleLinks.{Ahead, Changes, Holds, Tells}, Link.IsOf}
+use Rattle.portmap_worker.specs.{IdleLinks.{Ahead, Changes, Holds, Returns}, Link.IsOf}
 use Rattle.portmap_worker.specs.declared.source.Turn.TheVariants.{Late}
-use Rattle.portmap_worker.proofs.Idle.{Stays, lent, stays_of, told_stays}
+use Rattle.portmap_worker.proofs.Idle.{Stays, lent, stays_of, returned_stays}
 
 pub patience_most : (s : Schedule) → patience s < share
 patience_most s = elim (cases_Bool s.is_burst) [
@@ -126,17 +126,17 @@ module _ {S : Type 0} where
   module _ (old new : Links (OpenLink S)) (s s' : Schedule) where
     -- A connection was accepted, or a link was evicted for a new connection.
     pub accepts_so : (taken : Schedule) (turn : Option Turn) → s.turns < TURNS_MOST → taken ≡ record s { turns = s.turns + 1 }
-        → Tells old new turn → IfSome turn (λ _. HasAccepted taken s') → IfSome turn (λ t. Nears t (scene old s) (scene new s'))
+        → Returns old new turn → IfSome turn (λ _. HasAccepted taken s') → IfSome turn (λ t. Nears t (scene old s) (scene new s'))
     accepts_so taken None turns t tells has = tt
     accepts_so taken (Some turn) turns t tells has = λ k most h.
-        inr (moves 1 (scene old s) (scene new s') (told_stays old new (Some turn) tells) (accepted s taken s' turns t has) k most h)
+        inr (moves 1 (scene old s) (scene new s') (returned_stays old new (Some turn) tells) (accepted s taken s' turns t has) k most h)
 
     -- The turn takes no time from queued links.
-    pub free_so : (turn : Option Turn) → is_some turn ≡ true → Tells old new turn → IfSome turn (IsFree old.current) → s' ≡ s
+    pub free_so : (turn : Option Turn) → is_some turn ≡ true → Returns old new turn → IfSome turn (IsFree old.current) → s' ≡ s
         → IsStep (scene old s) (scene new s') turn
     free_so None e tells free same = absurd (cc)
     free_so (Some turn) e tells free same =
-        inr (free, λ k most h. inr (waits (scene old s) (scene new s') (told_stays old new (Some turn) tells) same k most h))
+        inr (free, λ k most h. inr (waits (scene old s) (scene new s') (returned_stays old new (Some turn) tells) same k most h))
 
   module _ (old r new : Links (OpenLink S)) (s s' : Schedule) where
     -- The first queued link was served, if any was queued.

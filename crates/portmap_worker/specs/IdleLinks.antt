@@ -83,22 +83,22 @@ module _ {S : Type 0} where
     pub others : (fact : Fact) → Spares key there fact → Holds fact old → Holds fact new
 
   -- If the turn announces a new link, that link has arrived. All other facts stay true.
-  abbrev pub Tells : Links (OpenLink S) → Links (OpenLink S) → Option Turn → Type 0
-  Tells old new None = Keeps old new
-  Tells old new (Some (Fresh key local)) = Has old key false × Changes key true old new
-  Tells old new (Some (Ready key)) = Keeps old new
-  Tells old new (Some (Late key)) = Keeps old new
-  Tells old new (Some Quiet) = Keeps old new
-  Tells old new (Some Stop) = Keeps old new
+  abbrev pub Returns : Links (OpenLink S) → Links (OpenLink S) → Option Turn → Type 0
+  Returns old new None = Keeps old new
+  Returns old new (Some (Fresh key local)) = Has old key false × Changes key true old new
+  Returns old new (Some (Ready key)) = Keeps old new
+  Returns old new (Some (Late key)) = Keeps old new
+  Returns old new (Some Quiet) = Keeps old new
+  Returns old new (Some Stop) = Keeps old new
 
-  -- As in `Tells`, but a turn may also have taken a link from the queue, so that only facts about links stay true.
-  abbrev pub TellsLinks : Links (OpenLink S) → Links (OpenLink S) → Option Turn → Type 0
-  TellsLinks old new None = Keeps old new
-  TellsLinks old new (Some (Fresh key local)) = Has old key false × Changes key true old new
-  TellsLinks old new (Some (Ready key)) = KeepsLinks old new
-  TellsLinks old new (Some (Late key)) = KeepsLinks old new
-  TellsLinks old new (Some Quiet) = KeepsLinks old new
-  TellsLinks old new (Some Stop) = KeepsLinks old new
+  -- As in `Returns`, but a turn may also have taken a link from the queue, so that only facts about links stay true.
+  abbrev pub ReturnsLinks : Links (OpenLink S) → Links (OpenLink S) → Option Turn → Type 0
+  ReturnsLinks old new None = Keeps old new
+  ReturnsLinks old new (Some (Fresh key local)) = Has old key false × Changes key true old new
+  ReturnsLinks old new (Some (Ready key)) = KeepsLinks old new
+  ReturnsLinks old new (Some (Late key)) = KeepsLinks old new
+  ReturnsLinks old new (Some Quiet) = KeepsLinks old new
+  ReturnsLinks old new (Some Stop) = KeepsLinks old new
 
   -- The poll has reported the link.
   abbrev pub IsReported : Bool → Option (OpenLink S × LinkState) → Option (OpenLink S × LinkState) → Type 0

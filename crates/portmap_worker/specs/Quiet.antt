@@ -42,24 +42,24 @@ abbrev pub is_left : List Note → Bool
 is_left notes = fold leaves false notes
 
 -- A poll that watches the stream is still to report bytes to read.
-abbrev pub tells_of_read : Bool → Note → Bool
-tells_of_read before Reported = false
-tells_of_read before (Watched interest) = true
-tells_of_read before (Read would_wait) = would_wait
-tells_of_read before (Wrote answer would_wait) = before
+abbrev pub read_due_after : Bool → Note → Bool
+read_due_after before Reported = false
+read_due_after before (Watched interest) = true
+read_due_after before (Read would_wait) = would_wait
+read_due_after before (Wrote answer would_wait) = before
 
 abbrev pub is_read_due : List Note → Bool
-is_read_due notes = fold tells_of_read false notes
+is_read_due notes = fold read_due_after false notes
 
 -- A poll that watches the stream is still to report room to write.
-abbrev pub tells_of_room : Bool → Note → Bool
-tells_of_room before Reported = false
-tells_of_room before (Watched interest) = true
-tells_of_room before (Read would_wait) = before
-tells_of_room before (Wrote answer would_wait) = would_wait
+abbrev pub room_due_after : Bool → Note → Bool
+room_due_after before Reported = false
+room_due_after before (Watched interest) = true
+room_due_after before (Read would_wait) = before
+room_due_after before (Wrote answer would_wait) = would_wait
 
 abbrev pub is_room_due : List Note → Bool
-is_room_due notes = fold tells_of_room false notes
+is_room_due notes = fold room_due_after false notes
 
 -- The interest covers what is awaited: room if bytes wait to be written, and otherwise bytes to read.
 abbrev pub covers : Bool → Option Interest → Bool

@@ -3,7 +3,7 @@ ghost use Rattle.std.specs.Prelude.{◌≡◌, ◌↔◌, ◌⊎◌, ◌+◌, �
 ghost use Rattle.portmap_worker.specs.declared.limits.TheConstants.{EVICTION_BACKOFF_MS};
 ghost use Rattle.portmap_worker.specs.Listening.{IsFreshFrom};
 ghost use Rattle.portmap_worker.specs.Peers.{is_local_by};
-ghost use Rattle.portmap_worker.specs.IdleLinks.{Keeps, Tells};
+ghost use Rattle.portmap_worker.specs.IdleLinks.{Keeps, Returns};
 
 use crate::Turn;
 use crate::host::Host;
@@ -47,7 +47,7 @@ impl<S: Stream> Incoming<S> {
 pub(crate) struct Admission<S: Stream> {
     /// The connection that waits for a permit. No other is accepted meanwhile.
     pub(crate) newcomer: Option<Incoming<S>>,
-    room_backoff: u64,
+    eviction_backoff: u64,
     /// The time since which a listener has a connection that can't be accepted, for lack of descriptors or memory.
     lacking: Option<u64>,
 }
@@ -56,7 +56,7 @@ impl<S: Stream> Admission<S> {
     pub(crate) fn new() -> Admission<S> {
         Admission {
             newcomer: None,
-            room_backoff: 0,
+            eviction_backoff: 0,
             lacking: None,
         }
     }
@@ -70,28 +70,28 @@ impl<S: Stream> Admission<S> {
     /// Returns whether there is something to do at once.
     pub(crate) fn is_busy(&self, is_waiting: bool, now: u64) -> bool
         ensures none { IfNone self.now.newcomer (result ≡ is_waiting) }
-        ensures some { IfSome self.now.newcomer (λ _. (result ≡ true) ↔ (self.now.room_backoff ≤ now)) }
+        ensures some { IfSome self.now.newcomer (λ _. (result ≡ true) ↔ (self.now.eviction_backoff ≤ now)) }
     {
         if self.accepts() {
             is_waiting
         } else {
-            now >= self.room_backoff
+            now >= self.eviction_backoff
         }
     }
 
     fn candidate(&mut self, links: &Links<'_, S>, with_local: bool, now: u64) -> Option<usize>
-        ensures early { now < self.old.room_backoff → (result ≡ None) × (self.new ≡ self.old) }
+        ensures early { now < self.old.eviction_backoff → (result ≡ None) × (self.new ≡ self.old) }
         ensures found { IfSome result (λ _. self.new ≡ self.old) }
-        ensures later { self.old.room_backoff ≤ now
+        ensures later { self.old.eviction_backoff ≤ now
             → IfNone result (self.new
-            ≡ record self.old { room_backoff = min (now + EVICTION_BACKOFF_MS) (2 ^ 64 - 1) }) }
+            ≡ record self.old { eviction_backoff = min (now + EVICTION_BACKOFF_MS) (2 ^ 64 - 1) }) }
     {
-        if now < self.room_backoff {
+        if now < self.eviction_backoff {
             return None;
         }
         let first = first_to_evict(links, with_local, now);
         if first.is_none() {
-            self.room_backoff = now.saturating_add(EVICTION_BACKOFF_MS);
+            self.eviction_backoff = now.saturating_add(EVICTION_BACKOFF_MS);
         }
         first
     }
@@ -112,7 +112,7 @@ impl<S: System> Sockets<S> {
 impl<'a, L: Ledger, S: System, R: Host + Wait + Clock> SocketSource<'a, L, S, R> {
     pub(crate) fn admit(&mut self) -> Option<Turn>
         ensures current { self.new.ready.current ≡ self.old.ready.current }
-        ensures links { Tells self.old.ready self.new.ready result }
+        ensures links { Returns self.old.ready self.new.ready result }
         ensures schedule { self.new.schedule ≡ self.old.schedule }
     {
         let waiting = self.door.newcomer.take();
@@ -139,7 +139,7 @@ impl<'a, L: Ledger, S: System, R: Host + Wait + Clock> SocketSource<'a, L, S, R>
     fn take(&mut self, newcomer: Incoming<S::Stream>, permit: Permit<'a>) -> Option<Turn>
         ensures fresh { IfSome result (λ turn. IsFreshFrom newcomer.is_local turn) }
         ensures current { self.new.ready.current ≡ self.old.ready.current }
-        ensures links { Tells self.old.ready self.new.ready result }
+        ensures links { Returns self.old.ready self.new.ready result }
         ensures schedule { self.new.schedule ≡ self.old.schedule }
     {
         if self.ready.is_empty() {
@@ -158,7 +158,7 @@ impl<'a, L: Ledger, S: System, R: Host + Wait + Clock> SocketSource<'a, L, S, R>
     fn hold(&mut self, newcomer: Incoming<S::Stream>, permit: Permit<'a>) -> Option<Turn>
         ensures fresh { IfSome result (λ turn. IsFreshFrom newcomer.is_local turn) }
         ensures current { self.new.ready.current ≡ self.old.ready.current }
-        ensures links { Tells self.old.ready self.new.ready result }
+        ensures links { Returns self.old.ready self.new.ready result }
         ensures schedule { self.new.schedule ≡ self.old.schedule }
     {
         let local = newcomer.is_local;
@@ -185,7 +185,7 @@ impl<'a, L: Ledger, S: System, R: Host + Wait + Clock> SocketSource<'a, L, S, R>
     /// can, the connection of the peer is closed.
     fn evict_for(&mut self, newcomer: Incoming<S::Stream>) -> Option<Turn>
         ensures current { self.new.ready.current ≡ self.old.ready.current }
-        ensures links { Tells self.old.ready self.new.ready result }
+        ensures links { Returns self.old.ready self.new.ready result }
         ensures schedule { self.new.schedule ≡ self.old.schedule }
     {
         let waited = self.rounds.time.saturating_sub(newcomer.came);
@@ -212,7 +212,7 @@ impl<'a, L: Ledger, S: System, R: Host + Wait + Clock> SocketSource<'a, L, S, R>
     /// Evicts a connection, remote before local, if none can be accepted for lack of descriptors or memory.
     fn free_descriptor(&mut self) -> Option<Turn>
         ensures current { self.new.ready.current ≡ self.old.ready.current }
-        ensures links { Tells self.old.ready self.new.ready result }
+        ensures links { Returns self.old.ready self.new.ready result }
         ensures schedule { self.new.schedule ≡ self.old.schedule }
     {
         if !self.sockets.listeners.take_lack() {
@@ -242,7 +242,7 @@ impl<'a, L: Ledger, S: System, R: Host + Wait + Clock> SocketSource<'a, L, S, R>
     }
 
     pub(crate) fn evict_for_other_worker(&mut self) -> Option<Turn>
-        ensures links { Tells self.old.ready self.new.ready result }
+        ensures links { Returns self.old.ready self.new.ready result }
         ensures schedule { self.new.schedule ≡ self.old.schedule }
     {
         let (is_wanted, is_any) = self.shared.quota.wanted();

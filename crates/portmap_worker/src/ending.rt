@@ -12,7 +12,7 @@ pub enum ShutdownCause {
     NoMemory,
 }
 
-fn failure_of(is_starved: bool, has_poll_failed: bool) -> Option<ShutdownCause>
+fn cause_of(is_starved: bool, has_poll_failed: bool) -> Option<ShutdownCause>
     ensures starved { is_starved ≡ true → result ≡ Some ShutdownCause.NoMemory }
     ensures poll { is_starved ≡ false → has_poll_failed ≡ true → result ≡ Some ShutdownCause.Poll }
     ensures none { is_starved ≡ false → has_poll_failed ≡ false → result ≡ None }
@@ -69,6 +69,6 @@ impl Shutdown {
     /// Returns the failure for which the workers end or have ended, if there was a failure.
     pub fn failure(&self) -> Option<ShutdownCause> {
         let is_starved = self.starved.load(Ordering::SeqCst);
-        failure_of(is_starved, self.poll_failed.load(Ordering::SeqCst))
+        cause_of(is_starved, self.poll_failed.load(Ordering::SeqCst))
     }
 }

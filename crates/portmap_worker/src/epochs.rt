@@ -61,7 +61,7 @@ impl Begun {
     }
 }
 
-/// An epoch that began before a poll, which has returned since. Only `ask_behind` makes this value.
+/// An epoch that began before a poll, which has returned since. Only `poll_after` makes this value.
 #[derive(Drop)]
 pub(crate) struct Polled {
     epoch: u64,
@@ -123,7 +123,7 @@ impl Pass {
 }
 
 impl<L: Ledger, S: System, R: Host + Wait + Clock> SocketSource<'_, L, S, R> {
-    pub(crate) fn ask_behind(&mut self, begun: Begun, timeout: u64) -> Option<Polled>
+    pub(crate) fn poll_after(&mut self, begun: Begun, timeout: u64) -> Option<Polled>
         requires { 0 < timeout → self.old.ready.queue ≡ [] }
         ensures epoch { IfSome result (λ polled. polled.epoch ≡ begun.epoch) }
         ensures links { Keeps self.old.ready self.new.ready }

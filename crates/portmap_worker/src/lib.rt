@@ -14,7 +14,7 @@
 //! - The states of a worker's links, and FIFO order, are those of `portmap_ready`. By clauses of the source, a turn
 //!   serves the first link of the queue (`pop`), the last link gets its state before another one is served, and the
 //!   poll may wait only while nothing is queued (`ask`). Between two polls there is a limited number of turns
-//!   (`take_turn`), and the epoch that is passed had begun before the poll was asked (`ask_behind`).
+//!   (`take_turn`), and the epoch that is passed had begun before the poll was asked (`poll_after`).
 //! - A queued link is served or ended within a number of turns (`queued_are_served`), and no wake-up of an idle link is
 //!   lost (`AllQuiet`, `Keeps`).
 //! - A `Worker` holds a connection if and only if its source, a `LinkSource`, has its link (`Agree`).
@@ -22,7 +22,7 @@
 //!   therefore counts what links have.
 //! - These decisions are exact functions over values:
 //!   - Which connections are open: `is_free`, `is_evicted_before`, `spares_local`, `may_reset`, `unread_since`,
-//!     `poll_timeout`, `on_poll`, `is_held`, `acceptors_without`, `accept_error`, `starved_for`, `failure_of`.
+//!     `poll_timeout`, `on_poll`, `is_held`, `acceptors_without`, `accept_error`, `starved_for`, `cause_of`.
 //!   - The times of a link: `may_move`, `since_at`, `expire`, `take_late`. How a registration waits: `immediate_turn`,
 //!     `Waiting::next`.
 //!   - When the log is drained, what waits, and when a file is full: `is_due`, `fits`, `is_full`. When a recording that

@@ -1,6 +1,6 @@
 //! The numbers that tune workers. `MS` are milliseconds, `US` microseconds.
 ghost use Rattle.std.specs.Prelude.{◌≡◌, ◌+◌, ◌*◌, ◌^◌};
-ghost use Rattle.portmap_worker.specs.declared.limits.TheConstants.{ACCEPT_BACKOFF_MS, FILE_BYTES_MOST, KEPT_SHARE};
+ghost use Rattle.portmap_worker.specs.declared.limits.TheConstants.{ACCEPT_BACKOFF_MS, FILE_BYTES_MOST, RESERVED_SHARE};
 ghost use Rattle.portmap_worker.specs.declared.limits.TheConstants.{LATERS_MOST};
 ghost use Rattle.portmap_worker.specs.declared.limits.TheConstants.{UNSENT_BYTES_MOST, UNSENT_HEAVY_SHARE};
 ghost use Rattle.portmap_worker.specs.declared.limits.TheConstants.{UNSENT_SPARED_SHARE};
@@ -18,7 +18,7 @@ pub const PULL_BYTES_MOST: usize = 4096;
 pub(crate) const LAST_TRIES_MOST: u32 = 999;
 
 /// Remote peers leave this share of all permits to local peers: one in eight.
-pub(crate) const KEPT_SHARE: u64 = 8;
+pub(crate) const RESERVED_SHARE: u64 = 8;
 
 /// The age from which on a connection may be evicted for a permit, and the time for which a peer may read nothing.
 pub(crate) const YOUNG_MS: u64 = 1000;
@@ -42,7 +42,7 @@ pub(crate) const NAME_TIMEOUT_MS: u64 = 50;
 
 pub(crate) const EPOCH_TIMEOUT_MS: u64 = 5000;
 
-pub(crate) const EPOCH_ROUNDS_MOST: u32 = 500;
+pub(crate) const EPOCH_RETRIES_MOST: u32 = 500;
 
 // ---- polls
 
@@ -116,7 +116,7 @@ pub(crate) const LOG_HEAVY_MS: u64 = 5;
 pub(crate) const WEIGH_BYTES: usize = 65_536;
 
 /// The most drains in a row.
-pub(crate) const TAKES_MOST: u32 = 1024;
+pub(crate) const DRAINS_MOST: u32 = 1024;
 
 /// The first capacity of the lists of drained entries, and the capacity from which on they are shrunk.
 pub(crate) const ENTRIES_ROOM: usize = 64;
@@ -155,7 +155,7 @@ pub(crate) const NOTICE_SECONDS: u32 = 10;
 
 /// A law: the numbers that definitions take from the code are those of this profile.
 pub fn numbers_are_the_profiles()
-    ensures serving { (PULL_BYTES_MOST ≡ 4096) × (KEPT_SHARE ≡ 8) × (ACCEPT_BACKOFF_MS ≡ 20) }
+    ensures serving { (PULL_BYTES_MOST ≡ 4096) × (RESERVED_SHARE ≡ 8) × (ACCEPT_BACKOFF_MS ≡ 20) }
     ensures recording { (LATERS_MOST ≡ 1000) × (LOG_BYTES_HEAVY ≡ 2 ^ 18) × (QUEUE_BYTES_MOST ≡ 2 ^ 24)
         × (FILE_BYTES_MOST ≡ 240 * 2 ^ 20) }
     ensures unsent { (UNSENT_BYTES_MOST ≡ 24 * 2 ^ 20) × (UNSENT_HEAVY_SHARE ≡ 1024) × (UNSENT_SPARED_SHARE ≡ 4) }

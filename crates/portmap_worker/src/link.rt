@@ -133,7 +133,7 @@ impl<S: Read + Write> Link<S> {
         self.unsent_bytes
     }
 
-    pub(crate) fn note_crowd(&mut self, is_crowded: bool) {
+    pub(crate) fn set_crowded(&mut self, is_crowded: bool) {
         self.is_crowded = is_crowded;
     }
 
@@ -204,7 +204,7 @@ impl<S: Read + Write> Link<S> {
     }
 
     /// Times out a local peer that has sent a part of a request, since memory is short and the other part may be long.
-    pub(crate) fn refuse_part(&mut self) {
+    pub(crate) fn expire_partial_request(&mut self) {
         let is_part = self.is_local && !self.is_answered() && !self.readiness.is_unsent();
         if is_part && matches!(self.first, FirstPiece::Past) {
             self.timer.is_late = true;
@@ -352,7 +352,7 @@ impl<S: Stream> Link<S> {
             let interest = self.readiness.wanted();
             let was_watched = self.readiness.is_known();
             let outcome = system.watch(&mut self.stream, key, interest, was_watched);
-            self.is_refused = !self.readiness.note_watch(outcome);
+            self.is_refused = !self.readiness.on_watched(outcome);
             self.is_paused = self.is_paused || self.is_refused;
         }
         if self.is_paused {

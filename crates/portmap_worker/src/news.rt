@@ -65,7 +65,7 @@ pub(crate) struct WorkerActivity {
 
 impl WorkerActivity {
     /// Returns whether all activity is published.
-    pub(crate) fn is_told(&self) -> bool {
+    pub(crate) fn is_published(&self) -> bool {
         self.news == Activity::default()
     }
 

@@ -3,13 +3,13 @@
 //! If a name is active when a node asks for it, the connection that owns it may have ended, or may be ending. The name
 //! is then free soon. What the machine answers after the wait is final.
 ghost use Rattle.std.specs.Prelude.{◌≡◌, ◌↔◌, ◌<◌, ◌≤◌, true, false, Some, None, IfSome};
-ghost use Rattle.portmap_worker.specs.Pending.{Awaits, GivesUp, GoesOn, earliest, until};
-ghost use Rattle.portmap_worker.specs.IdleLinks.{Keeps, Tells};
+ghost use Rattle.portmap_worker.specs.Pending.{Awaits, StopsWaiting, GoesOn, earliest, until};
+ghost use Rattle.portmap_worker.specs.IdleLinks.{Keeps, Returns};
 ghost use Rattle.portmap_worker.specs.Link.{IsOf};
 
 use crate::Turn;
 use crate::host::Host;
-use crate::limits::{EPOCH_ROUNDS_MOST, EPOCH_TIMEOUT_MS, NAME_TIMEOUT_MS};
+use crate::limits::{EPOCH_RETRIES_MOST, EPOCH_TIMEOUT_MS, NAME_TIMEOUT_MS};
 use crate::open_link::Links;
 use crate::rounds::LoopState;
 use crate::shared::Shared;
@@ -70,7 +70,7 @@ impl Waiting {
                 epoch: epoch?,
                 rounds: 0,
             }),
-            Waiting::Epoch { until, rounds, .. } if gives_up(rounds, now, until) => None,
+            Waiting::Epoch { until, rounds, .. } if stops_waiting(rounds, now, until) => None,
             Waiting::Epoch { until, rounds, .. } => Some(Waiting::Epoch {
                 until,
                 epoch: epoch?,
@@ -95,10 +95,10 @@ fn immediate_turn(key: u64, is_short: bool, is_active: bool) -> Option<Turn>
     }
 }
 
-fn gives_up(rounds: u32, now: u64, until: u64) -> bool
-    ensures { (result ≡ true) ↔ GivesUp rounds now until }
+fn stops_waiting(rounds: u32, now: u64, until: u64) -> bool
+    ensures { (result ≡ true) ↔ StopsWaiting rounds now until }
 {
-    rounds >= EPOCH_ROUNDS_MOST && now >= until.saturating_add(EPOCH_TIMEOUT_MS)
+    rounds >= EPOCH_RETRIES_MOST && now >= until.saturating_add(EPOCH_TIMEOUT_MS)
 }
 
 impl<L: Ledger, S: System, R: Host + Wait + Clock> SocketSource<'_, L, S, R> {
@@ -124,7 +124,7 @@ impl<L: Ledger, S: System, R: Host + Wait + Clock> SocketSource<'_, L, S, R> {
 
     /// Makes the current link pending if its name is active. Returns a turn at once otherwise, or if memory is short.
     pub(crate) fn defer_registration(&mut self) -> Option<Turn>
-        ensures links { Tells self.old.ready self.new.ready result }
+        ensures links { Returns self.old.ready self.new.ready result }
         ensures again { IfSome result (λ turn. IsOf self.old.ready.current turn) }
         ensures schedule { self.new.schedule ≡ self.old.schedule }
     {

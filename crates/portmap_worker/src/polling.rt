@@ -1,6 +1,6 @@
 //! The polls of a worker, and the handling of their reports.
 ghost use Rattle.std.specs.Prelude.{◌≡◌, ◌⊎◌, ◌<◌, [], None, true};
-ghost use Rattle.portmap_worker.specs.IdleLinks.{Keeps, Tells};
+ghost use Rattle.portmap_worker.specs.IdleLinks.{Keeps, Returns};
 ghost use Rattle.portmap_worker.specs.Schedule.{IsPolled};
 
 use crate::Turn;
@@ -12,7 +12,7 @@ use crate::rounds::poll_timeout;
 use crate::shared::IDLE;
 use crate::socket_source::SocketSource;
 use crate::system::System;
-use crate::unsent::rests_most;
+use crate::unsent::resumes_most;
 use std::rt::Clock;
 use std::sync::Wait;
 use std::sync::atomic::Ordering;
@@ -23,7 +23,7 @@ impl<L: Ledger, S: System, R: Host + Wait + Clock> SocketSource<'_, L, S, R> {
     /// for a link that is evicted for another worker, and otherwise `Idle` after a scan.
     pub(crate) fn poll(&mut self) -> Option<Turn>
         requires { self.old.ready.current ≡ None }
-        ensures links { Tells self.old.ready self.new.ready result }
+        ensures links { Returns self.old.ready self.new.ready result }
         ensures schedule { IsPolled self.old.schedule self.new.schedule }
     {
         self.retry_pending();
@@ -42,10 +42,10 @@ impl<L: Ledger, S: System, R: Host + Wait + Clock> SocketSource<'_, L, S, R> {
         if self.shared.ending.is_stopping() {
             return Some(Turn::Stop);
         }
-        self.note_load(before, after);
+        self.on_load(before, after);
         self.pass_listeners();
         let is_due = self.rounds.is_scan_due();
-        if !self.look_round(is_due) {
+        if !self.scan_links(is_due) {
             return Some(self.fail());
         }
         match self.evict_for_other_worker() {
@@ -60,12 +60,12 @@ impl<L: Ledger, S: System, R: Host + Wait + Clock> SocketSource<'_, L, S, R> {
         ensures schedule { self.new.schedule ≡ self.old.schedule }
     {
         if self.rounds.on_polled(after) {
-            let most = rests_most(self.shared.unsent.is_crowded());
+            let most = resumes_most(self.shared.unsent.is_crowded());
             resume_paused(&mut self.ready, most);
         }
     }
 
-    fn note_load(&mut self, before: u64, after: u64)
+    fn on_load(&mut self, before: u64, after: u64)
         ensures ready { self.new.ready ≡ self.old.ready }
         ensures schedule { (self.new.schedule ≡ self.old.schedule)
             ⊎ (self.new.schedule ≡ record self.old.schedule { accepted = 0; is_burst = true }) }
@@ -100,7 +100,7 @@ impl<L: Ledger, S: System, R: Host + Wait + Clock> SocketSource<'_, L, S, R> {
         if !self.door.accepts() || self.ready.paused() > 0 {
             return self.rounds.time;
         }
-        let is_idle = self.ready.is_empty() && self.tally.is_told();
+        let is_idle = self.ready.is_empty() && self.tally.is_published();
         self.sockets.listeners.until(self.rounds.until(is_idle))
     }
 
@@ -128,24 +128,24 @@ impl<L: Ledger, S: System, R: Host + Wait + Clock> SocketSource<'_, L, S, R> {
         let has_links = !self.ready.is_empty();
         let begun = self.rounds.pass.end(self.shared, self.state, has_links);
         let timeout = self.timeout(begun);
-        let Some(polled) = self.ask_behind(begun, timeout) else {
+        let Some(polled) = self.poll_after(begun, timeout) else {
             return false;
         };
-        let is_all = !self.sockets.system.is_full() || self.sockets.ask_for_all(&mut self.ready);
+        let is_all = !self.sockets.system.is_full() || self.sockets.poll_all(&mut self.ready);
         self.rounds.pass.begin(polled, self.ready.backlog());
         is_all
     }
 
     /// Scans all links if that is due. The time was read before, and all reports are handled first, however long this
     /// thread was stopped. Returns false if the poll failed.
-    fn look_round(&mut self, is_due: bool) -> bool
+    fn scan_links(&mut self, is_due: bool) -> bool
         ensures links { Keeps self.old.ready self.new.ready }
         ensures schedule { self.new.schedule ≡ self.old.schedule }
     {
         if !is_due {
             return true;
         }
-        if !self.sockets.ask_for_all(&mut self.ready) {
+        if !self.sockets.poll_all(&mut self.ready) {
             return false;
         }
         for key in 0..self.ready.keys() {

@@ -1,10 +1,10 @@
 //! The permits for connections, and the order of eviction.
 ghost use Rattle.std.specs.Prelude.{◌≡◌, ◌↔◌, ◌<◌, true, Some, None, IfSome};
-ghost use Rattle.portmap_worker.specs.Quota.{remote_most, IsFree, GoesBefore};
+ghost use Rattle.portmap_worker.specs.Quota.{remote_most, IsFree, IsEvictedBefore};
 ghost use Rattle.portmap_worker.specs.declared.limits.TheConstants.{REMOTE_FIRST_MS};
 ghost use Rattle.portmap_worker.specs.declared.quota.EvictionCandidate.{EvictionCandidate};
 
-use crate::limits::{KEPT_SHARE, REMOTE_FIRST_MS};
+use crate::limits::{REMOTE_FIRST_MS, RESERVED_SHARE};
 use std::sync::atomic::{AtomicBool, AtomicU64, Ordering};
 
 #[derive(Clone, Copy, Debug, PartialEq, Eq)]
@@ -23,7 +23,7 @@ fn remote_most(most: u64, local: u64) -> u64
     ensures { result ≡ remote_most most local }
 {
     let left = most.saturating_sub(local);
-    left - (most / KEPT_SHARE).min(left / 2)
+    left - (most / RESERVED_SHARE).min(left / 2)
 }
 
 fn is_free(is_local: bool, most: u64, local: u64, remote: u64) -> bool
@@ -38,7 +38,7 @@ fn is_free(is_local: bool, most: u64, local: u64, remote: u64) -> bool
 
 /// Returns whether `one` goes first: remote before local, then without an event before with one, then the older.
 fn is_evicted_before(one: EvictionCandidate, other: EvictionCandidate) -> bool
-    ensures { (result ≡ true) ↔ GoesBefore one other }
+    ensures { (result ≡ true) ↔ IsEvictedBefore one other }
 {
     if one.is_local != other.is_local {
         other.is_local
@@ -54,8 +54,9 @@ pub(crate) fn first_of(
     other: EvictionCandidate,
 ) -> Option<EvictionCandidate>
     ensures only { first ≡ None → result ≡ Some other }
-    ensures before { (one : EvictionCandidate) → first ≡ Some one → GoesBefore other one → result ≡ Some other }
-    ensures behind { (one : EvictionCandidate) → first ≡ Some one → (GoesBefore other one → ⊥) → result ≡ Some one }
+    ensures before { (one : EvictionCandidate) → first ≡ Some one → IsEvictedBefore other one → result ≡ Some other }
+    ensures behind { (one : EvictionCandidate) → first ≡ Some one → (IsEvictedBefore other one → ⊥) → result
+        ≡ Some one }
 {
     match first {
         Some(one) if !is_evicted_before(other, one) => first,

@@ -100,7 +100,7 @@ impl Readiness {
         self.watched == Some(Interest::Both) || self.watched == Some(self.wanted())
     }
 
-    pub(crate) fn note_watch(&mut self, outcome: io::Result<()>) -> bool
+    pub(crate) fn on_watched(&mut self, outcome: io::Result<()>) -> bool
         ensures answer { result ≡ is_ok outcome }
         ensures reading { self.new.reading ≡ self.old.reading }
         ensures writing { self.new.writing ≡ self.old.writing }

@@ -65,7 +65,7 @@ impl Schedule {
     }
 
     /// Ends a burst, since the run queue is served.
-    pub(crate) fn note_served(&mut self)
+    pub(crate) fn end_burst(&mut self)
         ensures { self.new ≡ record self.old { accepted = 0; is_burst = false } }
     {
         self.accepted = 0;

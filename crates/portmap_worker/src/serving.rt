@@ -204,7 +204,7 @@ impl<'a, L: Ledger, S: LinkSource + Drop, G: Gate, R: Wait> Worker<'a, L, S, G, 
             Turn::Fresh { key, local } => self.open(key, local),
             Turn::Ready(key) => self.go_on(key),
             Turn::Late(key) => self.expire(key),
-            Turn::Idle => self.look_round(),
+            Turn::Idle => self.close_stopped(),
             Turn::Stop => false,
         }
     }
@@ -270,7 +270,7 @@ impl<'a, L: Ledger, S: LinkSource + Drop, G: Gate, R: Wait> Worker<'a, L, S, G, 
     }
 
     /// Closes the connections that another worker has stopped. Returns false if the port mapper has halted.
-    fn look_round(&mut self) -> bool
+    fn close_stopped(&mut self) -> bool
         ensures count { self.old.holder.seat.count ≤ self.new.holder.seat.count }
         ensures agree { Agree self.old.holder.held (S.has self.old.source)
             → Agree self.new.holder.held (S.has self.new.source) }

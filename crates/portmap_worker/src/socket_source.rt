@@ -1,7 +1,7 @@
 //! The source of a worker over sockets.
 ghost use Rattle.std.specs.Prelude.{◌≡◌, ◌<◌, ℕ, [], Some, None, false, slice_get, is_some, IfNone, IfSome};
 ghost use Rattle.portmap_worker.specs.Link.{IsOf};
-ghost use Rattle.portmap_worker.specs.IdleLinks.{AllQuiet, Changes, Has, Keeps, Tells, TellsLinks};
+ghost use Rattle.portmap_worker.specs.IdleLinks.{AllQuiet, Changes, Has, Keeps, Returns, ReturnsLinks};
 ghost use Rattle.portmap_worker.specs.Keys.{Comes, Ends, Stay};
 ghost use Rattle.portmap_worker.specs.Schedule.{Does, HasAccepted, IsSpent, IsStep, IsTurn, Leaves, Lends, Nears};
 ghost use Rattle.portmap_worker.specs.Schedule.{Passes, scene};
@@ -90,7 +90,7 @@ impl<'a, L: Ledger, S: System, R: Host + Wait + Clock> SocketSource<'a, L, S, R>
     }
 
     /// Publishes the end of a link that has left the scheduler, and wakes workers with pending registrations.
-    fn note_end(&mut self, mut held: OpenLink<'a, S::Stream>)
+    fn on_end(&mut self, mut held: OpenLink<'a, S::Stream>)
         ensures ready { self.new.ready ≡ self.old.ready }
         ensures schedule { self.new.schedule ≡ self.old.schedule }
     {
@@ -127,7 +127,7 @@ impl<'a, L: Ledger, S: System, R: Host + Wait + Clock> SocketSource<'a, L, S, R>
         requires { self.old.ready.current ≡ None }
         ensures none { IfNone result (self.new.ready.current ≡ None) }
         ensures most { IfSome result (λ _. self.old.schedule.turns < TURNS_MOST) }
-        ensures links { TellsLinks self.old.ready self.new.ready result }
+        ensures links { ReturnsLinks self.old.ready self.new.ready result }
         ensures nears { IfSome result (λ turn. Nears turn
             (scene self.old.ready self.old.schedule) (scene self.new.ready self.new.schedule)) }
         ensures spent { IfNone result
@@ -140,14 +140,14 @@ impl<'a, L: Ledger, S: System, R: Host + Wait + Clock> SocketSource<'a, L, S, R>
         if accepted.is_some() {
             return accepted;
         }
-        self.schedule.note_served();
+        self.schedule.end_burst();
         self.pop()
     }
 
     /// Returns the turn of a new connection, or of a link that is evicted for it, if admission is next.
     fn accept(&mut self) -> Option<Turn>
         ensures current { self.new.ready.current ≡ self.old.ready.current }
-        ensures links { Tells self.old.ready self.new.ready result }
+        ensures links { Returns self.old.ready self.new.ready result }
         ensures none { IfNone result (self.new.schedule ≡ self.old.schedule) }
         ensures some { IfSome result (λ _. HasAccepted self.old.schedule self.new.schedule) }
     {
@@ -168,7 +168,7 @@ impl<'a, L: Ledger, S: System, R: Host + Wait + Clock> SocketSource<'a, L, S, R>
 
     /// Returns the next turn, or `None` after a poll that yields none.
     pub fn step(&mut self) -> Option<Turn>
-        ensures links { TellsLinks self.old.ready self.new.ready result }
+        ensures links { ReturnsLinks self.old.ready self.new.ready result }
         ensures nears { IsStep
             (scene self.old.ready self.old.schedule) (scene self.new.ready self.new.schedule) result }
     {
@@ -177,7 +177,7 @@ impl<'a, L: Ledger, S: System, R: Host + Wait + Clock> SocketSource<'a, L, S, R>
             return held_back;
         }
         self.requeue();
-        let unread = self.give_up_unread();
+        let unread = self.reset_unread();
         if unread.is_some() {
             return unread;
         }
@@ -193,7 +193,7 @@ impl<'a, L: Ledger, S: System, R: Host + Wait + Clock> SocketSource<'a, L, S, R>
         requires { self.old.ready.current ≡ None }
         ensures first { IfSome result (λ turn. IsOf (slice_get self.old.ready.queue 0) turn) }
         ensures none { IfNone result ((self.old.ready.queue ≡ []) × (self.new.ready.current ≡ None)) }
-        ensures links { TellsLinks self.old.ready self.new.ready result }
+        ensures links { ReturnsLinks self.old.ready self.new.ready result }
         ensures passes { IfSome result (λ turn. Passes turn self.old.ready self.new.ready) }
         ensures schedule { self.new.schedule ≡ self.old.schedule }
     {
@@ -206,9 +206,9 @@ impl<'a, L: Ledger, S: System, R: Host + Wait + Clock> SocketSource<'a, L, S, R>
             return Some(Turn::Ready(key as u64));
         };
         if is_short {
-            held.link.refuse_part();
+            held.link.expire_partial_request();
         }
-        held.link.note_crowd(is_crowded);
+        held.link.set_crowded(is_crowded);
         Some(held.link.turn(key))
     }
 }
@@ -221,7 +221,7 @@ impl<L: Ledger, S: System, R: Host + Wait + Clock> LinkSource for SocketSource<'
     ghost has = { λ source. Has source.ready };
 
     fn turn(&mut self) -> Turn
-        ensures links { TellsLinks self.old.ready self.new.ready (Some result) }
+        ensures links { ReturnsLinks self.old.ready self.new.ready (Some result) }
         ensures nears { IsTurn result
             (scene self.old.ready self.old.schedule) (scene self.new.ready self.new.schedule) }
         ensures comes { Comes (Has self.old.ready) (Has self.new.ready) result }
@@ -261,7 +261,7 @@ impl<L: Ledger, S: System, R: Host + Wait + Clock> LinkSource for SocketSource<'
         ensures ends { Ends key (Has self.old.ready) (Has self.new.ready) }
     {
         if let Some(held) = self.ready.remove(key as usize) {
-            self.note_end(held);
+            self.on_end(held);
         }
     }
 }

@@ -59,11 +59,11 @@ impl<S: System> Sockets<S> {
         if !self.system.poll(timeout) {
             return false;
         }
-        self.take_events(links);
+        self.handle_events(links);
         true
     }
 
-    fn take_events(&mut self, links: &mut Links<'_, S::Stream>)
+    fn handle_events(&mut self, links: &mut Links<'_, S::Stream>)
         ensures system { self.new.system ≡ self.old.system }
         ensures noted { IfSome (S.reports self.old.system)
             (λ reports. AreNoted (take EVENTS_MOST reports) links.old links.new) }
@@ -73,11 +73,11 @@ impl<S: System> Sockets<S> {
             let Some(event) = self.system.report(place) else {
                 return;
             };
-            self.take_event(links, event);
+            self.handle_event(links, event);
         }
     }
 
-    fn take_event(&mut self, links: &mut Links<'_, S::Stream>, event: Report)
+    fn handle_event(&mut self, links: &mut Links<'_, S::Stream>, event: Report)
         ensures system { self.new.system ≡ self.old.system }
         ensures noted { (key : ℕ) → noted_at links.new key ≡ hears key (noted_at links.old key) event }
         ensures links { Keeps links.old links.new }
@@ -91,7 +91,7 @@ impl<S: System> Sockets<S> {
 
     /// Polls without a wait until nothing is left to report. The poll reports events in order, so as many calls are
     /// enough as hold one report of each stream and listener. Returns false if a poll failed.
-    pub(crate) fn ask_for_all(&mut self, links: &mut Links<'_, S::Stream>) -> bool
+    pub(crate) fn poll_all(&mut self, links: &mut Links<'_, S::Stream>) -> bool
         ensures { Keeps links.old links.new }
     {
         let watched = links.len().saturating_add(self.listeners.len());

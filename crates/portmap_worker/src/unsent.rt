@@ -1,6 +1,6 @@
 //! Bytes of replies that wait to be written since their peers don't read, over all connections of a daemon.
 ghost use Rattle.std.specs.Prelude.{◌≡◌, ◌↔◌, ◌-◌, ◌<◌, ◌≤◌, ℕ, true, false, IfSome};
-ghost use Rattle.portmap_worker.specs.IdleLinks.{Tells};
+ghost use Rattle.portmap_worker.specs.IdleLinks.{Returns};
 ghost use Rattle.portmap_worker.specs.Unsent.{AreMany, MayReset};
 ghost use Rattle.portmap_worker.specs.declared.limits.TheConstants.{RESUMES_MOST, YOUNG_MS};
 
@@ -27,7 +27,7 @@ fn are_many(most: u64, bytes: u64) -> bool
 }
 
 /// Returns how many paused links may resume in a millisecond. Lists take long, and nothing is accepted meanwhile.
-pub(crate) fn rests_most(is_crowded: bool) -> u32
+pub(crate) fn resumes_most(is_crowded: bool) -> u32
     ensures crowded { is_crowded ≡ true → result ≡ 1 }
     ensures few { is_crowded ≡ false → result ≡ RESUMES_MOST }
 {
@@ -166,9 +166,9 @@ impl<'a> Unsent<'a> {
 impl<L: Ledger, S: System, R: Host + Wait + Clock> SocketSource<'_, L, S, R> {
     /// Resets a connection if more bytes wait than may. Remote peers come first, then those that have read nothing for
     /// the longest time. If this worker has no such connection, it wakes the others.
-    pub(crate) fn give_up_unread(&mut self) -> Option<Turn>
+    pub(crate) fn reset_unread(&mut self) -> Option<Turn>
         ensures current { self.new.ready.current ≡ self.old.ready.current }
-        ensures links { Tells self.old.ready self.new.ready result }
+        ensures links { Returns self.old.ready self.new.ready result }
         ensures late { IfSome result (λ turn. (k : ℕ) × (turn ≡ Turn.Late k)) }
         ensures schedule { self.new.schedule ≡ self.old.schedule }
     {

@@ -6,7 +6,7 @@ pub returns-then-self-clause-asked : goal.returns-then-self-clause-asked
 returns-then-self-clause-asked g c =
     elim c.if-not-is_asked.branch [
       | then-not-is_asked+then-not-is_watched w ↦
-          rw (w.self-is, w.system-is) (one_asked _ _ _ _ _ _ _ w.note_watch.ensures.noted
+          rw (w.self-is, w.system-is) (one_asked _ _ _ _ _ _ _ w.on_watched.ensures.noted
           (rw w.wanted-interest.ensures at w.watch-outcome.ensures))
       | else-not-is_asked w ↦ rw (w.self-is, w.system-is) (none_asked _ _ _)
     ]
@@ -15,7 +15,7 @@ pub returns-else-may_move-clause-asked : goal.returns-else-may_move-clause-asked
 returns-else-may_move-clause-asked g c =
     elim c.if-not-is_asked.branch [
       | then-not-is_asked+then-not-is_watched w ↦
-          rw (w.self-is, w.system-is) (one_asked _ _ _ _ _ _ _ w.note_watch.ensures.noted
+          rw (w.self-is, w.system-is) (one_asked _ _ _ _ _ _ _ w.on_watched.ensures.noted
           (rw w.wanted-interest.ensures at w.watch-outcome.ensures))
       | else-not-is_asked w ↦ rw (w.self-is, w.system-is) (none_asked _ _ _)
     ]

@@ -1,5 +1,5 @@
 use Rattle.std.proofs.Common.{sym, ◌∙◌}
-use Rattle.portmap_worker.proofs.Idle.{nothing_told, stays_of, then_told, weaker}
+use Rattle.portmap_worker.proofs.Idle.{returned_none, stays_of, then_returns_links, weaker}
 use Rattle.portmap_worker.proofs.Turns.{accepts_so, passes_so, spent_so}
 use Rattle.portmap_worker.proofs.socket_source.SocketSource.next.Goals as goal
 
@@ -13,16 +13,17 @@ returns-then-is_some-clause-nears g c =
 
 pub returns-clause-links : goal.returns-clause-links
 returns-clause-links g c =
-    then_told _ _ _ _ (nothing_told _ _ _ (sym c.is_some.ensures ∙ c.if-is_some.false) c.accept-accepted.ensures.links) c.pop.ensures.links
+    then_returns_links _ _ _ _ (returned_none _ _ _ (sym c.is_some.ensures ∙ c.if-is_some.false) c.accept-accepted.ensures.links)
+        c.pop.ensures.links
 
 pub returns-clause-nears : goal.returns-clause-nears
 returns-clause-nears g c =
-    let before = nothing_told _ _ _ (sym c.is_some.ensures ∙ c.if-is_some.false) c.accept-accepted.ensures.links in
+    let before = returned_none _ _ _ (sym c.is_some.ensures ∙ c.if-is_some.false) c.accept-accepted.ensures.links in
     passes_so _ c.accept-accepted.new.self.ready c.pop.new.self.ready _ _ _ (stays_of _ _ before)
     c.pop.ensures.passes
 
 pub returns-clause-spent : goal.returns-clause-spent
 returns-clause-spent g c =
-    let before = nothing_told _ _ _ (sym c.is_some.ensures ∙ c.if-is_some.false) c.accept-accepted.ensures.links in
+    let before = returned_none _ _ _ (sym c.is_some.ensures ∙ c.if-is_some.false) c.accept-accepted.ensures.links in
     spent_so _ c.accept-accepted.new.self.ready c.pop.new.self.ready _ _ _ _ (stays_of _ _ before)
     c.pop.ensures.none

@@ -1,6 +1,6 @@
 use Rattle.std.proofs.Common.{refl, sym, ap, ◌∙◌}
 use Rattle.portmap_ready.specs.declared.LinkState.TheVariants.{Current}
-use Rattle.portmap_worker.proofs.Idle.{first_goes, none_told, tells_of, told_written}
+use Rattle.portmap_worker.proofs.Idle.{first_goes, none_current, returns_of, current_written}
 use Rattle.portmap_worker.proofs.Turns.{passes_first}
 use Rattle.portmap_worker.specs.declared.source.Turn.TheVariants.{Ready}
 use Rattle.portmap_worker.proofs.socket_source.SocketSource.pop.Goals as goal
@@ -8,7 +8,7 @@ use Rattle.portmap_worker.proofs.socket_source.SocketSource.pop.Goals as goal
 pub returns-in_err-key-clause-links : goal.returns-in_err-key-clause-links
 returns-in_err-key-clause-links g c =
     rw c.from_residual.ensures
-    (none_told c.args.self.now.ready _ (sym c.next-key.ensures.key ∙ c.in_err-key.was) c.next-key.ensures.current)
+    (none_current c.args.self.now.ready _ (sym c.next-key.ensures.key ∙ c.in_err-key.was) c.next-key.ensures.current)
 
 pub returns-in_default-clause-links : goal.returns-in_default-clause-links
 returns-in_default-clause-links g c = first_goes Current _ c.args.self.now.ready _ (ap (λ r. r.links) c.next-key.ensures.current)
@@ -21,8 +21,8 @@ returns-in_default-clause-passes g c =
 
 pub returns-clause-links : goal.returns-clause-links
 returns-clause-links g c =
-    tells_of _ _ _ _ c.turn.ensures.link
-    (told_written c.in_ok-key.key c.args.self.now.ready c.next-key.new.self _ (sym c.next-key.ensures.key ∙ c.in_ok-key.was)
+    returns_of _ _ _ _ c.turn.ensures.link
+    (current_written c.in_ok-key.key c.args.self.now.ready c.next-key.new.self _ (sym c.next-key.ensures.key ∙ c.in_ok-key.was)
     c.next-key.ensures.current)
 
 pub returns-clause-passes : goal.returns-clause-passes

@@ -5,11 +5,11 @@ use Rattle.portmap_worker.proofs.socket_source.SocketSourceLinkSource.end.Goals 
 
 pub returns-in-Some-clause-links : goal.returns-in-Some-clause-links
 returns-in-Some-clause-links g c =
-    rw c.note_end.ensures.ready (after_remove _ c.args.self.now.ready c.remove.new.self c.remove.ensures.removed)
+    rw c.on_end.ensures.ready (after_remove _ c.args.self.now.ready c.remove.new.self c.remove.ensures.removed)
 
 pub returns-in-Some-clause-ends : goal.returns-in-Some-clause-ends
 returns-in-Some-clause-ends g c =
-    rw c.note_end.ensures.ready (ends _ _ _ (after_remove _ c.args.self.now.ready c.remove.new.self c.remove.ensures.removed))
+    rw c.on_end.ensures.ready (ends _ _ _ (after_remove _ c.args.self.now.ready c.remove.new.self c.remove.ensures.removed))
 
 pub returns-in_default-clause-links : goal.returns-in_default-clause-links
 returns-in_default-clause-links g c = after_remove _ c.args.self.now.ready c.remove.new.self c.remove.ensures.removed
@@ -19,8 +19,8 @@ returns-in_default-clause-ends g c = ends _ _ _ (after_remove _ c.args.self.now.
 
 pub returns-in-Some-clause-waits : goal.returns-in-Some-clause-waits
 returns-in-Some-clause-waits g c =
-    leaves c.args.key _ _ (rw c.note_end.ensures.ready (after_remove _ c.args.self.now.ready c.remove.new.self c.remove.ensures.removed))
-    c.note_end.ensures.schedule
+    leaves c.args.key _ _ (rw c.on_end.ensures.ready (after_remove _ c.args.self.now.ready c.remove.new.self c.remove.ensures.removed))
+    c.on_end.ensures.schedule
 
 pub returns-in_default-clause-waits : goal.returns-in_default-clause-waits
 returns-in_default-clause-waits g c =

@@ -1,6 +1,6 @@
 use Rattle.std.proofs.Common.{Some, ◌<◌, arith, inr}
 use Rattle.portmap_worker.specs.declared.source.Turn.TheVariants.{Idle}
-use Rattle.portmap_worker.proofs.Idle.{comes, then_told}
+use Rattle.portmap_worker.proofs.Idle.{comes, then_returns_links}
 use Rattle.portmap_worker.proofs.Turns.{idle_turn, past_again, turn_again}
 use Rattle.portmap_worker.proofs.socket_source.SocketSourceLinkSource.turn.Goals as goal
 
@@ -15,7 +15,7 @@ returns-clause-comes g c = comes Idle c.args.self.now.ready c.loop.self.ready (�
 
 pub returns-in-Some-clause-links : goal.returns-in-Some-clause-links
 returns-in-Some-clause-links g c =
-    then_told _ c.loop.self.ready _ (Some c.in-Some.turn) c.loop.invariant.links (rw c.in-Some.is at c.step.ensures.links)
+    then_returns_links _ c.loop.self.ready _ (Some c.in-Some.turn) c.loop.invariant.links (rw c.in-Some.is at c.step.ensures.links)
 
 pub returns-in-Some-clause-nears : goal.returns-in-Some-clause-nears
 returns-in-Some-clause-nears g c =
@@ -24,7 +24,7 @@ returns-in-Some-clause-nears g c =
 pub returns-in-Some-clause-comes : goal.returns-in-Some-clause-comes
 returns-in-Some-clause-comes g c =
     comes c.in-Some.turn c.args.self.now.ready c.step.new.self.ready
-    (then_told _ c.loop.self.ready _ (Some c.in-Some.turn) c.loop.invariant.links (rw c.in-Some.is at c.step.ensures.links))
+    (then_returns_links _ c.loop.self.ready _ (Some c.in-Some.turn) c.loop.invariant.links (rw c.in-Some.is at c.step.ensures.links))
 
 pub returns-clause-nears : goal.returns-clause-nears
 returns-clause-nears g c =

@@ -1,6 +1,6 @@
 use Rattle.std.proofs.Common.{◌≤◌}
 use Rattle.portmap_worker.specs.Keys.{Agree}
-use Rattle.portmap_worker.proofs.serving.Worker.look_round.Given as goal
+use Rattle.portmap_worker.proofs.serving.Worker.close_stopped.Given as goal
 
 abbrev pub invariant-loop-key : goal.invariant-loop-key
 invariant-loop-key g l = record {

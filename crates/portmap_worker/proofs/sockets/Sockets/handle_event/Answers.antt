@@ -1,7 +1,7 @@
 use Rattle.std.proofs.Common.{sym, ap, ◌∙◌}
 use Rattle.portmap_worker.specs.IdleLinks.{hears, noted_at}
 use Rattle.portmap_worker.proofs.Idle.{one_noted}
-use Rattle.portmap_worker.proofs.sockets.Sockets.take_event.Goals as goal
+use Rattle.portmap_worker.proofs.sockets.Sockets.handle_event.Goals as goal
 
 pub returns-in-Stream-clause-noted : goal.returns-in-Stream-clause-noted
 returns-in-Stream-clause-noted g c = λ k.

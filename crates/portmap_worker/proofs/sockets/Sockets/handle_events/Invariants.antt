@@ -1,7 +1,7 @@
 use Rattle.std.proofs.Common.{◌≡◌, take}
 use Rattle.std.specs.Prelude.{IfSome}
 use Rattle.portmap_worker.specs.IdleLinks.{AreNoted, Keeps}
-use Rattle.portmap_worker.proofs.sockets.Sockets.take_events.Given as goal
+use Rattle.portmap_worker.proofs.sockets.Sockets.handle_events.Given as goal
 
 -- The reports before index `place` are noted.
 abbrev pub invariant-loop-place : goal.invariant-loop-place

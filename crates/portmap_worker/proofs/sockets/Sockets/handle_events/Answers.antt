@@ -1,16 +1,16 @@
 use Rattle.std.proofs.Common.{◌≡◌, sym, ◌∙◌, ◌≤◌, arith}
 use Rattle.portmap_worker.proofs.Idle.{all_noted_if, more_noted_if}
 use Rattle.portmap_worker.specs.declared.limits.TheConstants.{EVENTS_MOST}
-use Rattle.portmap_worker.proofs.sockets.Sockets.take_events.Goals as goal
+use Rattle.portmap_worker.proofs.sockets.Sockets.handle_events.Goals as goal
 
 pub loop-place-preserved : goal.loop-place-preserved
 loop-place-preserved g c = record {
-  system = c.take_event.ensures.system ∙ c.loop-place.invariant.system;
-  noted = rw c.take_event.ensures.system
-      (more_noted_if c.loop-place.place c.in-Some.event c.args.links.now c.loop-place.links c.take_event.new.links
+  system = c.handle_event.ensures.system ∙ c.loop-place.invariant.system;
+  noted = rw c.handle_event.ensures.system
+      (more_noted_if c.loop-place.place c.in-Some.event c.args.links.now c.loop-place.links c.handle_event.new.links
       (g.S.System.reports c.loop-place.self.system) (rw c.in-Some.is at c.report.ensures) c.loop-place.invariant.noted
-      c.take_event.ensures.noted);
-  links = λ fact h. c.take_event.ensures.links fact (c.loop-place.invariant.links fact h);
+      c.handle_event.ensures.noted);
+  links = λ fact h. c.handle_event.ensures.links fact (c.loop-place.invariant.links fact h);
 }
 
 pub returns-in_default-clause-noted : goal.returns-in_default-clause-noted
