@@ -2,8 +2,8 @@ use Rattle.portmap_worker.proofs.Asked.{none_asked, one_asked}
 use Rattle.portmap_worker.proofs.link.Link.fate.Goals.{then-not-is_asked+then-not-is_watched, else-not-is_asked}
 use Rattle.portmap_worker.proofs.link.Link.fate.Goals as goal
 
-pub returns-then-self-clause-asked : goal.returns-then-self-clause-asked
-returns-then-self-clause-asked g c =
+pub returns-then-self-2-clause-asked : goal.returns-then-self-2-clause-asked
+returns-then-self-2-clause-asked g c =
     elim c.if-not-is_asked.branch [
       | then-not-is_asked+then-not-is_watched w ↦
           rw (w.self-is, w.system-is) (one_asked _ _ _ _ _ _ _ w.on_watched.ensures.noted
