@@ -1,15 +1,21 @@
 -- Lists of addresses, one address more at a time.
-use Rattle.std.proofs.Common.{◌≡◌, ℕ, List, [], ◌∷◌, ◌++◌, refl, sym, subst, append_assoc}
+use Rattle.std.specs.Prelude.{IfSome}
+use Rattle.std.proofs.Common.{◌≡◌, ℕ, ◌<◌, List, [], ◌∷◌, ◌++◌, Bor, Option, Some, None, refl, sym, subst, append_assoc}
+use Rattle.std.proofs.lemmas.Str.Pattern.{IsSplitOnceResult, split_parts}
 use Rattle.epmd.specs.Addresses.{Separated, WritesAddress, WritesAddresses, with, with_each}
 
--- one in front
+pub cut_parts : (c : ℕ) (bs : List ℕ) (r : Option (Bor (List ℕ) × Bor (List ℕ))) → IsSplitOnceResult c bs r → c < 128
+    → IfSome r (λ parts. bs ≡ parts.0.now ++ c ∷ parts.1.now)
+cut_parts c bs None h small = tt
+cut_parts c bs (Some parts) h small = (split_parts c bs (Some parts) h small).0
+
 separated_with : {X : Type 0} (separator : ℕ) (Writes : List ℕ → X → Type 0) (text front after : List ℕ) (x : X) (more : List X)
     → text ≡ front ++ separator ∷ after → Writes front x → Separated separator Writes after more
     → Separated separator Writes text (x ∷ more)
 separated_with separator Writes text front after x [] e first s = absurd s
 separated_with separator Writes text front after x (y ∷ ys) e first s = (front, after, e, first, s)
 
--- these were read of a text, of which this rest is left
+-- `addresses` are read from `text`, and `rest` is left
 pub record Reads (text : List ℕ) (addresses : List (List ℕ)) (rest : List ℕ) : Type 0 where
   pub with_more : (more : List (List ℕ)) → WritesAddresses rest more → WritesAddresses text (addresses ++ more)
 

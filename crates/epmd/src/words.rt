@@ -1,4 +1,4 @@
-//! The words of the command.
+//! The command that words and the environment say.
 ghost use Rattle.std.specs.Prelude.{◌≡◌, ◌≤◌, List, [], length, map, string_bytes, IfOk, IfErr};
 ghost use Rattle.epmd.specs.Numbers.{IsWithin};
 ghost use Rattle.epmd.specs.Errors.{IsSaid};
@@ -6,10 +6,11 @@ ghost use Rattle.epmd.specs.Meaning.{CanServe, SaysCommand, Holds, NamesWord, st
 ghost use Rattle.epmd.specs.Words.{Spells};
 ghost use Rattle.epmd.specs.declared.items.Word.{Word};
 
-use crate::actions::{FAILED, MEMORY_RAN_OUT, REFUSED};
-use crate::errors::{say, say_number};
-use crate::items::read_word;
+use crate::actions::{Failure, REFUSED, fail};
+use crate::errors::{say, say_all};
+use crate::items::Behind;
 use crate::plan::Plan;
+use itoa::Buffer;
 use portmap_link::{NoMemory, Writing};
 use portmap_record::Text;
 use portmap_wire::Name;
@@ -18,41 +19,32 @@ use std::io;
 use std::io::{ErrorKind, Write};
 use thiserror::Error;
 
-const BAD_WORD: &[u8] = b"epmd: bad word ";
-
-const BAD_PORT: &[u8] = b"epmd: bad port in environment\n";
-
-/// What the daemon on this host is asked.
+/// A request to the port mapper of this host.
 #[derive(Drop)]
 pub enum Ask {
-    /// The names that it knows.
     Names,
-    /// To end.
     Kill,
-    /// To forget that a name is active.
+    /// Retires an active name.
     Stop(Name),
-    /// All that it knows.
     Dump,
 }
 
-/// What the command is asked to do.
 #[derive(Drop)]
 pub enum Action {
-    /// To serve as the daemon.
+    /// Serves as the daemon.
     Serve,
-    /// To ask the daemon on this host.
     Ask(Ask),
-    /// To check that the daemon on this host registers names, finds them and frees them.
+    /// Checks that the port mapper of this host registers a name, finds it and frees it.
     Health,
-    /// To answer one request from standard input, on standard output.
+    /// Replies to one request from standard input, on standard output.
     Once,
-    /// To judge the recorded session in the file of this path, and to write this of it.
+    /// Checks the session in the file of this path, and writes this text of it.
     Inspect(Text, String),
-    /// To judge the files of the recording whose first one has this path, as one session.
+    /// Checks the files of a recording as one session. The first file has this path.
     Audit(String),
 }
 
-/// What the environment says.
+/// The variables of the environment that the command reads.
 #[derive(Drop)]
 pub struct Env {
     /// The text of `ERL_EPMD_PORT`.
@@ -61,42 +53,42 @@ pub struct Env {
     pub relaxed: bool,
 }
 
-/// What the command is asked to do, and how.
+/// An action and its settings.
 #[derive(Drop)]
 pub struct Command {
     pub action: Action,
     /// 1 to 65,535.
     pub port: u16,
-    /// Whether a word or the environment says the port, or a word the addresses.
+    /// True if a word or the environment sets the port, or a word the addresses.
     pub says_where: bool,
     pub relaxed: bool,
-    /// What the daemon listens on.
+    /// The IPv4 addresses that the daemon listens on.
     pub addresses: Vec<[u8; 4]>,
-    /// For how many seconds a connection may move no byte: 1 to 86,400.
+    /// Seconds after which an inactive connection is closed: 1 to 86,400.
     pub timeout: u32,
     /// 1 to 64.
     pub workers: u32,
     pub debug: bool,
-    /// The path of the file that the daemon records to, if any.
+    /// The path of the recording.
     pub recording: Option<String>,
 }
 
-/// Why words are no command. A word is named by its number, from 0.
+/// The reason for which words are not a command. Words are numbered from 0.
 #[derive(Clone, Copy, Debug, PartialEq, Eq, Error)]
 pub enum WordFault {
-    /// No such word is known, or one is not UTF-8: that is called word 0.
+    /// The word is not known. It is word 0 if any word is not UTF-8.
     #[error("bad word {0}")]
     Unknown(usize),
-    /// No value is behind this word, which wants one.
+    /// No value follows this word, which needs one.
     #[error("bad word {0}")]
     MissingValue(usize),
-    /// This value is none that the word before it takes.
+    /// The word before does not accept this value.
     #[error("bad word {0}")]
     BadValue(usize),
-    /// This word asks for an action, and so did one before it.
+    /// This word sets a second action.
     #[error("bad word {0}")]
     TwoCommands(usize),
-    /// The environment's text is no port, and no word says one.
+    /// The environment's port is malformed, and no word sets a port.
     #[error("bad port in environment")]
     BadEnvPort,
     #[error("out of memory")]
@@ -121,7 +113,7 @@ impl From<io::Error> for WordFault {
 
     ghost from_gives = { λ error fault. fault ≡ fault_of_words (error_kind error) };
 
-    // The system's words can't be had for want of memory, or where one is not UTF-8.
+    // The program's own words cannot be read if memory runs out, or if a word is not UTF-8.
     fn from(error: io::Error) -> WordFault {
         match error.kind() {
             ErrorKind::OutOfMemory => WordFault::NoMemory,
@@ -130,33 +122,29 @@ impl From<io::Error> for WordFault {
     }
 }
 
-/// The status that tells this fault.
-fn status_of(fault: WordFault) -> u8
-    ensures { result ≡ status_of_fault fault }
-{
-    match fault {
-        WordFault::NoMemory => FAILED,
-        _ => REFUSED,
-    }
-}
-
-/// Tells why words are no command, and gives the status that does. A failure of `errors` changes nothing else.
+/// Prints the line of a fault to `errors`, and returns its status.
 pub fn refuse<E: Write>(errors: &mut Writing<E>, fault: WordFault) -> u8
     ensures status { result ≡ status_of_fault fault }
     ensures line { IsSaid E.contents (line_of_fault fault) errors.old errors.new }
 {
-    let _ = match fault {
+    match fault {
         WordFault::Unknown(index)
         | WordFault::MissingValue(index)
         | WordFault::BadValue(index)
-        | WordFault::TwoCommands(index) => say_number(errors, BAD_WORD, index as u64, b"\n"),
-        WordFault::BadEnvPort => say(errors, BAD_PORT),
-        WordFault::NoMemory => say(errors, MEMORY_RAN_OUT),
-    };
-    status_of(fault)
+        | WordFault::TwoCommands(index) => {
+            let mut digits = Buffer::new();
+            let digits = digits.format(index).as_bytes();
+            let _ = say_all(errors, &[b"epmd: bad word ", digits, b"\n"]);
+            REFUSED
+        }
+        WordFault::BadEnvPort => {
+            let _ = say(errors, b"epmd: bad port in environment\n");
+            REFUSED
+        }
+        WordFault::NoMemory => fail(errors, Failure::Memory),
+    }
 }
 
-/// What these words say, one behind the other.
 fn read_all(alloc: Global, words: &[String]) -> Result<Plan, WordFault>
     ensures said { IfOk result (λ plan. (items : List Word) × Spells (map string_bytes words.now) items
         × Holds items plan) }
@@ -165,17 +153,23 @@ fn read_all(alloc: Global, words: &[String]) -> Result<Plan, WordFault>
     let mut plan = Plan::new();
     let mut rest = words;
     while let [first, behind @ ..] = rest {
-        let index = words.len() - rest.len();
-        let (said, after) = read_word(alloc, first, behind, index, plan.has_action())?;
-        plan.add(said);
-        rest = after;
+        let mut values = Behind {
+            words: behind,
+            index: words.len() - rest.len(),
+            has_action: plan.action.is_some(),
+        };
+        let item = values.read(alloc, first)?;
+        plan.add(item);
+        rest = values.words;
     }
     Ok(plan)
 }
 
-/// The command that the words, behind the program's own name, and the environment say. Words are read from left to
-/// right and the first fault ends the reading; at one word the order is `Unknown`, `TwoCommands`, `MissingValue`,
-/// `BadValue`. The environment's port is looked at last, where no word says one. Want of memory can come at any value.
+/// Reads a command from words, without the program's name, and from the environment.
+///
+/// # Errors
+/// Words are read from left to right, and the first fault is returned. At each word the order is `Unknown`,
+/// `TwoCommands`, `MissingValue`, `BadValue`. `BadEnvPort` comes last. `NoMemory` may occur at any value.
 pub fn read_words(alloc: Global, words: &[String], env: &Env) -> Result<Command, WordFault>
     ensures port { IfOk result (λ command. IsWithin 1 65535 command.port) }
     ensures ranges { IfOk result CanServe }

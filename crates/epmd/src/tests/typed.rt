@@ -1,4 +1,4 @@
-//! Lines as they are typed.
+//! Command lines.
 ghost use Rattle.std.specs.Prelude.{◌≡◌, ◌≤◌, IfOk, length};
 ghost use Rattle.epmd.specs.Meaning.{CanServe};
 
@@ -8,12 +8,12 @@ use crate::words::{Command, WordFault};
 use std::alloc::Global;
 use std::env::{Env, FillError};
 
-/// A line as it is typed: variables, the program's own name and its words, with blanks between. A blank in one of them
-/// is written `~`, an end of line `|`, a byte that is not UTF-8 `?`, and the empty word `''`.
+/// A command line: variables, the program's name and its words, with blanks between. In a word `~` is a blank, `|` an end
+/// of line, and `?` a byte that is not UTF-8. `''` is the empty word.
 #[derive(Clone, Copy)]
 struct Typed<'a>(&'a str);
 
-/// Puts the bytes in the place of those that stand for them.
+/// Replaces each byte by its meaning.
 fn mean(bytes: &mut [u8])
     ensures { length bytes.new ≡ length bytes.old }
 {
@@ -22,7 +22,6 @@ fn mean(bytes: &mut [u8])
     }
 }
 
-/// Copies what is asked for, if it is there.
 fn give(text: Option<&str>, buffer: &mut [u8]) -> Result<usize, FillError>
     ensures { IfOk result (λ n. n ≤ length buffer.new) }
 {
@@ -59,7 +58,6 @@ impl Env for Typed<'_> {
     }
 }
 
-/// The command that a line asks for.
 pub fn command(alloc: Global, line: &str) -> Result<Command, WordFault>
     ensures { IfOk result (λ command. CanServe command) }
 {

@@ -1,4 +1,4 @@
-//! The words of the command: each word, and what it takes.
+//! The words of the command, and their values.
 mod faults;
 
 use super::typed::command;
@@ -9,7 +9,7 @@ use std::alloc::Global;
 use std::fmt;
 use std::test::Fail;
 
-/// A command as a line wants it: the action with its value, and what is not as usual.
+/// A command as a table shows it: the action with its value, and each setting that is not the default.
 #[derive(Drop)]
 struct Shown<'a>(&'a Command);
 
@@ -32,7 +32,6 @@ fn show_action<W: fmt::Write>(action: &Action, f: &mut fmt::Formatter<W>) -> fmt
     }
 }
 
-/// What is listened on, unless that is every address.
 fn show_addresses<W: fmt::Write>(all: &[[u8; 4]], f: &mut fmt::Formatter<W>) -> fmt::Result {
     if all == [[0, 0, 0, 0]].as_slice() {
         return Ok(());
@@ -70,7 +69,7 @@ impl fmt::Display for Shown<'_> {
     }
 }
 
-/// A line as it is typed: what it asks for, or its fault.
+/// A command line: its command, or its fault.
 struct Asks;
 
 impl Trial for Asks {
@@ -162,8 +161,7 @@ fn a_daemon_listens_on_the_host_too(rt: HostRuntime) -> Result<(), Fail> {
 
 #[test]
 fn a_daemon_records_to_the_last_path(rt: HostRuntime) -> Result<(), Fail> {
-    // The last path counts, the word behind `-record` is one whatever it begins with, and it is taken with every
-    // action.
+    // The last path counts. The word behind `-record` is always a path, and every action accepts `-record`.
     let table = "
         epmd -record x -> serve record <x>
         epmd -d -record x -> serve debug record <x>
@@ -228,7 +226,7 @@ fn the_port_of_the_environment_is_digits_too(rt: HostRuntime) -> Result<(), Fail
 
 #[test]
 fn words_or_the_environment_relax(rt: HostRuntime) -> Result<(), Fail> {
-    // The variable is set to any text.
+    // Any text of the variable counts.
     let table = "
         ERL_EPMD_RELAXED_COMMAND_CHECK=1 epmd -> serve relaxed
         ERL_EPMD_RELAXED_COMMAND_CHECK= epmd -> serve relaxed
