@@ -33,6 +33,7 @@ pub record SetsAs (command : Command) (now : Option Duration) (settings : Settin
   pub timeout : settings.timeout ≡ command.timeout
   pub workers : settings.workers ≡ command.workers
   pub recording : option_map string_bytes settings.recording ≡ option_map string_bytes command.recording
+  pub figures : option_map string_bytes settings.figures ≡ option_map string_bytes command.figures
 
 -- the status of a daemon that halted, by whether its recording is complete
 abbrev pub status_of_recorded : Bool → ℕ

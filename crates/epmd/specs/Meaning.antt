@@ -6,7 +6,7 @@ use Rattle.std.specs.{Prelude.{count_by, unwrap_or}, declared.io.ErrorKind.{Erro
 use Rattle.epmd.specs.{Actions.line_of, declared.actions.Failure.TheVariants.Memory, Addresses.{anywhere, AreListening}}
 use Rattle.epmd.specs.{Numbers.{IsWithin, WritesWithin}, declared.items.Word.Word}
 use Rattle.epmd.specs.{Words.{is_action, Spells}, declared.plan.Plan.Plan, declared.items.Behind.Behind}
-use Rattle.epmd.specs.declared.items.Word.TheVariants.{Act, Addresses, Daemon, Debug, Port, Recording, Relaxed, Timeout, Workers}
+use Rattle.epmd.specs.declared.items.Word.TheVariants.{Act, Addresses, Daemon, Debug, Figures, Port, Recording, Relaxed, Timeout, Workers}
 use Rattle.epmd.specs.{declared.plan.TheConstants.{TIMEOUT, WORKERS}, declared.words.Command.Command}
 use Rattle.epmd.specs.{declared.words.Action.TheVariants.Serve, declared.words.Env.Env, declared.words.WordFault.WordFault}
 use Rattle.epmd.specs.declared.words.WordFault.TheVariants.{BadEnvPort, BadValue, MissingValue, NoMemory, TwoCommands}
@@ -25,6 +25,7 @@ nothing = record {
   relaxed = false;
   debug = false;
   recording = None;
+  figures = None;
 }
 
 -- the plan of one item
@@ -37,6 +38,7 @@ plan_of Relaxed = record nothing { relaxed = true }
 plan_of Debug = record nothing { debug = true }
 plan_of Daemon = nothing
 plan_of (Recording path) = record nothing { recording = Some path }
+plan_of (Figures path) = record nothing { figures = Some path }
 plan_of (Act action) = record nothing { action = Some action }
 
 -- two plans in order: of each setting the later plan's counts, else the earlier plan's
@@ -50,6 +52,7 @@ over early late = record {
   relaxed = late.relaxed || early.relaxed;
   debug = late.debug || early.debug;
   recording = option_or late.recording early.recording;
+  figures = option_or late.figures early.figures;
 }
 
 -- a plan, and then items in order
@@ -81,6 +84,7 @@ pub record Completes (plan : Plan) (env : Env) (command : Command) : Type 0 wher
   pub workers : command.workers ≡ unwrap_or plan.workers WORKERS
   pub debug : command.debug ≡ plan.debug
   pub recording : command.recording ≡ plan.recording
+  pub figures : command.figures ≡ plan.figures
 
 -- `command` is that of the items that the words spell, in this environment
 abbrev pub SaysCommand : List (List ℕ) → Env → Command → Type 0

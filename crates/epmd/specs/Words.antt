@@ -1,9 +1,10 @@
--- The words of the command: the options of epmd(1). Profile: -workers, -record, -dump, -health, -once, -check, -play, -local, -audit.
+-- The words of the command: the options of epmd(1). Profile: -workers, -record, -figures, -dump, -health,
+-- -once, -check, -play, -local, -audit.
 use Rattle.std.specs.Prelude.{◌≡◌, ℕ, List, [], ◌∷◌, Bool, true, false, codes, string_bytes, ◌⊎◌}
 use Rattle.portmap_wire.specs.Name.{IsName}
 use Rattle.portmap_record.specs.declared.playing.Text.TheVariants as text
 use Rattle.epmd.specs.{Addresses.ListensOn, Numbers.WritesWithin, declared.items.Word.Word}
-use Rattle.epmd.specs.declared.items.Word.TheVariants.{Act, Addresses, Daemon, Debug, Port, Recording, Relaxed, Timeout, Workers}
+use Rattle.epmd.specs.declared.items.Word.TheVariants.{Act, Addresses, Daemon, Debug, Figures, Port, Recording, Relaxed, Timeout, Workers}
 use Rattle.epmd.specs.declared.words.Action.TheVariants as action
 use Rattle.epmd.specs.declared.words.Ask.TheVariants as ask
 
@@ -18,6 +19,7 @@ Begins Relaxed words rest = words ≡ codes "-relaxed_command_check" ∷ rest
 Begins Debug words rest = (words ≡ codes "-d" ∷ rest) ⊎ (words ≡ codes "-debug" ∷ rest)
 Begins Daemon words rest = words ≡ codes "-daemon" ∷ rest
 Begins (Recording path) words rest = words ≡ codes "-record" ∷ string_bytes path ∷ rest
+Begins (Figures path) words rest = words ≡ codes "-figures" ∷ string_bytes path ∷ rest
 Begins (Act action.Serve) words rest = ⊥
 Begins (Act (action.Ask ask.Names)) words rest = words ≡ codes "-names" ∷ rest
 Begins (Act (action.Ask ask.Kill)) words rest = words ≡ codes "-kill" ∷ rest

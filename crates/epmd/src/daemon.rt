@@ -47,7 +47,7 @@ pub fn settings(
         timeout: command.timeout,
         workers: command.workers,
         recording: command.recording.clone()?,
-        figures: None,
+        figures: command.figures.clone()?,
     })
 }
 

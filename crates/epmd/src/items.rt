@@ -27,6 +27,8 @@ pub enum Word {
     Daemon,
     /// The path of a recording.
     Recording(String),
+    /// The path of the file for counters.
+    Figures(String),
     Act(Action),
 }
 
@@ -113,6 +115,7 @@ impl<'a> Behind<'a> {
             "-d" | "-debug" => Word::Debug,
             "-daemon" => Word::Daemon,
             "-record" => Word::Recording(self.text(alloc)?),
+            "-figures" => Word::Figures(self.text(alloc)?),
             "-names" => Word::Act(Action::Ask(Ask::Names)),
             "-kill" => Word::Act(Action::Ask(Ask::Kill)),
             "-stop" => Word::Act(Action::Ask(Ask::Stop(self.name(alloc)?))),

@@ -25,6 +25,7 @@ pub struct Plan {
     pub relaxed: bool,
     pub debug: bool,
     pub recording: Option<String>,
+    pub figures: Option<String>,
 }
 
 /// Returns the port of the environment, or `PORT` if the variable is not set.
@@ -55,6 +56,7 @@ impl Plan {
             relaxed: false,
             debug: false,
             recording: None,
+            figures: None,
         }
     }
 
@@ -71,6 +73,7 @@ impl Plan {
             Word::Debug => self.debug = true,
             Word::Daemon => {}
             Word::Recording(path) => self.recording = Some(path),
+            Word::Figures(path) => self.figures = Some(path),
             Word::Act(action) => self.action = Some(action),
         }
     }
@@ -89,6 +92,7 @@ impl Plan {
             relaxed,
             debug,
             recording,
+            figures,
         } = self;
         let says_where = port.is_some() || addresses.is_some() || env.port.is_some();
         let port = match port {
@@ -109,6 +113,7 @@ impl Plan {
             workers: workers.unwrap_or(WORKERS),
             debug,
             recording,
+            figures,
         })
     }
 }

@@ -71,6 +71,8 @@ pub struct Command {
     pub debug: bool,
     /// The path of the recording.
     pub recording: Option<String>,
+    /// The path of the file for counters.
+    pub figures: Option<String>,
 }
 
 /// The reason for which words are not a command. Words are numbered from 0.

@@ -31,10 +31,11 @@ fn is_set(set: &Settings) -> bool {
 fn set_by(alloc: Global, command: &Command, now: Option<Duration>) -> Result<String, Fail> {
     let set = settings(alloc, command, now)?;
     let first = set.first;
-    Ok(match &set.recording {
+    Ok(match (&set.recording, &set.figures) {
         _ if !is_set(&set) => String::from_str(alloc, "otherwise")?,
-        Some(path) => format!(in alloc; "{first} record <{path}>")?,
-        None => format!(in alloc; "{first}")?,
+        (Some(path), _) => format!(in alloc; "{first} record <{path}>")?,
+        (None, Some(path)) => format!(in alloc; "{first} figures <{path}>")?,
+        (None, None) => format!(in alloc; "{first}")?,
     })
 }
 

@@ -62,10 +62,15 @@ impl fmt::Display for Shown<'_> {
                 write!(f, " {name}")?;
             }
         }
-        match &command.recording {
-            Some(path) => write!(f, " record <{path}>"),
-            None => Ok(()),
+        for (name, path) in [
+            ("record", &command.recording),
+            ("figures", &command.figures),
+        ] {
+            if let Some(path) = path {
+                write!(f, " {name} <{path}>")?;
+            }
         }
+        Ok(())
     }
 }
 
@@ -133,6 +138,9 @@ fn an_option_has_its_last_value(rt: HostRuntime) -> Result<(), Fail> {
         epmd -d -> serve debug
         epmd -debug -> serve debug
         epmd -d -debug -d -> serve debug
+        epmd -figures a -> serve figures <a>
+        epmd -figures a -figures -d -> serve figures <-d>
+        epmd -figures '' -record b -> serve record <b> figures <>
         epmd -daemon -> serve
         epmd -daemon -daemon -> serve
         epmd -d -workers 8 -names -port 1024 -packet_timeout 5 -> names port 1024 timeout 5 workers 8 debug
