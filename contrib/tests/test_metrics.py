@@ -91,6 +91,13 @@ class Metrics(unittest.TestCase):
         self.assertEqual(found["epmd_options_ignored"], 0)
         self.assertNotIn("epmd_recording_moves", found)
 
+    def test_names_are_counted_at_the_port_mapper_of_erlang_otp_too(self):
+        """It has a byte 0 behind each line of a dump."""
+        played = Played(DUMP.replace(b"\n", b"\n\0"))
+        found = figures(printed(played.port))
+        played.end()
+        self.assertEqual([found['epmd_names{state="active"}'], found['epmd_names{state="retired"}']], [2, 1])
+
     def test_connections_are_those_of_its_own_port(self):
         played = Played(DUMP, does=lambda: held.append(socket.create_connection(("127.0.0.1", played.port))))
         held = []

@@ -24,6 +24,8 @@ COLUMNS_MOST, CODE_COLUMNS_MOST = 140, 120
 LINES_MOST, CRATE_LINES_MOST = 2400, 100
 # Of the decisions, in words.
 WORDS_MOST = 6000
+# Of a picture.
+PICTURE_BYTES_MOST = 150_000
 
 FOLDERS = ["crates", "contrib", "docs", "bench", "faults", "include", "tests", ".ci"]
 # Where a name has to stand as a word of the code. This file is left out: what it names itself would be found in it.
@@ -237,6 +239,11 @@ class Pages(unittest.TestCase):
 
     def test_each_link_leads_somewhere(self):
         self.assertEqual([(page, *found) for page in [*PAGES, *CRATES, *OTHERS, FIGURES] for found in broken_links(page)], [])
+
+    def test_each_picture_is_small_and_is_shown_with_what_it_shows_in_words(self):
+        pictures = {os.path.relpath(path, TOP) for path in glob.glob(os.path.join(TOP, "docs/*.png"))}
+        self.assertEqual({to for _, to in re.findall(r"!\[([^\]]{20,})\]\(([^)]*)\)", read(README))}, pictures)
+        self.assertEqual([path for path in pictures if os.path.getsize(os.path.join(TOP, path)) > PICTURE_BYTES_MOST], [])
 
     def test_each_block_of_rattle_is_a_quotation(self):
         """In README.md a caller is shortened."""

@@ -113,7 +113,25 @@ class Shown(Reported, unittest.TestCase):
         self.write(times((0, 0), (2, MINUTE)), ".times")
         data = self.values()
         self.assertEqual(self.lane(data, "b")["spells"], [[60_000, None, 5000, 4, None]])
-        self.assertIn("2 events have no time. They stand at the last time that is known before them.", data["notes"])
+        self.assertIn("2 events have no time, and stand at the last time that is known before.", data["notes"])
+        self.write(times((0, 0), (5, 3 * MINUTE), (6, MINUTE)), ".times")
+        self.assertEqual(self.values()["notes"][0], "1 event has no time, and stands at the last time that is known before.")
+
+    def test_a_clock_that_was_set_back(self):
+        self.write(start() + visit(b"x") * 5)
+        for later, said in ((2, "once"), (0, "2 times")):
+            rows = [(0, 0), (3, 9), (6, 5), (9, 6), (12, 5 + later), (15, 8)]
+            self.write(times(*((place, seconds * SECOND) for place, seconds in rows)), ".times")
+            self.assertIn(f"The clock was set back {said}: times are shown as the clock had them.", self.values()["notes"])
+
+    def test_a_minute_begins_at_its_second_whenever_the_recording_begins(self):
+        for begun in (0, 1, 999, 1000, 41_010_708, 59_999_999):
+            self.write(start() + visit(b"x") * 2)
+            self.write(times((0, begun), (3, begun), (6, begun + 2 * MINUTE)), ".times")
+            data = self.values()
+            shown = data["columns"]["begin"], *(row[0] for row in data["worst"]), data["span"]
+            wanted = BEGAN, BEGAN, BEGAN + 2 * MINUTE, BEGAN + begun + 2 * MINUTE
+            self.assertEqual([data["first"] + each for each in shown], [each // 1000 for each in wanted], begun)
 
     def test_a_crash_and_a_restart(self):
         earlier = self.path + "-20261128T000100Z"
@@ -285,6 +303,10 @@ class Browser:
         os.close(self.own_out)
 
 
+# Whether the line at the column that was chosen is there.
+CURSOR = "getComputedStyle(document.querySelector('.cursor')).display"
+
+
 def text_of(selector):
     return f"document.querySelector({json.dumps(selector)}).textContent"
 
@@ -326,13 +348,34 @@ class InABrowser(Reported, unittest.TestCase):
         self.assertEqual(value("document.querySelector('#lanes li:nth-child(2) .bar').getAttribute('aria-label')"),
                          "registered: 2 times; refused: 3 times; looked up while absent: 2 times")
         self.assertEqual(value(text_of("#refusals-table tbody tr")), "2024-11-28 00:03:00Za"
-                         "port 6000: the name was in use, held at port 5000 since 2024-11-28 00:01:00Z, 3 times until 2024-11-28 00:03:00Z")
+                         "port 6000: the name was in use, held at port 5000 since 00:01:00Z, 3 times until 00:03:00Z")
         self.assertEqual(value(text_of("#worst-table tbody tr")), "2024-11-28 00:03:00Z30003")
         self.assertIn("No program was asked", value(text_of("#verdicts")))
         self.assertEqual(value("[...document.querySelectorAll('#runs-table tbody tr')].map(each => each.textContent)"),
                          ["2024-11-28 00:00:00ZThe port mapper began.", "2024-11-28 00:10:00ZThe port mapper ended in order."])
         self.assertEqual(value("document.querySelectorAll('.chart .pin.start, .chart .pin.end').length"), 6)
         self.assertEqual(value("document.querySelector('#mapper .run').title"), "served from 2024-11-28 00:00:00Z to 2024-11-28 00:10:00Z")
+        self.assertEqual(value(CURSOR), "none")
+        self.assertRegex(value(text_of("#about")), r" Made at \d{4}-\d\d-\d\d \d\d:\d\d:\d\dZ by ")
+
+    def test_a_line_is_where_a_run_begins_or_ends_and_where_the_recording_has_a_gap(self):
+        self.write(start() + visit(b"x"))
+        self.write(times((0, 0), (3, SECOND)), ".times")
+        self.write(start(90) + visit(b"x"), ".1")
+        self.write(times((90, MINUTE), (93, 4 * MINUTE), (93, 4 * MINUTE)), ".1.times")
+        value = self.loaded()
+        found = value("[...document.querySelectorAll('#mapper .pin')].map(each => [each.className, each.title, each.style.left])")
+        self.assertEqual(found, [["pin start", "start at 2024-11-28 00:00:00Z", "0%"], ["pin gap", "gap at 2024-11-28 00:01:00Z", "25%"],
+                                 ["pin end", "end at 2024-11-28 00:04:00Z", "100%"]])
+        left = value("[...document.querySelectorAll('.chart')].map(each => [...each.querySelectorAll('.pin')].map(pin => pin.style.left))")
+        self.assertEqual(left, [["0%", "20%", "80%"]] * 3)
+
+    def test_a_refusal_names_the_date_of_its_holder_where_it_is_another_one(self):
+        self.write(start() + register(0, b"a") + refused(b"a"))
+        self.write(times((0, 0), (2, MINUTE), (5, 1441 * MINUTE)), ".times")
+        value = self.loaded()
+        held = "port 6000: the name was in use, held at port 5000 since 2024-11-28 00:01:00Z"
+        self.assertEqual(value(text_of("#refusals-table tbody td:last-child")), held)
 
     def test_a_name_is_searched_for(self):
         self.write(start() + b"".join(register(slot, b"node%d" % slot) for slot in range(250)) + refused(b"node7") + refused(b"other"))
@@ -364,6 +407,7 @@ class InABrowser(Reported, unittest.TestCase):
         self.assertIn("2024-11-28 00:05:00Z5000" + "4" + "its connection was closed", value(text_of("#lanes .detail tbody tr")))
         self.assertEqual(value(text_of("#readout")), "2024-11-28 00:00:00Z: 0 look-ups, of these 0 while absent, 0 registrations, "
                          "0 refusals, 0 connections")
+        self.assertEqual(value(CURSOR), "block")
 
     def test_hostile_names_are_text(self):
         names = [name.encode() for name in HOSTILE]
@@ -385,14 +429,19 @@ class InABrowser(Reported, unittest.TestCase):
         for scheme in ("light", "dark"):
             value = self.loaded(width=360, scheme=scheme)
             self.assertEqual(value("[innerWidth, document.documentElement.scrollWidth]"), [360, 360])
+            self.assertEqual(value("(e => e.scrollWidth - e.clientWidth)(document.getElementById('refusals-table'))"), 0)
+            self.assertLess(value("document.querySelector('#refusals-table td').offsetWidth"), 100)  # A date, and the time below it.
             grounds.append(value("[getComputedStyle(document.body).backgroundColor, getComputedStyle(document.body).color]"))
         self.assertEqual(grounds, [["rgb(255, 255, 255)", "rgb(28, 35, 41)"], ["rgb(20, 24, 28)", "rgb(230, 234, 237)"]])
 
     def test_a_recording_without_times_says_so(self):
-        self.write(start() + register(0, b"a") + close(0))
+        self.write(start() + register(0, b"a") + close(0) + register(0, b"b") + refused(b"b"))
         value = self.loaded()
         self.assertIn("the axis is the number of the entry", value(text_of("#notes")))
-        self.assertEqual(value("document.querySelector('#lanes .held:not(.run)').title"), "registered at port 5000 from entry 1 to entry 2")
+        self.assertEqual(value(text_of("#refusals-table tbody td:last-child")),
+                         "port 6000: the name was in use, held at port 5000 since entry 4")
+        self.assertEqual(value("document.querySelector('#lanes li:last-child .held').title"),
+                         "registered at port 5000 from entry 1 to entry 2")
 
 
 if __name__ == "__main__":

@@ -1,6 +1,7 @@
 """The times that epmd-log prints of a recording, from files of times that are put together here as docs/FORMATS.md has them; starts and ends
 of the port mapper; and where a follower begins."""
 import contextlib
+import datetime
 import io
 import json
 import os
@@ -67,6 +68,18 @@ class Timed(Written, unittest.TestCase):
         self.three((0, 0), (1, SECOND), (2, 2 * SECOND), (4, 3 * SECOND), (9, 4_000_001))
         late = at(4.000001)
         self.assertEqual(self.log(), [f"{at(0)} 0 start", f"{at(2)} 1 lookup a", f"{late} 4 lookup b", f"{late} 7 lookup c"])
+
+    def test_since_names_the_earlier_runs_that_may_have_lines_too(self):
+        for run in ("20281128T000100Z", "20281128T000200Z", "20281128T000300Z"):
+            for number in ("", ".1"):
+                self.write(start() + visit(b"x"), f"-{run}{number}")
+        self.three((0, 0), (9, SECOND))
+        written = self.now - 7  # The first of these files.
+        for later, runs in ((0, "123"), (1, "123"), (2, "23"), (4, "3"), (5, "3"), (6, "")):
+            wanted = [f"epmd-log: an earlier run was recorded since then too: {self.path}-20281128T000{run}00Z\n" for run in runs]
+            stated = datetime.datetime.fromtimestamp(written + later, datetime.timezone.utc).isoformat()
+            self.assertEqual(self.called("-since", stated), (0, [], "".join(wanted)), later)
+        self.assertEqual([self.called(*words)[2] for words in ([], ["-until", "2024-11-28T00:00:02Z"])], ["", ""])
 
     def test_what_stands_behind_the_last_row_has_no_time(self):
         self.three((0, 0), (3, SECOND))
