@@ -87,8 +87,8 @@ fn listening(alloc: Global, listed: &[[u8; 4]]) -> Result<Vec<[u8; 4]>, NoMemory
     Ok(addresses)
 }
 
-/// Reads addresses with commas between, and returns those that a daemon listens on: `ANYWHERE` alone if the text has it,
-/// else each address once, in the order of the text, and `LOOPBACK` at the end unless the text has it.
+/// Reads addresses with commas between, and returns those that a daemon listens on: `ANYWHERE` alone if the text has
+/// it, else each address once, in the order of the text, and `LOOPBACK` at the end unless the text has it.
 pub fn read_listening(alloc: Global, text: &str) -> Result<Option<Vec<[u8; 4]>>, NoMemory>
     ensures { IfOk result (λ read. IfSome read (λ addresses. ListensOn text.now addresses.items)) }
 {

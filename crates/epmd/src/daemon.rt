@@ -18,7 +18,7 @@ use std::time::Duration;
 
 const UNHEARD: &[u8] = b"epmd: cannot listen on ";
 
-/// Returns the first creation: the nanoseconds since 1970 modulo 2^32, so that two starts most likely differ. An unknown
+/// Returns the first creation: the nanoseconds since 1970 modulo 2^32, so two starts most likely differ. An unknown
 /// time counts as 0.
 fn first_by(now: Option<Duration>) -> u32
     ensures { result ≡ first_by now }

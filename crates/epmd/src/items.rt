@@ -132,8 +132,8 @@ impl<'a> Behind<'a> {
 
     /// Reads the item of the word `first`. Refuses a second action.
     pub fn read(&mut self, alloc: Global, first: &String) -> Result<Word, WordFault>
-        ensures spelled { IfOk result (λ item. Begins item (string_bytes first.now ∷ map string_bytes self.old.words.now)
-            (map string_bytes self.new.words.now)) }
+        ensures spelled { IfOk result (λ item. Begins item
+            (string_bytes first.now ∷ map string_bytes self.old.words.now) (map string_bytes self.new.words.now)) }
         ensures fewer { IfOk result (λ _. length self.new.words.now ≤ length self.old.words.now) }
         ensures one { IfOk result (λ item. is_action item ≡ true → self.old.has_action ≡ false) }
         ensures fault { IfErr result
