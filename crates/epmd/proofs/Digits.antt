@@ -1,24 +1,23 @@
--- Decimal digits, by `parse`.
-use Rattle.std.specs.Str.Parse.{AllDigits, ParsesUnsigned, digits_value}
-use Rattle.std.proofs.Common.{◌≡◌, ◌≢◌, ℕ, ◌≤◌, List, length, get_or, Result, Ok, Err, sym, ◌∙◌, arith}
-use Rattle.std.proofs.lemmas.Str.Parse.{IsNumeralModel, digits_value_short, numerals_by_value, parse_plain, tells_digits}
-use Rattle.epmd.specs.Numbers.{WritesNumber}
+-- Decimal digits, from left to right.
+use Rattle.std.specs.{Int.IsInRange, Str.Parse.{AllDigits, digits_value}}
+use Rattle.std.proofs.Common.{◌≡◌, ℕ, ◌+◌, ◌-◌, ◌*◌, ◌<◌, ◌≤◌, List, length, get_or, take, arith}
+use Rattle.std.proofs.{lemmas.Int.Digits.{digits_value_more, digits_more}, lemmas.List.length-take}
+use Rattle.std.proofs.lemmas.Str.{digit_value_digit}
+use Rattle.std.proofs.lemmas.Str.Parse.{digits_value_short, numerals_by_value, tells_digits}
 
-digits : IsNumeralModel (AllDigits 10) (digits_value 10)
-digits = numerals_by_value (AllDigits 10) tells_digits
+pub record NextDigit (ds : List ℕ) (i : ℕ) : Type 0 where
+  pub each : AllDigits 10 (take (i + 1) ds)
+  pub value : digits_value 10 (take (i + 1) ds) ≡ digits_value 10 (take i ds) * 10 + (get_or ds i 0 - 48)
+  pub small : digits_value 10 (take (i + 1) ds) < 1000000000
 
--- a text without a plus in front, and the result of `parse`
-module _ {E : Type 0} (most : ℕ) (bs : List ℕ) (plain : get_or bs 0 0 ≢ 43) where
-  pub parsed : (r : Result ℕ E) (number : ℕ) → ParsesUnsigned 32 10 bs r → length bs ≤ most → r ≡ Ok number → WritesNumber most bs number
-  parsed (Ok x) number h short is =
-      let read = parse_plain digits 32 bs (Ok x) h plain in
-      let same : x ≡ number = cc is in
-      record { some = read.0.1; short = short; each = read.0.0; value = sym read.1 ∙ same }
-  parsed (Err e) number h short is = absurd (cc is)
-
-  pub not_parsed : (r : Result ℕ E) (fault : E) → ParsesUnsigned 32 10 bs r → most ≤ 9 → r ≡ Err fault → (number : ℕ)
-      → WritesNumber most bs number → ⊥
-  not_parsed (Ok x) fault h few is number w = absurd (cc is)
-  not_parsed (Err e) fault h few is number w =
-      let small = digits_value_short digits bs 9 w.each (omega (arith, few, w.short)) in
-      parse_plain digits 32 bs (Err e) h plain (w.each, w.some, omega (arith, small))
+pub next_digit : (ds : List ℕ) (i : ℕ) → length ds ≤ 9 → i < length ds → AllDigits 10 (take i ds) → IsInRange 48 57 (get_or ds i 0)
+    → NextDigit ds i
+next_digit ds i short lt before digit =
+    let value = digit_value_digit (get_or ds i 0) digit in
+    let each : AllDigits 10 (take (i + 1) ds) = digits_more 10 ds i lt before (omega (arith, value, digit)) in
+    record {
+      each = each;
+      value = omega (arith, digits_value_more 10 ds i lt, value);
+      small = digits_value_short (numerals_by_value (AllDigits 10) tells_digits) (take (i + 1) ds) 9 each
+          (omega (arith, length-take (i + 1) ds));
+    }

@@ -1,13 +1,6 @@
 -- Lists of addresses, one address more at a time.
-use Rattle.std.specs.Prelude.{IfSome}
-use Rattle.std.proofs.Common.{◌≡◌, ℕ, ◌<◌, List, [], ◌∷◌, ◌++◌, Bor, Option, Some, None, refl, sym, subst, append_assoc}
-use Rattle.std.proofs.lemmas.Str.Pattern.{IsSplitOnceResult, split_parts}
+use Rattle.std.proofs.Common.{◌≡◌, ℕ, List, [], ◌∷◌, ◌++◌, refl, sym, subst, append_assoc}
 use Rattle.epmd.specs.Addresses.{Separated, WritesAddress, WritesAddresses, with, with_each}
-
-pub cut_parts : (c : ℕ) (bs : List ℕ) (r : Option (Bor (List ℕ) × Bor (List ℕ))) → IsSplitOnceResult c bs r → c < 128
-    → IfSome r (λ parts. bs ≡ parts.0.now ++ c ∷ parts.1.now)
-cut_parts c bs None h small = tt
-cut_parts c bs (Some parts) h small = (split_parts c bs (Some parts) h small).0
 
 separated_with : {X : Type 0} (separator : ℕ) (Writes : List ℕ → X → Type 0) (text front after : List ℕ) (x : X) (more : List X)
     → text ≡ front ++ separator ∷ after → Writes front x → Separated separator Writes after more

@@ -1,5 +1,5 @@
 //! The addresses that a daemon listens on.
-ghost use Rattle.std.specs.Prelude.{◌≡◌, ◌<◌, ◌++◌, [], ◌∷◌, IfSome, IfOk, OnOk};
+ghost use Rattle.std.specs.Prelude.{◌≡◌, ◌++◌, [], ◌∷◌, IfSome, IfOk, OnOk};
 ghost use Rattle.epmd.specs.Addresses.{WritesAddress, WritesAddresses, ListensOn, listening, with, anywhere};
 
 use crate::numbers::read_byte;
@@ -13,19 +13,21 @@ pub const ANYWHERE: [u8; 4] = [0, 0, 0, 0];
 pub const LOOPBACK: [u8; 4] = [127, 0, 0, 1];
 
 /// Splits a text at the first `separator`.
-fn cut(text: &str, separator: char) -> Option<(&str, &str)>
-    requires { separator < 128 }
+fn cut(text: &[u8], separator: u8) -> Option<(&[u8], &[u8])>
     ensures { IfSome result (λ parts. text.now ≡ parts.0.now ++ separator ∷ parts.1.now) }
 {
-    text.split_once(separator)
+    let end = text.iter().position(|byte| *byte == separator)?;
+    let (front, back) = text.split_at(end);
+    let (_, after) = back.split_at(1);
+    Some((front, after))
 }
 
-fn read_address(text: &str) -> Option<[u8; 4]>
+fn read_address(text: &[u8]) -> Option<[u8; 4]>
     ensures { IfSome result (λ address. WritesAddress text.now address) }
 {
-    let (first, behind) = cut(text, '.')?;
-    let (second, behind) = cut(behind, '.')?;
-    let (third, fourth) = cut(behind, '.')?;
+    let (first, behind) = cut(text, b'.')?;
+    let (second, behind) = cut(behind, b'.')?;
+    let (third, fourth) = cut(behind, b'.')?;
     Some([
         read_byte(first)?,
         read_byte(second)?,
@@ -35,12 +37,12 @@ fn read_address(text: &str) -> Option<[u8; 4]>
 }
 
 /// Reads addresses with commas between, in the order of the text.
-fn read_addresses(alloc: Global, text: &str) -> Result<Option<Vec<[u8; 4]>>, NoMemory>
+fn read_addresses(alloc: Global, text: &[u8]) -> Result<Option<Vec<[u8; 4]>>, NoMemory>
     ensures { IfOk result (λ read. IfSome read (λ addresses. WritesAddresses text.now addresses.items)) }
 {
     let mut addresses = Vec::new(alloc);
     let mut rest = text;
-    while let Some((front, after)) = cut(rest, ',') {
+    while let Some((front, after)) = cut(rest, b',') {
         let Some(address) = read_address(front) else {
             return Ok(None);
         };
@@ -87,9 +89,10 @@ fn listening(alloc: Global, listed: &[[u8; 4]]) -> Result<Vec<[u8; 4]>, NoMemory
     Ok(addresses)
 }
 
-/// Reads addresses with commas between, and returns those that a daemon listens on: `ANYWHERE` alone if the text has
-/// it, else each address once, in the order of the text, and `LOOPBACK` at the end unless the text has it.
-pub fn read_listening(alloc: Global, text: &str) -> Result<Option<Vec<[u8; 4]>>, NoMemory>
+/// Reads addresses with commas between, and returns the addresses that a daemon listens on: `ANYWHERE` alone if the
+/// text has it. Otherwise each address of the text comes once, in order, and `LOOPBACK` last unless the text has it.
+/// Returns `None` if the text is malformed.
+pub fn read_listening(alloc: Global, text: &[u8]) -> Result<Option<Vec<[u8; 4]>>, NoMemory>
     ensures { IfOk result (λ read. IfSome read (λ addresses. ListensOn text.now addresses.items)) }
 {
     match read_addresses(alloc, text)? {

@@ -57,14 +57,20 @@ impl<'a> Behind<'a> {
         ensures { Takes (WritesWithin least most) self.old self.new result }
     {
         let bad = WordFault::BadValue(self.index + 1);
-        read_within(self.value()?, least, most).ok_or(bad)
+        let Some(number) = read_within(self.value()?.as_bytes(), least, most) else {
+            return Err(bad);
+        };
+        Ok(number)
     }
 
     fn addresses(&mut self, alloc: Global) -> Result<Vec<[u8; 4]>, WordFault>
         ensures { Takes (λ text addresses. ListensOn text addresses.items) self.old self.new result }
     {
         let bad = WordFault::BadValue(self.index + 1);
-        read_listening(alloc, self.value()?)?.ok_or(bad)
+        let Some(addresses) = read_listening(alloc, self.value()?.as_bytes())? else {
+            return Err(bad);
+        };
+        Ok(addresses)
     }
 
     fn text(&mut self, alloc: Global) -> Result<String, WordFault>

@@ -3,22 +3,26 @@ ghost use Rattle.std.specs.Prelude.{◌≡◌, ◌≤◌, ◌<◌, ◌^◌, ℕ,
 ghost use Rattle.epmd.specs.Numbers.{WritesNumber, WritesWithin, IsWithin};
 
 /// Reads one to `most` digits. Leading zeros are allowed.
-pub fn read_digits(text: &str, most: usize) -> Option<u32>
+pub fn read_digits(text: &[u8], most: usize) -> Option<u32>
     requires { most ≤ 9 }
     ensures found { IfSome result (λ number. WritesNumber most text.now number) }
     ensures none { result ≡ None → (number : ℕ) → WritesNumber most text.now number → ⊥ }
 {
-    if text.len() > most || text.starts_with('+') {
+    if text.is_empty() || text.len() > most {
         return None;
     }
-    match text.parse::<u32>() {
-        Ok(number) => Some(number),
-        Err(_) => None,
+    let mut value: u32 = 0;
+    for digit in text {
+        if *digit < b'0' || *digit > b'9' {
+            return None;
+        }
+        value = value * 10 + u32::from(*digit - b'0');
     }
+    Some(value)
 }
 
 /// Reads one to nine digits of a number within these bounds.
-pub fn read_within(text: &str, least: u32, greatest: u32) -> Option<u32>
+pub fn read_within(text: &[u8], least: u32, greatest: u32) -> Option<u32>
     ensures found { IfSome result (λ number. WritesWithin least greatest text.now number) }
     ensures none { result ≡ None → (number : ℕ) → WritesWithin least greatest text.now number → ⊥ }
 {
@@ -27,7 +31,7 @@ pub fn read_within(text: &str, least: u32, greatest: u32) -> Option<u32>
 }
 
 /// Reads one to three digits of a number that fits a byte.
-pub fn read_byte(text: &str) -> Option<u8>
+pub fn read_byte(text: &[u8]) -> Option<u8>
     ensures found { IfSome result (λ number. WritesNumber 3 text.now number × (number < 2 ^ 8)) }
     ensures none { result ≡ None → (number : ℕ) → WritesNumber 3 text.now number → number < 2 ^ 8 → ⊥ }
 {

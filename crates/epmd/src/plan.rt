@@ -37,7 +37,7 @@ fn usual_port(text: &Option<String>) -> Result<u16, WordFault>
     let Some(text) = text else {
         return Ok(PORT);
     };
-    match read_within(text.as_str(), 1, 65_535) {
+    match read_within(text.as_bytes(), 1, 65_535) {
         Some(port) => Ok(port as u16),
         None => Err(WordFault::BadEnvPort),
     }

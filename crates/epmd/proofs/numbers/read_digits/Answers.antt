@@ -1,10 +1,30 @@
-use Rattle.std.proofs.Common.{arith, sym, ◌∙◌}
-use Rattle.std.proofs.lemmas.{Str.Parse.digit_at, Str.Pattern.starts_char}
-use Rattle.epmd.proofs.Digits.{parsed, not_parsed}
+use Rattle.std.proofs.{Common.arith, lemmas.Str.Parse.digit_at}
+use Rattle.epmd.proofs.{Digits.next_digit, numbers.read_digits.Goals.then-digit-lt48-via-then-digit-lt48}
+use Rattle.epmd.proofs.numbers.read_digits.Goals.{then-digit-lt48-via-else-digit-lt48+then-digit-gt57}
 use Rattle.epmd.proofs.numbers.read_digits.Goals as goal
 
-pub returns-in-Ok-clause-found : goal.returns-in-Ok-clause-found
-returns-in-Ok-clause-found c =
-    let plus = starts_char 43 _ _ c.starts_with.ensures.cases (omega arith) (omega arith) in
-    parsed c.args.most c.args.text.now (λ e. absurd (cc (plus.1 e, c.if-starts_with.false))) c.parse.result c.in-Ok.number
-    c.parse.ensures.value.0 (omega arith) c.in-Ok.is
+pub returns-then-digit-lt48-clause-none : goal.returns-then-digit-lt48-clause-none
+returns-then-digit-lt48-clause-none c = λ _ number writes.
+    let d = digit_at c.args.text.now c.loop-digit.digit-index writes.each (omega arith) in
+    elim c.then-digit-lt48.branch [
+      | then-digit-lt48-via-then-digit-lt48 w ↦ omega (arith, d)
+      | then-digit-lt48-via-else-digit-lt48+then-digit-gt57 w ↦ omega (arith, d)
+    ]
+
+pub overflow_mul-value : goal.overflow_mul-value
+overflow_mul-value c =
+    let n = next_digit c.args.text.now c.loop-digit.digit-index (omega arith) (omega arith) c.loop-digit.invariant.each
+    (omega arith, omega arith) in
+    omega (arith, n.value, n.small, c.loop-digit.invariant.value)
+
+pub overflow_add-value : goal.overflow_add-value
+overflow_add-value c =
+    let n = next_digit c.args.text.now c.loop-digit.digit-index (omega arith) (omega arith) c.loop-digit.invariant.each
+    (omega arith, omega arith) in
+    omega (arith, n.value, n.small, c.loop-digit.invariant.value, c.from.ensures)
+
+pub loop-digit-preserved : goal.loop-digit-preserved
+loop-digit-preserved c =
+    let n = next_digit c.args.text.now c.loop-digit.digit-index (omega arith) (omega arith) c.loop-digit.invariant.each
+    (omega arith, omega arith) in
+    record { each = n.each; value = omega (arith, n.value, c.loop-digit.invariant.value, c.from.ensures) }
