@@ -14,7 +14,7 @@ returns-then-is_some-clause-nears g c =
 pub returns-clause-links : goal.returns-clause-links
 returns-clause-links g c =
     then_returns_links _ _ _ _ (returned_none _ _ _ (sym c.is_some.ensures ∙ c.if-is_some.false) c.accept-accepted.ensures.links)
-        c.pop.ensures.links
+    c.pop.ensures.links
 
 pub returns-clause-nears : goal.returns-clause-nears
 returns-clause-nears g c =
