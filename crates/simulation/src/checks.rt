@@ -1,4 +1,4 @@
-//! What is checked at each step, at rest and at the end, with what is said where it is wrong.
+//! Checks of each step, of the state at rest, and of the end, with the text that is printed if a check fails.
 use crate::network::Ending;
 use crate::notices::Subject;
 use crate::people::{Person, PersonState};
@@ -10,81 +10,62 @@ use crate::world::World;
 use portmap_wire::{Line, read_names};
 use portmap_worker::ShutdownCause;
 
-/// What was wrong.
+/// The text of a failed check.
 pub type Wrong = &'static str;
 
-// ---- what is said elsewhere
+pub fn expect(holds: bool, wrong: Wrong) -> Result<(), Wrong> {
+    holds.then_some(()).ok_or(wrong)
+}
 
-pub const UNHEEDED: Wrong = "an end without an answer is not looked into";
-
-pub const NEVER_HEAVY: Wrong = "the log never had as much as it is to end with";
-
-pub const GOES_ON: Wrong = "it goes on though nothing gets through";
-
-pub const NEVER_RESTS: Wrong = "it never rests";
-
-pub const HAS_ENDED: Wrong = "it has ended";
-
-pub const DOES_NOT_END: Wrong = "it does not end";
-
-pub const SEATS: Wrong = "the seats don't add up";
-
-pub const UNSEEN: Wrong = "not all weather was seen";
-
-/// Who asks within so much time, by the clock that the daemon reads, is owed an answer, however late that is seen.
+/// A peer that asks within this time, by the clock that the daemon reads, is owed an answer however late the daemon
+/// reads the request.
 const PROMPT_US: u64 = 1_000_000;
 
-/// While a worker is held a registration waits for so long at least for a name whose node has closed: 50 milliseconds,
-/// and a second.
-const PENDING_US: u64 = 1_050_000;
-
-/// A connection that asks nothing, or reads nothing, is given up so soon once its time is over: a look and a second
-/// later.
+/// An idle or unreading connection is closed within this time after its timeout: a scan and a second.
 const GIVEN_UP_US: u64 = 1_500_000;
 
-/// The connection of a node that was stopped is given up so soon: with the next look.
+/// The connection of a stopped node is closed within this time: by the next scan.
 const STOPPED_US: u64 = 500_000;
 
-/// One place of so many is kept for this host.
+/// One of this many permits is reserved for this host.
 const KEPT_SHARE: u32 = 8;
 
-/// The most bytes that the log takes for each thread, by its own reckoning: a second's pieces of links that are read
-/// slowly.
+/// The most bytes of the log for each thread, by its own weight: a second of chunks from links that are read slowly.
 const LOG_BYTES_MOST: u64 = 600_000;
 
-/// The log is taken out before workers have read so many bytes since it was, and each of them so many more: no entry
-/// takes less than was read for it.
+/// The drain runs before the workers have read this many bytes, and `WEIGH_BYTES` more for each worker. No entry takes
+/// fewer bytes than were read for it.
 const LOG_BYTES_HEAVY: u64 = 262_144;
 
 const WEIGH_BYTES: u64 = 73_728;
 
-/// While memory is short the log is looked at again after so many milliseconds at most.
+/// The longest wait of the drain while memory is short.
 const SHORT_OF_MEMORY_MS: u64 = 50;
 
-/// A worker polls no more than so often in an hour at rest: three times for each look, since the world's poll answers
-/// at once, and once more when the wait is over.
+/// The most polls of a worker in an hour at rest: three for each scan, since a poll of the world returns at once, and
+/// another after its wait.
 const POLLS_MOST: u64 = 25_000;
 
 const HOUR_US: u64 = 3_600_000_000;
 
-/// A worker makes no more steps between two polls: 64 turns, for each of which something may be kept back.
+/// The most steps of a worker between two polls: 64 turns, each of which may defer a link.
 const STEPS_MOST: u32 = 130;
 
-/// Who takes the log out looks at it once in so much time.
+/// The drain looks at the log once in this time at rest.
 const SECOND_US: u64 = 1_000_000;
 
-/// A connection that no poll reports is passed over by a look where it was to be read just then, and by the next one
-/// again, but not for so long.
-const PASSED_OVER_US: u64 = 3_000_000;
+/// Two scans pass over a connection that no poll reports if it was due to be read at that moment. A third scan does
+/// not.
+const PASSED_OVER_US: u64 = 460_000;
 
-/// When connections have come one by one so many workers are told of the next one: one, and one that was called for its
-/// help since.
+/// After a trickle of connections, the poll of at most this many workers reports the next connection: one worker, and
+/// one that it called for help.
 const LISTENING_MOST: usize = 2;
 
-/// What one of the people finds wrong. Nobody who is owed nothing does, but for how long a name took.
+/// Checks by a peer. Of the four calls `judge_*`, a lenient peer fails only `judge_let_in`.
 impl Person {
-    /// When the daemon is to have given up its connection, which it has accepted at this time: since it asks nothing,
-    /// or reads nothing, or its node was stopped.
+    /// Returns when the daemon must have closed this connection, which it accepted at `accepted`. Reasons are an idle
+    /// peer, an unreading peer, and a stopped node.
     fn kept_until(&self, world: &World, accepted: u64) -> Option<u64> {
         let is_useless = match self.role.given_up {
             GivenUp::Nobody => false,
@@ -102,7 +83,7 @@ impl Person {
         Some(stopped.saturating_add(STOPPED_US))
     }
 
-    /// For how much longer than that the daemon has kept its connection, if it has it.
+    /// Returns for how much longer the daemon has kept the connection.
     fn overdue(&self, world: &World) -> Option<u64> {
         let wire = self.own(world)?;
         let (_, accepted) = wire.accepted?;
@@ -110,8 +91,8 @@ impl Person {
         (!wire.is_down_ended).then_some(world.now.saturating_sub(until))
     }
 
-    /// Whether it waits for an answer for longer than this, while the process runs, and the worker that has its
-    /// connection was not held so long.
+    /// Returns whether this peer waits for an answer for longer than `limit`, not counting the time in which the
+    /// process is stopped or the worker of the connection is held.
     fn is_late(&self, world: &World, limit: u64) -> bool {
         let worker = self.own(world).and_then(|wire| wire.worker());
         let since = world.held_until(worker).saturating_add(limit);
@@ -119,7 +100,6 @@ impl Person {
         reads && world.now > since && self.waited_awake(world) > limit
     }
 
-    /// Its connection ends, with so much heard, while it waits for an answer.
     pub(crate) fn judge_unanswered(&self, heard: Received) -> Option<Wrong> {
         let is_owed = match self.role.owed {
             Owed::Never => false,
@@ -131,7 +111,6 @@ impl Person {
         is_wrong.then_some("closed without an answer")
     }
 
-    /// Its connection ends while it waits for nothing.
     pub(crate) fn judge_lost(&self, heard: Received) -> Option<Wrong> {
         let wrong = if self.stage == PersonState::Sending && self.role.owed == Owed::Always {
             Some("a connection was given up that sends")
@@ -141,21 +120,16 @@ impl Person {
         wrong.filter(|_| !heard.is_reset && !self.is_lenient)
     }
 
-    /// It is refused the name that it registers. One that closed first is, if a worker was held meanwhile, and does
-    /// not know of that end yet.
-    pub(crate) fn judge_refused(&self, world: &World) -> Option<Wrong> {
-        let waited = self.waited(world.now);
+    pub(crate) fn judge_refused(&self, now: u64) -> Option<Wrong> {
         let wrong = if self.role.owns() {
-            let is_behind = world.was_held_in(waited) && waited >= PENDING_US;
-            (!is_behind).then_some("a node that closed first was refused")
+            Some("a node that closed first was refused")
         } else {
-            let is_late = waited > self.scenario.refusal_us;
+            let is_late = self.waited(now) > self.scenario.refusal_us;
             is_late.then_some("a duplicate was refused too late")
         };
         wrong.filter(|_| !self.is_lenient)
     }
 
-    /// It is given its own name.
     pub(crate) fn judge_let_in(&self, now: u64) -> Option<Wrong> {
         let is_late = self.waited(now) > self.scenario.patience_us;
         is_late.then_some("a node waited too long for its name")
@@ -163,7 +137,7 @@ impl Person {
 }
 
 impl<'a> Scene<'a> {
-    /// Something is wrong, unless this holds: what was wrong first is told.
+    /// Keeps the text of the first check that fails.
     pub(crate) fn check(&mut self, holds: bool, wrong: Wrong) {
         self.note((!holds).then_some(wrong));
     }
@@ -174,9 +148,9 @@ impl<'a> Scene<'a> {
         }
     }
 
-    // ---- at a step
+    // ---- checks at a step
 
-    /// A connection was told late: its time is over, and there is no news of it, or it is given up for another one.
+    /// Checks a timeout event: the timeout of an idle connection, or an eviction.
     pub(crate) fn judge_late(&mut self, late: usize, has_news: bool) -> Option<()> {
         let timeout = self.scenario.timeout_us;
         let mut world = self.world()?;
@@ -205,8 +179,8 @@ impl<'a> Scene<'a> {
         Some(())
     }
 
-    /// Who takes the log out waits for so many milliseconds; memory was owed to somebody, or it was not, and the log is
-    /// empty, or it is not.
+    /// Checks a wait of the drain. `is_owed` says that a peer was refused for lack of memory, and `is_out` that the log
+    /// is empty.
     pub(crate) fn judge_wait(&mut self, timeout: u64, is_owed: bool, is_out: bool) -> Option<()> {
         let is_soon = !is_owed || timeout <= SHORT_OF_MEMORY_MS;
         self.check(timeout > 0, "who takes the log out does not sleep");
@@ -215,7 +189,7 @@ impl<'a> Scene<'a> {
         Some(())
     }
 
-    /// What is wrong about how long somebody waits, or is kept.
+    /// Returns whether a peer waits for too long, or a connection is kept for too long.
     fn complaint(&self, world: &World, slack: u64) -> Option<Wrong> {
         let is_late = |person: &Person| person.is_late(world, slack);
         let is_unreported = world.weather.has_happened(Fault::Unreported);
@@ -228,13 +202,15 @@ impl<'a> Scene<'a> {
         are_kept.then_some("a connection of no use is kept for too long")
     }
 
-    /// What is wrong about what the world has seen of a daemon whose log weighs so much.
+    /// Returns what is wrong with the world, if the log has this weight.
     fn fault(&self, world: &World, weight: u64) -> Option<Wrong> {
         let workers = self.workers as u64;
         let heavy = LOG_BYTES_HEAVY.saturating_add(WEIGH_BYTES.saturating_mul(workers));
         let is_unread = world.network.read_bytes > heavy && !world.is_due(self.workers);
+        let mut threads = world.workers().iter();
+        let is_busy = threads.any(|thread| thread.steps > STEPS_MOST);
         let unsent_most = self.scenario.unsent_bytes_most;
-        // One that waits for a place may be at each worker beside those that have one.
+        // Each worker may have a connection that waits for a permit.
         let conn_max = self.scenario.conn_max;
         let most = conn_max.saturating_sub(conn_max / KEPT_SHARE) as usize;
         let are_many = world.network.remote as usize > most.saturating_add(self.workers);
@@ -242,11 +218,7 @@ impl<'a> Scene<'a> {
             Some("the log is not taken out")
         } else if world.memory.is_overdrawn {
             Some("a connection is held without memory")
-        } else if world
-            .workers()
-            .iter()
-            .any(|thread| thread.steps > STEPS_MOST)
-        {
+        } else if is_busy {
             Some("a worker does not poll")
         } else if world.unsent() > unsent_most.saturating_add(unsent_most / 2) {
             Some("too many bytes wait to be read")
@@ -256,16 +228,16 @@ impl<'a> Scene<'a> {
         }
     }
 
-    /// Looks for what is wrong, where the log weighs so much. Whether the storm goes on.
+    /// Checks the world after a step. Returns whether the storm continues.
     pub(crate) fn look(&mut self, weight: u64) -> Option<bool> {
         let wrong = self.fault(&*self.world()?, weight);
         self.note(wrong);
         Some(self.wrong.is_none() && weight < self.scenario.end_bytes)
     }
 
-    // ---- at rest
+    // ---- checks at rest
 
-    /// Threads have slept for so long since workers had polled so often, and the log was looked at so often.
+    /// Checks how often the threads polled in this time at rest. `polls` and `drains` are the counts before it.
     pub(crate) fn judge_sleep(&mut self, time: u64, polls: u64, drains: u64) -> Option<()> {
         let polls = self.polls()?.saturating_sub(polls).saturating_mul(HOUR_US);
         let most = POLLS_MOST.saturating_mul(self.workers as u64);
@@ -277,8 +249,8 @@ impl<'a> Scene<'a> {
         Some(())
     }
 
-    /// It has rested for long: the recording goes on, unless its disk is full, or it has failed; the log is out or is
-    /// not, who went unanswered was looked into or was not, and each connection that is open is watched.
+    /// Checks the state at rest: the recording runs unless its disk is full or it failed, the log is empty, no
+    /// connection that ended unanswered waits for the drain, and the poll watches exactly the open connections.
     pub(crate) fn judge_rest(
         &mut self,
         records: bool,
@@ -298,7 +270,6 @@ impl<'a> Scene<'a> {
         Some(())
     }
 
-    /// Connections that came one by one were accepted, or were not.
     pub(crate) fn judge_trickle(&mut self, are_accepted: bool) -> Option<()> {
         let world = self.world()?;
         let delivered = world.threads.iter().filter(|thread| thread.listens());
@@ -308,7 +279,7 @@ impl<'a> Scene<'a> {
         Some(())
     }
 
-    /// The node with this connection was let in. Then it leaves.
+    /// Checks that the node with this connection was registered, and closes the connection.
     pub(crate) fn judge_let_in(&mut self, number: usize) -> Option<()> {
         let mut world = self.world()?;
         let is_in = world.network.wires.get(number)?.received.get(1) == Some(&0);
@@ -317,36 +288,31 @@ impl<'a> Scene<'a> {
         Some(())
     }
 
-    /// This connection was told the names of those who hold one.
+    /// Checks that this connection received exactly the names of the holders.
     pub(crate) fn judge_names(&mut self, number: usize) -> Option<()> {
         let world = self.world()?;
         let delivered = &world.network.wires.get(number)?.received;
-        let is_told = read_names(self.alloc, delivered).is_ok_and(|(_, lines)| self.are_holders(
-            &lines,
-        ));
+        let names = read_names(self.alloc, delivered);
+        let is_told = names.is_ok_and(|(_, lines)| self.are_holders(&lines));
         self.check(is_told, "the names at rest are not those of who holds them");
         Some(())
     }
 
-    /// Whether these are the names of those who hold one.
     fn are_holders(&self, lines: &[Line]) -> bool {
         let is_told = |person: &Person| !person.holds() || has_name(lines, &person.name());
         self.people.iter().all(is_told) && self.holding() == lines.len()
     }
 
-    /// Each of these connections, which have asked at rest, was answered.
     pub(crate) fn judge_places(&mut self, numbers: &[usize]) -> Option<()> {
         let world = self.world()?;
-        let mut wires = numbers
-            .iter()
-            .map(|number| world.network.wires.get(*number));
-        let are_answered = wires.all(is_answered);
+        let wires = &world.network.wires;
+        let are_answered = numbers.iter().all(|number| is_answered(wires.get(*number)));
         self.check(are_answered, "a place at rest can't be had");
         Some(())
     }
 }
 
-/// Whether the fault that a daemon tells, if it does, is what has happened.
+/// Returns whether the fault that the daemon reports is a fault that happened.
 pub(crate) fn is_right(weather: &Weather, failure: Option<ShutdownCause>, may_end: bool) -> bool {
     let is_deaf = weather.has_happened(Fault::Deaf);
     let is_starved = may_end && weather.has_happened(Fault::Famine);
@@ -357,12 +323,10 @@ pub(crate) fn is_right(weather: &Weather, failure: Option<ShutdownCause>, may_en
     }
 }
 
-/// Whether one of these lines has this name.
 fn has_name(lines: &[Line], name: &[u8]) -> bool {
     lines.iter().any(|line| line.name.bytes() == name)
 }
 
-/// Whether a connection has its answer.
 fn is_answered(wire: Option<&Wire>) -> bool {
     wire.is_some_and(|wire| wire.is_down_ended && !wire.received.is_empty())
 }

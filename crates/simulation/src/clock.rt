@@ -1,48 +1,47 @@
-//! The clock of a world, and its memory.
+//! The clock and the memory of a world.
 use crate::weather::Fault;
 use crate::world::World;
 
-/// No famine begins before this time.
+/// No famine begins before this time, so that the daemon can start.
 const FAMINE_US: u64 = 1_300_000;
 
 /// A clock. Times are in microseconds.
 #[derive(Clone, Copy, Default)]
 pub struct Clock {
-    /// It can't be read before this time.
+    /// The clock cannot be read before this time.
     pub unread_until: u64,
-    /// By how much it has jumped forward.
+    /// The sum of all jumps.
     jumped: u64,
-    /// For how long the process was stopped.
+    /// The sum of the times in which the process was stopped.
     pub stopped: u64,
-    /// The world has rested for so long that all was told.
+    /// The world was at rest long enough for every notice.
     pub has_rested: bool,
 }
 
-/// Memory for the daemon, and for the world itself.
+/// The memory of the daemon and of the world.
 #[derive(Clone, Copy, Default)]
 pub struct Memory {
-    /// No memory can be had before this time.
+    /// No request for memory succeeds before this time.
     pub starved_until: u64,
-    /// A worker has held its first connection, for which there is no room yet, while no memory could be had.
+    /// A worker held its first connection, for which it has no memory, while memory was short.
     pub is_overdrawn: bool,
-    /// No memory for the world itself.
+    /// The world itself ran out of memory, so the case shows nothing.
     pub is_lost: bool,
 }
 
 impl Memory {
-    /// The world keeps something, or has no memory for it.
     pub fn note(&mut self, is_kept: bool) {
         self.is_lost = self.is_lost || !is_kept;
     }
 }
 
 impl World {
-    /// What a clock shows that can be read.
+    /// Returns the time that a readable clock shows.
     pub(crate) fn shown(&self) -> u64 {
         self.now.saturating_add(self.clock.jumped)
     }
 
-    /// The time; none if the clock can't be read.
+    /// Reads the clock. The process may be stopped, and the clock may jump.
     pub fn time(&mut self) -> Option<u64> {
         if self.happens(Fault::Jump) {
             let jump = self.weather.random.below(3_600_000_000);
@@ -59,22 +58,23 @@ impl World {
         (self.now >= self.clock.unread_until).then_some(self.shown())
     }
 
-    /// The time as a calendar says it; none if the clock can't be read. Nothing happens meanwhile.
+    /// Reads the calendar. No fault happens meanwhile.
     pub fn date(&mut self) -> Option<u64> {
         let is_read = self.now >= self.clock.unread_until;
         self.disk.times.has_failed = self.disk.times.has_failed || !is_read;
         is_read.then_some(self.shown())
     }
 
-    /// Whether a connection is not yet as old as this, as a daemon with a clock can tell.
+    /// Returns whether a connection is younger than `age` by the daemon's clock. A clock that was unreadable excuses
+    /// the daemon.
     pub fn is_early(&self, number: usize, age: u64) -> Option<bool> {
         let (_, accepted) = self.network.wires.get(number)?.accepted?;
         let is_young = self.shown().saturating_sub(accepted) < age;
         Some(is_young && !self.weather.has_happened(Fault::Unread))
     }
 
-    /// A connection is told that its time is over. Whether it was not told so within this time before, as a daemon with
-    /// a clock can tell.
+    /// Notes a timeout event. Returns whether the last such event of this connection is at least `age` ago, or the
+    /// clock was unreadable.
     pub fn note_late(&mut self, number: usize, age: u64) -> Option<bool> {
         let now = self.shown();
         let before = self.network.wires.get_mut(number)?.late_at.replace(now);
@@ -82,11 +82,10 @@ impl World {
         Some(is_anew || self.weather.has_happened(Fault::Unread))
     }
 
-    /// Whether memory can be had.
+    /// Returns whether a request for memory succeeds.
     pub fn has_memory(&mut self) -> bool {
         let until = self.lasts(Fault::Starved, 2_000_000);
         self.memory.starved_until = until.unwrap_or(self.memory.starved_until);
-        // Not before there has been some memory.
         if self.now > FAMINE_US && self.happens(Fault::Famine) {
             self.memory.starved_until = self.now.saturating_add(60_000_000);
         }

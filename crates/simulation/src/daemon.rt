@@ -1,49 +1,44 @@
-//! The parts of a daemon in a world, step by step.
+//! The parts of a daemon in a world, which run step by step.
+use crate::run::Case;
 use crate::scene::Scene;
 use crate::system::{SimFile, SimHost, SimThread};
 use portmap_book::{Desk, Seat};
 use portmap_worker::{Drain, Drained, LinkSource, Open, RecordQueue, RecordWriter, Shared, Worker};
+use std::alloc::Global;
 use std::sync::Wait;
 use std::sync::ledger::Ledger;
 
-/// What the parts of a daemon in the world share.
+/// The state that all parts share.
 #[derive(Drop)]
 pub struct Around<'a, L: Ledger, R: Wait + Drop> {
+    pub(crate) alloc: Global,
+    pub(crate) case: &'a Case,
     pub(crate) host: &'a SimHost<R>,
     pub(crate) desk: &'a Desk<L>,
     pub(crate) shared: &'a Shared<SimThread>,
     pub(crate) queue: &'a RecordQueue,
 }
 
-/// A worker of the daemon in the world.
 pub type SimWorker<'a, L, S, R> = Worker<'a, L, S, Open, SimHost<R>>;
 
-/// What a daemon in the world is made of.
+/// The workers of the daemon. An ended worker is `None`.
+pub type SimWorkers<'a, L, S, R> = Vec<Option<SimWorker<'a, L, S, R>>>;
+
 #[derive(Drop)]
 pub struct Daemon<'a, L: Ledger, S: LinkSource + Drop, R: Wait + Drop> {
     pub(crate) around: &'a Around<'a, L, R>,
     pub(crate) scene: Scene<'a>,
-    pub(crate) workers: Vec<Option<SimWorker<'a, L, S, R>>>,
-    /// The seats of the workers that have ended: all are to, once one has.
+    pub(crate) workers: SimWorkers<'a, L, S, R>,
+    /// The seats of ended workers. Once a worker ends, all must end.
     pub(crate) seats: Vec<Seat<L>>,
     pub(crate) drain: Drain<'a>,
     pub(crate) writer: RecordWriter<SimFile>,
-    /// More may be written.
+    /// The recording thread has not ended.
     pub(crate) is_writing: bool,
 }
 
-/// A turn of a worker. Whether it goes on, and whether it has acted.
-fn turn<L: Ledger, S: LinkSource + Drop, R: Wait + Drop>(
-    worker: &mut SimWorker<'_, L, S, R>,
-) -> (bool, bool) {
-    let acts = worker.acts();
-    let goes_on = worker.turn();
-    (goes_on, worker.acts() > acts)
-}
-
 impl<'a, L: Ledger, S: LinkSource + Drop, R: Wait + Drop> Daemon<'a, L, S, R> {
-    /// One step of somebody who has something to do, or time passes until somebody has, up to this time. None for want
-    /// of memory.
+    /// Runs one step of an actor that is due, or lets time pass up to `until`. Returns `None` if memory runs out.
     pub(crate) fn step(&mut self, until: u64) -> Option<()> {
         let has_parts = self.is_writing && !self.around.queue.is_idle(self.around.host);
         let Some((actor, is_kept)) = self.scene.choose(has_parts, until)? else {
@@ -55,7 +50,7 @@ impl<'a, L: Ledger, S: LinkSource + Drop, R: Wait + Drop> Daemon<'a, L, S, R> {
         self.scene.on_step(actor)
     }
 
-    /// Somebody does something: a worker, who takes the log out, who writes it, or one of the people.
+    /// Runs an actor: a worker, the drain, the recording thread, or a peer.
     fn act(&mut self, actor: usize) -> Option<()> {
         match actor.checked_sub(self.scene.workers) {
             None => self.work(actor),
@@ -65,11 +60,12 @@ impl<'a, L: Ledger, S: LinkSource + Drop, R: Wait + Drop> Daemon<'a, L, S, R> {
         }
     }
 
-    /// A turn of a worker.
     fn work(&mut self, number: usize) -> Option<()> {
         let shared = self.around.shared;
         let was_unanswered = shared.noted.is_unanswered();
-        let (goes_on, has_acted) = turn(self.workers.get_mut(number)?.as_mut()?);
+        let worker = self.workers.get_mut(number)?.as_mut()?;
+        let acts = worker.acts();
+        let (goes_on, has_acted) = (worker.turn(), worker.acts() > acts);
         let is_unanswered = !was_unanswered && shared.noted.is_unanswered();
         self.scene
             .note_turn(number, goes_on, has_acted, is_unanswered)?;
@@ -79,7 +75,6 @@ impl<'a, L: Ledger, S: LinkSource + Drop, R: Wait + Drop> Daemon<'a, L, S, R> {
         self.end_worker(number)
     }
 
-    /// A worker has ended.
     fn end_worker(&mut self, number: usize) -> Option<()> {
         let seat = self.workers.get_mut(number)?.take()?.leave();
         let acts = seat.count();
@@ -88,7 +83,7 @@ impl<'a, L: Ledger, S: LinkSource + Drop, R: Wait + Drop> Daemon<'a, L, S, R> {
         self.seats.push(seat).ok()
     }
 
-    /// A turn of who takes the log out: it waits, and owed memory to somebody or did not, or has ended.
+    /// Runs a turn of the drain.
     fn take_out(&mut self) -> Option<()> {
         let around = self.around;
         let is_owed = self.scene.world()?.is_starved() && around.shared.noted.is_unanswered();
@@ -104,7 +99,7 @@ impl<'a, L: Ledger, S: LinkSource + Drop, R: Wait + Drop> Daemon<'a, L, S, R> {
         Some(())
     }
 
-    /// A part is written.
+    /// Runs a turn of the recording thread.
     fn write(&mut self) -> Option<()> {
         let around = self.around;
         let alloc = self.scene.alloc;
@@ -114,12 +109,11 @@ impl<'a, L: Ledger, S: LinkSource + Drop, R: Wait + Drop> Daemon<'a, L, S, R> {
         Some(())
     }
 
-    /// Whether a worker has ended, or is to: then all are.
+    /// Returns whether a worker has ended or must end.
     pub(crate) fn has_ended(&self) -> bool {
         !self.seats.is_empty() || self.around.desk.halted(self.around.host)
     }
 
-    /// How much the log weighs.
     pub(crate) fn weight(&self) -> u64 {
         self.around.desk.weight(self.around.host)
     }

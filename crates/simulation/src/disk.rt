@@ -1,4 +1,4 @@
-//! The disk of a world: the files of a recording, and their times.
+//! The disk of a world: the files of a recording and of its times.
 ghost use Rattle.std.specs.Prelude.{◌≤◌, IfOk, length};
 
 use crate::times::Times;
@@ -7,27 +7,27 @@ use crate::world::World;
 use std::alloc::Global;
 use std::io::ErrorKind;
 
-/// Where the recording's first file is.
+/// The path of the first file.
 pub const PATH: &str = "recording";
 
-/// What is on the disk. Times are in microseconds.
+/// A disk. Times are in microseconds.
 #[derive(Drop)]
 pub struct Disk {
     alloc: Global,
     pub files: Vec<Vec<u8>>,
     pub times: Times,
-    /// What was in them when the process was killed, if it had been.
+    /// The files at the moment of a kill.
     pub killed: Vec<Vec<u8>>,
-    /// The file that was cut last, as it was before.
+    /// The file that was truncated last, with its bytes before that.
     pub uncut: Option<(usize, Vec<u8>)>,
-    /// A file that has bytes was made anew, or the number of one was left out.
+    /// A file with bytes was made again, or a number was skipped.
     pub is_misnumbered: bool,
-    /// The disk takes nothing before this time, and who writes does nothing before this one.
+    /// The disk is full before this time. The recording thread stalls before `stalled_until`.
     pub full_until: u64,
     pub stalled_until: u64,
 }
 
-/// The number of the file of the recording that is at this path.
+/// Returns the number of a recording file from its path.
 fn number_of(path: &str) -> Result<usize, ErrorKind> {
     let number = match path.strip_prefix(PATH) {
         Some("") => Some(0),
@@ -53,7 +53,7 @@ impl Disk {
         }
     }
 
-    /// Keeps what is in the files, as a kill would leave it.
+    /// Keeps the files as a kill at this moment would leave them.
     pub fn kill(&mut self) -> Option<()> {
         self.killed = self.files.clone().ok()?;
         Some(())
@@ -61,7 +61,7 @@ impl Disk {
 }
 
 impl World {
-    /// Makes the file at this path, with nothing in it, if the disk has room for that. Its number.
+    /// Makes an empty file, unless the disk is full. Returns its number.
     pub fn make(&mut self, path: &str) -> Result<usize, ErrorKind> {
         if self.is_disk_full() && self.weather.random.happens(500) {
             self.notices.note_write_failed(self.now);
@@ -81,7 +81,7 @@ impl World {
         Ok(number)
     }
 
-    /// Fails where the disk takes no times now.
+    /// Fails if the disk takes no times now.
     fn try_times(&mut self) -> Result<(), ErrorKind> {
         if self.is_disk_full() || self.happens(Fault::Timeless) {
             self.disk.times.has_failed = true;
@@ -90,7 +90,7 @@ impl World {
         Ok(())
     }
 
-    /// Makes the file with the times of the file at this path, with nothing in it. The number of that one.
+    /// Makes the empty file of times beside the file at this path. Returns the number of that file.
     pub fn make_times(&mut self, path: &str) -> Result<usize, ErrorKind> {
         let number = number_of(path)?;
         self.disk.times.make(self.disk.alloc, number)?;
@@ -98,7 +98,6 @@ impl World {
         Ok(number)
     }
 
-    /// Writes times, if the disk takes them.
     pub fn store_times(&mut self, number: usize, bytes: &[u8]) -> Result<usize, ErrorKind>
         ensures { IfOk result (λ n. n ≤ length bytes.now) }
     {
@@ -107,21 +106,20 @@ impl World {
         Ok(bytes.len())
     }
 
-    /// Who writes has written what was handed on, or failed to.
+    /// Notes the end of a turn of the recording thread.
     pub fn note_written(&mut self, has_failed: bool) {
-        self.disk
-            .times
-            .end_turn(has_failed || !self.scenario.is_plain);
+        let may_miss = has_failed || !self.scenario.is_plain;
+        self.disk.times.end_turn(may_miss);
         self.notices.note_written(self.now, has_failed);
     }
 
-    /// How many bytes of so many the disk takes.
+    /// Returns how many of `size` bytes the disk takes.
     fn taken(&mut self, size: usize) -> usize
         ensures { result ≤ size }
     {
         if self.happens(Fault::Full) {
             self.disk.full_until = self.now.saturating_add(self.scenario.full_us);
-            // There is room for some more.
+            // The disk takes a part, and is full then.
             (self.weather.random.below(size as u64) as usize).min(size)
         } else if self.happens(Fault::Short) {
             size.min(1)
@@ -130,7 +128,7 @@ impl World {
         }
     }
 
-    /// Writes to a file what the disk takes of these bytes.
+    /// Appends to a file as many bytes as the disk takes.
     pub fn store(&mut self, number: usize, bytes: &[u8]) -> Result<usize, ErrorKind>
         ensures { IfOk result (λ n. n ≤ length bytes.now) }
     {
@@ -143,7 +141,7 @@ impl World {
         }
         let count = self.taken(bytes.len());
         if count == 0 {
-            // A write that takes nothing has failed too.
+            // The recording treats a write of 0 bytes as a fault.
             self.notices.note_write_failed(self.now);
         }
         self.disk.times.has_grown = true;
@@ -153,7 +151,7 @@ impl World {
         Ok(count)
     }
 
-    /// Leaves the first bytes of a file, so many, or of its times.
+    /// Truncates a file, or its file of times.
     pub fn cut(&mut self, number: usize, size: usize, is_of_times: bool) {
         let disk = &mut self.disk;
         if is_of_times {

@@ -1,35 +1,31 @@
-//! What is checked of a daemon that has ended.
-use crate::checks::Wrong;
+//! Checks of a daemon that has ended.
+use crate::checks::{Wrong, expect};
 use crate::world::World;
 use portmap_core::{Entry, Fate};
 use portmap_record::{Record, RecordFault, Version, check, read_record};
 use portmap_worker::LocalRequest;
 use std::alloc::Global;
 
-/// A file goes on for a second or two once it is full. What comes in these takes no more bytes, also where each place
-/// is taken and used.
+/// A full file grows for at most two seconds. This many bytes are more than what arrives then, even with every permit
+/// in use.
 const BEHIND_BYTES: u64 = 36_000;
 
-/// What a node is told whose name is in use begins so.
+/// The beginning of a reply that refuses a name in use.
 const IN_USE: &[u8] = b"v\x01";
 
-/// What each connection was told, by the log.
+/// The replies in the log, by connection.
 #[derive(Drop)]
 struct Replies {
     alloc: Global,
-    /// By slots: which connection has it.
     slots: Vec<Option<usize>>,
-    /// By connections.
     by_connection: Vec<Vec<u8>>,
-    /// How many were opened.
     opened: usize,
-    /// How many registrations were refused since their names are in use.
+    /// The number of registrations of names in use.
     in_use: u64,
-    /// What other hosts asked for and were refused.
     remote: Vec<LocalRequest>,
 }
 
-/// Which request of this host alone these bytes are, if they are one.
+/// Returns which request these bytes are, if only this host may send it.
 fn local_request(bytes: &[u8]) -> Option<LocalRequest> {
     let [high, low, tag, ..] = *bytes else {
         return None;
@@ -57,7 +53,6 @@ impl Replies {
         }
     }
 
-    /// A connection has this slot, or none has.
     fn assign(&mut self, slot: u64, number: Option<usize>) -> Option<()> {
         for _ in self.slots.len()..(slot as usize).saturating_add(1) {
             self.slots.push(None).ok()?;
@@ -66,7 +61,6 @@ impl Replies {
         Some(())
     }
 
-    /// A connection was told these bytes.
     fn add(&mut self, number: usize, reply: &[u8]) -> Option<()> {
         for _ in self.by_connection.len()..number.saturating_add(1) {
             self.by_connection.push(Vec::new(self.alloc)).ok()?;
@@ -75,18 +69,16 @@ impl Replies {
         delivered.extend_from_slice(reply).ok()
     }
 
-    /// Notes that a connection was closed without a reply, if it asked for what only this host may.
+    /// Notes a connection that was closed without a reply because of a request that only this host may send.
     fn on_refused(&mut self, world: &World, number: usize, bytes: &[u8]) -> Option<()> {
+        let is_local = world.network.wires.get(number)?.is_local;
         match local_request(bytes) {
-            Some(asked) if !world.network.wires.get(number)?.is_local => self
-                .remote
-                .push(asked)
-                .ok(),
+            Some(asked) if !is_local => self.remote.push(asked).ok(),
             _ => Some(()),
         }
     }
 
-    /// Notes an entry, where the connections were opened in this order.
+    /// Notes an entry. `opened` lists the connections in the order in which the desk opened them.
     fn note(&mut self, world: &World, opened: &[usize], entry: &Entry) -> Option<()> {
         match entry {
             Entry::Connected { local: _, slot } => {
@@ -116,44 +108,45 @@ impl Replies {
         }
     }
 
-    /// Fails unless the operator has read of the requests of other hosts that were refused: each line names the first
-    /// of those that it counts.
+    /// Fails unless the notices cover all refused requests of other hosts. Each notice names the first request that it
+    /// counts.
     fn judge_remote(&self, world: &World) -> Result<(), Wrong> {
         let mut place = 0usize;
         for seen in &world.refusals {
-            if seen.first != self.remote.get(place).copied() {
-                return Err("the operator is told of another request of another host");
-            }
+            let is_first = seen.first == self.remote.get(place).copied();
+            expect(
+                is_first,
+                "the operator is told of another request of another host",
+            )?;
             place = place.saturating_add(seen.count as usize);
         }
         let are_all = place == self.remote.len() || !world.clock.has_rested;
-        if !are_all || place > self.remote.len() {
-            return Err("the operator is told of other requests of other hosts");
-        }
-        Ok(())
+        let are_told = are_all && place <= self.remote.len();
+        expect(
+            are_told,
+            "the operator is told of other requests of other hosts",
+        )
     }
 
-    /// Fails unless peers have what they were told.
+    /// Fails unless each peer received a prefix of its replies, and all of them if the daemon closed the connection
+    /// well.
     fn judge_peers(&self, world: &World, opened: &[usize]) -> Result<(), Wrong> {
-        if self.opened != opened.len() {
-            return Err("connections are missing in the recording");
-        }
+        let are_opened = self.opened == opened.len();
+        expect(are_opened, "connections are missing in the recording")?;
         for (number, wire) in world.network.wires.iter().enumerate() {
             let delivered = self.by_connection.get(number);
             let delivered: &[u8] = delivered.map_or(&[], |delivered| delivered.as_slice());
-            if !delivered.starts_with(&wire.received) {
-                return Err("a peer has what it was not told");
-            }
+            let is_prefix = delivered.starts_with(&wire.received);
+            expect(is_prefix, "a peer has what it was not told")?;
             let has = wire.received.len().saturating_add(wire.down.len());
-            if has < delivered.len() && wire.is_ended_well {
-                return Err("a peer lacks what it was told");
-            }
+            let has_all = has >= delivered.len() || !wire.is_ended_well;
+            expect(has_all, "a peer lacks what it was told")?;
         }
         Ok(())
     }
 }
 
-/// The place at which the next file begins, and how often entries may be missing before one.
+/// The position at which the next file begins, and the number of gaps that failures explain.
 #[derive(Drop)]
 struct Expected {
     place: u64,
@@ -169,31 +162,28 @@ impl Expected {
     }
 }
 
-/// Fails unless what a file has is a run that begins with this entry, or, where entries may be missing, with a later
-/// one. The next file begins where it ends.
+/// Fails unless a file is a run that begins at the expected position, or later after an explained gap.
 fn judge_record(alloc: Global, record: &Record, next: &mut Expected) -> Result<(), Wrong> {
-    if check(alloc, record).is_err() {
-        return Err("a file is no run");
-    }
+    expect(check(alloc, record).is_ok(), "a file is no run")?;
     let first = match &record.version {
         Version::One => 0,
         Version::Two { first, .. } => *first,
     };
-    if first < next.place {
-        return Err("entries are recorded twice");
-    }
+    expect(first >= next.place, "entries are recorded twice")?;
     if first > next.place {
-        if next.gaps == 0 {
-            return Err("a file does not begin where the one before it ended");
-        }
+        let may_lack = next.gaps > 0;
+        expect(
+            may_lack,
+            "a file does not begin where the one before it ended",
+        )?;
         next.gaps = next.gaps.saturating_sub(1);
     }
     next.place = first.saturating_add(record.entries.len() as u64);
     Ok(())
 }
 
-/// What a file has, as a run that goes on where the files before it have ended. None if it has no beginning: it was cut
-/// before that, or couldn't be begun.
+/// Reads a file as a run that follows the files before it. Returns `None` for a truncated file without a complete
+/// preamble.
 fn read_file(
     alloc: Global,
     file: &[u8],
@@ -207,14 +197,12 @@ fn read_file(
         }
         read => read,
     };
-    let Ok(record) = read else {
-        return Err("a file is no record");
-    };
+    let record = read.map_err(|_| "a file is no record")?;
     judge_record(alloc, &record, next)?;
     Ok(Some(record))
 }
 
-/// Fails unless the files are as a kill may have left them: the last one is cut anywhere, since what was written last
+/// Fails unless the files of a kill are readable. The last file is truncated at a random offset, since the last writes
 /// may be lost.
 fn judge_killed(alloc: Global, world: &mut World) -> Result<(), Wrong> {
     let mut next = Expected::new(world);
@@ -230,17 +218,13 @@ fn judge_killed(alloc: Global, world: &mut World) -> Result<(), Wrong> {
         } else {
             file.len()
         };
-        read_file(
-            alloc,
-            file.get(..size).unwrap_or_default(),
-            &mut next,
-            is_last,
-        )?;
+        let kept = file.get(..size).unwrap_or_default();
+        read_file(alloc, kept, &mut next, is_last)?;
     }
     Ok(())
 }
 
-/// Fails unless the sizes of the files are right, where each is full that has so many bytes and is a plain one.
+/// Fails unless each file ends only once it has `most` bytes, and soon after that. Only plain files are ever full.
 fn judge_sizes(world: &World, most: u64) -> Result<(), Wrong> {
     let Some((_, ended)) = world.disk.files.split_last() else {
         return Ok(());
@@ -263,7 +247,7 @@ fn judge_sizes(world: &World, most: u64) -> Result<(), Wrong> {
     }
 }
 
-/// Fails unless the file that was cut has each whole entry that the disk took, and nothing behind it.
+/// Fails unless the truncated file has exactly the complete entries that the disk took.
 fn judge_cut(alloc: Global, world: &World) -> Result<(), Wrong> {
     let Some((number, uncut)) = &world.disk.uncut else {
         return Ok(());
@@ -273,14 +257,12 @@ fn judge_cut(alloc: Global, world: &World) -> Result<(), Wrong> {
         _ => uncut.len(),
     };
     let left = world.disk.files.get(*number);
-    if left.is_some_and(|left| left.len() != whole) {
-        return Err("a file is not cut behind what the disk took whole");
-    }
-    Ok(())
+    let is_cut = left.is_none_or(|left| left.len() == whole);
+    expect(is_cut, "a file is not cut behind what the disk took whole")
 }
 
-/// Fails unless the files have the log of a daemon that opened these connections in this order and made so many acts,
-/// and peers and the operator were told what is in it.
+/// Fails unless the files have all acts of the log, and peers and the operator received what the log says. `opened`
+/// lists the connections in the order in which the desk opened them.
 fn judge_log(alloc: Global, world: &World, opened: &[usize], acts: u64) -> Result<(), Wrong> {
     let has_failed = world.notices.failures > 0;
     let mut next = Expected::new(world);
@@ -302,21 +284,21 @@ fn judge_log(alloc: Global, world: &World, opened: &[usize], acts: u64) -> Resul
         }
     }
     let may_lack = has_failed && (world.is_disk_full() || !world.clock.has_rested);
-    if next.place > acts || (next.place < acts && !may_lack) {
-        return Err("acts are missing in the recording");
-    }
+    let has_all = next.place == acts || (next.place < acts && may_lack);
+    expect(has_all, "acts are missing in the recording")?;
     if has_failed {
         return Ok(());
     }
-    if world.notices.in_use() > replies.in_use {
-        return Err("the operator is told of names that were not refused");
-    }
+    let are_refused = world.notices.in_use() <= replies.in_use;
+    expect(
+        are_refused,
+        "the operator is told of names that were not refused",
+    )?;
     replies.judge_remote(world)?;
     replies.judge_peers(world, opened)
 }
 
-/// Fails unless all is right with a daemon that has ended, of which a file of the recording that has so many bytes is
-/// full.
+/// Runs all checks. A file with `most` bytes is full.
 pub fn judge(
     alloc: Global,
     world: &mut World,

@@ -1,14 +1,13 @@
-//! What people have done in all cases of a scenario together, and what they do at least.
+//! What the peers of a scenario must do in all of its cases together.
 use crate::people::Counts;
 use crate::scenario::{Deeds, Scenario};
 use crate::scenarios::{CALLS, ENDS, PEOPLE, TIMES};
 use std::alloc::Global;
 use std::io;
 
-/// Of so many cases the people of a scenario do as much as it says. Fewer are no run of all, and are not held to it.
+/// A scenario with fewer cases is not checked.
 const CASES: u32 = 10;
 
-/// What people have done in so many cases of a scenario.
 #[derive(Clone, Copy)]
 struct Total {
     scenario: &'static Scenario,
@@ -17,33 +16,25 @@ struct Total {
 }
 
 impl Total {
-    /// Prints what people have done, if that is too little.
+    /// Prints the deeds if one of them is below the least of the scenario.
     fn print_lack(&self, rt: &HostRuntime) -> io::Result<()> {
         let [registrations, restarts, answers, refused] = self.deeds;
         let Scenario { name, least, .. } = self.scenario;
-        if self
-            .deeds
-            .iter()
-            .zip(least)
-            .all(|(done, least)| done >= least)
-        {
+        let mut deeds = self.deeds.iter().zip(least);
+        if deeds.all(|(done, least)| done >= least) {
             return Ok(());
         }
-        print!(rt;
-            "WRONG scenario {name}: its people do too little: {registrations} registrations,"
-        )?;
+        print!(rt; "WRONG scenario {name}: its people do too little:")?;
+        print!(rt; " {registrations} registrations,")?;
         println!(rt; " {restarts} restarts, {answers} answers, {refused} refused")
     }
 }
 
-/// The same, by the places of their scenarios.
+/// The totals of all scenarios.
 #[derive(Drop)]
-pub struct Totals {
-    totals: Vec<Total>,
-}
+pub struct Totals(Vec<Total>);
 
 impl Totals {
-    /// Nobody has done anything in any scenario.
     pub fn new(alloc: Global) -> io::Result<Totals> {
         let mut totals = Vec::new(alloc);
         for scenarios in [CALLS, PEOPLE, TIMES, ENDS] {
@@ -55,19 +46,18 @@ impl Totals {
                 })?;
             }
         }
-        Ok(Totals { totals })
+        Ok(Totals(totals))
     }
 
-    /// The place of the scenario that one of these words names, and the scenario.
+    /// Finds the scenario that one of these words names. Returns its index too.
     pub fn find(&self, words: &[&str]) -> Option<(usize, &'static Scenario)> {
-        let mut totals = self.totals.iter().enumerate();
+        let mut totals = self.0.iter().enumerate();
         let (place, total) = totals.find(|each| words.contains(&each.1.scenario.name))?;
         Some((place, total.scenario))
     }
 
-    /// Notes what people have done in a case of the scenario at this place.
     pub fn note(&mut self, place: usize, tally: &Counts) {
-        if let Some(total) = self.totals.get_mut(place) {
+        if let Some(total) = self.0.get_mut(place) {
             total.cases = total.cases.saturating_add(1);
             for (sum, count) in total.deeds.iter_mut().zip(tally.deeds()) {
                 *sum = sum.saturating_add(count);
@@ -75,14 +65,14 @@ impl Totals {
         }
     }
 
-    /// Prints which scenarios had too little of something, and how many had their cases.
+    /// Prints the scenarios that did too little, and the number of scenarios with enough cases.
     pub fn print(&self, rt: &HostRuntime) -> io::Result<()> {
         let mut held = 0u32;
-        for total in self.totals.iter().filter(|total| total.cases >= CASES) {
+        for total in self.0.iter().filter(|total| total.cases >= CASES) {
             held = held.saturating_add(1);
             total.print_lack(rt)?;
         }
-        let count = self.totals.len();
+        let count = self.0.len();
         println!(rt; "{held} of {count} scenarios had {CASES} cases or more")
     }
 }

@@ -1,8 +1,8 @@
-//! A daemon in simulated worlds, whose every choice comes from a seed.
+//! A daemon in simulated worlds, in which every choice comes from a seed.
 //!
-//! Standard input has a line for each case: `seed N workers W scenario S steps K`. The output has one line for each
-//! case. If the case is wrong, or its line has the word `counts`, the output line has all counts, and otherwise some of
-//! them and a checksum of the others. With `trace` each step is a line.
+//! Each line of standard input is a case: `seed N workers W scenario S steps K`. The program prints a line for each
+//! case. The line of a wrong case, or of a case with the word `counts`, has all counts. Any other line has some counts
+//! and a checksum of the others. With `trace`, each step is a line.
 #![tactic(auto)]
 
 mod checks;
@@ -41,7 +41,6 @@ use std::sync::Wait;
 use std::sync::ledger::Blank;
 use std::{env, io};
 
-/// The number behind a word.
 fn number_after(words: &[&str], word: &str) -> Option<u64> {
     let place = words.iter().position(|each| *each == word)?;
     words.get(place.saturating_add(1))?.parse::<u64>().ok()
@@ -60,7 +59,7 @@ fn main(rt: HostRuntime) -> io::Result<()> {
     totals.print(&rt)
 }
 
-/// Runs the case of these words: those of a line, with hyphens before their names.
+/// Runs the case of the program's arguments, whose names begin with a hyphen.
 fn run_words<R: Wait + Clone + Drop>(
     rt: &HostRuntime,
     host: &R,
@@ -74,7 +73,7 @@ fn run_words<R: Wait + Clone + Drop>(
     run_line(rt, host, line.as_str(), &mut Totals::new(rt.alloc())?)
 }
 
-/// Runs the case of a line, prints what it came to, and notes what people did.
+/// Runs the case of a line, prints its result, and adds its deeds to the totals.
 fn run_line<R: Wait + Clone + Drop>(
     rt: &HostRuntime,
     host: &R,
@@ -85,13 +84,12 @@ fn run_line<R: Wait + Clone + Drop>(
     let Some((place, scenario)) = totals.find(&words) else {
         return println!(rt; "no scenario: {line}");
     };
+    let steps = number_after(&words, "steps").unwrap_or(4000);
     let case = Case {
         seed: number_after(&words, "seed").unwrap_or(1),
         workers: number_after(&words, "workers").unwrap_or(2).clamp(1, 8) as u32,
         scenario,
-        steps: number_after(&words, "steps")
-            .unwrap_or(4000)
-            .min(100_000_000) as u32,
+        steps: steps.min(100_000_000) as u32,
         is_traced: words.contains(&"trace"),
     };
     let own: R = host.clone()?;
@@ -110,27 +108,21 @@ fn run_line<R: Wait + Clone + Drop>(
     print_counts(rt, &outcome)
 }
 
-/// Prints that a case went well, and as one number what else is counted.
+/// Prints the line of a case that went well.
 fn print_in_brief(rt: &HostRuntime, line: &str, outcome: &Outcome) -> io::Result<()> {
     let (tally, others) = (&outcome.tally, outcome.checksum());
-    println!(rt;
-        "ok {line}: {} connections, {} registrations, {} restarts, {others:016x}",
-        tally.connections, tally.registrations, tally.restarts
-    )
+    print!(rt; "ok {line}: {} connections,", tally.connections)?;
+    print!(rt; " {} registrations,", tally.registrations)?;
+    println!(rt; " {} restarts, {others:016x}", tally.restarts)
 }
 
-/// Prints all that is counted of a case.
 fn print_counts(rt: &HostRuntime, outcome: &Outcome) -> io::Result<()> {
-    let (tally, longest) = (&outcome.tally, outcome.longest_ms());
-    print!(rt;
-        " {} connections, {} registrations,",
-        tally.connections, tally.registrations
-    )?;
+    let (tally, longest) = (&outcome.tally, outcome.tally.longest / 1000);
+    print!(rt; " {} connections,", tally.connections)?;
+    print!(rt; " {} registrations,", tally.registrations)?;
     print!(rt; " {} refused, {} restarts,", tally.refused, tally.restarts)?;
-    print!(rt;
-        " {} answers within {longest} ms, {} without,",
-        tally.answers, tally.unanswered
-    )?;
+    print!(rt; " {} answers within {longest} ms,", tally.answers)?;
+    print!(rt; " {} without,", tally.unanswered)?;
     print!(rt; " {} acts in {} s", outcome.acts, outcome.seconds)?;
     for (fault, count) in FAULTS.split_whitespace().zip(outcome.happened) {
         if count > 0 {

@@ -1,4 +1,4 @@
-//! The network of a world: connections, what is underway on them, and what waits at listeners.
+//! The network of a world: connections, bytes in flight, and the backlogs of the listeners.
 ghost use Rattle.std.specs.Prelude.{◌≤◌, IfOk, length};
 
 use crate::notices::Subject;
@@ -9,10 +9,10 @@ use std::alloc::Global;
 use std::collections::VecDeque;
 use std::io::ErrorKind;
 
-/// Of so many nodes it is known when they were stopped.
+/// The number of nodes whose stops are noted.
 const NODES_MOST: usize = 8;
 
-/// What a peer has done, and the daemon can't see before this time.
+/// Something that a peer did, which the daemon sees at `at`.
 #[derive(Drop)]
 struct Flight {
     at: u64,
@@ -24,9 +24,9 @@ struct Flight {
 /// How a peer ends its connection.
 #[derive(Clone, Copy, PartialEq, Eq)]
 pub enum Ending {
-    /// It sends no more, and reads on.
+    /// The peer sends no more, and still reads.
     Shut,
-    /// It has gone.
+    /// The peer has closed the connection.
     Gone,
     Reset,
 }
@@ -36,25 +36,24 @@ pub enum Ending {
 pub struct Network {
     alloc: Global,
     pub wires: Vec<Wire>,
-    /// What is underway, in the order in which it was done.
+    /// In the order in which the peers acted.
     flights: VecDeque<Flight>,
     /// The connections that wait at each listener.
     pub(crate) backlogs: [VecDeque<usize>; LISTENERS],
-    /// Until when no connection can be accepted, and why.
+    /// No connection can be accepted before this time, with this error.
     pub(crate) exhausted: (u64, ErrorKind),
-    /// How many connections of other hosts the daemon has, and of this one.
+    /// The number of open connections of other hosts, and of this host.
     pub remote: u32,
     pub local: u32,
-    /// How many connections came as there was no place for them.
+    /// The number of connections that arrived while no permit was free.
     pub wanting: u32,
-    /// How many bytes the daemon has read since the log was taken out.
+    /// The bytes that the daemon has read since the last drain.
     pub read_bytes: u64,
-    /// By nodes: since when the last stop of each was asked for, and when it was told that it is stopped.
+    /// For each node, when the last stop was requested, and when the reply to it arrived.
     stopped: [(u64, u64); NODES_MOST],
 }
 
 impl Network {
-    /// One in which nothing has happened.
     pub fn new(alloc: Global) -> Network {
         Network {
             alloc,
@@ -70,13 +69,13 @@ impl Network {
         }
     }
 
-    /// The time when something lands next; never, if nothing is underway.
+    /// Returns the time at which the next flight lands.
     pub fn lands_at(&self) -> u64 {
         let flights = self.flights.iter();
         flights.fold(u64::MAX, |least: u64, flight| least.min(flight.at))
     }
 
-    /// How many connections of this host the daemon has, or of other ones.
+    /// Returns the number of open connections of this host, or of other hosts.
     pub fn count(&mut self, is_local: bool) -> &mut u32 {
         if is_local {
             &mut self.local
@@ -85,14 +84,13 @@ impl Network {
         }
     }
 
-    /// A node is told to be stopped, which was asked for at this time.
     pub fn note_stopped(&mut self, node: u8, asked: u64, now: u64) {
         if let Some(stopped) = self.stopped.get_mut(node as usize) {
             *stopped = (asked, now);
         }
     }
 
-    /// When it was told that a node is stopped, if that was asked for after this time.
+    /// Returns when the reply to a stop arrived, if the stop was requested after `time`.
     pub fn stopped_after(&self, node: u8, time: u64) -> Option<u64> {
         let (asked, delivered) = self.stopped.get(node as usize).copied()?;
         (asked > time).then_some(delivered)
@@ -102,7 +100,7 @@ impl Network {
 impl World {
     // ---- what peers do
 
-    /// A peer connects at a listener. The number of the connection; none if too many wait there.
+    /// Connects a peer to a listener. Returns `None` if the backlog is full.
     pub fn connect(&mut self, place: usize, is_local: bool) -> Option<usize> {
         let waiting = self.network.backlogs.get_mut(place)?;
         if waiting.len() >= self.scenario.backlog_most {
@@ -120,7 +118,7 @@ impl World {
         Some(number)
     }
 
-    /// A connection has come to the listener at this place: threads are told of it, all now, or one before the others.
+    /// Reports an arrival to all threads. One thread may see it before the others.
     fn on_arrival(&mut self, place: usize) {
         let (now, mut first) = (self.now, None);
         if self.happens(Fault::Taken) {
@@ -132,7 +130,6 @@ impl World {
         }
     }
 
-    /// A peer sends bytes, ends its connection, or resets it: then it sends and reads no more.
     pub fn send(&mut self, number: usize, bytes: &[u8]) {
         self.fly(number, bytes, None);
     }
@@ -153,7 +150,7 @@ impl World {
             self.memory.is_lost = true;
             return;
         };
-        // What one peer does is seen in the order in which it was done.
+        // The daemon sees the acts of a peer in their order.
         let flights = &mut self.network.flights;
         let own = flights.iter().filter(|flight| flight.number == number);
         let at = own.fold(lands_at, |at: u64, flight| at.max(flight.at));
@@ -167,7 +164,7 @@ impl World {
         self.land();
     }
 
-    /// What was underway is there now, if it is time.
+    /// Lands each flight that is due.
     pub fn land(&mut self) {
         for _ in 0..self.network.flights.len() {
             if let Some(flight) = self.network.flights.pop_front() {
@@ -185,14 +182,13 @@ impl World {
         if let Some(wire) = self.network.wires.get_mut(flight.number) {
             let is_kept = wire.arrive(self.now, &flight.bytes, flight.end);
             self.memory.note(is_kept);
-            // What was there before a reset is lost, or may still be read.
+            // A reset may discard bytes that the daemon has not read.
             if flight.end == Some(Ending::Reset) && self.weather.random.happens(500) {
                 wire.up.clear();
             }
         }
     }
 
-    /// A peer reads so many bytes at most.
     pub fn receive(&mut self, number: usize, most: usize) {
         if let Some(wire) = self.network.wires.get_mut(number) {
             self.memory.note(wire.receive(self.now, most));
@@ -201,7 +197,7 @@ impl World {
 
     // ---- what the daemon's streams do
 
-    /// Begins a call of a stream, which takes a moment, in which more may come, or is interrupted.
+    /// Begins a call of a stream. The call takes a moment, in which flights land, and may be interrupted.
     fn begin_call(&mut self) -> Result<(), ErrorKind> {
         self.now = self.after(3);
         self.land();
@@ -211,7 +207,6 @@ impl World {
         Ok(())
     }
 
-    /// What a call on a connection tells that was reset.
     fn reset_error(&mut self) -> ErrorKind {
         if self.happens(Fault::Broken) {
             ErrorKind::BrokenPipe
@@ -220,7 +215,6 @@ impl World {
         }
     }
 
-    /// Reads the bytes that have come.
     pub fn read(&mut self, number: usize, buffer: &mut [u8]) -> Result<usize, ErrorKind>
         ensures { IfOk result (λ n. n ≤ length buffer.new) }
     {
@@ -239,7 +233,6 @@ impl World {
         Ok(count)
     }
 
-    /// Writes as many bytes as there is room for.
     pub fn write(&mut self, number: usize, bytes: &[u8]) -> Result<usize, ErrorKind>
         ensures { IfOk result (λ n. n ≤ length bytes.now) }
     {
@@ -260,7 +253,7 @@ impl World {
         Ok(count)
     }
 
-    /// The daemon has a connection reset.
+    /// Resets a connection for the daemon.
     pub fn reset(&mut self, number: usize) {
         if let Some(wire) = self.network.wires.get_mut(number) {
             wire.is_reset = true;
@@ -268,10 +261,11 @@ impl World {
         }
     }
 
-    /// The daemon gives a connection up. One that it could not hold for want of memory could not be accepted.
+    /// Closes a connection for the daemon. A close of a connection that the daemon could not hold for lack of memory
+    /// counts as a failed accept.
     pub fn close(&mut self, number: usize) {
         let is_starved = self.is_starved();
-        // Long enough for who takes the log out to see it.
+        // The shortage lasts long enough for the drain to see it.
         let is_starved_on = self.now.saturating_add(100_000) < self.memory.starved_until;
         if let Some(wire) = self.network.wires.get_mut(number) {
             if is_starved && !wire.is_held {

@@ -1,36 +1,32 @@
-//! What the operator is told.
+//! Checks of the notices for the operator.
 use crate::checks::Wrong;
 use portmap_worker::{LocalRequest, Notice};
 use std::mem;
 
-/// Between two notices of a kind so much time passes at least: ten seconds, but for a part of a millisecond.
+/// The least time between two notices of a kind: ten seconds, less a part of a millisecond.
 const NOTICE_US: u64 = 9_999_000;
 
-/// What has happened is told within this time.
+/// The most time between an event and its notice.
 const NEWS_US: u64 = 5_000_000;
 
-/// That memory is short is told so long after it was at most: ten seconds may pass since the last line.
+/// The most time between a shortage of memory and its notice. The notice before may be ten seconds old.
 const SHORT_US: u64 = 15_000_000;
 
-/// What a line is about.
 #[derive(Clone, Copy)]
 pub enum Subject {
-    /// That no connection can be accepted.
     Accept,
-    /// That names are in use.
     InUse,
-    /// That memory is short.
     Short,
-    /// That connections are reset whose peers read nothing.
+    /// Connections were reset because their peers read nothing.
     Unread,
-    /// That the recording has failed, and that it goes on again.
+    /// The recording failed, or continues again.
     ShutdownCause,
     Again,
-    /// That other hosts were refused.
+    /// Requests of other hosts were refused.
     Remote,
 }
 
-/// By subjects, what is wrong where a line is not true. Those about other hosts are looked at once all has ended.
+/// By subject, the text for a false notice. Notices of other hosts are checked at the end.
 const UNTRUE: [Wrong; 7] = [
     "the operator is told of what has not happened",
     "the operator is told of fewer names than were refused",
@@ -41,7 +37,7 @@ const UNTRUE: [Wrong; 7] = [
     "",
 ];
 
-/// By subjects, what is wrong where a line comes too soon behind another one.
+/// By subject, the text for a notice that follows another one too soon.
 const TWICE: [Wrong; 7] = [
     "the operator is told twice within ten seconds",
     "the operator is told of names twice within ten seconds",
@@ -52,7 +48,7 @@ const TWICE: [Wrong; 7] = [
     "the operator is told of other hosts twice within ten seconds",
 ];
 
-/// By subjects but the last one, what is wrong where a line has not come in time.
+/// By subject but the last, the text for a missing notice.
 const LATE: [Wrong; 6] = [
     "the operator is not told of what can't be accepted",
     "the operator is not told that a name is in use",
@@ -62,20 +58,20 @@ const LATE: [Wrong; 6] = [
     "the operator is not told that the recording goes on again",
 ];
 
-/// The lines about a subject. Times are in microseconds.
+/// The notices of a subject. Times are in microseconds.
 #[derive(Clone, Copy, Default)]
 struct Topic {
-    /// Since when there is something to tell.
+    /// Since when a notice is due.
     pending_since: Option<u64>,
-    /// From when on the next line may come.
+    /// From when on a notice may be written.
     free_at: u64,
-    /// How often there was something to tell, and of how much the lines have told.
+    /// The number of events, and the number of events that the notices count.
     happened: u64,
     delivered: u64,
 }
 
 impl Topic {
-    /// From this time on, or from when it may be, there is something to tell.
+    /// Notes an event, for which a notice is due from now on or from `free_at` on.
     fn note(&mut self, now: u64) {
         self.happened = self.happened.saturating_add(1);
         if self.pending_since.is_none() {
@@ -83,7 +79,7 @@ impl Topic {
         }
     }
 
-    /// The operator reads a line that tells of so much. Whether it may come.
+    /// Notes a notice that counts this many events. Returns whether it may be written now.
     fn tell(&mut self, now: u64, count: u64) -> bool {
         let is_free = self.free_at <= now;
         self.delivered = self.delivered.saturating_add(count);
@@ -92,38 +88,35 @@ impl Topic {
         is_free
     }
 
-    /// Whether the operator should have been told by now.
     fn is_late(&self, now: u64) -> bool {
         let since = self.pending_since;
         since.is_some_and(|since| now > since.saturating_add(NEWS_US))
     }
 }
 
-/// What the operator has read of requests of other hosts: what the first one asked for, and how many there were.
+/// A notice of refused requests of other hosts: the first request, and the number of requests.
 #[derive(Clone, Copy)]
 pub struct Refusals {
     pub first: Option<LocalRequest>,
     pub count: u64,
 }
 
-/// What was refused to the daemon or by it, and what the operator was told of that. Times are in microseconds.
+/// The events of which the operator must read, and what the operator has read. Times are in microseconds.
 #[derive(Clone, Copy, Default)]
 pub struct Notices {
     topics: [Topic; 7],
-    /// The recording has failed, and was not begun anew.
+    /// The recording has failed and not restarted.
     has_failed: bool,
-    /// How often it has failed.
     pub failures: u32,
-    /// A file was made since.
+    /// A file was made since the last failure.
     pub is_made: bool,
-    /// The operator has read that it failed, and of no new beginning.
+    /// The operator has read of the failure, and not of a restart.
     is_known: bool,
     /// When a connection, a listener or memory was refused last.
     pub refused_at: u64,
     wrong: Option<Wrong>,
 }
 
-/// What a line is about, and how much of that it tells of.
 fn told_by(notice: &Notice<'_>) -> Option<(Subject, u64)> {
     match notice {
         Notice::CannotAccept => Some((Subject::Accept, 1)),
@@ -138,17 +131,17 @@ fn told_by(notice: &Notice<'_>) -> Option<(Subject, u64)> {
 }
 
 impl Notices {
-    /// There is something to tell.
     pub fn note(&mut self, subject: Subject, now: u64) {
         self.topics[subject as usize].note(now);
     }
 
-    /// Of how many names the operator was told that they are in use.
+    /// Returns the number of names in use of which the operator has read.
     pub fn in_use(&self) -> u64 {
         self.topics[Subject::InUse as usize].delivered
     }
 
-    /// A write to a file of the recording fails, or the making of one does: that is told, unless the operator knows.
+    /// Notes a failed write, or a failed creation of a file. A notice is due unless the operator has read of the
+    /// failure.
     pub fn note_write_failed(&mut self, now: u64) {
         if !self.has_failed {
             self.failures = self.failures.saturating_add(1);
@@ -162,8 +155,8 @@ impl Notices {
         }
     }
 
-    /// Who writes has written what was handed on, or the recording has failed: where a file has begun again that is
-    /// told, unless the operator has not read that it failed.
+    /// Notes the end of a turn of the recording thread. If the recording has restarted, a notice is due unless the
+    /// operator has not read of the failure.
     pub fn note_written(&mut self, now: u64, has_failed: bool) {
         if !self.has_failed || has_failed || !self.is_made {
             return;
@@ -176,7 +169,8 @@ impl Notices {
         }
     }
 
-    /// A connection can't be accepted, or a listener not be watched: that is told, unless it just was.
+    /// Notes a failed accept, or a listener that cannot be watched. A notice is due unless there was one within ten
+    /// seconds.
     pub fn on_unaccepted(&mut self, now: u64) {
         self.refused_at = now;
         if self.topics[Subject::Accept as usize].free_at <= now {
@@ -184,32 +178,26 @@ impl Notices {
         }
     }
 
-    /// The operator comes to know that the recording fails, or that it goes on. Whether that is so, and new.
+    /// Notes that the operator reads of a failure or of a restart. Returns whether the notice is true and new.
     fn is_news(&mut self, fails: bool) -> bool {
         let was_known = mem::replace(&mut self.is_known, fails);
         self.has_failed == fails && was_known != fails
     }
 
-    /// Whether a line about this is true, which tells of so much. What nodes have heard of names in use was in the log
-    /// before.
+    /// Returns whether a notice is true. The log has each refusal of a name before its node receives the reply.
     fn is_true(&mut self, now: u64, subject: Subject, count: u64) -> bool {
-        let Topic {
-            happened,
-            delivered,
-            ..
-        } = self.topics[subject as usize];
+        let topic = self.topics[subject as usize];
         match subject {
             Subject::Accept => now <= self.refused_at.saturating_add(NEWS_US),
-            Subject::InUse => delivered >= happened,
+            Subject::InUse => topic.delivered >= topic.happened,
             Subject::Short => count > 0 && now <= self.refused_at.saturating_add(SHORT_US),
-            Subject::Unread => delivered <= happened,
+            Subject::Unread => topic.delivered <= topic.happened,
             Subject::ShutdownCause => self.is_news(true),
             Subject::Again => self.is_news(false),
             Subject::Remote => true,
         }
     }
 
-    /// The operator reads a line.
     pub fn hear(&mut self, now: u64, notice: &Notice<'_>) {
         let Some((subject, count)) = told_by(notice) else {
             return;
@@ -223,7 +211,7 @@ impl Notices {
         }
     }
 
-    /// Fails unless all was told by now, and nothing else.
+    /// Fails if a notice is late, or if a check of a notice failed.
     pub fn judge(&self, now: u64) -> Result<(), Wrong> {
         let mut topics = self.topics.iter().zip(LATE);
         let late = topics.find(|each| each.0.is_late(now));

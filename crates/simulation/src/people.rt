@@ -1,4 +1,4 @@
-//! Nodes, tools and strangers: the peers of a daemon.
+//! The peers of a daemon: nodes, tools and strangers.
 use crate::checks::Wrong;
 use crate::network::Ending;
 use crate::notices::Subject;
@@ -10,22 +10,15 @@ use crate::wire::{Received, Wire};
 use crate::world::{LISTENERS, World};
 use std::alloc::Global;
 
-/// What somebody is about.
 #[derive(Clone, Copy, PartialEq, Eq)]
 pub enum PersonState {
-    /// Is not connected.
     Away,
-    /// Sends its request.
     Sending,
-    /// Waits for an answer.
     Waiting,
-    /// Holds its name.
     Holding,
-    /// Wants nothing more.
     Gone,
 }
 
-/// What has been seen of people.
 #[derive(Clone, Copy, Default)]
 pub struct Counts {
     pub connections: u32,
@@ -34,12 +27,11 @@ pub struct Counts {
     pub restarts: u32,
     pub answers: u32,
     pub unanswered: u32,
-    /// The longest that an answer took, in microseconds.
+    /// In microseconds.
     pub longest: u64,
 }
 
 impl Counts {
-    /// What was done.
     pub fn deeds(&self) -> Deeds {
         [
             self.registrations,
@@ -50,42 +42,40 @@ impl Counts {
     }
 }
 
-/// Somebody. Times are in microseconds.
+/// A peer. Times are in microseconds.
 #[derive(Drop)]
 pub struct Person {
     pub(crate) role: &'static Role,
     pub(crate) scenario: &'static Scenario,
     pub(crate) is_local: bool,
-    /// Which node it is, or asks for.
+    /// The node that this peer is, or asks for.
     pub(crate) node: u8,
     pub(crate) stage: PersonState,
     wire: Option<usize>,
     next_at: u64,
     request: Vec<u8>,
     sent: usize,
-    /// When it came last, if it has, by a clock that may jump.
+    /// When the peer connected last, by a clock that may jump.
     came_at: u64,
-    /// When it had asked, how long it was there by then, by that clock, and for how long the process was stopped
-    /// before.
+    /// When the peer finished its request, how long it was connected then by that clock, and how long the process had
+    /// been stopped before.
     asked_at: u64,
     pub(crate) asked_after: u64,
     stopped_before: u64,
     has_come: bool,
-    /// Since when it holds its name, if it does.
     pub(crate) held_since: u64,
-    /// It is owed nothing: it may be closed, or refused.
+    /// The daemon may close or refuse this peer.
     pub(crate) is_lenient: bool,
-    /// Once it leaves it does not come back.
+    /// The peer does not return.
     is_retired: bool,
 }
 
-/// When the look comes at which those are late who came at the beginning, where the time of each is five seconds.
+/// The scan that closes peers which connected at the start, with a timeout of five seconds.
 const TARDY_US: u64 = 6_850_000;
 
-/// What a talker says.
 const TALK: &[u8] = &[0x61; 1000];
 
-/// The people of a scenario. Nodes are numbered; who asks for one asks for any.
+/// Returns the peers of a scenario. Nodes are numbered. A peer that asks for a node asks for any number.
 pub fn people_of(alloc: Global, world: &mut World) -> Option<Vec<Person>> {
     let mut people = Vec::new(alloc);
     let mut nodes = 0u8;
@@ -107,7 +97,7 @@ pub fn people_of(alloc: Global, world: &mut World) -> Option<Vec<Person>> {
 }
 
 impl Person {
-    /// Somebody of a crowd, who comes at this time, or with the first burst behind it.
+    /// Returns a peer that connects at `next_at`, or with the next burst.
     fn new(alloc: Global, world: &World, crowd: Crowd, node: u8, next_at: u64) -> Person {
         let scenario = world.scenario;
         let (role, _, is_local) = crowd.parts();
@@ -133,7 +123,7 @@ impl Person {
         }
     }
 
-    /// From when on it acts: at its time, or since there is news of its connection.
+    /// Returns when the peer acts next. An event of its connection makes it due now.
     pub fn due_at(&self, world: &World) -> Option<u64> {
         match self.stage {
             PersonState::Gone => None,
@@ -142,7 +132,6 @@ impl Person {
         }
     }
 
-    /// Its connection.
     pub(crate) fn own<'a>(&self, world: &'a World) -> Option<&'a Wire> {
         world.network.wires.get(self.wire?)
     }
@@ -155,7 +144,7 @@ impl Person {
         !self.is_slow() && self.own(world).is_some_and(|wire| wire.has_peer_news)
     }
 
-    /// For how long it has waited for an answer.
+    /// Returns for how long the peer waits for its answer.
     pub(crate) fn waited(&self, now: u64) -> u64 {
         if self.stage == PersonState::Waiting {
             now.saturating_sub(self.asked_at)
@@ -164,23 +153,20 @@ impl Person {
         }
     }
 
-    /// For how long of that the process ran.
+    /// Returns for how much of that time the process ran.
     pub(crate) fn waited_awake(&self, world: &World) -> u64 {
         let stopped = world.clock.stopped.saturating_sub(self.stopped_before);
         self.waited(world.now).saturating_sub(stopped)
     }
 
-    /// Whether it holds a name.
     pub fn holds(&self) -> bool {
         self.stage == PersonState::Holding && self.role.owns()
     }
 
-    /// The name that it holds, or asks for.
     pub fn name(&self) -> [u8; 2] {
         [0x6E, 0x30u8.saturating_add(self.node)]
     }
 
-    /// Writes what it asks.
     fn ask(&mut self, random: &mut Random) -> Option<()> {
         let role = self.role;
         let name = self.name();
@@ -201,7 +187,6 @@ impl Person {
         Some(())
     }
 
-    /// Connects, if it can.
     fn connect(&mut self, world: &mut World) -> Option<()> {
         let place = if self.is_local {
             world.weather.random.below(LISTENERS as u64) as usize
@@ -217,10 +202,9 @@ impl Person {
         Some(())
     }
 
-    /// Comes.
     fn come(&mut self, world: &mut World, tally: &mut Counts) {
         if self.connect(world).is_none() {
-            // Too many wait: it tries again after a second, as TCP does.
+            // The backlog is full. TCP retries after a second.
             self.next_at = world.now.saturating_add(1_000_000);
             return;
         }
@@ -233,11 +217,11 @@ impl Person {
         self.next_at = world.now;
     }
 
-    /// When it sends the next part of its request.
+    /// Returns when the peer sends the next part of its request.
     fn goes_on_at(&self, now: u64, random: &mut Random) -> u64 {
         let most = match self.role.pauses {
             Pauses::UpTo(most) => most,
-            // Its time has begun with the first look, and is over at the look behind its end.
+            // The timeout begins at the first scan, and ends at the scan after five seconds.
             Pauses::UntilLate => TARDY_US.saturating_sub(now).saturating_add(20_000),
         };
         let next_at = now.saturating_add(random.between(most.saturating_sub(20_000), most));
@@ -247,7 +231,6 @@ impl Person {
         }
     }
 
-    /// Sends a part of its request.
     fn say(&mut self, world: &mut World, wire: usize) {
         let most = match self.role.pieces {
             Pieces::UpTo(most) => most,
@@ -274,7 +257,6 @@ impl Person {
         self.go_on(world);
     }
 
-    /// Does what it does once it has asked.
     fn go_on(&mut self, world: &mut World) {
         match self.role.next {
             RoleStep::Waits if self.is_slow() => {
@@ -292,7 +274,6 @@ impl Person {
         }
     }
 
-    /// Stays as it is for a while.
     fn hold(&mut self, world: &mut World) {
         self.stage = PersonState::Holding;
         let is_long = world.weather.random.happens(100);
@@ -301,7 +282,7 @@ impl Person {
         self.next_at = self.scenario.burst_after(next_at);
     }
 
-    /// Leaves, to come back after so many microseconds at most.
+    /// Closes the connection, to return within `most` microseconds.
     fn leave(&mut self, world: &mut World, most: u64) {
         if let Some(wire) = self.wire.take() {
             let resets = world.happens(Fault::Reset);
@@ -322,7 +303,6 @@ impl Person {
         };
     }
 
-    /// Reads what has come. What was wrong, if anything was.
     fn hear(&mut self, world: &mut World, number: usize, tally: &mut Counts) -> Option<Wrong> {
         world.receive(number, self.role.reading as usize);
         let heard = self.own(world)?.heard();
@@ -340,7 +320,6 @@ impl Person {
         }
     }
 
-    /// Has heard so much while it waits for an answer.
     fn hear_answer(
         &mut self,
         world: &mut World,
@@ -365,7 +344,6 @@ impl Person {
         None
     }
 
-    /// Has its answer.
     fn take(&mut self, world: &mut World, tally: &mut Counts) -> Option<Wrong> {
         tally.answers = tally.answers.saturating_add(1);
         if !self.is_slow() {
@@ -382,7 +360,6 @@ impl Person {
         None
     }
 
-    /// Is registered, or is refused.
     fn take_result(&mut self, world: &mut World, tally: &mut Counts) -> Option<Wrong> {
         let result = self.own(world)?.received.get(1).copied();
         if result == Some(0) {
@@ -393,13 +370,13 @@ impl Person {
             world.notices.note(Subject::InUse, world.now);
         }
         tally.refused = tally.refused.saturating_add(1);
-        let wrong = self.judge_refused(world);
+        let wrong = self.judge_refused(world.now);
         let owns = self.role.owns();
         self.leave(world, if owns { 50_000 } else { self.role.away_us });
         wrong
     }
 
-    /// It is registered: it holds its name, but for one that is another one's.
+    /// Holds the registered name. A rival closes its connection.
     fn be_let_in(&mut self, world: &mut World) -> Option<Wrong> {
         if !self.role.owns() {
             self.leave(world, self.role.away_us);
@@ -414,7 +391,6 @@ impl Person {
         wrong
     }
 
-    /// Goes on sending, or leaves.
     fn talk(&mut self, world: &mut World, wire: usize) {
         let most = self.scenario.talk_bytes;
         world.send(wire, TALK.get(..most).unwrap_or(TALK));
@@ -424,7 +400,7 @@ impl Person {
         }
     }
 
-    /// Does what is next. What was wrong, if anything was.
+    /// Acts once. Returns the text of a check that failed.
     pub fn act(&mut self, world: &mut World, tally: &mut Counts) -> Option<Wrong> {
         let Some(wire) = self.wire else {
             self.come(world, tally);
@@ -442,7 +418,7 @@ impl Person {
         None
     }
 
-    /// The weather is over: who holds a name keeps it, and all others leave for good.
+    /// Ends the storm for this peer. A holder keeps its name, and any other peer leaves permanently.
     pub fn retire(&mut self, world: &mut World) {
         self.is_retired = true;
         if self.stage != PersonState::Holding || self.role.naming != Naming::Holds {

@@ -1,4 +1,4 @@
-//! What threads wait for: listeners, streams and each other.
+//! The polls of the threads: listeners, streams, and wakes by other threads.
 use crate::random::Random;
 use crate::weather::Fault;
 use crate::wire::{Watch, Wire};
@@ -8,59 +8,50 @@ use std::alloc::Global;
 use std::io::ErrorKind;
 use std::mem;
 
-/// A thread that is held stands still for so long at most.
+/// The longest time for which `Fault::Held` holds a thread.
 const HELD_US: u64 = 500_000;
 
-/// For so long a thread hangs.
 const HUNG_US: u64 = 30_000_000;
 
-/// The most events that one poll reports.
 pub(crate) const EVENTS_MOST: usize = 256;
 
-/// Why no connection can be accepted: descriptors have run out, or memory.
+/// The faults that stop all accepts, with their errors.
 const EXHAUSTIONS: [(Fault, ErrorKind); 2] = [
     (Fault::Exhausted, ErrorKind::Other),
     (Fault::Unable, ErrorKind::OutOfMemory),
 ];
 
-/// What a thread's poll knows of a listener.
+/// A listener in the poll of a thread.
 #[derive(Clone, Copy, Default)]
 struct Listening {
-    /// It reports it.
+    /// The poll watches the listener.
     is_on: bool,
-    /// From when on it does so; none if there is nothing that was not reported.
+    /// From when on the poll reports an unreported arrival.
     news_at: Option<u64>,
 }
 
-/// What the system knows of a thread.
 #[derive(Drop)]
 pub struct Thread {
     listeners: [Listening; LISTENERS],
-    /// The streams that its poll reports.
     pub(crate) watched: Vec<usize>,
-    /// Its wait is ended.
     pub(crate) is_woken: bool,
-    /// What its last poll has reported.
     pub(crate) reports: Vec<Report>,
-    /// Until when it waits; none if it doesn't.
+    /// Until when the thread waits in its poll.
     pub(crate) until: Option<u64>,
-    /// Until when it is held.
     pub(crate) held_until: u64,
-    /// It has ended.
     has_ended: bool,
-    /// It was told of a connection that has come: there is room for one.
+    /// The worker has held a connection. It has memory for the next connection then.
     has_held: bool,
-    /// What its source told last, if it is a worker's, and the connection of that with whether there was news of it.
+    /// The last turn of the worker's source. `met` is the connection of that turn, and whether it had unread input.
     turn: Option<Turn>,
     met: Option<(usize, bool)>,
-    /// When it polled last, how often it has, and how many steps of its source were made since.
+    /// The time of the last poll, the number of polls, and the steps of the source since the last poll.
     pub polled_at: u64,
     pub polls: u64,
     pub steps: u32,
 }
 
 impl Thread {
-    /// One that watches nothing.
     pub fn new(alloc: Global) -> Thread {
         Thread {
             listeners: [Listening::default(); LISTENERS],
@@ -79,12 +70,10 @@ impl Thread {
         }
     }
 
-    /// Whether its poll reports a listener.
     pub fn listens(&self) -> bool {
         self.listeners.iter().any(|listener| listener.is_on)
     }
 
-    /// A connection has come to the listener at this place.
     pub fn on_arrival(&mut self, place: usize, now: u64) {
         if let Some(listener) = self.listeners.get_mut(place) {
             if listener.is_on && listener.news_at.is_none() {
@@ -93,8 +82,8 @@ impl Thread {
         }
     }
 
-    /// Reports that it was woken, what there is at listeners, and the streams of which there is news, or all that it
-    /// watches. None for want of memory.
+    /// Reports a wake, the listeners, and the streams with an event, or all streams if `is_spurious`. Returns `None` if
+    /// memory runs out.
     fn report(&mut self, wires: &mut [Wire], now: u64, is_spurious: bool) -> Option<()> {
         self.reports.clear();
         if mem::replace(&mut self.is_woken, false) {
@@ -117,7 +106,6 @@ impl Thread {
         Some(())
     }
 
-    /// Has what a poll has reported come in any order.
     fn shuffle(&mut self, random: &mut Random) {
         let count = self.reports.len();
         for place in 0..count {
@@ -128,7 +116,7 @@ impl Thread {
 }
 
 impl World {
-    /// From when on a thread has something to do; none once it has ended.
+    /// Returns when a thread is due. An ended thread never is.
     pub fn due_at(&self, number: usize) -> Option<u64> {
         let thread = self.threads.get(number)?;
         let waits_until = thread.until.filter(|_| !thread.is_woken);
@@ -144,7 +132,6 @@ impl World {
         (!thread.has_ended).then_some(at.max(thread.held_until))
     }
 
-    /// A worker's source tells this, of this connection, where there is news of it or is not.
     pub fn note_turn(&mut self, number: usize, turn: Option<Turn>, met: Option<(usize, bool)>) {
         let is_starved = self.is_starved();
         if let Some(thread) = self.threads.get_mut(number) {
@@ -156,37 +143,33 @@ impl World {
                 thread.has_held = true;
                 if let Some(wire) = self.network.wires.get_mut(fresh) {
                     wire.is_held = true;
-                    wire.came_at = thread.polled_at;
+                    wire.came_at = self.now;
                 }
             }
         }
     }
 
-    /// What the source of a worker told last.
     pub fn last_turn(&self, number: usize) -> Option<Turn> {
         let thread = self.threads.get(number)?;
         thread.turn.filter(|_| !thread.has_ended)
     }
 
-    /// A worker has made a turn, and goes on or ends: what its source told, the connection of that, and whether there
-    /// was news of it.
+    /// Notes whether a worker continues after a turn. Returns the last turn of its source with its connection.
     pub fn met(&mut self, number: usize, goes_on: bool) -> Option<(Turn, (usize, bool))> {
         let thread = self.threads.get_mut(number)?;
         thread.has_ended = !goes_on;
         thread.turn.zip(thread.met)
     }
 
-    /// Whether a thread has something to do now, or has ended.
     pub fn is_due(&self, number: usize) -> bool {
         self.due_at(number).is_none_or(|at| at <= self.now)
     }
 
-    /// When so many milliseconds are over.
     fn until(&self, timeout_ms: u64) -> u64 {
         self.now.saturating_add(timeout_ms.saturating_mul(1000))
     }
 
-    /// Who takes the log out, which is empty or is not, waits for so many milliseconds.
+    /// Lets the drain wait. `is_out` says that the log is empty.
     pub fn wait_out(&mut self, number: usize, timeout_ms: u64, is_out: bool) {
         if is_out {
             self.network.read_bytes = 0;
@@ -198,7 +181,7 @@ impl World {
         }
     }
 
-    /// Until when a fault holds a worker of so many from now on, if one does.
+    /// Returns until when a fault holds a worker, if a fault happens.
     fn held(&mut self, worker: usize, workers: usize) -> Option<u64> {
         let is_first = worker == 0 && self.happens_first(Fault::Delayed) && workers > 1;
         if is_first || self.happens_first(Fault::Hung) {
@@ -210,8 +193,7 @@ impl World {
         }
     }
 
-    /// Whether a fault keeps somebody from now on from doing something: one of so many workers, who takes the log out,
-    /// who is behind then, or who writes it, since the disk takes nothing.
+    /// Holds an actor if a fault happens: a worker, the drain, or the recording thread.
     pub fn keeps(&mut self, actor: usize, workers: usize) -> bool {
         let until = match actor.checked_sub(workers) {
             None => self.held(actor, workers),
@@ -229,13 +211,13 @@ impl World {
         until.is_some()
     }
 
-    /// The threads of the workers: all but that of who takes the log out.
+    /// The threads of the workers, without the drain.
     pub fn workers(&self) -> &[Thread] {
         let count = self.threads.len().saturating_sub(1);
         &self.threads[..count]
     }
 
-    /// Until when a worker is, or was, held; without one, until when all are.
+    /// Returns until when this worker is held. Without a worker, returns until when all workers are held.
     pub fn held_until(&self, worker: Option<usize>) -> u64 {
         if let Some(worker) = worker {
             let thread = self.threads.get(worker);
@@ -245,15 +227,7 @@ impl World {
         workers.fold(u64::MAX, |least: u64, thread| least.min(thread.held_until))
     }
 
-    /// Whether a worker was held within so many microseconds up to now.
-    pub fn was_held_in(&self, time: u64) -> bool {
-        let since = self.now.saturating_sub(time);
-        self.workers()
-            .iter()
-            .any(|thread| thread.held_until > since)
-    }
-
-    /// Polls. If there is nothing to report the thread waits for so many milliseconds.
+    /// Polls. Without a report the thread waits for this time.
     pub fn poll(&mut self, number: usize, timeout_ms: u64) -> bool {
         if self.happens(Fault::Deaf) {
             return false;
@@ -278,7 +252,6 @@ impl World {
         true
     }
 
-    /// Has a thread's poll report a stream.
     pub fn watch(
         &mut self,
         thread: usize,
@@ -290,12 +263,8 @@ impl World {
             return Err(ErrorKind::OutOfMemory);
         }
         let wire = self.network.wires.get_mut(number).ok_or(ErrorKind::Other)?;
-        let is_both = interest == Interest::Both;
-        let watch = Watch {
-            thread,
-            key,
-            is_both,
-        };
+        let both = interest == Interest::Both;
+        let watch = Watch { thread, key, both };
         let is_new = wire.begin_watch(watch, self.now);
         let thread = self.threads.get_mut(thread).ok_or(ErrorKind::Other)?;
         self.memory
@@ -303,12 +272,10 @@ impl World {
         Ok(())
     }
 
-    /// A listener, as a thread's poll knows it.
     fn listener(&mut self, number: usize, place: usize) -> Option<&mut Listening> {
         self.threads.get_mut(number)?.listeners.get_mut(place)
     }
 
-    /// Has a thread's poll report a listener.
     pub fn listen(&mut self, number: usize, place: usize) -> Result<(), ErrorKind> {
         if self.happens(Fault::Unwatched) {
             self.notices.on_unaccepted(self.now);
@@ -321,14 +288,11 @@ impl World {
         if listener.is_on {
             return Err(ErrorKind::AlreadyExists);
         }
-        *listener = Listening {
-            is_on: true,
-            news_at,
-        };
+        listener.is_on = true;
+        listener.news_at = news_at;
         Ok(())
     }
 
-    /// Has a thread's poll report a listener no more.
     pub fn leave(&mut self, number: usize, place: usize) {
         if self.happens(Fault::Unleft) {
             return;
@@ -338,7 +302,7 @@ impl World {
         }
     }
 
-    /// Why no connection can be accepted now, if none can.
+    /// Returns the error of an accept if no connection can be accepted now.
     fn exhaustion(&mut self) -> Option<ErrorKind> {
         for (fault, kind) in EXHAUSTIONS {
             if let Some(until) = self.lasts(fault, 200_000) {
@@ -350,12 +314,12 @@ impl World {
             return None;
         }
         self.notices.on_unaccepted(self.now);
-        // Whom it is for, nobody knows: one may be given up for it.
+        // The connection may be of any host, so a worker may evict any other connection for it.
         self.network.wanting = self.network.wanting.saturating_add(1);
         Some(kind)
     }
 
-    /// Whether all descriptors are taken, while a connection waits.
+    /// Returns whether connections wait while all descriptors are in use.
     fn has_no_descriptor(&self) -> bool {
         let network = &self.network;
         let taken = network.local.saturating_add(network.remote);
@@ -363,10 +327,10 @@ impl World {
         taken >= self.scenario.descriptors && backlogs.any(|waiting| !waiting.is_empty())
     }
 
-    /// A connection is accepted that wants a place.
+    /// Counts a connection that was accepted and needs a permit.
     fn count_comer(&mut self, is_local: bool) {
         let network = &mut self.network;
-        // Some places are kept for this host, and half of those that it leaves are others' at least.
+        // Local peers have an eighth of all permits for themselves, but at most half of the permits that they leave.
         let places = self.scenario.conn_max;
         let left = places.saturating_sub(network.local);
         let share = (places / 8).min(left / 2);
@@ -378,7 +342,7 @@ impl World {
         *count = count.saturating_add(1);
     }
 
-    /// The next connection that waits at a listener, and whether it is of this host.
+    /// Accepts the next connection of a listener. Returns whether it is of this host.
     pub fn accept(&mut self, thread: usize, place: usize) -> Result<(usize, bool), ErrorKind> {
         if self.happens(Fault::Interrupted) {
             return Err(ErrorKind::Interrupted);

@@ -1,36 +1,34 @@
-//! What a daemon is at rest, and how it ends.
-use crate::checks::{DOES_NOT_END, HAS_ENDED, NEVER_RESTS};
+//! The checks of a daemon at rest, and its end.
 use crate::daemon::Daemon;
 use crate::world::LISTENERS;
 use portmap_worker::LinkSource;
 use std::sync::Wait;
 use std::sync::ledger::Ledger;
 
-/// So many steps are made at most while time passes.
 const REST_STEPS: u32 = 200_000;
 
-/// At rest a request is answered within so many rounds.
+/// A request at rest is answered within this many rounds.
 const ROUNDS: u32 = 20;
 
 const ROUND_US: u64 = 25_000;
 
-/// A connection that is as old may be given up for another one.
+/// A connection of this age may be evicted.
 const OLD_US: u64 = 3_000_000;
 
-/// Connections that have ended are still on their way out for so long.
+/// Closed connections may be in flight for this time.
 const SETTLING_US: u64 = 10_000_000;
 
-/// So many connections come one by one.
+/// The number of connections that arrive one after another.
 const TRICKLE: usize = 20;
 
-/// What a node sends that has a name of its own.
+/// The registration of a node with a name of its own.
 const REGISTRATION: &[u8] = &[
     0, 15, 0x78, 0x13, 0x88, 0x4D, 0, 0, 6, 0, 5, 0, 2, 0x7A, 0x7A, 0, 0,
 ];
 
-/// The outer none of what a function gives is want of memory.
+/// The outer `None` of a result is a lack of memory.
 impl<'a, L: Ledger, S: LinkSource + Drop, R: Wait + Drop> Daemon<'a, L, S, R> {
-    /// So much time passes, if nobody has too much to do.
+    /// Lets time pass, and fails if the actors never wait.
     pub(crate) fn pass(&mut self, time: u64) -> Option<()> {
         let until = self.scene.now().saturating_add(time);
         for _ in 0..REST_STEPS {
@@ -39,12 +37,12 @@ impl<'a, L: Ledger, S: LinkSource + Drop, R: Wait + Drop> Daemon<'a, L, S, R> {
                 return Some(());
             }
         }
-        self.scene.check(false, NEVER_RESTS);
+        self.scene.check(false, "it never rests");
         Some(())
     }
 
-    /// All that is looked at once the storm is over. Who comes at rest is accepted, let in and told the names, if a
-    /// place is left.
+    /// Checks the daemon after the storm. If a permit is free, peers that connect now are accepted, registered and
+    /// listed.
     pub(crate) fn rest(&mut self) -> Option<()> {
         let scenario = self.scene.scenario;
         self.scene.retire()?;
@@ -61,7 +59,6 @@ impl<'a, L: Ledger, S: LinkSource + Drop, R: Wait + Drop> Daemon<'a, L, S, R> {
         self.fill(scenario.places())
     }
 
-    /// At rest the log is taken out and written, and each connection that is open is watched.
     fn judge_rest(&mut self) -> Option<()> {
         let is_written = !self.is_writing || self.around.queue.is_idle(self.around.host);
         let is_out = self.weight() == 0 && is_written;
@@ -70,13 +67,14 @@ impl<'a, L: Ledger, S: LinkSource + Drop, R: Wait + Drop> Daemon<'a, L, S, R> {
         self.scene.judge_rest(records, is_out, is_looked_into)
     }
 
-    /// Connections that come one by one are accepted at each listener, and soon few workers are told of them.
+    /// Opens connections one after another, alternately at each listener. Few workers have such a listener watched
+    /// then.
     fn trickle(&mut self) -> Option<()> {
         let mut are_accepted = true;
         for turn in 0..TRICKLE {
             let connected = self.scene.world()?.connect(turn % LISTENERS, true);
             let Some(number) = connected else {
-                // Too many wait at the listener.
+                // The backlog is full.
                 are_accepted = false;
                 break;
             };
@@ -87,7 +85,7 @@ impl<'a, L: Ledger, S: LinkSource + Drop, R: Wait + Drop> Daemon<'a, L, S, R> {
         self.scene.judge_trickle(are_accepted)
     }
 
-    /// Has these connections read what comes, for as long as an answer takes at rest.
+    /// Receives on these connections for as long as an answer takes at rest.
     fn hear(&mut self, numbers: &[usize]) -> Option<()> {
         for _ in 0..ROUNDS {
             self.pass(ROUND_US)?;
@@ -96,7 +94,7 @@ impl<'a, L: Ledger, S: LinkSource + Drop, R: Wait + Drop> Daemon<'a, L, S, R> {
         Some(())
     }
 
-    /// A node that comes at rest is let in. Then it leaves.
+    /// Registers a node, which leaves then.
     fn let_in(&mut self) -> Option<()> {
         let number = self.scene.open(REGISTRATION)?;
         self.hear(&[number])?;
@@ -104,31 +102,31 @@ impl<'a, L: Ledger, S: LinkSource + Drop, R: Wait + Drop> Daemon<'a, L, S, R> {
         self.pass(ROUND_US)
     }
 
-    /// The names that are listed at rest are those of the nodes that hold them.
+    /// Lists the names, which must be those of the holders.
     fn list(&mut self) -> Option<()> {
         let number = self.scene.open(&[0, 1, 0x6E])?;
         self.hear(&[number])?;
         self.scene.judge_names(number)
     }
 
-    /// Opens a connection that asks for nothing yet.
+    /// Opens a connection with an incomplete request.
     fn open(&mut self) -> Option<usize> {
         let opened = self.scene.open(&[0, 1]);
-        // Where too many wait at the listener it tries again.
+        // The backlog is full: try again.
         if opened.is_some() || self.pass(ROUND_US).is_none() {
             return opened;
         }
         self.scene.open(&[0, 1])
     }
 
-    /// Each place that nobody holds at rest can be had, and each such connection is answered.
+    /// Takes each free permit, and then completes all requests. Each must be answered.
     fn fill(&mut self, places: u32) -> Option<()> {
         let mut numbers = Vec::new(self.scene.alloc);
         for _ in self.scene.holding()..places as usize {
             numbers.push(self.open()?).ok()?;
         }
-        // So long that one could be given up for another one, if anybody still waited for a place, and no longer than
-        // each may be silent.
+        // Each connection becomes old enough for an eviction if any peer still waited for a permit, and not so old that
+        // it times out.
         let old_us = OLD_US.min(self.scene.scenario.timeout_us / 5 * 3);
         self.pass(old_us)?;
         self.scene.send(&numbers, &[0x6E])?;
@@ -136,11 +134,11 @@ impl<'a, L: Ledger, S: LinkSource + Drop, R: Wait + Drop> Daemon<'a, L, S, R> {
         self.scene.judge_places(&numbers)
     }
 
-    /// It ends: since it has begun to, or is made to. What is left to do is done.
+    /// Ends the daemon if it has not ended, and waits until all parts have ended.
     pub(crate) fn end(&mut self) -> Option<()> {
         let has_ended = self.has_ended();
         let may_end = self.scene.scenario.may_end;
-        self.scene.check(!has_ended || may_end, HAS_ENDED);
+        self.scene.check(!has_ended || may_end, "it has ended");
         let failure = self.around.shared.ending.failure();
         let until = self.scene.begin_end(failure)?;
         if !has_ended {
@@ -153,7 +151,7 @@ impl<'a, L: Ledger, S: LinkSource + Drop, R: Wait + Drop> Daemon<'a, L, S, R> {
             self.step(until)?;
         }
         if !self.scene.is_drained || self.is_writing {
-            self.scene.wrong = self.scene.wrong.or(Some(DOES_NOT_END));
+            self.scene.wrong = self.scene.wrong.or(Some("it does not end"));
         }
         Some(())
     }

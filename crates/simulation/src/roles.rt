@@ -1,93 +1,86 @@
-//! What somebody may be, a row for each role: what it asks, how it speaks and reads, when it comes back, and what it is
-//! owed.
+//! The roles of peers: their requests, how they send and read, when they return, and which answers they are owed.
 
-/// What somebody has to do with names.
+/// What a peer does with names.
 #[derive(Clone, Copy, PartialEq, Eq)]
 pub enum Naming {
-    /// Nothing: no name follows what it asks.
+    /// The request has no name.
     Nameless,
-    /// It asks about a node.
+    /// Asks for a node.
     Asks,
-    /// It registers a name of its own, and holds it for a while.
+    /// Registers a name of its own, and holds it for a while.
     Holds,
-    /// It registers a name of its own, and goes on sending.
+    /// Registers a name of its own, and continues to send.
     Talks,
-    /// It registers the name of a node, and leaves when it has an answer.
+    /// Registers the name of a node, and leaves after the answer.
     Tries,
 }
 
-/// How many bytes somebody sends at once.
+/// The size of the chunks that a peer sends.
 #[derive(Clone, Copy)]
 pub enum Pieces {
-    /// As it comes.
     Any,
-    /// So many at most.
     UpTo(usize),
 }
 
-/// When somebody sends the next part of what it asks.
+/// When a peer sends the next part of its request.
 #[derive(Clone, Copy)]
 pub enum Pauses {
-    /// Within so many microseconds, and at most twenty milliseconds before these are over.
+    /// Within this many microseconds, and at most twenty milliseconds before their end.
     UpTo(u64),
-    /// About when its time is over, or with all others where there are bursts.
+    /// About when the timeout comes, or with the next burst.
     UntilLate,
 }
 
-/// What somebody does once it has asked.
+/// What a peer does after its request.
 #[derive(Clone, Copy)]
 pub enum RoleStep {
-    /// It waits for an answer.
     Waits,
-    /// It stays for a while, whatever it is told.
+    /// Stays for a while, whatever the answer is.
     Stays,
-    /// It sends the first byte anew, now and then.
+    /// Sends the first byte again, now and then.
     Drips,
 }
 
-/// How somebody reads: so many bytes at once.
+/// The number of bytes that a peer reads at once.
 #[derive(Clone, Copy, PartialEq, Eq)]
 pub enum ReadHabit {
     Nothing = 0,
-    /// Late too.
+    /// With delays.
     Slowly = 1,
     AtOnce = 65_536,
 }
 
-/// When somebody comes back who has left.
+/// When a peer returns.
 #[derive(Clone, Copy)]
 pub enum Comes {
-    /// When it likes to.
     Alone,
-    /// With all others, where there are bursts.
+    /// With the next burst.
     Together,
-    /// A quarter of the time between two bursts later.
+    /// A quarter of a burst interval after the next burst.
     Apart,
 }
 
-/// Whether somebody of this host is owed an answer.
+/// Whether a local peer is owed an answer.
 #[derive(Clone, Copy, PartialEq, Eq)]
 pub enum Owed {
     Never,
-    /// If it has asked soon.
+    /// If it has sent its request in time.
     IfPrompt,
     Always,
 }
 
-/// Who of a role is to be given up in time, since it asks nothing, or reads nothing.
+/// Which idle or unreading peers of a role the daemon must close in time.
 #[derive(Clone, Copy)]
 pub enum GivenUp {
     Nobody,
-    /// Each that is of another host.
     Remote,
     Anybody,
 }
 
-/// A role.
 pub struct Role {
-    /// What it asks, up to the name that follows.
+    /// The request, up to the name that follows.
     pub asks: &'static [u8],
-    /// Behind that come fewer than so many bytes of any kind.
+    /// The request ends with fewer than this many random bytes.
     pub noise: u64,
     pub naming: Naming,
     pub pieces: Pieces,
@@ -95,9 +88,9 @@ pub struct Role {
     pub next: RoleStep,
     pub reading: ReadHabit,
     pub comes: Comes,
-    /// Where it might have stayed it comes back within so many microseconds.
+    /// The most microseconds until the peer returns.
     pub away_us: u64,
-    /// It asks for what is known, once: it comes together with others from the first, and may send no more behind its
+    /// The peer sends one request, arrives with a burst from the start, and may half-close its connection after the
     /// request.
     pub asks_once: bool,
     pub owed: Owed,
@@ -105,12 +98,11 @@ pub struct Role {
 }
 
 impl Role {
-    /// Whether it registers a name of its own.
+    /// Returns whether the peer registers a name of its own.
     pub fn owns(&self) -> bool {
         matches!(self.naming, Naming::Holds | Naming::Talks)
     }
 
-    /// Whether it registers a name.
     pub fn registers(&self) -> bool {
         self.owns() || self.naming == Naming::Tries
     }
@@ -119,7 +111,7 @@ impl Role {
 /// The beginning of a registration, up to the name.
 pub const REGISTRATION: &[u8] = &[0, 15, 0x78, 0x13, 0x88, 0x4D, 0, 0, 6, 0, 5, 0, 2];
 
-/// What is not said of a role.
+/// The defaults of a role.
 const USUAL: Role = Role {
     asks: &[0, 1, 0x6E],
     noise: 0,
@@ -135,67 +127,56 @@ const USUAL: Role = Role {
     given_up: GivenUp::Nobody,
 };
 
-/// A role by what differs from another one.
+/// A role by its differences from another role.
 macro_rules! role {
     ($other:ident, $($field:ident: $value:expr),*) => {
         Role { $($field: $value,)* ..$other }
     };
 }
 
-/// Registers a name of its own, at once, holds it for a while, leaves and comes back at once.
+/// Registers a name of its own at once, holds it for a while, leaves and returns at once.
 pub const NODE: Role =
     role!(USUAL, asks: REGISTRATION, naming: Naming::Holds, pieces: Pieces::UpTo(usize::MAX),
     comes: Comes::Alone, away_us: 200);
 
-/// Registers the name of a node.
 pub const RIVAL: Role = role!(NODE, naming: Naming::Tries, pieces: Pieces::Any, away_us: 500_000);
 
-/// Registers a name of its own and goes on sending.
 pub const TALKER: Role = role!(NODE, naming: Naming::Talks, pieces: Pieces::Any, away_us: 1000);
 
-/// Looks a node up.
 pub const SEEKER: Role = role!(USUAL, asks: &[0, 3, 0x7A], naming: Naming::Asks, asks_once: true);
 
-/// Asks for the list of names.
 pub const LISTER: Role = role!(USUAL, asks_once: true);
 
-/// Asks for all that is known.
 pub const DUMPER: Role = role!(USUAL, asks: &[0, 1, 0x64], asks_once: true);
 
-/// Asks for the list of names and reads it late, or byte by byte.
+/// Asks for the list of names, and reads it byte by byte or late.
 pub const SLOW: Role = role!(USUAL, reading: ReadHabit::Slowly);
 
-/// Asks for the list of names, a byte each three and a half seconds.
+/// Asks for the list of names, with three and a half seconds between two bytes.
 pub const PLODDER: Role =
     role!(USUAL, pieces: Pieces::UpTo(1), pauses: Pauses::UpTo(3_500_000), owed: Owed::Always);
 
-/// Asks for the list of names and reads nothing.
 pub const UNREADING: Role =
     role!(USUAL, reading: ReadHabit::Nothing, owed: Owed::Never, given_up: GivenUp::Anybody);
 
-/// Asks the port mapper to end.
 pub const KILLER: Role = role!(USUAL, asks: &[0, 1, 0x6B]);
 
-/// Asks for a node to be stopped.
 pub const STOPPER: Role =
     role!(USUAL, asks: &[0, 3, 0x73], naming: Naming::Asks, owed: Owed::Never);
 
-/// Connects and says nothing.
 pub const SILENT: Role =
     role!(USUAL, asks: &[], next: RoleStep::Stays, comes: Comes::Apart, owed: Owed::Never,
     given_up: GivenUp::Anybody);
 
-/// Sends a byte of a request now and then, and never all of it.
+/// Sends a byte of a request now and then, and never completes it.
 pub const DRIPPER: Role =
     role!(USUAL, asks: &[0, 200], pieces: Pieces::UpTo(1), next: RoleStep::Drips, owed: Owed::Never,
     given_up: GivenUp::Remote);
 
-/// Sends any bytes.
 pub const BABBLER: Role =
     role!(USUAL, asks: &[], noise: 40, next: RoleStep::Stays, owed: Owed::Never);
 
-/// Asks for the list of names, and says the last of that about when its time is over, or with all others where there
-/// are bursts.
+/// Asks for the list of names, and sends the last byte about when the timeout comes, or with a burst.
 pub const TARDY: Role =
     role!(USUAL, pieces: Pieces::UpTo(2), pauses: Pauses::UntilLate, comes: Comes::Alone,
     owed: Owed::Never);

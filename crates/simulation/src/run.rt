@@ -1,8 +1,8 @@
-//! A daemon that serves people in a world.
+//! A case: a daemon that serves peers in a world.
 ghost use Rattle.std.specs.Prelude.{◌≡◌};
 
-use crate::checks::{GOES_ON, NEVER_HEAVY, SEATS, UNSEEN, Wrong};
-use crate::daemon::{Around, Daemon, SimWorker};
+use crate::checks::Wrong;
+use crate::daemon::{Around, Daemon, SimWorkers};
 use crate::disk::PATH;
 use crate::judge::judge;
 use crate::people::{Counts, people_of};
@@ -25,69 +25,58 @@ use std::rc::Rc;
 use std::sync::Wait;
 use std::sync::ledger::{Blank, Ledger};
 
-/// The most names that are known.
 const KNOWN_MAX: u32 = 64;
 
-/// It has ended so long after memory is gone.
+/// The daemon ends within this time after memory is gone.
 const STARVED_US: u64 = 20_000_000;
 
-/// A case: a seed, so many workers, and so many steps of a scenario.
 #[derive(Drop)]
 pub struct Case {
     pub seed: u64,
     pub workers: u32,
     pub scenario: &'static Scenario,
     pub steps: u32,
-    /// Each step is told.
     pub is_traced: bool,
 }
 
-/// What a case came to.
+/// The result of a case.
 #[derive(Drop)]
 pub struct Outcome {
     pub wrong: Option<Wrong>,
     pub tally: Counts,
     pub happened: FaultCounts,
-    /// How many acts the workers made.
     pub acts: u64,
-    /// How many seconds have passed in the world.
+    /// By the clock of the world.
     pub seconds: u64,
     pub trace: Vec<Step>,
 }
 
-/// So many faults count in the sum of a case also where they did not happen: one that is declared behind them changes
-/// no sum of a case without it.
+/// The checksum covers this many faults in any case, and each later fault only if it happened. So a new fault changes
+/// no checksum of an old case.
 const FAULTS_ALWAYS: usize = 31;
 
-/// What FNV-1a of 64 bits begins with, and what it multiplies with.
+/// The offset basis and the prime of 64-bit FNV-1a.
 const FNV_BASIS: u64 = 0xCBF2_9CE4_8422_2325;
 
 const FNV_PRIME: u64 = 0x0000_0100_0000_01B3;
 
-/// This sum, with the bytes of a number in it, the least first.
+/// Adds the bytes of a number to the hash, the lowest first.
 fn fnv(sum: u64, number: u64) -> u64 {
-    let bytes = number.to_le_bytes();
-    bytes.iter().fold(
-        sum,
-        |sum: u64, byte| (sum ^ u64::from(*byte)).wrapping_mul(FNV_PRIME),
-    )
+    let mix = |sum: u64, byte: &u8| (sum ^ u64::from(*byte)).wrapping_mul(FNV_PRIME);
+    number.to_le_bytes().iter().fold(sum, mix)
 }
 
 impl Outcome {
-    /// The longest that an answer took, in milliseconds.
-    pub fn longest_ms(&self) -> u64 {
-        self.tally.longest / 1000
-    }
-
-    /// One number for all counts but those of connections, registrations and restarts, in the order in which they are
+    /// Returns the hash of all counts but connections, registrations and restarts, in the order in which they are
     /// printed.
     pub fn checksum(&self) -> u64 {
-        let tally = self.tally;
-        let mut sum = fnv(FNV_BASIS, u64::from(tally.refused));
-        sum = fnv(sum, u64::from(tally.answers));
-        sum = fnv(sum, self.longest_ms());
-        sum = fnv(sum, u64::from(tally.unanswered));
-        sum = fnv(fnv(sum, self.acts), self.seconds);
+        let (tally, acts, seconds) = (self.tally, self.acts, self.seconds);
+        let [refused, answers] = [tally.refused, tally.answers].map(u64::from);
+        let (longest, unanswered) = (tally.longest / 1000, u64::from(tally.unanswered));
+        let counts = [refused, answers, longest, unanswered, acts, seconds];
+        let mut sum = counts
+            .iter()
+            .fold(FNV_BASIS, |sum: u64, count| fnv(sum, *count));
         for (kind, count) in self.happened.iter().enumerate() {
             if kind < FAULTS_ALWAYS || *count > 0 {
                 sum = fnv(sum, u64::from(*count));
@@ -98,8 +87,7 @@ impl Outcome {
 }
 
 impl<'a, L: Ledger, S: LinkSource + Drop, R: Wait + Drop> Daemon<'a, L, S, R> {
-    /// The storm of a case: so many steps, unless something is wrong, or it ends, or is to. Whether it goes on behind
-    /// them.
+    /// Runs the steps of a case until a check fails or the daemon ends. Returns whether the daemon still serves.
     fn storm(&mut self, case: &Case) -> Option<bool> {
         let steps = u64::from(case.steps);
         let killed_at = self.scene.world()?.weather.random.below(steps);
@@ -115,11 +103,13 @@ impl<'a, L: Ledger, S: LinkSource + Drop, R: Wait + Drop> Daemon<'a, L, S, R> {
             }
         }
         let is_heavy = self.scene.scenario.end_bytes == u64::MAX;
-        self.scene.check(is_heavy, NEVER_HEAVY);
+        self.scene
+            .check(is_heavy, "the log never had as much as it is to end with");
         Some(true)
     }
 
-    /// All of a case: a storm, and the rest after it. It ends once nothing gets through for want of memory, if it may.
+    /// Runs a case: the storm, and then the checks at rest. If memory is gone and the scenario allows it, the daemon
+    /// must end.
     fn run(&mut self, case: &Case) -> Option<()> {
         if !self.storm(case)? {
             return Some(());
@@ -128,7 +118,8 @@ impl<'a, L: Ledger, S: LinkSource + Drop, R: Wait + Drop> Daemon<'a, L, S, R> {
         if is_famished {
             self.pass(STARVED_US)?;
             let is_over = !self.scene.scenario.may_end || self.has_ended();
-            self.scene.check(is_over, GOES_ON);
+            self.scene
+                .check(is_over, "it goes on though nothing gets through");
         }
         if self.has_ended() {
             return Some(());
@@ -136,7 +127,6 @@ impl<'a, L: Ledger, S: LinkSource + Drop, R: Wait + Drop> Daemon<'a, L, S, R> {
         self.rest()
     }
 
-    /// It serves the people of a case. What that comes to, and the seats of its workers.
     fn serve(mut self, case: &Case) -> Option<(Outcome, Vec<Seat<L>>)> {
         self.run(case)?;
         self.end()?;
@@ -147,7 +137,6 @@ impl<'a, L: Ledger, S: LinkSource + Drop, R: Wait + Drop> Daemon<'a, L, S, R> {
 }
 
 impl<'a> Scene<'a> {
-    /// What is around the daemon of a case that has not begun.
     fn new(alloc: Global, world: &'a SharedWorld, case: &Case) -> Option<Scene<'a>> {
         let people = people_of(alloc, &mut *world.try_borrow_mut().ok()?)?;
         Some(Scene {
@@ -170,17 +159,18 @@ impl<'a> Scene<'a> {
         })
     }
 
-    /// What it came to, once it has ended.
+    /// Checks the ended daemon, and returns the result of the case.
     fn outcome(&mut self) -> Option<Outcome> {
         let mut world = self.world()?;
         let most = self.scenario.file_bytes_most;
         let is_seen = world.weather.has_all_happened(self.scenario.chances);
+        let unseen = (!is_seen).then_some("not all weather was seen");
         if world.memory.is_lost {
             return None;
         }
         let found = judge(self.alloc, &mut world, &self.opened, self.acts, most).err();
         Some(Outcome {
-            wrong: self.wrong.or(found).or((!is_seen).then_some(UNSEEN)),
+            wrong: self.wrong.or(found).or(unseen),
             tally: self.tally,
             happened: world.weather.happened,
             acts: self.acts,
@@ -190,83 +180,66 @@ impl<'a> Scene<'a> {
     }
 }
 
-/// The source of a worker, whose connections may move no byte for so many milliseconds.
-fn source_of<'a, L: Ledger, R: Wait + Drop>(
-    alloc: Global,
-    around: &Around<'a, L, R>,
-    thread: usize,
-    timeout: u64,
-) -> Option<Stepped<'a, L, R>> {
-    let system = SimThread::of(&around.host.world, thread)?;
-    let sockets = Sockets::new(alloc, thread, system, timeout).ok()?;
-    let source = SocketSource::new(around.host, alloc, around.desk, around.shared, sockets)?;
-    let world = around.host.world.clone().ok()?;
-    Some(Stepped {
-        source,
-        world,
-        thread,
-    })
-}
-
-/// The sources of the workers of a case.
-fn sources_of<'a, L: Ledger, R: Wait + Drop>(
-    alloc: Global,
-    around: &Around<'a, L, R>,
-    case: &Case,
-) -> Option<Vec<Stepped<'a, L, R>>> {
-    let timeout = case.scenario.timeout_us / 1000;
-    let mut sources = Vec::new(alloc);
-    for thread in 0..case.workers as usize {
-        sources
-            .push(source_of(alloc, around, thread, timeout)?)
-            .ok()?;
+impl<'a, L: Ledger, R: Wait + Drop> Around<'a, L, R> {
+    fn source(&self, thread: usize) -> Option<Stepped<'a, L, R>> {
+        let system = SimThread::of(&self.host.world, thread)?;
+        let timeout = self.case.scenario.timeout_us / 1000;
+        let sockets = Sockets::new(self.alloc, thread, system, timeout).ok()?;
+        let (desk, shared) = (self.desk, self.shared);
+        let source = SocketSource::new(self.host, self.alloc, desk, shared, sockets)?;
+        let world = self.host.world.clone().ok()?;
+        Some(Stepped {
+            source,
+            world,
+            thread,
+        })
     }
-    Some(sources)
-}
 
-/// A worker for each source.
-fn workers_of<'a, L: Ledger, S: LinkSource + Drop, R: Wait + Drop>(
-    alloc: Global,
-    around: &Around<'a, L, R>,
-    sources: Vec<S>,
-) -> Option<Vec<Option<SimWorker<'a, L, S, R>>>> {
-    let mut workers = Vec::new(alloc);
-    let mut number = 0u32;
-    for source in sources {
-        number = number.saturating_add(1);
-        let seat = around.desk.seat(around.host, number)?;
-        around.shared.ending.begin_one();
-        let worker = Worker::new(around.host, alloc, around.desk, seat, source, &Open);
-        workers.push(Some(worker)).ok()?;
+    fn sources(&self) -> Option<Vec<Stepped<'a, L, R>>> {
+        let mut sources = Vec::new(self.alloc);
+        for thread in 0..self.case.workers as usize {
+            sources.push(self.source(thread)?).ok()?;
+        }
+        Some(sources)
     }
-    Some(workers)
+
+    fn workers<S: LinkSource + Drop>(&self, sources: Vec<S>) -> Option<SimWorkers<'a, L, S, R>> {
+        let mut workers = Vec::new(self.alloc);
+        let mut number = 0u32;
+        for source in sources {
+            number = number.saturating_add(1);
+            let seat = self.desk.seat(self.host, number)?;
+            self.shared.ending.begin_one();
+            let worker = Worker::new(self.host, self.alloc, self.desk, seat, source, &Open);
+            workers.push(Some(worker)).ok()?;
+        }
+        Some(workers)
+    }
+
+    /// Serves the peers of the case by a worker for each source.
+    fn simulate<S: LinkSource + Drop>(
+        &'a self,
+        sources: Vec<S>,
+    ) -> Option<(Outcome, Vec<Seat<L>>)> {
+        let (host, alloc, case) = (self.host, self.alloc, self.case);
+        let workers = self.workers(sources)?;
+        let scene = Scene::new(alloc, &host.world, case)?;
+        let places = case.scenario.conn_max;
+        let drain = Drain::begin(host, alloc, self.desk, Some(self.queue), places, None).ok()?;
+        let writer: RecordWriter<SimFile> = RecordWriter::new(case.scenario.file_bytes_most);
+        let daemon = Daemon {
+            around: self,
+            scene,
+            workers,
+            seats: Vec::new(alloc),
+            drain,
+            writer,
+            is_writing: true,
+        };
+        daemon.serve(case)
+    }
 }
 
-/// Has a daemon with these sources serve the people of a case. What that comes to, and the seats of its workers.
-fn simulate<'a, L: Ledger, S: LinkSource + Drop, R: Wait + Drop>(
-    alloc: Global,
-    around: &'a Around<'a, L, R>,
-    sources: Vec<S>,
-    case: &Case,
-) -> Option<(Outcome, Vec<Seat<L>>)> {
-    let workers = workers_of(alloc, around, sources)?;
-    let scene = Scene::new(alloc, &around.host.world, case)?;
-    let (queue, places) = (Some(around.queue), case.scenario.conn_max);
-    let drain = Drain::begin(around.host, alloc, around.desk, queue, places, None).ok()?;
-    let writer: RecordWriter<SimFile> = RecordWriter::new(case.scenario.file_bytes_most);
-    let daemon = Daemon {
-        around,
-        scene,
-        workers,
-        seats: Vec::new(alloc),
-        drain,
-        writer,
-        is_writing: true,
-    };
-    daemon.serve(case)
-}
-
-/// What the threads of a daemon share.
 fn shared_of<R: Wait + Drop>(
     host: &SimHost<R>,
     alloc: Global,
@@ -282,13 +255,12 @@ fn shared_of<R: Wait + Drop>(
     Some(Shared::new(host, states, drain, places, unsent))
 }
 
-/// The book of a scenario.
 fn book_of(alloc: Global, scenario: &Scenario) -> Option<Book> {
     let config = Config::new(4369, scenario.is_relaxed, scenario.conn_max, KNOWN_MAX).ok()?;
     Book::new(alloc, config, 4).ok()
 }
 
-/// What a case comes to at a desk of its own.
+/// Runs a case at a new desk.
 fn at_desk<L: Ledger, R: Wait + Drop>(
     host: &SimHost<R>,
     alloc: Global,
@@ -303,19 +275,23 @@ fn at_desk<L: Ledger, R: Wait + Drop>(
     let queue = RecordQueue::new(alloc, PATH.to_string(alloc).ok()?);
     let shared = shared_of(host, alloc, case)?;
     let around = Around {
+        alloc,
+        case,
         host,
         desk: &desk,
         shared: &shared,
         queue: &queue,
     };
-    let sources = sources_of(alloc, &around, case)?;
-    let (mut outcome, seats) = simulate(alloc, &around, sources, case)?;
-    let odd = desk.finish(seats).is_err().then_some(SEATS);
+    let (mut outcome, seats) = around.simulate(around.sources()?)?;
+    let odd = desk
+        .finish(seats)
+        .is_err()
+        .then_some("the seats don't add up");
     outcome.wrong = outcome.wrong.or(odd);
     Some(outcome)
 }
 
-/// What a case comes to; none if there is no memory for it.
+/// Runs a case. Returns `None` if memory runs out.
 pub fn run_case<L: Ledger, R: Wait + Drop>(
     rt: R,
     alloc: Global,
@@ -326,9 +302,7 @@ pub fn run_case<L: Ledger, R: Wait + Drop>(
     requires parts { blank.parts ≡ L.parts }
     requires enough { blank.parts ≡ PARTS }
 {
-    let threads = (case.workers as usize).saturating_add(1);
-    let world = World::of(alloc, case.seed, case.scenario, threads)?;
-    let world = Rc::new(alloc, RefCell::new(world)).ok()?;
+    let world = Rc::new(alloc, RefCell::new(World::of(alloc, case)?)).ok()?;
     let host = SimHost { rt, world };
     at_desk::<L, R>(&host, alloc, blank, case)
 }

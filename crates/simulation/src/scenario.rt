@@ -1,9 +1,9 @@
-//! What a scenario is: who comes, in which weather, with which limits.
+//! The type of a scenario: who connects, in which conditions, with which limits.
 use crate::roles::{BABBLER, DUMPER, LISTER, NODE, Naming, Role, SEEKER, SILENT, SLOW};
 use crate::scenario::Crowd::{Local, Remote};
 use crate::weather::Chances;
 
-/// So many people of a role, on this host or on another one. Strangers come at the first address alone.
+/// A number of peers of a role, on this host or on another host. Remote peers connect to the first listener only.
 #[derive(Clone, Copy)]
 pub enum Crowd {
     Local(&'static Role, u16),
@@ -11,7 +11,7 @@ pub enum Crowd {
 }
 
 impl Crowd {
-    /// Its role, how many there are, and whether they are of this host.
+    /// Returns the role, the number of peers, and whether they are local.
     pub fn parts(&self) -> (&'static Role, u16, bool) {
         match *self {
             Local(role, count) => (role, count, true),
@@ -20,62 +20,57 @@ impl Crowd {
     }
 }
 
-/// So many registrations, restarts of nodes, answers, and registrations that were refused.
+/// The numbers of registrations, restarts of nodes, answers, and refused registrations.
 pub type Deeds = [u32; 4];
 
-/// A scenario.
 pub struct Scenario {
     pub name: &'static str,
-    /// Who comes; the usual people if it is empty.
+    /// The usual peers if this is empty.
     pub people: &'static [Crowd],
-    /// What they do at least in all cases of a run together: about two thirds of what they did in ten when that was
+    /// The least deeds in all cases of a run together: about two thirds of the deeds in ten cases when the row was
     /// written.
     pub least: Deeds,
     pub chances: Chances,
-    /// What peers ask of the port mapper is not checked: it may be ended, and names may be stopped.
+    /// The daemon runs with relaxed checks: a peer may end it, and stop names.
     pub is_relaxed: bool,
-    /// For so many microseconds a connection may move no byte.
     pub timeout_us: u64,
-    /// The most connections that wait at a listener.
     pub backlog_most: usize,
     pub conn_max: u32,
-    /// So many connections can be accepted at once, by descriptors.
+    /// The number of connections that the descriptors allow.
     pub descriptors: u32,
-    /// So many bytes may wait to be read, over all connections.
+    /// The limit of unread bytes over all connections.
     pub unsent_bytes_most: u64,
-    /// A file of the recording that has so many bytes is full.
     pub file_bytes_most: u64,
-    /// What is recorded to is a plain file, and no pipe.
+    /// The recording is a plain file, and not a pipe.
     pub is_plain: bool,
-    /// Polls report of streams no more than they have to.
+    /// Polls report only the edges that they must report.
     pub is_sparing: bool,
-    /// So long the disk is full once it is.
     pub full_us: u64,
-    /// Once the log has so many bytes it is told to end, in the midst of the storm.
+    /// The storm ends the daemon once the log has this weight.
     pub end_bytes: u64,
-    /// A node that comes back has its name within so many microseconds.
+    /// A node that returns is registered within this time.
     pub patience_us: u64,
-    /// Who asks comes together with all others who do, each so many microseconds, and nodes leave then: so several
-    /// workers accept. Who asks nothing comes a quarter of that later.
+    /// The interval of bursts. Peers that ask arrive together and nodes leave then, so several workers accept. Silent
+    /// peers arrive a quarter of the interval later.
     pub burst_us: u64,
-    /// A name that another node holds is refused within so many microseconds.
+    /// The name of another node is refused within this time.
     pub refusal_us: u64,
-    /// A node holds its name for so many microseconds at most, most of the time.
+    /// The usual limit of the time for which a node holds its name.
     pub hold_us: u64,
-    /// Who goes on sending sends so many bytes at once.
+    /// The number of bytes that a talking peer sends at once.
     pub talk_bytes: usize,
-    /// So long the world is at rest after the storm, in microseconds.
+    /// The time at rest after the storm.
     pub rest_us: u64,
-    /// Who waits on this host does so for so many milliseconds at most.
+    /// The longest wait of a local peer.
     pub limit_ms: u64,
-    /// Each request of this host is answered, and each node that has left is let in again.
+    /// Each local request is answered, and each node that left can register again.
     pub is_strict: bool,
-    /// The daemon may end before it is told to.
+    /// The daemon may end before it is asked to end.
     pub may_end: bool,
 }
 
 impl Scenario {
-    /// Who comes. (The usual people are no part of the rows: that would make a constant too large.)
+    /// Returns the crowds. The usual crowds are not in the rows, since that would make a constant too large.
     pub fn crowds(&self) -> &'static [Crowd] {
         if self.people.is_empty() {
             BUSTLE
@@ -84,18 +79,18 @@ impl Scenario {
         }
     }
 
-    /// How many connections can be open at once.
+    /// Returns the most connections that can be open at once.
     pub fn places(&self) -> u32 {
         self.conn_max.min(self.descriptors)
     }
 
-    /// Whether somebody registers a name that is another one's.
+    /// Returns whether a peer registers the name of a node.
     pub fn has_rivals(&self) -> bool {
         let mut roles = self.crowds().iter().map(|crowd| crowd.parts().0);
         roles.any(|role| role.naming == Naming::Tries)
     }
 
-    /// When the next burst comes after this time; without bursts this time.
+    /// Returns the time of the next burst, or `time` without bursts.
     pub fn burst_after(&self, time: u64) -> u64 {
         let burst = self.burst_us;
         if burst > 1 {
@@ -106,7 +101,7 @@ impl Scenario {
     }
 }
 
-/// Who comes where a scenario doesn't say it.
+/// The usual crowds.
 const BUSTLE: &[Crowd] = &[
     Local(&NODE, 6),
     Local(&SEEKER, 4),
@@ -118,7 +113,7 @@ const BUSTLE: &[Crowd] = &[
     Local(&BABBLER, 2),
 ];
 
-/// What is not said of a scenario.
+/// The defaults of a scenario.
 pub const USUAL: Scenario = Scenario {
     name: "",
     least: [0; 4],

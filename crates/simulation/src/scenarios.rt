@@ -1,5 +1,5 @@
-//! The scenarios, a row for each: its name, what its people do at least, who comes if it is not the usual people, the
-//! weather, and what else differs from the usual scenario.
+//! The scenarios as rows: the name, the least deeds, the crowds unless they are usual, the faults, and the
+//! fields that differ from `USUAL`.
 use crate::roles;
 use crate::scenario::{Crowd, Scenario, USUAL};
 use crate::weather::Fault;
@@ -18,7 +18,7 @@ macro_rules! scenarios {
     };
 }
 
-/// What calls and polls are told.
+/// Results of calls and polls.
 pub const CALLS: &[Scenario] = scenarios! {
     "calm" (128, 89, 2416, 0) [] [];
     "signals" (120, 80, 2336, 0) [] [Interrupted 100, Short 200];
@@ -40,7 +40,7 @@ pub const CALLS: &[Scenario] = scenarios! {
     "losses" (153, 115, 2011, 0) [] [Lost 50] limit_ms: 4000;
 };
 
-/// Who comes, and what is recorded of them.
+/// Peers, and recordings of them.
 pub const PEOPLE: &[Scenario] = scenarios! {
     "files" (131, 92, 2374, 0) [] [] file_bytes_most: 4000;
     "pipes" (131, 91, 2403, 0) [] [] file_bytes_most: 4000, is_plain: false;
@@ -56,9 +56,9 @@ pub const PEOPLE: &[Scenario] = scenarios! {
     "crests" (528, 471, 15156, 0) [Local NODE 12, Local TARDY 250]
         [Slow 1000] conn_max: 512, burst_us: 1_000_000, hold_us: 300_000, limit_ms: 10_000;
     "hung" (700, 100, 2100, 900) [Local NODE 3, Local RIVAL 4]
-        [Hung 2] hold_us: 5_000_000, is_strict: false, limit_ms: 4000;
+        [Hung 2] hold_us: 5_000_000, is_strict: false, limit_ms: 8000;
     "hasty" (1434, 124, 2430, 996) [Local NODE 3, Local RIVAL 4] [Hung 2, Held 10]
-        timeout_us: 1_000_000, refusal_us: 60_000_000, hold_us: 5_000_000, limit_ms: 4000;
+        timeout_us: 1_000_000, refusal_us: 60_000_000, hold_us: 5_000_000, limit_ms: 8000;
     "readers" (162, 83, 856, 0) [Local NODE 12, Local SLOW 10, Local DUMPER 4, Local SEEKER 2]
         [Short 100, Interrupted 50];
     "unreading" (198, 171, 1982, 0) [Local UNREADING 6, Remote UNREADING 3, Local SILENT 3, Remote DRIPPER 3,
@@ -66,7 +66,7 @@ pub const PEOPLE: &[Scenario] = scenarios! {
         [] conn_max: 32;
 };
 
-/// Bursts, places that are wanted, and clocks.
+/// Bursts, permits and clocks.
 pub const TIMES: &[Scenario] = scenarios! {
     "hours" (850, 771, 850, 0) [Local NODE 12] [] patience_us: 25_000, rest_us: 3_600_000_000;
     "bursts" (682, 602, 13354, 0) [Local NODE 12, Local LISTER 20, Local SEEKER 40]
@@ -87,12 +87,12 @@ pub const TIMES: &[Scenario] = scenarios! {
     "jumps" (123, 83, 2284, 0) [] [Jump 2];
     "timeless" (123, 83, 2284, 0) [] [Jump 2, Timeless 300] file_bytes_most: 20_000;
     "stopped" (267, 232, 3474, 0) [Local NODE 6, Local SEEKER 10, Local LISTER 10]
-        [Stopped 5, Late 200, Lost 200] limit_ms: 4000;
-    "frozen" (1940, 1876, 1940, 0) [Local NODE 12] [Stopped 100, Late 200];
+        [Stopped 5, Late 200, Lost 200] limit_ms: 30_000;
+    "frozen" (1940, 1876, 1940, 0) [Local NODE 12] [Stopped 100, Late 200] limit_ms: 1_000_000;
     "tardy" (0, 0, 5870, 0) [Local TARDY 180, Local SEEKER 1] [] conn_max: 256;
 };
 
-/// Want of memory and of disks, floods, and ends.
+/// Short memory, full disks, floods, and ends.
 pub const ENDS: &[Scenario] = scenarios! {
     "unread" (134, 94, 2337, 0) [] [Unread 2] limit_ms: 3000;
     "starved" (15, 1000, 400, 0) [] [Starved 100] is_strict: false, may_end: true;
@@ -116,8 +116,10 @@ pub const ENDS: &[Scenario] = scenarios! {
         [] conn_max: 256, descriptors: 24, limit_ms: 3000, timeout_us: 60_000_000, is_strict: false;
     "unheeded" (130, 110, 2100, 0) [Local SILENT 6, Remote SILENT 3, Remote DRIPPER 3, Local NODE 3, Local SEEKER 3]
         [Unreported 1000] limit_ms: 10;
+    "few" (0, 0, 72, 0) [Local SILENT 2, Remote SILENT 1, Local SEEKER 1]
+        [Unreported 1000] hold_us: 60_000_000, limit_ms: 10;
     "floods" (654, 577, 14512, 0) [Local TARDY 750, Local NODE 30]
-        [Stopped 20, Late 300] conn_max: 1024, burst_us: 1_000_000, hold_us: 300_000;
+        [Stopped 20, Late 300] conn_max: 1024, burst_us: 1_000_000, hold_us: 300_000, limit_ms: 200_000;
     "swells" (700, 546, 15852, 0) [Local TARDY 750, Local NODE 30]
         [Held 1, Reversed 500] conn_max: 1024, burst_us: 1_000_000, hold_us: 300_000, limit_ms: 200_000;
     "deaf" (55, 20, 700, 0) [] [Deaf 2] is_strict: false, may_end: true;

@@ -1,5 +1,5 @@
-//! What is around a daemon: the world, its people, and what was wrong.
-use crate::checks::{UNHEEDED, Wrong, is_right};
+//! What surrounds a daemon: the world, its peers, and the first failed check.
+use crate::checks::{Wrong, is_right};
 use crate::network::Ending;
 use crate::people::{Counts, Person};
 use crate::scenario::Scenario;
@@ -11,40 +11,38 @@ use portmap_worker::{ShutdownCause, Turn};
 use std::alloc::Global;
 use std::cell::RefMut;
 
-/// A daemon that is to end has ended by then.
+/// A daemon that must end has ended within this time.
 const END_US: u64 = 200_000;
 
-/// What is around a daemon.
 #[derive(Drop)]
 pub struct Scene<'a> {
     pub(crate) alloc: Global,
     pub(crate) world: &'a SharedWorld,
     pub(crate) scenario: &'static Scenario,
-    /// How many workers the daemon has.
+    /// The number of workers.
     pub(crate) workers: usize,
-    /// Who may do something now.
+    /// The actors that are due.
     pub(crate) due: Vec<usize>,
     pub(crate) people: Vec<Person>,
     pub(crate) tally: Counts,
-    /// The connections that the desk has opened, in the order in which it did.
+    /// The connections in the order in which the desk opened them.
     pub(crate) opened: Vec<usize>,
-    /// How many acts the workers have made that have ended.
+    /// The number of acts of ended workers.
     pub(crate) acts: u64,
-    /// How often who takes the log out has looked at it.
+    /// The number of turns of the drain.
     pub(crate) drains: u64,
-    /// Who takes the log out has ended.
+    /// The drain has ended.
     pub(crate) is_drained: bool,
-    /// How many connections were given up before their time was over.
+    /// The number of evictions.
     pub(crate) given_up: u32,
     pub(crate) wrong: Option<Wrong>,
-    /// The daemon is to end, or has ended: nobody is owed anything.
+    /// The daemon must end or has ended, so no check applies.
     pub(crate) is_ending: bool,
-    /// Each step is told.
     pub(crate) is_traced: bool,
     pub(crate) trace: Vec<Step>,
 }
 
-/// Who of these does something now. No one if nobody may: time passes up to this time.
+/// Chooses a due actor, and lets a moment pass. Without a due actor, time passes up to `until`.
 fn choose(world: &mut World, due: &[usize], workers: usize, until: u64) -> Option<usize> {
     if due.is_empty() {
         world.now = until.max(world.now);
@@ -61,17 +59,16 @@ fn choose(world: &mut World, due: &[usize], workers: usize, until: u64) -> Optio
     Some(chosen)
 }
 
-/// The outer none of what a function gives is want of memory.
+/// The outer `None` of a result is a lack of memory.
 impl<'a> Scene<'a> {
-    /// The world, for one look at it or one change.
+    /// Borrows the world for one look or one change.
     pub(crate) fn world(&self) -> Option<RefMut<'a, World>> {
         self.world.try_borrow_mut().ok()
     }
 
-    // ---- who does something next
+    // ---- who acts next
 
-    /// From when on somebody may do something: workers, then who takes the log out, who writes it, and people; none if
-    /// there is nothing to do.
+    /// Returns when an actor is due. The actors are the workers, the drain, the recording thread, and the peers.
     fn due_at(&self, world: &World, actor: usize, has_parts: bool) -> Option<u64> {
         match actor.checked_sub(self.workers) {
             Some(0) if self.is_drained => None,
@@ -81,7 +78,7 @@ impl<'a> Scene<'a> {
         }
     }
 
-    /// Finds who may do something now, and the time when somebody else may.
+    /// Collects the due actors. Returns when the next of the others is due.
     fn find_due(&mut self, world: &World, has_parts: bool) -> Option<u64> {
         let mut next = world.network.lands_at();
         let count = self.workers.saturating_add(2);
@@ -96,8 +93,7 @@ impl<'a> Scene<'a> {
         Some(next)
     }
 
-    /// Who does something now, where there may be parts to be written, and whether a fault keeps him from it. The inner
-    /// none if nobody has anything to do, so that time passes until somebody has, up to this time.
+    /// Chooses the next actor. Returns whether a fault holds that actor, or the inner `None` if no actor is due.
     pub(crate) fn choose(&mut self, has_parts: bool, until: u64) -> Option<Option<(usize, bool)>> {
         let mut world = self.world()?;
         let next = self.find_due(&world, has_parts)?;
@@ -107,7 +103,6 @@ impl<'a> Scene<'a> {
         Some(Some((actor, world.keeps(actor, self.workers))))
     }
 
-    /// Somebody acts.
     pub(crate) fn act(&mut self, number: usize) -> Option<()> {
         let mut world = self.world()?;
         let person = self.people.get_mut(number)?;
@@ -116,7 +111,7 @@ impl<'a> Scene<'a> {
         Some(())
     }
 
-    /// Notes a step, if each is told.
+    /// Notes a step for the trace.
     pub(crate) fn on_step(&mut self, actor: usize) -> Option<()> {
         if !self.is_traced {
             return Some(());
@@ -128,8 +123,8 @@ impl<'a> Scene<'a> {
 
     // ---- what the daemon does
 
-    /// Notes a turn of a worker: whether it goes on, whether it has acted, and whether a connection has ended
-    /// unanswered, as none had since that was last looked into.
+    /// Notes a turn of a worker. `is_unanswered` says that a connection ended unanswered, for the first time since the
+    /// drain last looked.
     pub(crate) fn note_turn(
         &mut self,
         number: usize,
@@ -141,7 +136,8 @@ impl<'a> Scene<'a> {
         let is_due = world.is_due(self.workers);
         let met = world.met(number, goes_on);
         drop(world);
-        self.check(!is_unanswered || is_due, UNHEEDED);
+        let is_heeded = !is_unanswered || is_due;
+        self.check(is_heeded, "an end without an answer is not looked into");
         match met {
             Some((Turn::Fresh { .. }, (fresh, _))) if has_acted => self.opened.push(fresh).ok(),
             Some((Turn::Late(_), (late, has_news))) => self.judge_late(late, has_news),
@@ -151,26 +147,24 @@ impl<'a> Scene<'a> {
 
     // ---- what is known
 
-    /// The time.
     pub(crate) fn now(&self) -> u64 {
         self.world().map_or(u64::MAX, |world| world.now)
     }
 
-    /// How often workers have polled.
+    /// Returns the number of polls of all workers.
     pub(crate) fn polls(&self) -> Option<u64> {
         let world = self.world()?;
         let polls = world.workers().iter().map(|thread| thread.polls);
         Some(polls.fold(0, u64::saturating_add))
     }
 
-    /// How many people hold a name.
+    /// Returns the number of names that peers hold.
     pub(crate) fn holding(&self) -> usize {
         self.people.iter().filter(|person| person.holds()).count()
     }
 
-    // ---- the storm, the rest behind it, and the end
+    // ---- the storm, the rest and the end
 
-    /// The storm is over.
     pub(crate) fn retire(&mut self) -> Option<()> {
         let mut world = self.world()?;
         world.calm();
@@ -180,14 +174,14 @@ impl<'a> Scene<'a> {
         Some(())
     }
 
-    /// A connection ends. Whether it was accepted.
+    /// Closes a connection. Returns whether it was accepted.
     pub(crate) fn leave(&self, number: usize) -> Option<bool> {
         let mut world = self.world()?;
         world.end(number, Ending::Gone);
         Some(world.network.wires.get(number)?.accepted.is_some())
     }
 
-    /// Opens a connection of this host, and sends these bytes.
+    /// Opens a local connection, and sends these bytes.
     pub(crate) fn open(&self, bytes: &[u8]) -> Option<usize> {
         let mut world = self.world()?;
         let number = world.connect(0, true)?;
@@ -195,7 +189,6 @@ impl<'a> Scene<'a> {
         Some(number)
     }
 
-    /// These connections send these bytes.
     pub(crate) fn send(&self, numbers: &[usize], bytes: &[u8]) -> Option<()> {
         let mut world = self.world()?;
         for number in numbers {
@@ -204,7 +197,6 @@ impl<'a> Scene<'a> {
         Some(())
     }
 
-    /// These connections read what has come.
     pub(crate) fn receive(&self, numbers: &[usize]) -> Option<()> {
         let mut world = self.world()?;
         for number in numbers {
@@ -213,7 +205,7 @@ impl<'a> Scene<'a> {
         Some(())
     }
 
-    /// It is to end, and tells this fault, or none: by when.
+    /// Begins the end of the daemon, which reports this fault. Returns when it must have ended.
     pub(crate) fn begin_end(&mut self, failure: Option<ShutdownCause>) -> Option<u64> {
         let mut world = self.world()?;
         let is_right = is_right(&world.weather, failure, self.scenario.may_end);

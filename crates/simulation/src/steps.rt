@@ -1,13 +1,13 @@
-//! A worker's source, step by step.
+//! The source of a worker, step by step.
 use crate::system::{SharedWorld, SimHost, SimStream, SimThread};
 use portmap_worker::{Link, LinkSource, Next, Serve, SocketSource, Turn};
 use std::sync::Wait;
 use std::sync::ledger::Ledger;
 
-/// No link has this key.
+/// A key of no link.
 const NO_KEY: u64 = u64::MAX;
 
-/// A step: the time, who made it, and what a worker was told.
+/// A step: its time, its actor, and the turn of that worker.
 #[derive(Clone, Copy)]
 pub struct Step {
     pub now: u64,
@@ -15,7 +15,7 @@ pub struct Step {
     pub turn: Option<Turn>,
 }
 
-/// A source that is asked once for each step. What it tells is noted in the world.
+/// A source that runs one step for each turn, and notes the turn in the world.
 #[derive(Drop)]
 pub struct Stepped<'a, L: Ledger, R: Wait + Drop> {
     pub source: SocketSource<'a, L, SimThread, SimHost<R>>,
@@ -24,7 +24,7 @@ pub struct Stepped<'a, L: Ledger, R: Wait + Drop> {
 }
 
 impl<L: Ledger, R: Wait + Drop> Stepped<'_, L, R> {
-    /// The connection of a link, and whether bytes were reported that were not read.
+    /// Returns the connection of a link, and whether reported bytes are unread.
     fn connection(&self, key: u64) -> Option<(usize, bool)> {
         let number = self.source.held(key)?.stream().number;
         let world = self.world.try_borrow().ok()?;

@@ -1,4 +1,4 @@
-//! The world as a daemon's system: its streams, its polls, its clock and its disk.
+//! The world as the system of a daemon: streams, polls, clock and disk.
 use crate::polls::EVENTS_MOST;
 use crate::world::{LISTENERS, World};
 use portmap_worker::{Host, Interest, Notice, RecordFile, Report, Stream, System, Wake};
@@ -12,13 +12,12 @@ use std::rt::Clock;
 use std::sync::Wait;
 use std::time::Duration;
 
-/// The address of this host, and that of another one.
+/// The address of this host, and the address of another host.
 const OWN: [u8; 4] = [10, 0, 0, 1];
 
 const OTHER: [u8; 4] = [10, 0, 0, 2];
 
-/// The address of a host as the connection of this number has it: of three one each by IPv4, by IPv4 at a socket of
-/// both families, and by IPv6.
+/// Returns the address of a host on a connection: alternately as IPv4, as an IPv4-mapped address, and as IPv6.
 fn address(host: [u8; 4], number: usize) -> IpAddr {
     let ipv4 = Ipv4Addr::from(host);
     match number % 3 {
@@ -31,10 +30,9 @@ fn address(host: [u8; 4], number: usize) -> IpAddr {
     }
 }
 
-/// A world that all parts of a daemon share.
 pub type SharedWorld = Rc<RefCell<World>>;
 
-/// The world, for one call. Nobody has it for longer.
+/// Borrows the world for one call. No call overlaps another.
 fn borrow(world: &SharedWorld) -> io::Result<RefMut<'_, World>> {
     Ok(world.try_borrow_mut().map_err(|_| ErrorKind::Other)?)
 }
@@ -42,7 +40,6 @@ fn borrow(world: &SharedWorld) -> io::Result<RefMut<'_, World>> {
 /// The daemon's end of a connection.
 pub struct SimStream {
     world: SharedWorld,
-    /// Which connection it is.
     pub number: usize,
 }
 
@@ -86,7 +83,7 @@ impl Stream for SimStream {
     }
 }
 
-/// A thread, which asks the world, and whose wait others end.
+/// A thread of the daemon, as its system and as its waker.
 #[derive(Drop)]
 pub struct SimThread {
     world: SharedWorld,
@@ -160,12 +157,11 @@ impl System for SimThread {
     }
 }
 
-/// A file on the world's disk.
 #[derive(Drop)]
 pub struct SimFile {
     world: SharedWorld,
     number: usize,
-    /// It has the times of a file of the recording.
+    /// The file has the times of a recording file.
     is_of_times: bool,
 }
 

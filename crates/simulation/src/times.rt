@@ -1,5 +1,5 @@
-//! The times of a recording, as the world's disk keeps them.
-use crate::checks::Wrong;
+//! The times of a recording, as the disk of the world keeps them.
+use crate::checks::{Wrong, expect};
 use portmap_worker::TIMES_HEADER;
 use std::alloc::Global;
 use std::io::ErrorKind;
@@ -11,12 +11,12 @@ const ROW_LENGTH: usize = 16;
 #[derive(Drop)]
 pub struct Times {
     pub files: Vec<Vec<u8>>,
-    /// The last file has no more times: they could not be written, or the clock not be read.
+    /// The last file has no more times, since a write or a read of the clock failed.
     pub has_failed: bool,
-    /// In this turn of who writes the recording entries were written, and a row.
+    /// In this turn of the recording thread, entries were written, and a row of times.
     pub has_grown: bool,
     is_noted: bool,
-    /// Entries were written in a turn that wrote no row.
+    /// A turn wrote entries and no row.
     pub is_missing: bool,
 }
 
@@ -31,7 +31,7 @@ impl Times {
         }
     }
 
-    /// The times of this file begin, with nothing in them.
+    /// Begins the times of a file.
     pub fn make(&mut self, alloc: Global, number: usize) -> Result<(), ErrorKind> {
         let lacking = number.saturating_add(1).saturating_sub(self.files.len());
         for _ in 0..lacking {
@@ -45,7 +45,6 @@ impl Times {
         Ok(())
     }
 
-    /// Adds bytes to those of this file.
     pub fn store(&mut self, number: usize, bytes: &[u8]) -> Result<(), ErrorKind> {
         let file = self.files.get_mut(number).ok_or(ErrorKind::Other)?;
         self.is_noted = true;
@@ -53,7 +52,8 @@ impl Times {
             .map_err(|_| ErrorKind::OutOfMemory)
     }
 
-    /// A turn of who writes the recording is over. It may have written no row if it has failed, or to no plain file.
+    /// Ends a turn of the recording thread. The turn may lack a row if it failed, or if the recording is not a plain
+    /// file.
     pub fn end_turn(&mut self, may_miss: bool) {
         let is_untimed = self.has_grown && !self.is_noted;
         self.is_missing = self.is_missing || (is_untimed && !may_miss && !self.has_failed);
@@ -61,7 +61,7 @@ impl Times {
         self.is_noted = false;
     }
 
-    /// Fails unless the times of this file are right, which begins and ends at these places of the log.
+    /// Fails unless the times fit a file with these positions.
     pub fn judge(&self, number: usize, first: u64, end: u64) -> Result<(), Wrong> {
         match self.files.get(number) {
             Some(bytes) if !bytes.is_empty() => {
@@ -78,12 +78,10 @@ fn number(bytes: &[u8]) -> u64 {
     bytes.fold(0, |number, byte| (number << 8) | u64::from(*byte))
 }
 
-/// Fails unless rows are right for a file that begins and ends at these places. A row has a place of the log, and the
-/// time by which all before it was written.
+/// Fails unless the rows fit a file with these positions. A row has a position of the log, and the time at which all
+/// entries before it were written.
 fn judge_rows(rows: &[u8], first: u64, end: u64) -> Result<(), Wrong> {
-    if rows.len() % ROW_LENGTH != 0 {
-        return Err("times end within a row");
-    }
+    expect(rows.len() % ROW_LENGTH == 0, "times end within a row")?;
     let mut before: Option<(u64, u64)> = None;
     let mut has_ended = false;
     for row in rows.chunks(ROW_LENGTH) {
@@ -98,8 +96,6 @@ fn judge_rows(rows: &[u8], first: u64, end: u64) -> Result<(), Wrong> {
         }
         before = Some((place, time));
     }
-    if before.is_some_and(|last| last.0 > end) {
-        return Err("times go beyond the recording");
-    }
-    Ok(())
+    let is_within = before.is_none_or(|last| last.0 <= end);
+    expect(is_within, "times go beyond the recording")
 }

@@ -1,30 +1,30 @@
-//! What goes wrong, and how often.
+//! Faults, and how often they happen.
 use crate::random::Random;
 
-/// What a system may do to a daemon, and peers to each other.
+/// What the system does to a daemon, and peers to each other.
 #[derive(Clone, Copy, PartialEq, Eq)]
 pub enum Fault {
-    /// A call of a stream, or an accept, is cut short by a signal.
+    /// A signal interrupts a call of a stream, or an accept.
     Interrupted,
     /// A write takes fewer bytes than there is room for.
     Short,
-    /// The connection that is to be accepted has gone.
+    /// The peer closed the connection before its accept.
     Aborted,
-    /// No connection can be accepted for a while: descriptors have run out.
+    /// No connection can be accepted for a while, since descriptors ran out.
     Exhausted,
-    /// The same for want of memory.
+    /// No connection can be accepted for a while, since memory ran out.
     Unable,
-    /// The poll refuses to report a stream, or a listener.
+    /// The poll refuses to watch a stream, or a listener.
     Unwatched,
-    /// The poll goes on to report a listener that is left.
+    /// The poll continues to report a listener that is left.
     Unleft,
-    /// What a peer does is seen some milliseconds later.
+    /// The daemon sees an act of a peer some milliseconds later.
     Late,
-    /// What a peer does is seen up to three seconds later, since what told it was lost and is told again.
+    /// The daemon sees an act of a peer up to three seconds later, since a packet was lost.
     Lost,
-    /// The process is stopped for up to ten seconds as it reads the clock.
+    /// The process is stopped for up to ten seconds when it reads the clock.
     Stopped,
-    /// A stream is reported of which there is no news.
+    /// The poll reports all streams, also those without an event.
     Spurious,
     /// A thread is held for up to half a second between two steps.
     Held,
@@ -32,58 +32,56 @@ pub enum Fault {
     Stuck,
     /// One thread hangs for half a minute, once.
     Hung,
-    /// The first worker of several hangs for half a minute as it begins.
+    /// The first of several workers hangs for half a minute at its start.
     Delayed,
-    /// Who takes the log out hangs for half a minute.
+    /// The drain hangs for half a minute.
     Behind,
     /// A step takes up to two milliseconds.
     Slow,
     /// The clock jumps forward by up to an hour.
     Jump,
-    /// The clock can't be read for a while.
+    /// The clock cannot be read for a while.
     Unread,
-    /// No memory can be had for a while.
+    /// Memory runs out for a while.
     Starved,
-    /// No memory can be had for a minute.
+    /// Memory runs out for a minute.
     Famine,
-    /// The disk takes nothing for up to three seconds.
+    /// The recording thread stalls for up to three seconds.
     Stalled,
-    /// The disk is full from now on.
+    /// The disk is full for the time of the scenario.
     Full,
-    /// A connection ends by a reset in place of an end.
+    /// A peer resets its connection instead of closing it.
     Reset,
-    /// A connection that was reset tells so as one that is broken.
+    /// A call on a reset connection returns `BrokenPipe`.
     Broken,
-    /// A peer sends no more behind its request, and reads on.
+    /// A peer half-closes its connection after its request.
     Shut,
-    /// Bytes come one by one.
+    /// A peer sends its bytes one by one.
     Dripped,
     /// A poll fails.
     Deaf,
-    /// The poll refuses to report a stream, and no listener.
+    /// The poll refuses to watch a stream.
     Unreported,
-    /// One thread is told of a connection that comes a millisecond before the others are, and these no more once all
-    /// are accepted.
+    /// One thread sees an arrival a millisecond before the others. The others lose the event once the backlog is empty.
     Taken,
-    /// The polls of a thread begin at the other end of its streams from now on: they report no more than so many.
+    /// A poll reverses the order of a thread's streams. The order matters if it reports its most events.
     Reversed,
-    /// The times of a recording can't be written.
+    /// A write of times fails.
     Timeless,
 }
 
-/// How each is told, in the order in which they are declared.
+/// The names of the faults, in the order of their declaration.
 pub const FAULTS: &str = "\
     interrupted short aborted exhausted unable unwatched unleft late lost stopped spurious held \
     stuck hung delayed behind slow jumps unread starved famine stalled full reset broken shut dripped \
     deaf unreported taken reversed timeless";
 
-/// How often faults happen, in a thousand times.
+/// The chances of faults, per mille.
 pub type Chances = &'static [(Fault, u32)];
 
-/// How often each has happened.
 pub type FaultCounts = [u32; 32];
 
-/// The weather: the choices of a seed, what may happen by them, and how often each has.
+/// The faults of a case, by the choices of its seed.
 #[derive(Drop)]
 pub struct Weather {
     pub random: Random,
@@ -100,12 +98,11 @@ impl Weather {
         }
     }
 
-    /// Nothing goes wrong from now on.
+    /// Ends all faults.
     pub fn calm(&mut self) {
         self.chances = &[];
     }
 
-    /// Whether a fault happens now.
     pub fn happens(&mut self, fault: Fault) -> bool {
         for (each, per_mille) in self.chances {
             if *each == fault && self.random.happens(*per_mille) {
@@ -117,12 +114,10 @@ impl Weather {
         false
     }
 
-    /// Whether a fault has happened.
     pub fn has_happened(&self, fault: Fault) -> bool {
         self.happened[fault as usize] > 0
     }
 
-    /// Whether each fault that may happen has.
     pub fn has_all_happened(&self, chances: Chances) -> bool {
         chances.iter().all(|chance| self.has_happened(chance.0))
     }

@@ -1,4 +1,4 @@
-//! A connection, with both of its ends.
+//! A connection with both of its ends.
 ghost use Rattle.std.specs.Prelude.{◌≤◌, length};
 
 use crate::network::Ending;
@@ -6,16 +6,15 @@ use portmap_worker::Report;
 use std::alloc::Global;
 use std::collections::VecDeque;
 
-/// Who watches the daemon's end, and under which key.
+/// The thread whose poll watches the daemon's end, and the key of the stream.
 #[derive(Clone, Copy)]
 pub struct Watch {
     pub thread: usize,
     pub key: usize,
-    /// It is watched for writing too.
-    pub is_both: bool,
+    /// The poll watches for writing too.
+    pub both: bool,
 }
 
-/// How many bytes a peer has read, whether no more will come, and whether the connection was reset.
 #[derive(Clone, Copy)]
 pub struct Received {
     pub bytes: usize,
@@ -23,57 +22,55 @@ pub struct Received {
     pub is_reset: bool,
 }
 
-/// A connection between a peer and the daemon. Times are in microseconds.
+/// A connection. Times are in microseconds.
 #[derive(Drop)]
 pub struct Wire {
     pub is_local: bool,
-    /// What the peer has sent, and the daemon has not read.
+    /// Bytes of the peer that the daemon has not read.
     pub up: VecDeque<u8>,
     /// The peer sends no more.
     pub is_up_ended: bool,
-    /// The peer has gone: what is sent to it is answered by a reset.
+    /// The peer has closed the connection, so bytes to it are answered by a reset.
     pub is_gone: bool,
-    /// What the daemon has sent, and the peer has not read.
+    /// Bytes of the daemon that the peer has not read.
     pub down: VecDeque<u8>,
-    /// How many bytes may be underway to the peer.
+    /// The most bytes in flight to the peer.
     pub room: usize,
-    /// How many bytes the daemon had to keep back as it wrote last, and since when the peer has read nothing of them.
+    /// The bytes that the last write left unsent, and since when the peer has read none of them.
     pub unsent: usize,
     pub unread_since: u64,
-    /// The daemon has given the connection up: it sends no more.
+    /// The daemon has closed the connection.
     pub is_down_ended: bool,
-    /// It did so by an end, while the peer was there.
+    /// The daemon closed the connection in order, while the peer was connected.
     pub is_ended_well: bool,
-    /// The peer has reset the connection, or the daemon has.
+    /// The peer or the daemon has reset the connection.
     pub is_reset: bool,
-    /// What the peer has read.
     pub received: Vec<u8>,
-    /// The thread that has accepted it, and when.
+    /// The thread that accepted the connection, and the time.
     pub accepted: Option<(usize, u64)>,
-    /// A worker was told that it has come: there was a place for it, and memory.
+    /// A worker holds the connection: it has a permit and memory.
     pub is_held: bool,
-    /// When that one had polled last by then: as its clock has it, it came at that time.
+    /// When a worker first held the connection.
     pub came_at: u64,
-    /// When the worker was told last that its time is over.
+    /// The time of the last timeout event.
     pub late_at: Option<u64>,
     pub watch: Option<Watch>,
-    /// From when on the poll of who watches reports it; none if there is nothing that was not reported.
+    /// From when on the poll reports an unreported event.
     pub news_at: Option<u64>,
-    /// The poll reports no more than it has to: what was there as it was asked, and what came behind a call that would
-    /// have waited, for bytes or for room, if nothing was reported since.
+    /// The poll reports only what it must report: events that are there when the watch begins, and new bytes or new
+    /// room after a call that would block.
     is_sparing: bool,
-    /// So it has to report bytes that come, and room that does.
+    /// The daemon waits for bytes, or for room.
     pub is_read_due: bool,
     pub is_room_due: bool,
-    /// A poll has reported it, and it was not read since.
+    /// The poll has reported the stream, and the daemon has not read it since.
     pub is_reported: bool,
-    /// There is news for the peer.
+    /// The peer has something to read.
     pub has_peer_news: bool,
 }
 
 impl Wire {
-    /// One that has come, with room for so many bytes to the peer, of which a poll reports no more than it has to, or
-    /// more.
+    /// Returns a new connection with room for this many bytes to the peer.
     pub fn new(alloc: Global, is_local: bool, room: usize, is_sparing: bool) -> Wire {
         Wire {
             is_local,
@@ -102,28 +99,25 @@ impl Wire {
         }
     }
 
-    /// Whether the daemon may read it without waiting.
     pub fn is_readable(&self) -> bool {
         !self.up.is_empty() || self.is_up_ended || self.is_reset
     }
 
-    /// Whether the daemon may write to it without waiting.
     pub fn is_writable(&self) -> bool {
         self.down.len() < self.room || self.is_reset
     }
 
-    /// Whether a poll has something to report of it.
     pub fn is_ready(&self) -> bool {
-        let is_both = self.watch.is_some_and(|watch| watch.is_both);
+        let is_both = self.watch.is_some_and(|watch| watch.both);
         self.is_readable() || (is_both && self.is_writable())
     }
 
-    /// What a poll that has room reports of it now, if there is news of it, or though there is none.
+    /// Returns the report of a poll that has room for it. A spurious report needs no event.
     pub fn report(&mut self, now: u64, has_room: bool, is_spurious: bool) -> Option<Report> {
         let key = self.watch?.key;
         let is_due = self.news_at.is_some_and(|at| at <= now);
         if is_due && !self.is_ready() {
-            // What is no longer so when the poll answers is not reported.
+            // The event is over before the poll reports it.
             self.news_at = None;
             return None;
         }
@@ -138,7 +132,8 @@ impl Wire {
         Some(Report::Stream { key, is_closed })
     }
 
-    /// When it came by its worker's clock, if it stays at this one and was never answered.
+    /// Returns when a worker first held the connection, if that worker still holds it, the peer has not closed it, and
+    /// it was never answered.
     pub fn waits_since(&self, worker: usize) -> Option<u64> {
         let is_there = self.is_held && self.worker()? == worker;
         let is_answered = !self.received.is_empty() || !self.down.is_empty();
@@ -146,12 +141,10 @@ impl Wire {
         waits.then_some(self.came_at)
     }
 
-    /// The thread that has accepted it.
     pub fn worker(&self) -> Option<usize> {
         Some(self.accepted?.0)
     }
 
-    /// What the peer has heard.
     pub fn heard(&self) -> Received {
         Received {
             bytes: self.received.len(),
@@ -160,7 +153,7 @@ impl Wire {
         }
     }
 
-    /// There is news for who watches it, which the poll has to report or doesn't.
+    /// Notes an event for the poll. A sparing poll reports it only if it is due.
     fn on_event(&mut self, now: u64, is_due: bool) {
         let is_told = is_due || !self.is_sparing;
         if is_told && self.watch.is_some() && self.news_at.is_none() {
@@ -168,7 +161,7 @@ impl Wire {
         }
     }
 
-    /// What the peer has sent is there, and its end. Whether there is memory for it.
+    /// Delivers bytes of the peer, or its end. Returns false if memory runs out.
     pub fn arrive(&mut self, now: u64, bytes: &[u8], end: Option<Ending>) -> bool {
         let is_kept = self.up.extend(bytes.iter().copied()).is_ok();
         self.is_up_ended = self.is_up_ended || end.is_some();
@@ -183,7 +176,7 @@ impl Wire {
         is_kept
     }
 
-    /// The daemon reads as many bytes as it has room for. How many.
+    /// Moves unread bytes into the buffer, and returns their number.
     pub fn take(&mut self, buffer: &mut [u8]) -> usize
         ensures { result ≤ length buffer.new }
     {
@@ -196,7 +189,6 @@ impl Wire {
         count
     }
 
-    /// The daemon has written so many of these bytes.
     pub fn note_unsent(&mut self, now: u64, offered: usize, count: usize) {
         let unsent = offered.saturating_sub(count);
         if self.unsent == 0 || unsent < self.unsent {
@@ -205,21 +197,21 @@ impl Wire {
         self.unsent = unsent;
     }
 
-    /// Which thread has it, if so many bytes that wait for it are more than these.
+    /// Returns the worker of the connection if more than `bytes` bytes are unsent.
     pub fn unread_at(&self, bytes: u64) -> Option<usize> {
         let is_unread = self.unsent as u64 > bytes && !self.is_down_ended;
         if is_unread { self.worker() } else { None }
     }
 
-    /// The daemon sends these bytes. Whether there is memory for them.
+    /// Sends bytes to the peer. Returns false if memory runs out.
     pub fn put(&mut self, bytes: &[u8]) -> bool {
         self.has_peer_news = true;
-        // Who has gone answers what comes by a reset.
+        // A closed peer answers by a reset.
         self.is_reset = self.is_gone;
         self.down.extend(bytes.iter().copied()).is_ok()
     }
 
-    /// It is watched, for writing too or not. Whether it was not before.
+    /// Begins or changes the watch. Returns whether there was no watch.
     pub fn begin_watch(&mut self, watch: Watch, now: u64) -> bool {
         let is_new = self.watch.is_none();
         self.watch = Some(watch);
@@ -231,7 +223,7 @@ impl Wire {
         is_new
     }
 
-    /// The peer reads so many bytes at most. Whether there is memory for them.
+    /// Has the peer read at most `most` bytes. Returns false if memory runs out.
     pub fn receive(&mut self, now: u64, most: usize) -> bool {
         let was_full = most > 0 && !self.is_writable();
         let count = most.min(self.down.len());

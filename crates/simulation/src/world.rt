@@ -1,19 +1,16 @@
-//! The world of a daemon: a network, threads, a clock, memory and a disk that are values.
+//! The world of a daemon: network, threads, clock, memory and disk, all of which are values.
 use crate::clock::{Clock, Memory};
 use crate::disk::Disk;
 use crate::network::Network;
 use crate::notices::{Notices, Refusals};
 use crate::polls::Thread;
+use crate::run::Case;
 use crate::scenario::Scenario;
 use crate::weather::{Fault, Weather};
 use portmap_worker::Notice;
 use std::alloc::Global;
 
-/// How many listeners a daemon has.
 pub const LISTENERS: usize = 2;
-
-/// A thread that is held stands still for so long at most.
-pub(crate) const HELD_US: u64 = 500_000;
 
 /// A world. Times are in microseconds.
 #[derive(Drop)]
@@ -27,23 +24,19 @@ pub struct World {
     pub memory: Memory,
     pub disk: Disk,
     pub notices: Notices,
-    /// Of which requests of other hosts the operator has read that they were refused.
+    /// The notices of refused requests of other hosts.
     pub refusals: Vec<Refusals>,
 }
 
 impl World {
-    /// The world of a scenario, with so many threads, in which nothing has happened.
-    pub fn of(
-        alloc: Global,
-        seed: u64,
-        scenario: &'static Scenario,
-        count: usize,
-    ) -> Option<World> {
-        let threads = (0..count).map(|_| Thread::new(alloc));
+    /// Returns the world of a case before its first step.
+    pub fn of(alloc: Global, case: &Case) -> Option<World> {
+        let scenario = case.scenario;
+        let threads = (0..=case.workers).map(|_| Thread::new(alloc));
         let threads = threads.collect(alloc).ok()?;
         Some(World {
             scenario,
-            weather: Weather::new(seed, scenario.chances),
+            weather: Weather::new(case.seed, scenario.chances),
             now: 1_000_000,
             network: Network::new(alloc),
             threads,
@@ -55,22 +48,21 @@ impl World {
         })
     }
 
-    /// A time within so many microseconds.
+    /// Returns a random time within `most` microseconds.
     pub fn after(&mut self, most: u64) -> u64 {
         self.now.saturating_add(self.weather.random.below(most))
     }
 
-    /// Whether a fault happens now.
     pub fn happens(&mut self, fault: Fault) -> bool {
         self.weather.happens(fault)
     }
 
-    /// Whether a fault happens now, as it never has.
+    /// Returns whether a fault happens now for the first time.
     pub fn happens_first(&mut self, fault: Fault) -> bool {
         !self.weather.has_happened(fault) && self.happens(fault)
     }
 
-    /// Until when a fault lasts, if it happens now, for less than so many microseconds.
+    /// If a fault happens now, returns until when it lasts.
     pub fn lasts(&mut self, fault: Fault, most: u64) -> Option<u64> {
         if self.happens(fault) {
             Some(self.after(most))
@@ -79,7 +71,7 @@ impl World {
         }
     }
 
-    /// The weather is over.
+    /// Ends all faults.
     pub fn calm(&mut self) {
         self.weather.calm();
         self.network.exhausted.0 = 0;
@@ -94,17 +86,14 @@ impl World {
         }
     }
 
-    /// Whether the disk takes nothing now.
     pub fn is_disk_full(&self) -> bool {
         self.now < self.disk.full_until
     }
 
-    /// Whether no memory can be had now.
     pub fn is_starved(&self) -> bool {
         self.now < self.memory.starved_until
     }
 
-    /// The operator reads a line.
     pub fn notify(&mut self, notice: &Notice<'_>) {
         self.notices.hear(self.now, notice);
         if let Notice::Remote(refused) = notice {

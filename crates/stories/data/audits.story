@@ -16,16 +16,16 @@ audit steady 3 BEGINNING BEGINNING -> run 0 Whole
 # One of version 1 begins at place 0, with nothing known.
 audit steady 3 FIRST_OF_1 CLOSES -> run 3 Whole
 audit steady 3 BEGINNING FIRST_OF_1 CLOSES -> run 3 Whole
-audit steady 3 FIRST_OF_1 FIRST_OF_1 -> apart 1 by Place
+audit steady 3 FIRST_OF_1 FIRST_OF_1 -> apart 1 by Position
 # The first ones were removed.
 audit steady 3 CLOSES THIRD -> run 2 Whole
 audit steady 3 THIRD -> run 1 Whole
 
 session a file that was left out, exchanged or read twice is seen by the places
-audit steady 3 FIRST THIRD -> apart 1 by Place
-audit steady 3 CLOSES FIRST THIRD -> apart 1 by Place
-audit steady 3 FIRST THIRD CLOSES -> apart 1 by Place
-audit steady 3 FIRST CLOSES CLOSES THIRD -> apart 2 by Place
+audit steady 3 FIRST THIRD -> apart 1 by Position
+audit steady 3 CLOSES FIRST THIRD -> apart 1 by Position
+audit steady 3 FIRST THIRD CLOSES -> apart 1 by Position
+audit steady 3 FIRST CLOSES CLOSES THIRD -> apart 2 by Position
 
 let OTHER_PORT "EPMS" 02 00 1112 00000002 00000002
 let RELAXED "EPMS" 02 01 1111 00000002 00000002
@@ -52,7 +52,7 @@ audit steady 3 FIRST HEADER_2+0000000000000002+00+00000000*3 -> apart 1 by State
 audit steady 3 FIRST CLOSES[..24]+01+CLOSES[25..] -> apart 1 by State
 audit steady 3 FIRST CLOSES AT_3[..24]+01+AT_3[25..] -> apart 2 by State
 # At another place, that is told.
-audit steady 3 FIRST HEADER_2+0000000000000003+TO_53[24..]+05+CLOSES[54..] -> apart 1 by Place
+audit steady 3 FIRST HEADER_2+0000000000000003+TO_53[24..]+05+CLOSES[54..] -> apart 1 by Position
 
 session the last file may be cut, and counts as far as it is whole
 times 73 84 audit steady 3 FIRST CLOSES[..$] -> run 2 Entry
@@ -70,7 +70,7 @@ audit steady 3 - -> fault 0 Bad(Truncated(0))
 times 73 84 audit steady 3 FIRST CLOSES[..$] THIRD -> fault 1 Bad(Truncated(72))
 times 1 71 audit steady 3 FIRST CLOSES[..$] THIRD -> fault 1 Bad(Truncated(0))
 # A cut file goes on elsewhere.
-audit steady 3 FIRST THIRD[..60] -> apart 1 by Place
+audit steady 3 FIRST THIRD[..60] -> apart 1 by Position
 
 let NONE_CLOSES 00000002 03 0000000000000001
 
@@ -83,7 +83,7 @@ audit steady 3 WRONG_SESSION CLOSES -> broken 0 at 3
 # What is no record is told before that, and a file that begins elsewhere before what it holds.
 audit steady 3 FIRST CLOSES+NONE_CLOSES+00 THIRD -> fault 1 Bad(Truncated(98))
 audit steady 3 FIRST CLOSES+NONE_CLOSES+0000000206 THIRD -> fault 1 Bad(BadEntry(98))
-audit steady 3 FIRST THIRD+NONE_CLOSES+0000000206 -> apart 1 by Place
+audit steady 3 FIRST THIRD+NONE_CLOSES+0000000206 -> apart 1 by Position
 
 session a file that is no record is told
 audit steady 3 FIRST "EPMT" -> fault 1 Bad(BadMagic)
@@ -103,7 +103,7 @@ audit slow 4 FIRST CLOSES -> fault 0 TooManyTurns { sent: 0 }
 audit single 94 FIRST CLOSES -> run 3 Whole
 audit single 93 FIRST CLOSES -> fault 0 TooManyTurns { sent: 0 }
 audit single 93 CLOSES FIRST -> fault 1 TooManyTurns { sent: 0 }
-audit single 94 CLOSES FIRST -> apart 1 by Place
+audit single 94 CLOSES FIRST -> apart 1 by Position
 audit steady:0 3 FIRST CLOSES -> fault 0 ReadFault
 audit steady:1 3 FIRST CLOSES -> fault 0 ReadFault
 audit single:90 200 CLOSES FIRST -> fault 1 ReadFault

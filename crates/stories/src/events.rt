@@ -1,10 +1,10 @@
 //! Events, answers and entries in the words of a transcript.
-use crate::words::{Digits, bytes, number, text, unknown, wrong};
+use crate::words::{Digits, bytes, choice, number, text, wrong};
 use anyhow::Result;
 use portmap_core::{Answer, Entry, Event, Fate, Refusal};
 use std::alloc::Global;
 
-/// The event that words tell of.
+/// Parses an event.
 pub fn event(alloc: Global, words: &[&str]) -> Result<Event> {
     let [act, word, ref rest @ ..] = *words else {
         return wrong("no such act");
@@ -26,7 +26,7 @@ pub fn event(alloc: Global, words: &[&str]) -> Result<Event> {
     })
 }
 
-/// The entry that words tell of.
+/// Parses an entry.
 pub fn entry(alloc: Global, words: &[&str]) -> Result<Entry> {
     let [act, word, ref rest @ ..] = *words else {
         return wrong("no such entry");
@@ -53,22 +53,16 @@ pub fn entry(alloc: Global, words: &[&str]) -> Result<Entry> {
     })
 }
 
-/// Whether a word is for this host, and not for another one.
+/// Parses the word for this host or for another host.
 pub fn is_local(word: &str) -> Result<bool> {
-    match word {
-        "local" => Ok(true),
-        "remote" => Ok(false),
-        _ => unknown("neither local nor remote", word),
-    }
+    let table = &[("local", true), ("remote", false)];
+    choice(table, "neither local nor remote", word)
 }
 
 fn fate(word: &str) -> Result<Fate> {
-    match word {
-        "stay" => Ok(Fate::Stay),
-        "close" => Ok(Fate::Close),
-        "halt" => Ok(Fate::Halt),
-        _ => unknown("no fate", word),
-    }
+    let fates = [Fate::Stay, Fate::Close, Fate::Halt];
+    let table = fates.map(|fate| (word_of(fate), fate));
+    choice(&table, "no fate", word)
 }
 
 fn word_of(fate: Fate) -> &'static str {
@@ -79,7 +73,8 @@ fn word_of(fate: Fate) -> &'static str {
     }
 }
 
-/// The words for what comes of an act. One who is late is told a fate alone; memory is never refused to one who goes.
+/// Writes the answer to an event. A timeout without a reply has only a fate. Fails if memory is refused to an event
+/// that ends a connection.
 pub fn came_of(alloc: Global, act: &str, outcome: &Result<Answer, Refusal>) -> Result<String> {
     let is_late = act.starts_with("late");
     let goes = act.starts_with("close") || act.starts_with("fault");
@@ -100,7 +95,7 @@ pub fn came_of(alloc: Global, act: &str, outcome: &Result<Answer, Refusal>) -> R
     })
 }
 
-/// The line of a transcript for an act that was answered.
+/// Writes the line of the transcript for an event that was answered.
 pub fn line(alloc: Global, number: u64, words: &[&str], came: &str) -> Result<String> {
     text(match *words {
         ["connect", whence] => format!(in alloc; "{number} connect {came} {whence}\n"),

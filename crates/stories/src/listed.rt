@@ -1,4 +1,4 @@
-//! Entries, and what is recorded and told of them.
+//! Entries, and what is recorded and printed of them.
 use crate::events::entry;
 use crate::session::written;
 use crate::words::{by_name, bytes_told, digits_of, number, text, wanted, wrong};
@@ -11,7 +11,7 @@ use portmap_record::{
 use std::alloc::Global;
 use std::mem;
 
-/// What comes of an act on entries to be recorded.
+/// Returns the actual result of a line.
 pub fn came(alloc: Global, entries: &mut Vec<Entry>, words: &[&str]) -> Result<String> {
     match *words {
         ["entry", ref words @ ..] => {
@@ -41,12 +41,12 @@ pub fn came(alloc: Global, entries: &mut Vec<Entry>, words: &[&str]) -> Result<S
     }
 }
 
-/// The settings of a session: port 4369, not relaxed, two connections and two names at most.
+/// Returns the settings of a session: port 4369, not relaxed, with limits of two connections and two names.
 pub fn settings() -> Result<Config> {
     wanted(Config::new(4369, false, 2, 2), "no settings")
 }
 
-/// The record of the entries, of which none are left.
+/// Takes the entries as a record.
 pub fn recorded(alloc: Global, entries: &mut Vec<Entry>) -> Result<Record> {
     Ok(Record {
         config: settings()?,
@@ -55,7 +55,6 @@ pub fn recorded(alloc: Global, entries: &mut Vec<Entry>) -> Result<Record> {
     })
 }
 
-/// The numbers of workers.
 pub fn workers(alloc: Global, words: &[&str]) -> Result<Vec<u32>> {
     let mut workers = Vec::new(alloc);
     for word in words {
@@ -64,7 +63,7 @@ pub fn workers(alloc: Global, words: &[&str]) -> Result<Vec<u32>> {
     Ok(workers)
 }
 
-/// How many bytes a record has, which are read as its entries; or why there are none.
+/// Returns the number of bytes of a record, which must be read as its entries, or the fault.
 fn size(alloc: Global, session: &Record) -> Result<String> {
     let written = match write_record(alloc, session) {
         Ok(written) => written,

@@ -12,11 +12,10 @@ use portmap_table::Table;
 use std::alloc::Global;
 use std::sync::Wait;
 
-/// What a story is about, as it stands.
+/// The part of a story, with its state.
 #[derive(Drop)]
 pub enum Subject {
     None,
-    /// Requests and replies as bytes.
     Wire,
     Feed(Pieces),
     Table(Box<Table>),
@@ -28,7 +27,7 @@ pub enum Subject {
 }
 
 impl Subject {
-    /// The part that a word stands for, as a story begins, if it stands for one.
+    /// Returns the part that a word names.
     pub fn begun(alloc: Global, word: &str) -> Result<Option<Subject>> {
         Ok(match word {
             "wire" => Some(Subject::Wire),
@@ -43,7 +42,7 @@ impl Subject {
         })
     }
 
-    /// What comes of an act.
+    /// Returns the actual result of a line.
     pub fn came<R: Wait>(&mut self, host: &R, alloc: Global, words: &[&str]) -> Result<String> {
         match self {
             Subject::None => wrong("no story has begun"),
@@ -58,7 +57,7 @@ impl Subject {
         }
     }
 
-    /// Whether it stands as it did before an act to which memory was refused.
+    /// Returns whether the state is unchanged after memory was refused to a line.
     pub fn stands(&self, alloc: Global) -> Result<bool> {
         match self {
             Subject::Machine(machine) => machine.stands(alloc),
@@ -67,7 +66,7 @@ impl Subject {
         }
     }
 
-    /// What is wrong at the end of a story, if anything is.
+    /// Checks the end of a story.
     pub fn ended(self, alloc: Global) -> Result<()> {
         match self {
             Subject::Machine(mut machine) => machine.ended(alloc),

@@ -8,7 +8,6 @@ use portmap_wire::{
 use std::alloc::{AllocError, Global};
 use std::fmt;
 
-/// The fields of a registration.
 #[derive(Clone, Copy)]
 pub struct Fields<'a>(pub &'a Reg);
 
@@ -16,15 +15,12 @@ impl<'a> fmt::Display for Fields<'a> {
     fn fmt<W: fmt::Write>(&self, f: &mut fmt::Formatter<W>) -> fmt::Result {
         let reg = self.0;
         let (name, extra) = (Digits(reg.name.bytes()), Digits(&reg.extra));
-        write!(
-            f,
-            "{} {} {} {} {} {name} {extra}",
-            reg.port, reg.kind, reg.proto, reg.high, reg.low
-        )
+        write!(f, "{} {} {}", reg.port, reg.kind, reg.proto)?;
+        write!(f, " {} {} {name} {extra}", reg.high, reg.low)
     }
 }
 
-/// The bytes of a name's copy, or why these are no name.
+/// Returns the bytes of a name, or its fault.
 pub fn named(alloc: Global, word: &str) -> Result<String> {
     let name = Name::read(alloc, &bytes(alloc, word)?);
     match name {
@@ -33,7 +29,7 @@ pub fn named(alloc: Global, word: &str) -> Result<String> {
     }
 }
 
-/// What a body asks, with a registration's fields by its copy.
+/// Writes what a request asks. The fields of a registration are those of its copy.
 fn asks(alloc: Global, request: &Request) -> Result<String, AllocError> {
     match request {
         Request::Alive(reg) => format!(in alloc; "Alive {}", Fields(&reg.try_copy(alloc)?)),
@@ -45,7 +41,7 @@ fn asks(alloc: Global, request: &Request) -> Result<String, AllocError> {
     }
 }
 
-/// How a request is sent, by the call for its kind alone.
+/// Writes a request by the function for its kind.
 fn sent(alloc: Global, request: &Request) -> Result<Vec<u8>, AllocError> {
     match request {
         Request::Alive(reg) => write_registration(alloc, reg),
@@ -55,7 +51,7 @@ fn sent(alloc: Global, request: &Request) -> Result<Vec<u8>, AllocError> {
     }
 }
 
-/// What a body asks and how that is sent, or why it is no request.
+/// Returns what a body asks and the bytes of that request, or its fault.
 pub fn asked(alloc: Global, word: &str) -> Result<String> {
     let request = match read_request(alloc, &bytes(alloc, word)?) {
         Ok(request) => request,
@@ -67,7 +63,7 @@ pub fn asked(alloc: Global, word: &str) -> Result<String> {
     text(format!(in alloc; "{} sent {}", asks(alloc, &request)?, Digits(&written)))
 }
 
-/// Whether two bodies ask of equal names, or register equal nodes.
+/// Returns whether two bodies have equal names, or register equal nodes.
 pub fn are_equal(alloc: Global, one: &str, other: &str) -> Result<String> {
     match (read(alloc, one)?, read(alloc, other)?) {
         (Request::Port(name), Request::Port(wanted)) => answer(alloc, name == wanted),
@@ -80,8 +76,7 @@ fn read(alloc: Global, word: &str) -> Result<Request> {
     wanted(read_request(alloc, &bytes(alloc, word)?), "no request")
 }
 
-/// What a normal node of this port, highest version, name and extra bytes registers, or why these are too many. Its
-/// lowest version is 5.
+/// Returns a normal node, or the fault of its extra bytes. Its lowest version is 5.
 fn made(
     alloc: Global,
     port: u16,
@@ -93,12 +88,12 @@ fn made(
     Ok(Reg::new(alloc, port, 77, 0, high, 5, name, extra))
 }
 
-/// The same of one whose extra bytes are not too many.
+/// Returns a normal node, and fails for too many extra bytes.
 pub fn registration(alloc: Global, port: u16, high: u16, word: &str, extra: &[u8]) -> Result<Reg> {
     wanted(made(alloc, port, high, word, extra)?, "no node")
 }
 
-/// How a normal node that speaks versions 5 to 6 registers, or why its extra bytes are too many.
+/// Writes the registration of a normal node with versions 5 to 6, or the fault of its extra bytes.
 pub fn node(alloc: Global, port: &str, word: &str, extra: &str) -> Result<String> {
     let made = made(alloc, number(port)?, 6, word, &bytes(alloc, extra)?)?;
     match made {

@@ -1,4 +1,4 @@
-//! The words of a line: bytes as digits, quoted text, repeats, names that stand for bytes, and what joins them.
+//! The words of a line: digits, quoted text, repeats, and names for bytes.
 use anyhow::{Error, Result, bail};
 use portmap_wire::Name;
 use std::alloc::{AllocError, Global};
@@ -6,7 +6,7 @@ use std::collections::BTreeMap;
 use std::fmt;
 use std::str::FromStr;
 
-/// Bytes as digits, two for each; `-` where there are none.
+/// Bytes as two digits each, or `-` for no bytes.
 #[derive(Clone, Copy)]
 pub struct Digits<'a>(pub &'a [u8]);
 
@@ -22,29 +22,25 @@ impl<'a> fmt::Display for Digits<'a> {
     }
 }
 
-/// What names stand for: digits.
+/// The digits of each name.
 #[derive(Drop)]
-pub struct Names {
-    digits: BTreeMap<String, String>,
-}
+pub struct Names(BTreeMap<String, String>);
 
 impl Names {
     pub fn new(alloc: Global) -> Names {
-        Names {
-            digits: BTreeMap::new(alloc),
-        }
+        Names(BTreeMap::new(alloc))
     }
 
-    /// Has a name stand for the digits of all these words.
+    /// Defines a name as the digits of these words.
     pub fn put(&mut self, alloc: Global, name: &str, words: &[&str]) -> Result<()> {
-        self.digits
-            .insert(String::from_str(alloc, name)?, String::new(alloc))?;
+        let key = String::from_str(alloc, name)?;
+        self.0.insert(key, String::new(alloc))?;
         self.add(name, words)
     }
 
-    /// Has a name stand for the digits of all these words too, behind its own.
+    /// Appends the digits of these words to a name.
     pub fn add(&mut self, name: &str, words: &[&str]) -> Result<()> {
-        let Some(digits) = self.digits.get_mut(name) else {
+        let Some(digits) = self.0.get_mut(name) else {
             return unknown("no name", name);
         };
         for word in words {
@@ -53,8 +49,8 @@ impl Names {
         Ok(())
     }
 
-    /// A line with digits in the place of quoted text, of repeats as `61*3`, and of names; `+` joins them. A name that
-    /// is given digits stands for itself.
+    /// Replaces quoted text, repeats such as `61*3`, and names by their digits. `+` joins digits. The name in a
+    /// definition stays.
     pub fn spelled(&self, alloc: Global, line: &str) -> Result<String> {
         let mut spelled = String::new(alloc);
         for word in unquoted(alloc, line)?.as_str().split_whitespace() {
@@ -82,8 +78,8 @@ impl Names {
         Ok(())
     }
 
-    /// What a part of a word stands for: the digits of a name, of its first bytes as `NAME[..3]` or of those behind
-    /// them as `NAME[3..]`, or itself.
+    /// Returns the digits of a name, of its first bytes (`NAME[..3]`) or of its other bytes (`NAME[3..]`). Any other
+    /// word is returned unchanged.
     fn part<'a>(&'a self, part: &'a str) -> Result<&'a str> {
         let Some((name, range)) = part.split_once('[') else {
             return Ok(self.meant(part));
@@ -102,14 +98,14 @@ impl Names {
     }
 
     fn meant<'a>(&'a self, part: &'a str) -> &'a str {
-        match self.digits.get(part) {
+        match self.0.get(part) {
             Some(digits) => digits.as_str(),
             None => part,
         }
     }
 }
 
-/// A line with digits in the place of quoted text.
+/// Replaces quoted text by its digits.
 fn unquoted(alloc: Global, line: &str) -> Result<String> {
     let mut bare = String::new(alloc);
     for (place, part) in line.split('"').enumerate() {
@@ -122,7 +118,6 @@ fn unquoted(alloc: Global, line: &str) -> Result<String> {
     Ok(bare)
 }
 
-/// Words as a line.
 pub fn joined(alloc: Global, words: &[&str]) -> Result<String, AllocError> {
     let mut line = String::new(alloc);
     for word in words {
@@ -134,7 +129,6 @@ pub fn joined(alloc: Global, words: &[&str]) -> Result<String, AllocError> {
     Ok(line)
 }
 
-/// The bytes of a word.
 pub fn bytes(alloc: Global, word: &str) -> Result<Vec<u8>> {
     if word == "-" {
         return Ok(Vec::new(alloc));
@@ -142,7 +136,6 @@ pub fn bytes(alloc: Global, word: &str) -> Result<Vec<u8>> {
     hex::decode(alloc, word).or_else(|_| unknown("no bytes", word))
 }
 
-/// The number that a word writes.
 pub fn number<T: FromStr>(word: &str) -> Result<T>
 where
     T::Err: Drop,
@@ -150,36 +143,36 @@ where
     word.parse::<T>().or_else(|_| unknown("no number", word))
 }
 
-/// The name that a word has the bytes of.
 pub fn name(alloc: Global, word: &str) -> Result<Name> {
     wanted(Name::read(alloc, &bytes(alloc, word)?), "no name")
 }
 
-/// The digits of bytes.
 pub fn digits_of(alloc: Global, bytes: &[u8]) -> Result<String> {
     text(format!(in alloc; "{}", Digits(bytes)))
 }
 
-/// Whether a word is for relaxed checks, and not for strict ones.
-pub fn is_relaxed(word: &str) -> Result<bool> {
-    match word {
-        "relaxed" => Ok(true),
-        "strict" => Ok(false),
-        _ => unknown("neither relaxed nor strict", word),
+/// Returns the value beside a word in a table. `what` is the text of the failure.
+pub fn choice<T: Copy>(table: &[(&str, T)], what: &str, word: &str) -> Result<T> {
+    match table.iter().find(|row| row.0 == word) {
+        Some(row) => Ok(row.1),
+        None => unknown(what, word),
     }
 }
 
-/// The word for whether something is so.
+pub fn is_relaxed(word: &str) -> Result<bool> {
+    let table = &[("relaxed", true), ("strict", false)];
+    choice(table, "neither relaxed nor strict", word)
+}
+
 pub fn yes(is_so: bool) -> &'static str {
     if is_so { "yes" } else { "no" }
 }
 
-/// That word, as what comes of an act.
 pub fn answer(alloc: Global, is_so: bool) -> Result<String> {
     text(String::from_str(alloc, yes(is_so)))
 }
 
-/// The words for a value, or for why there is none.
+/// Writes a value or its fault.
 pub fn shown<T: fmt::Debug + Drop, E: fmt::Debug + Drop>(
     alloc: Global,
     outcome: Result<T, E>,
@@ -190,7 +183,7 @@ pub fn shown<T: fmt::Debug + Drop, E: fmt::Debug + Drop>(
     }
 }
 
-/// The digits of bytes, or the words for why there are none.
+/// Writes bytes or their fault.
 pub fn bytes_told<E: fmt::Debug + Drop>(alloc: Global, made: Result<Vec<u8>, E>) -> Result<String> {
     match made {
         Ok(bytes) => digits_of(alloc, &bytes),
@@ -198,27 +191,26 @@ pub fn bytes_told<E: fmt::Debug + Drop>(alloc: Global, made: Result<Vec<u8>, E>)
     }
 }
 
-/// The words for what has a name.
 pub fn by_name<T: fmt::Debug>(alloc: Global, value: &T) -> Result<String> {
     text(format!(in alloc; "{value:?}"))
 }
 
-/// A text, where there was memory for it.
+/// Converts an allocation error.
 pub fn text(made: Result<String, AllocError>) -> Result<String> {
     Ok(made?)
 }
 
-/// Fails, and says why.
+/// Fails with this text.
 pub fn wrong<T>(why: &str) -> Result<T> {
     Err(Error::msg(why))
 }
 
-/// Fails, and says what a word is not.
+/// Fails with this text and the word.
 pub fn unknown<T>(what: &str, word: &str) -> Result<T> {
     bail!("{what}: {word}")
 }
 
-/// A value; or fails, and says what there is not, and why.
+/// Returns the value, or fails with this text and the fault.
 pub fn wanted<T, E: fmt::Debug + Drop>(outcome: Result<T, E>, what: &str) -> Result<T> {
     match outcome {
         Ok(value) => Ok(value),

@@ -10,31 +10,30 @@ use std::sync::{Arc, Wait};
 use std::thread::Threads;
 use std::time::Duration;
 
-/// A runtime whose clock can be pushed forward, and whose memory can be short. It counts what the operator is told, and
-/// records also to a file that a link leads to.
+/// A runtime with a clock that a test pushes forward, and with memory that a test makes short. It counts the notices of
+/// the daemon, and records also to a file behind a symbolic link.
 #[derive(Drop)]
 pub struct Pushed<R: Clock> {
     rt: R,
     shared: Arc<Pushing>,
 }
 
-/// What the copies of it share.
+/// State that all copies of a `Pushed` share.
 #[derive(Drop, Default)]
 pub struct Pushing {
-    /// By how many seconds it was pushed.
+    /// The seconds by which the clock was pushed.
     seconds: AtomicU64,
-    /// The clock goes on by that alone.
+    /// If true, only pushes move the clock.
     stands: AtomicBool,
-    /// No memory can be had, as the host tells it, and how often it was asked.
+    /// If true, the host reports that memory is short. `asked` counts the questions.
     pub is_short: AtomicBool,
     pub asked: AtomicU64,
-    /// How often the operator was told that the recording has failed.
+    /// The number of notices of a recording that failed.
     pub actual: AtomicU64,
-    /// How often, that it goes on again, that memory is short, and that another host was refused.
+    /// The numbers of notices of a recording that continues, and of short memory.
     pub again: AtomicU64,
     pub short: AtomicU64,
-    pub remote: AtomicU64,
-    /// No further copy of it can be had.
+    /// If true, a clone fails.
     pub is_alone: AtomicBool,
 }
 
@@ -44,20 +43,19 @@ impl<R: Clock + Copy> Pushed<R> {
         Ok(Pushed { rt, shared })
     }
 
-    /// By how much it is pushed.
     pub fn pushing(&self) -> &Pushing {
         &self.shared
     }
 }
 
 impl Pushing {
-    /// From now on it goes on by what it is pushed alone, and no memory can be had.
+    /// Stops the clock but for pushes, and makes memory short.
     pub fn stand(&self) {
         self.stands.store(true, Ordering::SeqCst);
         self.is_short.store(true, Ordering::SeqCst);
     }
 
-    /// Pushes the clock forward by so many seconds.
+    /// Pushes the clock forward.
     pub fn push(&self, seconds: u64) {
         self.seconds.fetch_add(seconds, Ordering::SeqCst);
     }
@@ -68,10 +66,8 @@ impl<R: Clock + Copy> Clone for Pushed<R> {
         if self.shared.is_alone.load(Ordering::SeqCst) {
             return Err(AllocError);
         }
-        Ok(Pushed {
-            rt: self.rt,
-            shared: Arc::try_clone(&self.shared)?,
-        })
+        let (rt, shared) = (self.rt, Arc::try_clone(&self.shared)?);
+        Ok(Pushed { rt, shared })
     }
 }
 
@@ -123,7 +119,6 @@ impl<R: Clock + Files<File = File>> Host for Pushed<R> {
             Notice::RecordingFailed { .. } => &self.shared.actual,
             Notice::RecordingAgain { .. } => &self.shared.again,
             Notice::ShortOfMemory(_) => &self.shared.short,
-            Notice::Remote(_) => &self.shared.remote,
             _ => return,
         };
         count.fetch_add(1, Ordering::SeqCst);

@@ -1,4 +1,4 @@
-//! A stream as a link: what its calls say to a source that is told of news once.
+//! Tests of a stream as a link: after which calls a worker must wait for an edge of the poll.
 use mio::net;
 use portmap_daemon::MioStream;
 use portmap_link::{Input, Output, Pull, Put};
@@ -10,23 +10,22 @@ use std::io::ErrorKind;
 use std::net::{IpAddr, Ipv4Addr, TcpListener, TcpStream};
 use std::test::Fail;
 
-/// What is called.
 #[derive(Clone, Copy)]
 enum Call {
     Pull,
     Put,
 }
 
-/// What the stream tells at a call, whether the link says Later to it, and whether there may be more without a report.
+/// A call, the result of the stream, whether the link returns `Later`, and whether the link may have more without a
+/// report.
 struct Step(Call, CallOutcome, bool, bool);
 
 const CUT_SHORT: CallOutcome = CallOutcome::Error(ErrorKind::Interrupted);
 
 const WAITS: CallOutcome = CallOutcome::Error(ErrorKind::WouldBlock);
 
-/// A call that a signal cut short says nothing of the stream: only one that would have waited does, and a pull that
-/// gave less than there was room for, which a put that was taken doesn't change. While a put waits for a report nothing
-/// else is tried.
+/// An interrupted call says nothing about the stream. Only a call that would block does, or a pull of fewer bytes than
+/// the buffer holds, also if a later put succeeds. While a put waits for a report, the link tries nothing else.
 const STEPS: &[Step] = &[
     Step(Call::Pull, CUT_SHORT, true, true),
     Step(Call::Pull, CallOutcome::Count(8), false, true),
@@ -45,7 +44,7 @@ const STEPS: &[Step] = &[
 ];
 
 impl Call {
-    /// Makes the call. Whether the link says Later.
+    /// Makes the call, and returns whether the link returns `Later`.
     fn is_later(self, link: &mut Link<Script<'_>>) -> bool {
         match self {
             Call::Pull => link.pull(&mut [0; 8]) == Pull::Later,
@@ -60,15 +59,13 @@ fn only_a_call_that_would_have_waited_ends_the_asking(rt: HostRuntime) -> Result
     let mut link = Link::new(rt.alloc(), scripted(&actual), false, 0);
     assert!(rt; link.may_move());
     for Step(call, _, is_later, may_move) in STEPS {
-        assert_eq!(rt;
-            (call.is_later(&mut link), link.may_move()),
-            (*is_later, *may_move)
-        );
+        let actual = (call.is_later(&mut link), link.may_move());
+        assert_eq!(rt; actual, (*is_later, *may_move));
     }
     Ok(())
 }
 
-/// What comes first, whether it is from this host, and whether it is kept back as a request to register a name.
+/// The first bytes, whether they are of this host, and whether the link keeps them back as a registration.
 const FIRST: &[(&[u8], bool, bool)] = &[
     (ALIVE_A, true, true),
     (ALIVE_A, false, false),
@@ -78,15 +75,15 @@ const FIRST: &[(&[u8], bool, bool)] = &[
     (&[0x00], true, false),
 ];
 
-/// How often, and in which way, a stream fails before it gives them.
+/// The number and the kind of the errors of a stream before it gives its bytes.
 const FIRST_FAULTS: [(u32, ErrorKind); 3] = [
     (0, ErrorKind::Other),
     (1, ErrorKind::WouldBlock),
     (1, ErrorKind::Interrupted),
 ];
 
-/// Whether a link gives these bytes at once, once it has said Later to as many pulls as its stream fails so. If they
-/// are kept back, that it is asked to register `a`, it says Later to one pull before.
+/// Returns whether a link gives these bytes at once after it returned `Later` for each error of its stream. If the link
+/// keeps the bytes back as a registration of `a`, it returns `Later` once more before.
 fn gives(
     alloc: Global,
     (failing, kind): (u32, ErrorKind),
@@ -114,19 +111,18 @@ fn asks(link: &Link<Giving<'_>>, name: &[u8]) -> bool {
 }
 
 #[test]
-fn a_first_piece_that_registers_a_name_is_kept_back(rt: HostRuntime) -> Result<(), Fail> {
+fn a_first_piece_that_registers_a_name_is_kept_back(rt: HostRuntime) {
     for case in FIRST {
         for first in FIRST_FAULTS {
             assert!(rt; gives(rt.alloc(), first, *case));
         }
     }
-    Ok(())
 }
 
-/// This host has this address too, and who connects there has another one.
+/// A second address of this host. The address of the peer is another one.
 const SECOND: [u8; 4] = [127, 0, 0, 2];
 
-/// The own address of a connection that was accepted there.
+/// Returns the local address of a connection that was accepted at `SECOND`.
 fn own_of_accepted(rt: &HostRuntime) -> Result<Option<IpAddr>, Fail> {
     let address = Ipv4Addr::from(SECOND);
     let listener = TcpListener::bind(rt, (address, 14_442))?;
