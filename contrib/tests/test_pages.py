@@ -241,7 +241,7 @@ class Pages(unittest.TestCase):
         self.assertEqual([(page, *found) for page in [*PAGES, *CRATES, *OTHERS, FIGURES] for found in broken_links(page)], [])
 
     def test_each_picture_is_small_and_is_shown_with_what_it_shows_in_words(self):
-        pictures = {os.path.relpath(path, TOP) for path in glob.glob(os.path.join(TOP, "docs/*.png"))}
+        pictures = {os.path.relpath(path, TOP) for path in glob.glob(os.path.join(TOP, "docs/pictures/*.png"))}
         self.assertEqual({to for _, to in re.findall(r"!\[([^\]]{20,})\]\(([^)]*)\)", read(README))}, pictures)
         self.assertEqual([path for path in pictures if os.path.getsize(os.path.join(TOP, path)) > PICTURE_BYTES_MOST], [])
 

@@ -66,7 +66,7 @@ pub(crate) struct Figures {
 }
 
 impl Figures {
-    /// Returns zeros, for a daemon that has so many places.
+    /// Returns zeros, for a daemon with `places` permits.
     pub(crate) fn new(alloc: Global, places: u32) -> Result<Figures, NoMemory> {
         Ok(Figures {
             done: vec![in alloc; false; places as usize]?,
@@ -74,8 +74,8 @@ impl Figures {
         })
     }
 
-    /// Counts an entry of the log. The request that it closes without a reply is well-formed, and refused to a peer of
-    /// another host, or not. Never allocates.
+    /// Counts an entry of the log. If `is_remote` is true, a request that it closes without a reply was refused to a
+    /// peer of another host, and is not malformed. Never allocates.
     pub(crate) fn note(&mut self, entry: &Entry, is_remote: bool) {
         let (slot, counter, is_done) = match entry {
             Entry::Connected { slot, .. } => (*slot, Some(Counter::Accepted), false),
