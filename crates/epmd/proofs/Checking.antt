@@ -1,4 +1,4 @@
--- A check, one step after another.
+-- How a check goes on behind each of its steps.
 use Rattle.std.specs.Bool.{beq}
 use Rattle.std.proofs.Common.{◌≡◌, ℕ, zero, suc, ◌<◌, ◌≤◌, ◌++◌, ◌⊎◌, inl, inr, List, [], ◌∷◌, Result, Ok, Err, Bool, true, false, not}
 use Rattle.std.proofs.Common.{◌+◌, ◌-◌, arith, refl, sym, ap, ◌∙◌, append_assoc}
@@ -8,7 +8,7 @@ use Rattle.epmd.specs.declared.health.Step.{Step, TheVariants.{Pause}}
 
 -- ---- one step
 
--- one more attempt
+-- it is tried once more
 missed_more : (step : Step) (is : Bool) (n : ℕ) → missed step is (suc n) ≡ missed step is n ++ (step, Ok is) ∷ (Pause, Ok true) ∷ []
 missed_more step is zero = refl
 missed_more step is (suc n) = ap (λ (more : List Made). (step, Ok is) ∷ (Pause, Ok true) ∷ more) (missed_more step is n)

@@ -1,58 +1,46 @@
--- The ranges of a command's settings.
+-- The ranges of what a command holds, by the words that say it.
 use Rattle.std.specs.{Option.option_or, Prelude.{option_map, string_bytes, unwrap_or, IfSome}}
 use Rattle.std.proofs.Common.{ℕ, List, [], ◌∷◌, Option, Some, None, refl, sym, subst, inl, arith}
 use Rattle.std.specs.{declared.alloc.Global.Global, declared.vec.Vec.Vec}
-use Rattle.epmd.specs.{Addresses.{AreListening, anywhere}, Numbers.IsWithin, Words.{Begins, Spells}}
-use Rattle.epmd.specs.Meaning.{CanServe, Holds, IsPort, SaysCommand, nothing, over, plan_of, with_items}
-use Rattle.epmd.specs.{declared.plan.TheConstants.{TIMEOUT, WORKERS}, declared.plan.Plan.Plan, declared.words.{Command.Command, Env.Env}}
+use Rattle.epmd.specs.{Addresses.{AreListening, anywhere}, Meaning.{CanServe, IsPort, SaysCommand}, Numbers.IsWithin}
+use Rattle.epmd.specs.Words.{Begins, Spells, last_by, port_of, addresses_of, timeout_of, workers_of}
+use Rattle.epmd.specs.{declared.plan.TheConstants.{TIMEOUT, WORKERS}, declared.words.{Command.Command, Env.Env}}
 use Rattle.epmd.specs.declared.items.Word.{Word, TheVariants.{Port, Addresses, Timeout, Workers}}
 use Rattle.epmd.proofs.Listening.{are_listening}
-
-abbrev Listens : Vec (List ℕ) Global → Type 0
-Listens addresses = AreListening addresses.items
-
--- ---- what a plan sets is in range
-
-record Fits (plan : Plan) : Type 0 where
-  port : IfSome plan.port (IsWithin 1 65535)
-  addresses : IfSome plan.addresses Listens
-  timeout : IfSome plan.timeout (IsWithin 1 86400)
-  workers : IfSome plan.workers (IsWithin 1 64)
-
-item_fits : (item : Word) (words rest : List (List ℕ)) → Begins item words rest → Fits (plan_of item)
-item_fits (Port number) words rest b = record { port = b.2.1; addresses = tt; timeout = tt; workers = tt }
-item_fits (Addresses addresses) words rest b =
-    record { port = tt; addresses = are_listening b.0 addresses.items b.2; timeout = tt; workers = tt }
-item_fits (Timeout seconds) words rest b = record { port = tt; addresses = tt; timeout = b.2.1; workers = tt }
-item_fits (Workers number) words rest b = record { port = tt; addresses = tt; timeout = tt; workers = b.2.1 }
-item_fits item words rest b = record { port = tt; addresses = tt; timeout = tt; workers = tt }
 
 or_fits : {X : Type 0} (Q : X → Type 0) (a b : Option X) → IfSome a Q → IfSome b Q → IfSome (option_or a b) Q
 or_fits Q None b p q = q
 or_fits Q (Some x) b p q = p
 
-over_fits : (early late : Plan) → Fits early → Fits late → Fits (over early late)
-over_fits early late e l = record {
-  port = or_fits (IsWithin 1 65535) late.port early.port l.port e.port;
-  addresses = or_fits Listens late.addresses early.addresses l.addresses e.addresses;
-  timeout = or_fits (IsWithin 1 86400) late.timeout early.timeout l.timeout e.timeout;
-  workers = or_fits (IsWithin 1 64) late.workers early.workers l.workers e.workers;
-}
-
-items_fit : (plan : Plan) (words : List (List ℕ)) (items : List Word) → Fits plan → Spells words items → Fits (with_items plan items)
-items_fit plan words [] f s = f
-items_fit plan words (x ∷ xs) f s =
-    items_fit (over plan (plan_of x)) s.0 xs (over_fits plan (plan_of x) f (item_fits x words s.0 s.1)) s.2
-
-plan_fits : (words : List (List ℕ)) (items : List Word) (plan : Plan) → Spells words items → Holds items plan → Fits plan
-plan_fits words items plan spells holds = subst Fits (sym holds.settings)
-    (items_fit nothing words items (record { port = tt; addresses = tt; timeout = tt; workers = tt }) spells)
-
--- ---- the command's settings too
+last_fits : {X : Type 0} (sets : Word → Option X) (Q : X → Type 0)
+    → ((item : Word) (words rest : List (List ℕ)) → Begins item words rest → IfSome (sets item) Q)
+    → (words : List (List ℕ)) (items : List Word) → Spells words items → IfSome (last_by sets items) Q
+last_fits sets Q fits words [] s = tt
+last_fits sets Q fits words (x ∷ xs) s = or_fits Q (last_by sets xs) (sets x) (last_fits sets Q fits s.0 xs s.2) (fits x words s.0 s.1)
 
 usual_fits : {X : Type 0} (Q : X → Type 0) (o : Option X) (usual : X) → IfSome o Q → Q usual → Q (unwrap_or o usual)
 usual_fits Q None usual p q = q
 usual_fits Q (Some x) usual p q = p
+
+begins_port : (item : Word) (words rest : List (List ℕ)) → Begins item words rest → IfSome (port_of item) (IsWithin 1 65535)
+begins_port (Port number) words rest b = b.2.1
+begins_port item words rest b = tt
+
+begins_timeout : (item : Word) (words rest : List (List ℕ)) → Begins item words rest → IfSome (timeout_of item) (IsWithin 1 86400)
+begins_timeout (Timeout seconds) words rest b = b.2.1
+begins_timeout item words rest b = tt
+
+begins_workers : (item : Word) (words rest : List (List ℕ)) → Begins item words rest → IfSome (workers_of item) (IsWithin 1 64)
+begins_workers (Workers number) words rest b = b.2.1
+begins_workers item words rest b = tt
+
+-- the addresses of a word are listened on
+abbrev Listens : Vec (List ℕ) Global → Type 0
+Listens addresses = AreListening addresses.items
+
+begins_addresses : (item : Word) (words rest : List (List ℕ)) → Begins item words rest → IfSome (addresses_of item) Listens
+begins_addresses (Addresses addresses) words rest b = are_listening b.0 addresses.items b.2
+begins_addresses item words rest b = tt
 
 port_fits : (o : Option ℕ) (text : Option (List ℕ)) (port : ℕ) → IfSome o (IsWithin 1 65535) → IsPort o text port → IsWithin 1 65535 port
 port_fits (Some number) text port f e = subst (IsWithin 1 65535) (sym e) f
@@ -66,13 +54,16 @@ all_listen (Some addresses) f = f
 
 pub port_within : (words : List (List ℕ)) (env : Env) (command : Command) → SaysCommand words env command → IsWithin 1 65535 command.port
 port_within words env command (items, plan, spells, holds, made) =
-    port_fits plan.port (option_map string_bytes env.port) command.port (plan_fits words items plan spells holds).port made.port
+    port_fits (last_by port_of items) (option_map string_bytes env.port) command.port
+    (last_fits port_of (IsWithin 1 65535) begins_port words items spells)
+    (subst (λ (o : Option ℕ). IsPort o (option_map string_bytes env.port) command.port) holds.port made.port)
 
 pub can_serve : (words : List (List ℕ)) (env : Env) (command : Command) → SaysCommand words env command → CanServe command
-can_serve words env command (items, plan, spells, holds, made) =
-    let fits = plan_fits words items plan spells holds in
-    record {
-      addresses = rw made.addresses (all_listen plan.addresses fits.addresses);
-      timeout = rw made.timeout (usual_fits (IsWithin 1 86400) plan.timeout TIMEOUT fits.timeout (omega arith, omega arith));
-      workers = rw made.workers (usual_fits (IsWithin 1 64) plan.workers WORKERS fits.workers (omega arith, omega arith));
-    }
+can_serve words env command (items, plan, spells, holds, made) = record {
+  addresses = rw (made.addresses, holds.addresses)
+      (all_listen (last_by addresses_of items) (last_fits addresses_of Listens begins_addresses words items spells));
+  timeout = rw (made.timeout, holds.timeout) (usual_fits (IsWithin 1 86400) (last_by timeout_of items) TIMEOUT
+      (last_fits timeout_of (IsWithin 1 86400) begins_timeout words items spells) (omega arith, omega arith));
+  workers = rw (made.workers, holds.workers) (usual_fits (IsWithin 1 64) (last_by workers_of items) WORKERS
+      (last_fits workers_of (IsWithin 1 64) begins_workers words items spells) (omega arith, omega arith));
+}

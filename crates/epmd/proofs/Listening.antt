@@ -1,4 +1,4 @@
--- The addresses for a list are `anywhere` alone, or distinct addresses with `loopback`.
+-- What a daemon listens on is everywhere alone, or holds the host itself and nothing twice.
 use Rattle.std.specs.{List.{list_any, Contains, IsDistinct}, Str.bytes_eq}
 use Rattle.std.proofs.Common.{◌≡◌, ℕ, Bool, true, false, cond, List, [], ◌∷◌, ◌++◌, refl, sym, ap, subst, ◌∙◌, inl, inr}
 use Rattle.std.proofs.{Common.{◌||◌, ◌<◌, length, arith}, lemmas.Cmp.nat_list_eq_equiv}

@@ -2,13 +2,14 @@
 use Rattle.std.proofs.Common.{◌≡◌, ℕ, List, [], ◌∷◌, ◌++◌, refl, sym, subst, append_assoc}
 use Rattle.epmd.specs.Addresses.{Separated, WritesAddress, WritesAddresses, with, with_each}
 
+-- one in front
 separated_with : {X : Type 0} (separator : ℕ) (Writes : List ℕ → X → Type 0) (text front after : List ℕ) (x : X) (more : List X)
     → text ≡ front ++ separator ∷ after → Writes front x → Separated separator Writes after more
     → Separated separator Writes text (x ∷ more)
 separated_with separator Writes text front after x [] e first s = absurd s
 separated_with separator Writes text front after x (y ∷ ys) e first s = (front, after, e, first, s)
 
--- `addresses` are read from `text`, and `rest` is left
+-- these were read of a text, of which this rest is left
 pub record Reads (text : List ℕ) (addresses : List (List ℕ)) (rest : List ℕ) : Type 0 where
   pub with_more : (more : List (List ℕ)) → WritesAddresses rest more → WritesAddresses text (addresses ++ more)
 

@@ -1,4 +1,4 @@
--- Texts that are written in pieces.
+-- A text that is said in pieces.
 use Rattle.std.specs.Io.KnownBytes.{Appends}
 use Rattle.std.proofs.Common.{◌≡◌, ℕ, ◌+◌, ◌<◌, List, [], ◌++◌, length, take, Bool, true, false, Option, Some, None}
 use Rattle.std.proofs.{Common.{sym, ap, subst, ◌∙◌, append_assoc, arith}, Math.Seq.take-append-add}
@@ -33,7 +33,7 @@ taken_in_part a b first more e =
 
 -- ---- any number of them
 
--- all of `text` is written but `rest`
+-- of this text all was taken but this rest
 pub record IsLeft (text rest : List ℕ) (old now : Option (List ℕ)) : Type 0 where
   pub with_rest : (whole : Bool) (new : Option (List ℕ)) → IsWritten rest whole now new → IsWritten text whole old new
 

@@ -1,22 +1,39 @@
--- Plans, one item more at a time.
-use Rattle.std.specs.{Option.option_or, Prelude.is_some}
-use Rattle.std.proofs.Common.{◌≡◌, ℕ, ◌+◌, ◌<◌, ◌≤◌, true, false, cond, List, [], ◌∷◌, ◌++◌, Option}
-use Rattle.std.proofs.Common.{refl, sym, ap, subst, ◌∙◌, append_assoc, arith, length, map, take, drop, get_or}
-use Rattle.std.proofs.{Common.◌-◌, lemmas.List.{append-nil, take_all}, lemmas.List.Sums.{sum_by_push}}
-use Rattle.epmd.specs.Meaning.{Holds, nothing, over, plan_of, with_items}
-use Rattle.epmd.specs.{Words.{Begins, Spells, is_action}, declared.items.Word.{Word, TheVariants.Act}}
-use Rattle.epmd.specs.{declared.plan.Plan.Plan, declared.words.Action.Action}
+-- What words have said so far, one item more at a time.
+use Rattle.std.specs.{List.list_any, Option.option_or, Prelude.is_some}
+use Rattle.std.proofs.Common.{◌≡◌, ℕ, ◌+◌, ◌<◌, ◌≤◌, Bool, true, false, cond, List, [], ◌∷◌, ◌++◌, Option, Some, None}
+use Rattle.std.proofs.Common.{refl, sym, ap, subst, ◌∙◌, ◌||◌, append_assoc, arith, length, map, take, drop, get_or}
+use Rattle.std.proofs.{Common.◌-◌, lemmas.List.{append-nil, take_all}, lemmas.List.Folds.list_any-append}
+use Rattle.std.proofs.lemmas.List.Sums.{sum_by_push}
+use Rattle.epmd.specs.{Meaning.{Holds, Adds}, Words.{Begins, Spells, last_by, is_action}, declared.items.Word.{Word, TheVariants.Act}}
+use Rattle.epmd.specs.Words.{action_of, port_of, addresses_of, timeout_of, workers_of, recording_of, figures_of, is_relaxed}
+use Rattle.epmd.specs.{Words.is_debug, declared.plan.Plan.Plan, declared.words.Action.Action}
 
 -- ---- one item more
 
-with_items_push : (plan : Plan) (items : List Word) (item : Word)
-    → with_items plan (items ++ item ∷ []) ≡ over (with_items plan items) (plan_of item)
-with_items_push plan [] item = refl
-with_items_push plan (x ∷ xs) item = with_items_push (over plan (plan_of x)) xs item
+or_none : {X : Type 0} (o : Option X) → o ≡ option_or o None
+or_none None = refl
+or_none (Some x) = refl
 
--- an action comes where there was none, and stays
-counted : (item : Word) (old new : Option Action) → new ≡ option_or (plan_of item).action old
-    → (is_action item ≡ true → is_some old ≡ false) → cond (is_some new) 1 0 ≡ cond (is_some old) 1 0 + cond (is_action item) 1 0
+or_or : {X : Type 0} (a b c : Option X) → option_or (option_or a b) c ≡ option_or a (option_or b c)
+or_or None b c = refl
+or_or (Some x) b c = refl
+
+last_by_push : {X : Type 0} (sets : Word → Option X) (items : List Word) (item : Word)
+    → last_by sets (items ++ item ∷ []) ≡ option_or (sets item) (last_by sets items)
+last_by_push sets [] item = or_none (sets item)
+last_by_push sets (x ∷ xs) item = ap (λ (o : _). option_or o (sets x)) (last_by_push sets xs item)
+    ∙ or_or (sets item) (last_by sets xs) (sets x)
+
+or_false : (b : Bool) → (b || false) ≡ b
+or_false true = refl
+or_false false = refl
+
+any_push : (test : Word → Bool) (items : List Word) (item : Word) → list_any test (items ++ item ∷ []) ≡ (list_any test items || test item)
+any_push test items item = list_any-append test items (item ∷ []) ∙ ap (λ (b : Bool). list_any test items || b) (or_false (test item))
+
+-- an action comes where none was, and stays
+counted : (item : Word) (old new : Option Action) → new ≡ option_or (action_of item) old → (is_action item ≡ true → is_some old ≡ false)
+    → cond (is_some new) 1 0 ≡ cond (is_some old) 1 0 + cond (is_action item) 1 0
 counted (Act action) old new e first =
     let none : is_some old ≡ false = first refl in
     let some : is_some new ≡ true = ap is_some e in
@@ -25,28 +42,41 @@ counted item old new e first =
     let same : ◌≡◌ {A = ℕ} (cond (is_some new) 1 0) (cond (is_some old) 1 0) = ap (λ (o : Option Action). cond (is_some o) 1 0) e in
     omega (arith, same)
 
-holds_more : (items : List Word) (item : Word) (old new : Plan) → Holds items old → new ≡ over old (plan_of item)
+-- what an item sets is set anew
+set_anew : {X : Type 0} (sets : Word → Option X) (items : List Word) (item : Word) (old new : Option X)
+    → new ≡ option_or (sets item) old → old ≡ last_by sets items → new ≡ last_by sets (items ++ item ∷ [])
+set_anew sets items item old new a h = a ∙ ap (option_or (sets item)) h ∙ sym (last_by_push sets items item)
+
+pub holds_more : (items : List Word) (item : Word) (old new : Plan) → Holds items old → Adds item old new
     → (is_action item ≡ true → is_some old.action ≡ false) → Holds (items ++ item ∷ []) new
-holds_more items item old new h e first = record {
-  settings = e ∙ ap (λ (plan : Plan). over plan (plan_of item)) h.settings ∙ sym (with_items_push nothing items item);
+holds_more items item old new h a first = record {
+  action = set_anew action_of items item old.action new.action a.action h.action;
   actions =
-      let k = counted item old.action new.action (ap (λ (plan : Plan). plan.action) e) first in
+      let k = counted item old.action new.action a.action first in
       omega (arith, sum_by_push (λ (x : Word). cond (is_action x) 1 0) items item, h.actions, k);
+  port = set_anew port_of items item old.port new.port a.port h.port;
+  addresses = set_anew addresses_of items item old.addresses new.addresses a.addresses h.addresses;
+  timeout = set_anew timeout_of items item old.timeout new.timeout a.timeout h.timeout;
+  workers = set_anew workers_of items item old.workers new.workers a.workers h.workers;
+  relaxed = a.relaxed ∙ ap (λ (b : Bool). b || is_relaxed item) h.relaxed ∙ sym (any_push is_relaxed items item);
+  debug = a.debug ∙ ap (λ (b : Bool). b || is_debug item) h.debug ∙ sym (any_push is_debug items item);
+  recording = set_anew recording_of items item old.recording new.recording a.recording h.recording;
+  figures = set_anew figures_of items item old.figures new.figures a.figures h.figures;
 }
 
--- `words` spell the items of `plan`, followed by the items of `rest`
+-- these words are said, and this rest is left
 pub record Says (words rest : List (List ℕ)) (plan : Plan) : Type 0 where
   pub items : List Word
   pub with_more : (more : List Word) → Spells rest more → Spells words (items ++ more)
   pub holds : Holds items plan
 
 pub says_more : (words rest after : List (List ℕ)) (item : Word) (old new : Plan) → Says words rest old → Begins item rest after
-    → new ≡ over old (plan_of item) → (is_action item ≡ true → is_some old.action ≡ false) → Says words after new
-says_more words rest after item old new s begins e first = record {
+    → Adds item old new → (is_action item ≡ true → is_some old.action ≡ false) → Says words after new
+says_more words rest after item old new s begins a first = record {
   items = s.items ++ item ∷ [];
   with_more = λ more spells. subst (Spells words) (sym (append_assoc s.items (item ∷ []) more))
       (s.with_more (item ∷ more) (after, begins, spells));
-  holds = holds_more s.items item old new s.holds e first;
+  holds = holds_more s.items item old new s.holds a first;
 }
 
 pub says_all : {X : Type 0} (f : X → List ℕ) (words : List (List ℕ)) (rest : List X) (plan : Plan) → length rest < 1

@@ -1,4 +1,4 @@
--- The settings of a command's daemon, and the lines and the status of its end. Profile.
+-- What the daemon of a command is set to, and how its end is told. Profile.
 use Rattle.std.specs.{Duration.as_nanos, Fmt.decimal, List.concat, Prelude.{◌≡◌, ℕ, ◌+◌, ◌==◌, List, [], ◌∷◌, ◌++◌}}
 use Rattle.std.specs.Prelude.{codes, slice_get, slice_index, if◌then◌else◌, ◌%◌, ◌^◌, Bool, true, false}
 use Rattle.std.specs.Prelude.{string_bytes, Option, Some, None, option_map, Result, Ok, Err}
@@ -12,11 +12,12 @@ use Rattle.epmd.specs.declared.words.Command.{Command}
 use Rattle.epmd.specs.declared.actions.TheConstants as actions
 use Rattle.epmd.specs.declared.daemon.TheConstants as the
 
--- the first creation: the nanoseconds since 1970 modulo 2^32
+-- where creations start: at the nanoseconds since 1970, as far as 32 bits hold them
 abbrev pub first_by : Option Duration → ℕ
 first_by None = 0
 first_by (Some now) = as_nanos now % 2 ^ 32
 
+-- the port mapper of a command
 abbrev pub config_of : Command → Configuration
 config_of command = record {
   port = command.port;
@@ -25,7 +26,7 @@ config_of command = record {
   known_max = actions.NAMES_MOST;
 }
 
--- `settings` are those of the command at this time
+-- these are the settings of the command at this time
 pub record SetsAs (command : Command) (now : Option Duration) (settings : Settings) : Type 0 where
   pub config : settings.config ≡ config_of command
   pub first : settings.first ≡ first_by now
@@ -35,11 +36,12 @@ pub record SetsAs (command : Command) (now : Option Duration) (settings : Settin
   pub recording : option_map string_bytes settings.recording ≡ option_map string_bytes command.recording
   pub figures : option_map string_bytes settings.figures ≡ option_map string_bytes command.figures
 
--- the status of a daemon that halted, by whether its recording is complete
+-- the status that tells whether the recording is whole, where there was to be one
 abbrev pub status_of_recorded : Bool → ℕ
 status_of_recorded false = actions.FAILED
 status_of_recorded true = actions.DONE
 
+-- the status that tells the end
 abbrev pub status_of_end : Result RunEnd RunFault → ℕ
 status_of_end (Ok end) = status_of_recorded end.recorded
 status_of_end (Err (Listen index)) = actions.NOT_DONE
@@ -47,12 +49,12 @@ status_of_end (Err (ListenBeside index)) = actions.NOT_DONE
 status_of_end (Err Poll) = actions.FAILED
 status_of_end (Err NoMemory) = actions.FAILED
 
--- ---- lines
+-- ---- what errors are told
 
 abbrev pub served_line : ℕ → ℕ → List ℕ
-served_line worker count = concat (codes "epmd: worker " ∷ decimal worker ∷ codes " served " ∷ decimal count ∷ codes "\n" ∷ [])
+served_line worker count = concat (the.WORKER.now ∷ decimal worker ∷ the.SERVED.now ∷ decimal count ∷ (10 ∷ []) ∷ [])
 
--- a line for each worker, numbered from `worker` on
+-- a line for each worker, which are numbered from this one on
 abbrev pub served_lines : ℕ → List ℕ → List ℕ
 served_lines worker [] = []
 served_lines worker (count ∷ counts) = served_line worker count ++ served_lines (worker + 1) counts
@@ -64,14 +66,14 @@ unheard_line address port =
     concat (the.UNHEARD.now ∷ number 0 ∷ codes "." ∷ number 1 ∷ codes "." ∷ number 2 ∷ codes "." ∷ number 3 ∷ codes ":" ∷ decimal port ∷
     (10 ∷ []) ∷ [])
 
--- the IPv6 address that the daemon opens with this address: every address of the host, or the host itself
+-- the IPv6 address that goes with this one: that of every address of the host, else that of the host itself
 abbrev pub beside : List ℕ → List ℕ
-beside address = if slice_index address 0 == 0 then codes "[::]:" else codes "[::1]:"
+beside address = if slice_index address 0 == 0 then the.EVERYWHERE.now else the.ITSELF.now
 
 abbrev pub unheard_beside : List ℕ → ℕ → List ℕ
 unheard_beside address port = concat (the.UNHEARD.now ∷ beside address ∷ decimal port ∷ (10 ∷ []) ∷ [])
 
--- what each worker served, with debug output; or the reason for which the daemon did not serve
+-- with debug output what each worker served; else why it did not serve
 abbrev pub text_of_end : Command → Result RunEnd RunFault → Option (List ℕ)
 text_of_end command (Ok end) = if command.debug then Some (served_lines 1 end.served.items) else None
 text_of_end command (Err (Listen index)) =

@@ -1,4 +1,4 @@
--- Texts on standard error. Profile.
+-- What is said on standard error. Profile.
 use Rattle.std.specs.Io.KnownBytes.{Appends}
 use Rattle.std.specs.List.{concat}
 use Rattle.std.specs.Prelude.{◌≡◌, ℕ, ◌<◌, ◌≤◌, List, [], ◌∷◌, ◌++◌, length, take, codes, Bool, true, false, Option, ◌⊎◌}
@@ -6,25 +6,25 @@ use Rattle.portmap_link.specs.Adapters.{writing_inner, writing_puts, writing_bro
 use Rattle.portmap_link.specs.declared.adapters.writer.Writing.{Writing}
 use Rattle.epmd.specs.declared.errors.TheConstants.{PUTS_MOST}
 
--- all of the text is written; or if not, a prefix
+-- all of a text was taken, or else a front of it
 abbrev pub IsWritten : List ℕ → Bool → Option (List ℕ) → Option (List ℕ) → Type 0
 IsWritten text true old new = Appends old new text
 IsWritten text false old new = (count : ℕ) × (count < length text) × Appends old new (take count text)
 
--- it takes no more: it has failed, or has had its puts
+-- it takes no more: it has failed, or was asked so often
 abbrev pub IsSpent : {E : Type 0} → Writing E → Type 0
 IsSpent errors = (writing_broken errors ≡ true) ⊎ (PUTS_MOST ≤ length (writing_puts errors))
 
--- this text is written and nothing else: all of it, or a prefix if `new` takes no more
+-- this text was said and nothing else: all of it, or a front where no more was taken
 abbrev pub IsSaid : {E : Type 0} → (E → Option (List ℕ)) → List ℕ → Writing E → Writing E → Type 0
 IsSaid contents text old new = (whole : Bool) × IsWritten text whole (contents (writing_inner old)) (contents (writing_inner new))
     × (whole ≡ false → IsSpent new)
 
--- ---- files, behind the line of a failure
+-- ---- files that are named behind the line of a failure
 
 abbrev pub file_line : List ℕ → List ℕ
 file_line path = codes "epmd: in " ++ path ++ codes "\n"
 
--- `reason` is the system's text of the error
+-- with the system's words
 abbrev pub reason_line : List ℕ → List ℕ → List ℕ
 reason_line path reason = concat (codes "epmd: " ∷ path ∷ codes ": " ∷ reason ∷ codes "\n" ∷ [])

@@ -1,4 +1,4 @@
--- The health check: the results of its steps, its end, and what is printed. Profile: epmd(1) has no such command.
+-- The health check: what its steps come to, how it ends, and what is printed. Profile: epmd(1) has no such command.
 use Rattle.std.specs.{Fmt.decimal, List.concat}
 use Rattle.std.specs.Prelude.{◌≡◌, ◌≢◌, ◌⊎◌, ℕ, ◌<◌, zero, suc, Bool, true, false, not, List, [], ◌∷◌, ◌++◌, codes}
 use Rattle.std.specs.Prelude.{Option, Some, None, Result, Ok, Err}
@@ -15,25 +15,25 @@ use Rattle.epmd.specs.declared.health.TheConstants.{TRIES}
 abbrev pub health_node : Node
 health_node = record { port = 1; kind = 72; proto = 0; high = 6; low = 5; name = codes "epmd-health"; extra = [] }
 
--- ---- the results of steps
+-- ---- what a step comes to
 
--- a step with its result: true if the node is registered or found, or the reason for no answer
+-- a step, and what came of it: whether the node is registered, or found, or why there is no answer
 abbrev pub Made : Type 0
 Made = Step × Result Bool Failure
 
--- the result of a registration, by that of the client's call
+-- a registration, by the result of the client's call
 abbrev pub registration_told : Result ℕ ClientFault → Result Bool Failure
 registration_told (Ok creation) = Ok true
 registration_told (Err (Refused code)) = Ok false
 registration_told (Err fault) = Err (failure_of_client fault)
 
--- the result of a registration, by the registration
+-- the same, by its own result
 abbrev pub is_granted : {X : Type 0} → Result (Option X) Failure → Result Bool Failure
 is_granted (Ok (Some held)) = Ok true
 is_granted (Ok None) = Ok false
 is_granted (Err failure) = Err failure
 
--- the result of a look-up of this node, by that of the client's call: another node of its name does not count
+-- a look-up of this node, by the result of the client's call: another node of its name is not this one
 abbrev pub look_up_told : Node → Result (Option Node) ClientFault → Result Bool Failure
 look_up_told node (Ok (Some found)) = Ok (are_same found node)
 look_up_told node (Ok None) = Ok false
@@ -45,28 +45,28 @@ look_up_told node (Err fault) = Err (failure_of_client fault)
 abbrev pub Grows : (List Made → Type 0) → List Made → List Made → Type 0
 Grows Holds old new = (made : List Made) × (new ≡ old ++ made) × Holds made
 
--- `n` steps with this answer, with a pause behind each
+-- a step that had this answer so often, each time with a pause behind it
 abbrev pub missed : Step → Bool → ℕ → List Made
 missed step is zero = []
 missed step is (suc n) = (step, Ok is) ∷ (Pause, Ok true) ∷ missed step is n
 
--- a step was made until its result was `last`: not the unwanted answer, or that answer at attempt `most`
+-- a step was tried until it came to `last`: no longer the unwanted answer, or that one after so many tries
 pub record Tries (step : Step) (unwanted : Bool) (most : ℕ) (last : Result Bool Failure) (made : List Made) : Type 0 where
   pub count : ℕ
   pub few : count < most
   pub are : made ≡ missed step unwanted count ++ (step, last) ∷ []
   pub given_up : last ≡ Ok unwanted → suc count ≡ most
 
--- a step with its wanted answer and its number of attempts ends with this result: the wanted answer, or the last step
+-- a step with its wanted answer, which may be tried so often, ends with this result: it has that answer, or is the last step
 abbrev pub Makes : Step × Bool × ℕ → Result Unit Made → List Made → Type 0
 Makes (step, wanted, most) (Ok passed) made = Tries step (not wanted) most (Ok wanted) made
 Makes (step, wanted, most) (Err last) made = (last.0 ≡ step) × (last.1 ≢ Ok wanted) × Tries step (not wanted) most last.1 made
 
--- the steps of a check in order, each with its wanted answer and its number of attempts
+-- the steps of a check in their order: each with its wanted answer, and how often it is tried at most
 abbrev pub plan : List (Step × Bool × ℕ)
 plan = (Register, true, TRIES) ∷ (LookUp, true, 1) ∷ (Close, true, 1) ∷ (LookUp, false, TRIES) ∷ []
 
--- these steps are made in order, up to the first step without its wanted answer
+-- these steps are made in turn, up to the first one that does not have its wanted answer
 abbrev pub Ends : List (Step × Bool × ℕ) → Result Unit Made → List Made → Type 0
 Ends [] result made = (result ≡ Ok tt) × (made ≡ [])
 Ends (step ∷ steps) result made = ((last : Made) × (result ≡ Err last) × Makes step (Err last) made)

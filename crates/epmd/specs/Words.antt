@@ -1,14 +1,18 @@
--- The words of the command: the options of epmd(1). Profile: -workers, -record, -figures, -dump, -health,
--- -once, -check, -play, -local, -audit.
-use Rattle.std.specs.Prelude.{◌≡◌, ℕ, List, [], ◌∷◌, Bool, true, false, codes, string_bytes, ◌⊎◌}
+-- The words of the command: the options of epmd(1) and, as profile, -workers, -record, -figures, -dump, -health, -once, -check, -play, -local and
+-- -audit.
+use Rattle.std.specs.Option.{option_or}
+use Rattle.std.specs.Prelude.{◌≡◌, ℕ, List, [], ◌∷◌, Bool, true, false, codes, string_bytes, Option, Some, None, ◌⊎◌}
+use Rattle.std.specs.{Prelude.String, declared.alloc.Global.Global, declared.vec.Vec.Vec}
 use Rattle.portmap_wire.specs.Name.{IsName}
 use Rattle.portmap_record.specs.declared.playing.Text.TheVariants as text
-use Rattle.epmd.specs.{Addresses.ListensOn, Numbers.WritesWithin, declared.items.Word.Word}
+use Rattle.epmd.specs.{Addresses.ListensOn, Numbers.WritesWithin, declared.items.Word.Word, declared.words.Action.Action}
 use Rattle.epmd.specs.declared.items.Word.TheVariants.{Act, Addresses, Daemon, Debug, Figures, Port, Recording, Relaxed, Timeout, Workers}
 use Rattle.epmd.specs.declared.words.Action.TheVariants as action
 use Rattle.epmd.specs.declared.words.Ask.TheVariants as ask
 
--- `words` begin with the item, which takes one word or two; `rest` follows
+-- ---- how an item is spelled
+
+-- the first word, or the first two, spell this item; behind them is the rest
 abbrev pub Begins : Word → List (List ℕ) → List (List ℕ) → Type 0
 Begins (Port number) words rest = (value : List ℕ) × (words ≡ codes "-port" ∷ value ∷ rest) × WritesWithin 1 65535 value number
 Begins (Addresses addresses) words rest = (value : List ℕ) × (words ≡ codes "-address" ∷ value ∷ rest) × ListensOn value addresses.items
@@ -32,11 +36,54 @@ Begins (Act (action.Inspect text.Transcript path)) words rest = words ≡ codes 
 Begins (Act (action.Inspect text.LocalRecord path)) words rest = words ≡ codes "-local" ∷ string_bytes path ∷ rest
 Begins (Act (action.Audit path)) words rest = words ≡ codes "-audit" ∷ string_bytes path ∷ rest
 
--- `words` are these items in order
+-- words are these items, one behind the other
 abbrev pub Spells : List (List ℕ) → List Word → Type 0
 Spells words [] = words ≡ []
 Spells words (item ∷ items) = (rest : List (List ℕ)) × Begins item words rest × Spells rest items
 
+-- ---- what an item sets
+
+abbrev pub action_of : Word → Option Action
+action_of (Act action) = Some action
+action_of item = None
+
+abbrev pub port_of : Word → Option ℕ
+port_of (Port number) = Some number
+port_of item = None
+
+abbrev pub addresses_of : Word → Option (Vec (List ℕ) Global)
+addresses_of (Addresses addresses) = Some addresses
+addresses_of item = None
+
+abbrev pub timeout_of : Word → Option ℕ
+timeout_of (Timeout seconds) = Some seconds
+timeout_of item = None
+
+abbrev pub workers_of : Word → Option ℕ
+workers_of (Workers number) = Some number
+workers_of item = None
+
+abbrev pub recording_of : Word → Option (String Global)
+recording_of (Recording path) = Some path
+recording_of item = None
+
+abbrev pub figures_of : Word → Option (String Global)
+figures_of (Figures path) = Some path
+figures_of item = None
+
+abbrev pub is_relaxed : Word → Bool
+is_relaxed Relaxed = true
+is_relaxed item = false
+
+abbrev pub is_debug : Word → Bool
+is_debug Debug = true
+is_debug item = false
+
 abbrev pub is_action : Word → Bool
 is_action (Act action) = true
 is_action item = false
+
+-- what the last item sets that sets it
+abbrev pub last_by : {X : Type 0} → (Word → Option X) → List Word → Option X
+last_by sets [] = None
+last_by sets (item ∷ items) = option_or (last_by sets items) (sets item)

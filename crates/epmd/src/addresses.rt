@@ -9,10 +9,10 @@ use std::alloc::Global;
 /// Every address of the host.
 pub const ANYWHERE: [u8; 4] = [0, 0, 0, 0];
 
-/// The address of the host itself.
+/// The host itself.
 pub const LOOPBACK: [u8; 4] = [127, 0, 0, 1];
 
-/// Splits a text at the first `separator`.
+/// What stands in front of the first such byte, and what behind it.
 fn cut(text: &[u8], separator: u8) -> Option<(&[u8], &[u8])>
     ensures { IfSome result (λ parts. text.now ≡ parts.0.now ++ separator ∷ parts.1.now) }
 {
@@ -22,6 +22,7 @@ fn cut(text: &[u8], separator: u8) -> Option<(&[u8], &[u8])>
     Some((front, after))
 }
 
+/// The address that this text is.
 fn read_address(text: &[u8]) -> Option<[u8; 4]>
     ensures { IfSome result (λ address. WritesAddress text.now address) }
 {
@@ -36,7 +37,7 @@ fn read_address(text: &[u8]) -> Option<[u8; 4]>
     ])
 }
 
-/// Reads addresses with commas between, in the order of the text.
+/// The addresses of this list as it is written; none where it is no list of them.
 fn read_addresses(alloc: Global, text: &[u8]) -> Result<Option<Vec<[u8; 4]>>, NoMemory>
     ensures { IfOk result (λ read. IfSome read (λ addresses. WritesAddresses text.now addresses.items)) }
 {
@@ -56,7 +57,7 @@ fn read_addresses(alloc: Global, text: &[u8]) -> Result<Option<Vec<[u8; 4]>>, No
     Ok(Some(addresses))
 }
 
-/// Appends an address, unless the list contains it.
+/// Puts an address at the end, unless it is there.
 fn add(addresses: &mut Vec<[u8; 4]>, address: [u8; 4]) -> Result<(), NoMemory>
     ensures { OnOk result (addresses.new.items ≡ with addresses.old.items address) }
 {
@@ -66,7 +67,7 @@ fn add(addresses: &mut Vec<[u8; 4]>, address: [u8; 4]) -> Result<(), NoMemory>
     Ok(())
 }
 
-/// Returns `ANYWHERE` alone.
+/// Every address of the host, alone.
 pub fn everywhere(alloc: Global) -> Result<Vec<[u8; 4]>, NoMemory>
     ensures { IfOk result (λ addresses. addresses.items ≡ anywhere ∷ []) }
 {
@@ -75,6 +76,7 @@ pub fn everywhere(alloc: Global) -> Result<Vec<[u8; 4]>, NoMemory>
     Ok(addresses)
 }
 
+/// What a daemon listens on for these addresses.
 fn listening(alloc: Global, listed: &[[u8; 4]]) -> Result<Vec<[u8; 4]>, NoMemory>
     ensures { IfOk result (λ addresses. addresses.items ≡ listening listed.now) }
 {
@@ -89,9 +91,9 @@ fn listening(alloc: Global, listed: &[[u8; 4]]) -> Result<Vec<[u8; 4]>, NoMemory
     Ok(addresses)
 }
 
-/// Reads addresses with commas between, and returns the addresses that a daemon listens on: `ANYWHERE` alone if the
-/// text has it. Otherwise each address of the text comes once, in order, and `LOOPBACK` last unless the text has it.
-/// Returns `None` if the text is malformed.
+/// What a daemon listens on for this text, addresses with commas between: each once, in the order of the text;
+/// `LOOPBACK` at the end, if it isn't among them; but where `ANYWHERE` is, that alone. None where the text is no list
+/// of addresses.
 pub fn read_listening(alloc: Global, text: &[u8]) -> Result<Option<Vec<[u8; 4]>>, NoMemory>
     ensures { IfOk result (λ read. IfSome read (λ addresses. ListensOn text.now addresses.items)) }
 {

@@ -1,15 +1,18 @@
-//! The requests of a client to the port mapper that runs, and what is printed of its answer.
+//! The actions of a client: what the port mapper that runs is asked, and how its answer is told.
 ghost use Rattle.std.specs.Prelude.{◌≡◌, ◌≢◌, ◌++◌, Result, Ok, IfOk};
 ghost use Rattle.portmap_link.specs.Adapters.{writing_inner, writing_broken};
 ghost use Rattle.portmap_client.specs.Exchange.{view};
+ghost use Rattle.portmap_client.specs.declared.fault.ClientFault.{ClientFault};
 ghost use Rattle.epmd.specs.Actions.{Fails};
-ghost use Rattle.epmd.specs.Commands.{Asks, IsPage, Prints, PrintsPage, head_line, names_text, dump_text};
-ghost use Rattle.epmd.specs.Commands.{kill_text, list_text, stop_text};
+ghost use Rattle.epmd.specs.Commands.{Asks, head_line, names_text, dump_text, kill_text, stop_text};
+ghost use Rattle.epmd.specs.Commands.{answer_text, IsPage, IsPageOf, Prints, PrintsPage};
 ghost use Rattle.epmd.specs.declared.actions.Failure.{Failure};
+ghost use Rattle.epmd.specs.declared.commands.Answer.{Answer};
 ghost use Rattle.epmd.specs.declared.commands.Page.{Page};
 
 use crate::actions::{DONE, FAILED, Failure, NOT_DONE, end, fail};
 use crate::words::Ask;
+use itoa::Buffer;
 use portmap_client::{ClientFault, Kill, Stop, dump, kill, names, stop};
 use portmap_daemon::shown;
 use portmap_link::{Input, NoMemory, Output, Writing, write_reply};
@@ -17,11 +20,22 @@ use portmap_wire::{Line, put_names_line};
 use std::alloc::Global;
 use std::io::Write;
 
-/// Puts of one text. The longest text has less than 17,000,000 bytes, and each put that does not block takes at least
-/// one byte.
+/// How many puts the text gets. The longest has less than 17,000,000 bytes, and each put that is not put off takes one
+/// at least.
 const TURNS: u64 = 1_000_000_000;
 
-/// A text for standard output, and the status after it.
+/// What the port mapper answered to an action.
+#[derive(Drop)]
+enum Answer {
+    /// Its port, and the registered names with theirs.
+    Names((u32, Vec<Line>)),
+    /// Its port, and the text of all that it knows.
+    Dump((u32, Vec<u8>)),
+    Kill(Kill),
+    Stop(Stop),
+}
+
+/// What is printed, and the status that is reached then.
 #[derive(Drop)]
 struct Page {
     text: Vec<u8>,
@@ -37,7 +51,14 @@ impl From<ClientFault> for Failure {
     fn from(fault: ClientFault) -> Failure {
         match fault {
             ClientFault::NoMemory => Failure::Memory,
-            _ => Failure::StrangeAnswer,
+            ClientFault::Write
+            | ClientFault::Read
+            | ClientFault::TooManyTurns
+            | ClientFault::Short
+            | ClientFault::BadTag(_)
+            | ClientFault::Refused(_)
+            | ClientFault::Strange
+            | ClientFault::TooLong => Failure::StrangeAnswer,
         }
     }
 }
@@ -53,12 +74,30 @@ impl From<NoMemory> for Failure {
     }
 }
 
+/// Asks the port mapper for this.
+fn ask<S: Input + Output>(alloc: Global, asked: &Ask, stream: &mut S) -> Result<Answer, ClientFault>
+    ensures { let seen = view S.left S.held S.pulls S.puts S.broken in
+        Asks asked.now (seen stream.old) (seen stream.new) result }
+{
+    match asked {
+        Ask::Names => Ok(Answer::Names(names(alloc, stream)?)),
+        Ask::Kill => Ok(Answer::Kill(kill(alloc, stream)?)),
+        Ask::Stop(name) => Ok(Answer::Stop(stop(alloc, stream, name)?)),
+        Ask::Dump => Ok(Answer::Dump(dump(alloc, stream)?)),
+    }
+}
+
+/// The first line of a list, of the port mapper on this port.
 fn head_line(alloc: Global, port: u32) -> Result<Vec<u8>, NoMemory>
     ensures { IfOk result (λ v. v.items ≡ head_line port) }
 {
-    Ok(format!(in alloc; "epmd: up and running on port {port} with data:\n")?.into_bytes())
+    let mut text = Vec::from_slice(alloc, b"epmd: up and running on port ")?;
+    text.extend_from_slice(Buffer::new().format(port).as_bytes())?;
+    text.extend_from_slice(b" with data:\n")?;
+    Ok(text)
 }
 
+/// The text that tells of the registered names.
 fn names_text(alloc: Global, port: u32, lines: &[Line]) -> Result<Vec<u8>, NoMemory>
     ensures { IfOk result (λ v. v.items ≡ names_text port lines.now) }
 {
@@ -69,6 +108,7 @@ fn names_text(alloc: Global, port: u32, lines: &[Line]) -> Result<Vec<u8>, NoMem
     Ok(text)
 }
 
+/// The text that tells of all that the port mapper knows.
 fn dump_text(alloc: Global, port: u32, lines: &[u8]) -> Result<Vec<u8>, NoMemory>
     ensures { IfOk result (λ v. v.items ≡ dump_text port lines.now) }
 {
@@ -77,19 +117,12 @@ fn dump_text(alloc: Global, port: u32, lines: &[u8]) -> Result<Vec<u8>, NoMemory
     Ok(text)
 }
 
+/// The page of this text.
 fn made_page(alloc: Global, text: &[u8], status: u8) -> Result<Page, Failure>
     ensures { IsPage (Ok (text.now, status)) result }
 {
     let text = Vec::from_slice(alloc, text)?;
     Ok(Page { text, status })
-}
-
-/// Returns the page of a list, with control characters escaped.
-fn list_page(alloc: Global, text: &[u8]) -> Result<Page, Failure>
-    ensures { IsPage (list_text text.now) result }
-{
-    let text = shown(alloc, text)?;
-    Ok(Page { text, status: DONE })
 }
 
 fn kill_page(alloc: Global, said: Kill) -> Result<Page, Failure>
@@ -111,26 +144,36 @@ fn stop_page(alloc: Global, said: Stop) -> Result<Page, Failure>
     }
 }
 
-/// Makes a request, and the page of its answer.
-fn page_of<S: Input + Output>(alloc: Global, asked: &Ask, stream: &mut S) -> Result<Page, Failure>
-    ensures { let seen = view S.left S.held S.pulls S.puts S.broken in
-        Asks asked.now (seen stream.old) (seen stream.new) result }
+/// What is printed of an answer, made whole.
+fn page_of(alloc: Global, answer: &Answer) -> Result<Page, Failure>
+    ensures { IsPage (answer_text answer.now) result }
 {
-    match asked {
-        Ask::Names => {
-            let (port, lines) = names(alloc, stream)?;
-            list_page(alloc, &names_text(alloc, port, &lines)?)
-        }
-        Ask::Kill => kill_page(alloc, kill(alloc, stream)?),
-        Ask::Stop(name) => stop_page(alloc, stop(alloc, stream, name)?),
-        Ask::Dump => {
-            let (port, lines) = dump(alloc, stream)?;
-            list_page(alloc, &dump_text(alloc, port, &lines)?)
-        }
+    match answer {
+        Answer::Names((port, lines)) => Ok(Page {
+            text: shown(alloc, &names_text(alloc, *port, lines)?)?,
+            status: DONE,
+        }),
+        Answer::Dump((port, lines)) => Ok(Page {
+            text: shown(alloc, &dump_text(alloc, *port, lines)?)?,
+            status: DONE,
+        }),
+        Answer::Kill(said) => kill_page(alloc, *said),
+        Answer::Stop(said) => stop_page(alloc, *said),
     }
 }
 
-/// Prints a text and flushes the output. Returns `status`, or that of an output that failed.
+/// Asks the port mapper for this, and makes what is printed of the answer.
+fn learn<S: Input + Output>(alloc: Global, asked: &Ask, stream: &mut S) -> Result<Page, Failure>
+    ensures { (ended : Result Answer ClientFault)
+        × (let seen = view S.left S.held S.pulls S.puts S.broken in
+        Asks asked.now (seen stream.old) (seen stream.new) ended)
+        × IsPageOf ended result }
+{
+    let answer = ask(alloc, asked, stream)?;
+    page_of(alloc, &answer)
+}
+
+/// Prints a text, and gives the status that was reached, or that of a device that failed.
 pub fn print<W: Write, E: Write>(
     output: &mut Writing<W>,
     errors: &mut Writing<E>,
@@ -148,14 +191,13 @@ pub fn print<W: Write, E: Write>(
     }
 }
 
-/// Makes a request to the port mapper at the other end of `stream`, and prints the answer to `output`. The text is
-/// complete before its first byte is written. Returns the status:
-/// - 0: the port mapper granted the request.
-/// - 1: it did not. `output` gets `NOEXIST` if the name to stop is not active. In every other case `errors` gets one
-///   line: the request is not allowed, or the answer is missing or malformed.
-/// - 3: the output failed or memory ran out, and `errors` gets one line.
+/// Asks the port mapper at the other end of `stream` for this, and writes to `output` what it answered: the registered
+/// names for `Names`, all that it knows for `Dump`, a word for `Kill` and `Stop`. The text is made whole before its
+/// first byte is written. Status 0 where the port mapper did as it was asked. Status 1 where it did not: `output` gets
+/// `NOEXIST` where a name to be forgotten was not active, else `errors` gets one line, that it is not allowed, or that
+/// the answer can't be had or is none. Status 3 where the output failed or memory ran out: `errors` then gets one line.
 ///
-/// Flushes the output, as `do_once` does.
+/// The output is flushed at the end, as by `do_once`.
 pub fn do_client<S: Input + Output, W: Write, E: Write>(
     alloc: Global,
     asked: &Ask,
@@ -164,14 +206,16 @@ pub fn do_client<S: Input + Output, W: Write, E: Write>(
     errors: &mut Writing<E>,
 ) -> u8
     ensures silent { result ≡ DONE → errors.new ≡ errors.old }
-    ensures printed { (printed : Result Page Failure)
+    // What was asked and answered, what is to be told of it, and that it is told so.
+    ensures printed { (ended : Result Answer ClientFault) × (printed : Result Page Failure)
         × (let seen = view S.left S.held S.pulls S.puts S.broken in
-        Asks asked.now (seen stream.old) (seen stream.new) printed)
+        Asks asked.now (seen stream.old) (seen stream.new) ended)
+        × IsPageOf ended printed
         × PrintsPage printed result (W.contents (writing_inner output.old)) (W.contents (writing_inner output.new))
         (writing_broken output.new)
         (output.new ≡ output.old) (errors.new ≡ errors.old) (Fails E.contents errors.old errors.new) }
 {
-    match page_of(alloc, asked, stream) {
+    match learn(alloc, asked, stream) {
         Ok(page) => print(output, errors, &page.text, page.status),
         Err(failure) => fail(errors, failure),
     }

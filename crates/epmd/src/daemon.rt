@@ -1,4 +1,4 @@
-//! The settings of the daemon, and the lines and the status of its end.
+//! The daemon: what it is set to, and how its end is told.
 ghost use Rattle.std.specs.Prelude.{◌≡◌, false, IfOk, IfSome, None};
 ghost use Rattle.portmap_link.specs.Adapters.{writing_inner};
 ghost use Rattle.epmd.specs.Daemon.{SetsAs, beside, first_by, status_of_end, served_line, served_lines, unheard_beside};
@@ -16,10 +16,19 @@ use std::alloc::Global;
 use std::io::Write;
 use std::time::Duration;
 
+const WORKER: &[u8] = b"epmd: worker ";
+
+const SERVED: &[u8] = b" served ";
+
 const UNHEARD: &[u8] = b"epmd: cannot listen on ";
 
-/// Returns the first creation: the nanoseconds since 1970 modulo 2^32, so two starts most likely differ. An unknown
-/// time counts as 0.
+/// Every IPv6 address of the host, and the host itself, in front of a port.
+const EVERYWHERE: &[u8] = b"[::]:";
+
+const ITSELF: &[u8] = b"[::1]:";
+
+/// Where creations start, by the time since 1970: its nanoseconds modulo 2^32, which two starts most likely don't
+/// share. 0 where the time is not known.
 fn first_by(now: Option<Duration>) -> u32
     ensures { result ≡ first_by now }
 {
@@ -29,7 +38,7 @@ fn first_by(now: Option<Duration>) -> u32
     }
 }
 
-/// Returns the settings of the daemon of this command. `now` is the time since 1970.
+/// What the daemon of this command is set to, at this time since 1970.
 pub fn settings(
     alloc: Global,
     command: &Command,
@@ -51,6 +60,7 @@ pub fn settings(
     })
 }
 
+/// Tells how many acts of the port mapper this worker made.
 fn report_worker<E: Write>(errors: &mut Writing<E>, worker: usize, count: u64) -> bool
     ensures taken { IsWritten (served_line worker count) result (E.contents (writing_inner errors.old))
         (E.contents (writing_inner errors.new)) }
@@ -59,16 +69,16 @@ fn report_worker<E: Write>(errors: &mut Writing<E>, worker: usize, count: u64) -
     say_all(
         errors,
         &[
-            b"epmd: worker ",
+            WORKER,
             Buffer::new().format(worker).as_bytes(),
-            b" served ",
+            SERVED,
             Buffer::new().format(count).as_bytes(),
             b"\n",
         ],
     )
 }
 
-/// Prints how many operations each worker performed.
+/// Tells how many acts of the port mapper each worker made.
 fn report_served<E: Write>(errors: &mut Writing<E>, served: &[u64])
     ensures { IsSaid E.contents (served_lines 1 served.now) errors.old errors.new }
 {
@@ -79,6 +89,7 @@ fn report_served<E: Write>(errors: &mut Writing<E>, served: &[u64])
     }
 }
 
+/// Tells that the daemon can't listen at this address.
 fn report_unheard<E: Write>(errors: &mut Writing<E>, address: [u8; 4], port: u16)
     ensures { IsSaid E.contents (unheard_line address port) errors.old errors.new }
 {
@@ -101,13 +112,14 @@ fn report_unheard<E: Write>(errors: &mut Writing<E>, address: [u8; 4], port: u16
     );
 }
 
-/// Returns the IPv6 address that the daemon opens with this address, before a port.
+/// The IPv6 address beside this one, in front of a port.
 fn beside(address: [u8; 4]) -> &'static [u8]
     ensures { result.now ≡ beside address }
 {
-    if address[0] == 0 { b"[::]:" } else { b"[::1]:" }
+    if address[0] == 0 { EVERYWHERE } else { ITSELF }
 }
 
+/// Tells that the daemon can't listen at the IPv6 address beside this one.
 fn print_without_ipv6<E: Write>(errors: &mut Writing<E>, address: [u8; 4], port: u16)
     ensures { IsSaid E.contents (unheard_beside address port) errors.old errors.new }
 {
@@ -116,11 +128,10 @@ fn print_without_ipv6<E: Write>(errors: &mut Writing<E>, address: [u8; 4], port:
     let _ = say_all(errors, &[UNHEARD, beside(address), port, b"\n"]);
 }
 
-/// Prints the end of the daemon of this command, and returns the status:
-/// - `DONE`: the port mapper halted. With debug output, `errors` gets a line for each worker, numbered from 1.
-/// - `NOT_DONE`: it cannot listen.
-/// - `FAILED`: polling failed or memory ran out; or it halted and the recording failed, which the daemon has printed
-///   itself.
+/// Tells how the daemon of this command has ended, and gives the status that does: `DONE` where the port mapper was
+/// told to end, `NOT_DONE` where it can't listen, `FAILED` where readiness of sockets can't be had or memory ran out,
+/// or where it was told to end and its recording failed, which the daemon has told itself. With debug output a daemon
+/// that was told to end tells how many acts each worker made, by rising number from 1.
 pub fn end_daemon<E: Write>(
     errors: &mut Writing<E>,
     command: &Command,

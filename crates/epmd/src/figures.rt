@@ -1,4 +1,5 @@
-//! The constants that definitions cite, pinned.
+//! The statuses of the program, its usual port, limits, timeout and workers, how long a client waits, and how often a
+//! health check tries.
 ghost use Rattle.std.specs.Prelude.{◌≡◌};
 ghost use Rattle.epmd.specs.declared.TheConstants.{CONNECTING};
 ghost use Rattle.epmd.specs.declared.actions.TheConstants.{CONNECTIONS_MOST, DONE, FAILED, NAMES_MOST, NOT_DONE, PORT};
@@ -6,7 +7,7 @@ ghost use Rattle.epmd.specs.declared.actions.TheConstants.{REFUSED};
 ghost use Rattle.epmd.specs.declared.health.TheConstants.{PAUSE_MS, TRIES};
 ghost use Rattle.epmd.specs.declared.plan.TheConstants.{TIMEOUT, WORKERS};
 
-/// A law: these constants have the values of this profile.
+/// A law: the numbers that definitions take from the code are those of this profile.
 pub fn numbers_are_the_profiles()
     ensures statuses { (DONE ≡ 0) × (NOT_DONE ≡ 1) × (REFUSED ≡ 2) × (FAILED ≡ 3) }
     ensures usual { (PORT ≡ 4369) × (CONNECTIONS_MOST ≡ 1024) × (NAMES_MOST ≡ 4096) }

@@ -1,4 +1,4 @@
-//! Sockets that a service manager passes, as sd_listen_fds(3) describes.
+//! Sockets that a service manager hands over, as sd_listen_fds(3) has them, and what is told of them.
 ghost use Rattle.std.specs.Prelude.{◌≡◌, ◌≢◌, ◌⊎◌, [], true, false};
 ghost use Rattle.epmd.specs.Errors.{IsSaid};
 ghost use Rattle.epmd.specs.Handing.{line_of_handed, status_of_handed};
@@ -12,7 +12,7 @@ use portmap_daemon::HandedFault;
 use portmap_link::Writing;
 use std::io::Write;
 
-/// The first descriptor that is passed.
+/// The first descriptor that is handed over.
 pub const FIRST: i32 = 3;
 
 const DESCRIPTOR: &[u8] = b"epmd: descriptor ";
@@ -21,7 +21,8 @@ const NOT_LISTENING: &[u8] = b" is no listening socket\n";
 
 const WITHOUT_EFFECT: &[u8] = b"epmd: sockets were handed over, so port and addresses are theirs\n";
 
-/// Returns how many sockets are passed to the process of id `own`, by the environment's process and count.
+/// How many sockets are handed over to the process of this id, by what the environment says: for which process, and how
+/// many.
 pub fn handed_count(process: Option<&str>, count: Option<&str>, own: u32) -> u32 {
     let is_own = process.is_some_and(|process| process.parse::<u32>() == Ok(own));
     match count {
@@ -30,7 +31,7 @@ pub fn handed_count(process: Option<&str>, count: Option<&str>, own: u32) -> u32
     }
 }
 
-/// Prints the line of passed sockets that cannot be served, and returns the status.
+/// Tells that what was handed over can't be served, and gives the status that does.
 pub fn refuse_handed<E: Write>(errors: &mut Writing<E>, fault: HandedFault) -> u8
     ensures status { result ≡ status_of_handed fault }
     ensures line { IsSaid E.contents (line_of_handed fault) errors.old errors.new }
@@ -46,7 +47,7 @@ pub fn refuse_handed<E: Write>(errors: &mut Writing<E>, fault: HandedFault) -> u
     }
 }
 
-/// Prints that port and addresses have no effect, if the command sets one of them and there are sockets.
+/// Tells that port and addresses are without effect, where this command has one and there are sockets in their place.
 pub fn report_without_effect<T, E: Write>(errors: &mut Writing<E>, command: &Command, sockets: &[T])
     ensures said { command.now.says_where ≡ true → sockets.now ≢ []
         → IsSaid E.contents WITHOUT_EFFECT.now errors.old errors.new }

@@ -19,10 +19,10 @@ use portmap_wire::{Name, Reg};
 use std::alloc::Global;
 use std::io::Write;
 
-/// Attempts to register, and to no longer find a closed name.
+/// How often a registration is made, and a closed name looked up, at most.
 const TRIES: u32 = 20;
 
-/// Milliseconds between two attempts.
+/// Milliseconds between two tries.
 pub const PAUSE_MS: u64 = 50;
 
 #[derive(Clone, Copy, Debug, PartialEq, Eq)]
@@ -33,7 +33,7 @@ pub enum Step {
     Pause,
 }
 
-/// The result of a step: true if the node is registered or found, or the reason for no answer.
+/// What came of a step: whether the node is registered, or found, or why there is no answer.
 pub type Outcome = Result<bool, Failure>;
 
 pub type Made = (Step, Outcome);
@@ -64,7 +64,7 @@ pub fn register<S: Input + Output + Drop>(
     }
 }
 
-/// Returns true if the port mapper finds the node with all that was registered.
+/// Returns whether the port mapper finds the node, as it was registered.
 pub fn look_up<S: Input + Output>(alloc: Global, stream: &mut S, node: &Reg) -> Outcome
     ensures { (ended : Result (Option Node) ClientFault)
         × (let seen = view S.left S.held S.pulls S.puts S.broken in
@@ -77,7 +77,7 @@ pub fn look_up<S: Input + Output>(alloc: Global, stream: &mut S, node: &Reg) -> 
     }
 }
 
-/// A port mapper at one address. Each request has its own connection. `Close` closes that of the registration.
+/// A port mapper at one address. Each request has a connection of its own; `Close` is that of the registration.
 pub trait Checked {
     ghost steps: { Self → List Made };
 
@@ -86,7 +86,7 @@ pub trait Checked {
         ensures alone { (step ≡ Step.Close) ⊎ (step ≡ Step.Pause) → result ≡ Ok true };
 }
 
-/// Makes a step until its answer is `wanted`, at most `most` times, with a pause between two attempts.
+/// Makes a step until it has the wanted answer, at most so often, with a pause between two tries.
 fn pass<P: Checked>(peer: &mut P, step: Step, wanted: bool, most: u32) -> Result<(), Made>
     requires { 0 < most }
     ensures { Grows (Makes (step, wanted, most) result) (P.steps peer.old) (P.steps peer.new) }
@@ -115,7 +115,7 @@ fn check<P: Checked>(peer: &mut P) -> Result<(), Made>
     pass(peer, Step::LookUp, false, TRIES)
 }
 
-/// Returns the start of the line of a check whose last step this is.
+/// Returns the front of the line of a check whose last step this is.
 fn text_of(step: Step, outcome: Outcome) -> &'static [u8]
     ensures { result.now ≡ text_of step outcome }
 {

@@ -1,155 +1,162 @@
-//! The items that words spell: a word, and its value if it takes one.
-ghost use Rattle.std.specs.Prelude.{◌≡◌, ◌∷◌, ◌<◌, ◌≤◌, ◌^◌, true, false, length, map, string_bytes, IfOk, IfErr};
+//! What one word of the command says, with its value.
+ghost use Rattle.std.specs.Prelude.{◌≡◌, ◌∷◌, ◌<◌, ◌≤◌, ◌^◌, ℕ, List, true, false, length, map, string_bytes, IfOk};
+ghost use Rattle.std.specs.Prelude.{IfErr, IfSome};
 ghost use Rattle.portmap_wire.specs.Name.{IsName};
-ghost use Rattle.epmd.specs.Addresses.{ListensOn};
-ghost use Rattle.epmd.specs.Meaning.{IsFaultAt, Takes};
-ghost use Rattle.epmd.specs.Numbers.{WritesWithin};
 ghost use Rattle.epmd.specs.Words.{Begins, is_action};
+ghost use Rattle.epmd.specs.Meaning.{IsFaultAt};
 
 use crate::addresses::read_listening;
 use crate::numbers::read_within;
 use crate::words::{Action, Ask, WordFault};
 use portmap_book::SEATS_MOST;
 use portmap_daemon::TIMEOUT_SECONDS_MOST;
+use portmap_link::NoMemory;
 use portmap_record::Text;
 use portmap_wire::{Name, NameFault};
 use std::alloc::Global;
 
+/// What one word says, with the value behind it if it has one.
 #[derive(Drop)]
 pub enum Word {
     Port(u16),
+    /// What to listen on.
     Addresses(Vec<[u8; 4]>),
-    /// Seconds.
+    /// In seconds.
     Timeout(u32),
     Workers(u32),
     Relaxed,
     Debug,
     Daemon,
-    /// The path of a recording.
+    /// The path of a file to record to.
     Recording(String),
     /// The path of the file for counters.
     Figures(String),
     Act(Action),
 }
 
-/// The words behind the word of this index.
-#[derive(Drop)]
-pub struct Behind<'a> {
-    pub words: &'a [String],
-    pub index: usize,
-    /// True if a word before sets an action.
-    pub has_action: bool,
-    ghost small: { index < 2 ^ 63 },
+/// What a word that a value follows is for.
+#[derive(Clone, Copy)]
+enum Use {
+    Setting,
+    Action,
 }
 
-impl<'a> Behind<'a> {
-    fn value(&mut self) -> Result<&'a str, WordFault>
-        ensures { Takes (λ text value. value.now ≡ text) self.old self.new result }
-    {
-        let [value, rest @ ..] = self.words else {
-            return Err(WordFault::MissingValue(self.index));
-        };
-        self.words = rest;
-        Ok(value.as_str())
-    }
+/// What this word says by itself.
+fn read_plain(word: &str) -> Option<Word>
+    ensures { IfSome result (λ said. (rest : List (List ℕ)) → Begins said (word.now ∷ rest) rest) }
+{
+    let said = match word {
+        "-relaxed_command_check" => Word::Relaxed,
+        "-d" | "-debug" => Word::Debug,
+        "-daemon" => Word::Daemon,
+        "-names" => Word::Act(Action::Ask(Ask::Names)),
+        "-kill" => Word::Act(Action::Ask(Ask::Kill)),
+        "-dump" => Word::Act(Action::Ask(Ask::Dump)),
+        "-health" => Word::Act(Action::Health),
+        "-once" => Word::Act(Action::Once),
+        _ => return None,
+    };
+    Some(said)
+}
 
-    fn number(&mut self, least: u32, most: u32) -> Result<u32, WordFault>
-        ensures { Takes (WritesWithin least most) self.old self.new result }
-    {
-        let bad = WordFault::BadValue(self.index + 1);
-        let Some(number) = read_within(self.value()?.as_bytes(), least, most) else {
-            return Err(bad);
-        };
-        Ok(number)
-    }
-
-    fn addresses(&mut self, alloc: Global) -> Result<Vec<[u8; 4]>, WordFault>
-        ensures { Takes (λ text addresses. ListensOn text addresses.items) self.old self.new result }
-    {
-        let bad = WordFault::BadValue(self.index + 1);
-        let Some(addresses) = read_listening(alloc, self.value()?.as_bytes())? else {
-            return Err(bad);
-        };
-        Ok(addresses)
-    }
-
-    fn text(&mut self, alloc: Global) -> Result<String, WordFault>
-        ensures { Takes (λ text value. string_bytes value ≡ text) self.old self.new result }
-    {
-        Ok(String::from_str(alloc, self.value()?)?)
-    }
-
-    /// Reads the path of an action. Refuses a second action before it looks for the path.
-    fn path(&mut self, alloc: Global) -> Result<String, WordFault>
-        ensures { Takes (λ text path. string_bytes path ≡ text) self.old self.new result }
-    {
-        if self.has_action {
-            return Err(WordFault::TwoCommands(self.index));
+/// What this word is for, if a value follows it.
+fn use_of(word: &str) -> Option<Use> {
+    match word {
+        "-port" | "-address" | "-packet_timeout" | "-workers" | "-record" | "-figures" => {
+            Some(Use::Setting)
         }
-        self.text(alloc)
+        "-stop" | "-check" | "-play" | "-local" | "-audit" => Some(Use::Action),
+        _ => None,
     }
+}
 
-    /// Reads the name of an action. Refuses a second action before it looks for the name.
-    fn name(&mut self, alloc: Global) -> Result<Name, WordFault>
-        ensures { Takes (λ text name. (name ≡ text) × IsName text) self.old self.new result }
-    {
-        if self.has_action {
-            return Err(WordFault::TwoCommands(self.index));
+/// The name that this value is.
+fn read_name(alloc: Global, value: &str) -> Result<Option<Name>, NoMemory>
+    ensures { IfOk result (λ read. IfSome read (λ name. (name ≡ value.now) × IsName value.now)) }
+{
+    match Name::read(alloc, value.as_bytes()) {
+        Ok(name) => Ok(Some(name)),
+        Err(NameFault::NoMemory) => Err(NoMemory),
+        Err(_) => Ok(None),
+    }
+}
+
+/// What this word sets with this value; none where it takes no such value.
+fn read_setting(alloc: Global, word: &str, value: &str) -> Result<Option<Word>, NoMemory>
+    ensures spelled { IfOk result (λ read. IfSome read
+        (λ said. (rest : List (List ℕ)) → Begins said (word.now ∷ value.now ∷ rest) rest)) }
+    ensures setting { IfOk result (λ read. IfSome read (λ said. is_action said ≡ false)) }
+{
+    let text = value.as_bytes();
+    Ok(match word {
+        "-port" => read_within(text, 1, 65_535).map(|number| Word::Port(number as u16)),
+        "-address" => read_listening(alloc, text)?.map(|addresses| Word::Addresses(addresses)),
+        "-packet_timeout" => {
+            read_within(text, 1, TIMEOUT_SECONDS_MOST).map(|seconds| Word::Timeout(seconds))
         }
-        let bad = WordFault::BadValue(self.index + 1);
-        match Name::read(alloc, self.value()?.as_bytes()) {
-            Ok(name) => Ok(name),
-            Err(NameFault::NoMemory) => Err(WordFault::NoMemory),
-            Err(_) => Err(bad),
-        }
-    }
+        "-workers" => read_within(text, 1, SEATS_MOST as u32).map(|number| Word::Workers(number)),
+        "-record" => Some(Word::Recording(String::from_str(alloc, value)?)),
+        "-figures" => Some(Word::Figures(String::from_str(alloc, value)?)),
+        _ => None,
+    })
+}
 
-    /// Reads one item: the table of all words.
-    fn item(&mut self, alloc: Global, word: &str) -> Result<Word, WordFault>
-        ensures spelled { IfOk result (λ item. Begins item (word.now ∷ map string_bytes self.old.words.now)
-            (map string_bytes self.new.words.now)) }
-        ensures fewer { IfOk result (λ _. length self.new.words.now ≤ length self.old.words.now) }
-        ensures fault { IfErr result
-            (λ fault. IsFaultAt self.old.index (length self.old.words.now) self.old.has_action fault) }
-    {
-        Ok(match word {
-            "-port" => Word::Port(self.number(1, 65_535)? as u16),
-            "-address" => Word::Addresses(self.addresses(alloc)?),
-            "-packet_timeout" => Word::Timeout(self.number(1, TIMEOUT_SECONDS_MOST)?),
-            "-workers" => Word::Workers(self.number(1, SEATS_MOST as u32)?),
-            "-relaxed_command_check" => Word::Relaxed,
-            "-d" | "-debug" => Word::Debug,
-            "-daemon" => Word::Daemon,
-            "-record" => Word::Recording(self.text(alloc)?),
-            "-figures" => Word::Figures(self.text(alloc)?),
-            "-names" => Word::Act(Action::Ask(Ask::Names)),
-            "-kill" => Word::Act(Action::Ask(Ask::Kill)),
-            "-stop" => Word::Act(Action::Ask(Ask::Stop(self.name(alloc)?))),
-            "-dump" => Word::Act(Action::Ask(Ask::Dump)),
-            "-health" => Word::Act(Action::Health),
-            "-once" => Word::Act(Action::Once),
-            "-check" => Word::Act(Action::Inspect(Text::Verdict, self.path(alloc)?)),
-            "-play" => Word::Act(Action::Inspect(Text::Transcript, self.path(alloc)?)),
-            "-local" => Word::Act(Action::Inspect(Text::LocalRecord, self.path(alloc)?)),
-            "-audit" => Word::Act(Action::Audit(self.path(alloc)?)),
-            _ => return Err(WordFault::Unknown(self.index)),
-        })
-    }
+/// What this word asks for with this value; none where it takes no such value.
+fn read_action(alloc: Global, word: &str, value: &str) -> Result<Option<Action>, NoMemory>
+    ensures { IfOk result (λ read. IfSome read
+        (λ action. (rest : List (List ℕ)) → Begins (Word.Act action) (word.now ∷ value.now ∷ rest) rest)) }
+{
+    let text = match word {
+        "-stop" => return Ok(read_name(alloc, value)?.map(|name| Action::Ask(Ask::Stop(name)))),
+        "-audit" => return Ok(Some(Action::Audit(String::from_str(alloc, value)?))),
+        "-check" => Text::Verdict,
+        "-play" => Text::Transcript,
+        "-local" => Text::LocalRecord,
+        _ => return Ok(None),
+    };
+    Ok(Some(Action::Inspect(text, String::from_str(alloc, value)?)))
+}
 
-    /// Reads the item of the word `first`. Refuses a second action.
-    pub fn read(&mut self, alloc: Global, first: &String) -> Result<Word, WordFault>
-        ensures spelled { IfOk result (λ item. Begins item
-            (string_bytes first.now ∷ map string_bytes self.old.words.now) (map string_bytes self.new.words.now)) }
-        ensures fewer { IfOk result (λ _. length self.new.words.now ≤ length self.old.words.now) }
-        ensures one { IfOk result (λ item. is_action item ≡ true → self.old.has_action ≡ false) }
-        ensures fault { IfErr result
-            (λ fault. IsFaultAt self.old.index (length self.old.words.now) self.old.has_action fault) }
-    {
-        let (index, has_action) = (self.index, self.has_action);
-        let item = self.item(alloc, first.as_str())?;
-        if has_action && matches!(item, Word::Act(_)) {
+/// What is said by this word and, where it takes a value, by the one behind it; and the words that are left. `index` is
+/// the first word's number, and a second action is refused.
+pub fn read_word<'a>(
+    alloc: Global,
+    first: &String,
+    behind: &'a [String],
+    index: usize,
+    has_action: bool,
+) -> Result<(Word, &'a [String]), WordFault>
+    requires { index < 2 ^ 63 }
+    ensures spelled { IfOk result (λ read. Begins read.0
+        (string_bytes first.now ∷ map string_bytes behind.now)
+        (map string_bytes read.1.now)) }
+    ensures fewer { IfOk result (λ read. length read.1.now ≤ length behind.now) }
+    ensures one { IfOk result (λ read. is_action read.0 ≡ true → has_action ≡ false) }
+    ensures fault { IfErr result (λ fault. IsFaultAt index (length behind.now) has_action fault) }
+{
+    if let Some(said) = read_plain(first.as_str()) {
+        if has_action && matches!(said, Word::Act(_)) {
             return Err(WordFault::TwoCommands(index));
         }
-        Ok(item)
+        return Ok((said, behind));
+    }
+    let Some(for_what) = use_of(first.as_str()) else {
+        return Err(WordFault::Unknown(index));
+    };
+    if has_action && matches!(for_what, Use::Action) {
+        return Err(WordFault::TwoCommands(index));
+    }
+    let [value, rest @ ..] = behind else {
+        return Err(WordFault::MissingValue(index));
+    };
+    let said = match for_what {
+        Use::Setting => read_setting(alloc, first.as_str(), value.as_str())?,
+        Use::Action => read_action(alloc, first.as_str(), value.as_str())?.map(|action| Word::Act(
+            action,
+        )),
+    };
+    match said {
+        Some(said) => Ok((said, rest)),
+        None => Err(WordFault::BadValue(index + 1)),
     }
 }

@@ -2,7 +2,7 @@
 ghost use Rattle.std.specs.Prelude.{◌≡◌, ◌≤◌, ◌<◌, ◌^◌, ℕ, IfSome, None};
 ghost use Rattle.epmd.specs.Numbers.{WritesNumber, WritesWithin, IsWithin};
 
-/// Reads one to `most` digits. Leading zeros are allowed.
+/// The number that this text writes in one to `most` digits, of which zeros may lead.
 pub fn read_digits(text: &[u8], most: usize) -> Option<u32>
     requires { most ≤ 9 }
     ensures found { IfSome result (λ number. WritesNumber most text.now number) }
@@ -21,7 +21,7 @@ pub fn read_digits(text: &[u8], most: usize) -> Option<u32>
     Some(value)
 }
 
-/// Reads one to nine digits of a number within these bounds.
+/// The number that this text writes in one to nine digits, if it is within these bounds.
 pub fn read_within(text: &[u8], least: u32, greatest: u32) -> Option<u32>
     ensures found { IfSome result (λ number. WritesWithin least greatest text.now number) }
     ensures none { result ≡ None → (number : ℕ) → WritesWithin least greatest text.now number → ⊥ }
@@ -30,7 +30,7 @@ pub fn read_within(text: &[u8], least: u32, greatest: u32) -> Option<u32>
     (number >= least && number <= greatest).then_some(number)
 }
 
-/// Reads one to three digits of a number that fits a byte.
+/// The number that this text writes in one to three digits, if it fits a byte.
 pub fn read_byte(text: &[u8]) -> Option<u8>
     ensures found { IfSome result (λ number. WritesNumber 3 text.now number × (number < 2 ^ 8)) }
     ensures none { result ≡ None → (number : ℕ) → WritesNumber 3 text.now number → number < 2 ^ 8 → ⊥ }

@@ -1,20 +1,23 @@
-//! The settings that words make, and the command that they complete to.
-ghost use Rattle.std.specs.Prelude.{◌≡◌, [], None, option_map, string_bytes, ℕ, IfOk, IfErr};
-ghost use Rattle.epmd.specs.Meaning.{Holds, Completes, NamesWord, IsPort, over, plan_of};
+//! What words have said so far, and the command that comes of it.
+ghost use Rattle.std.specs.Prelude.{◌≡◌, [], ◌∷◌, None, is_some, option_map, unwrap_or, string_bytes, ℕ, IfOk, IfErr};
+ghost use Rattle.epmd.specs.Addresses.{anywhere};
+ghost use Rattle.epmd.specs.Meaning.{Holds, Adds, Completes, NamesWord, IsPort};
 
 use crate::actions::PORT;
 use crate::addresses::everywhere;
 use crate::items::Word;
 use crate::numbers::read_within;
 use crate::words::{Action, Command, Env, WordFault};
+use portmap_link::NoMemory;
 use std::alloc::Global;
 
-/// Seconds.
+/// For how many seconds a connection may move no byte, where no word says so.
 const TIMEOUT: u32 = 60;
 
+/// How many workers serve, where no word says so.
 const WORKERS: u32 = 4;
 
-/// The settings that words have made so far.
+/// What words have said so far.
 #[derive(Drop)]
 pub struct Plan {
     pub action: Option<Action>,
@@ -28,7 +31,7 @@ pub struct Plan {
     pub figures: Option<String>,
 }
 
-/// Returns the port of the environment, or `PORT` if the variable is not set.
+/// The port that this text of the environment says, else the usual one.
 fn usual_port(text: &Option<String>) -> Result<u16, WordFault>
     ensures found { IfOk result (λ port. IsPort None (option_map string_bytes text.now) port) }
     ensures none { IfErr result (λ fault. (fault ≡ WordFault.BadEnvPort)
@@ -43,7 +46,19 @@ fn usual_port(text: &Option<String>) -> Result<u16, WordFault>
     }
 }
 
+/// These addresses, else the usual ones.
+fn usual_addresses(alloc: Global, addresses: Option<Vec<[u8; 4]>>) -> Result<Vec<[u8; 4]>, NoMemory>
+    ensures { IfOk result (λ found. found.items
+        ≡ unwrap_or (option_map (λ those. those.items) addresses) (anywhere ∷ [])) }
+{
+    match addresses {
+        Some(addresses) => Ok(addresses),
+        None => everywhere(alloc),
+    }
+}
+
 impl Plan {
+    /// Nothing was said.
     pub fn new() -> Plan
         ensures { Holds [] result }
     {
@@ -60,11 +75,18 @@ impl Plan {
         }
     }
 
-    /// Applies the setting of `item`, in place of an earlier value.
-    pub fn add(&mut self, item: Word)
-        ensures { self.new ≡ over self.old (plan_of item) }
+    /// Whether an action was asked for.
+    pub fn has_action(&self) -> bool
+        ensures { result ≡ is_some self.now.action }
     {
-        match item {
+        self.action.is_some()
+    }
+
+    /// One word more. What it sets is set anew.
+    pub fn add(&mut self, said: Word)
+        ensures { Adds said self.old self.new }
+    {
+        match said {
             Word::Port(number) => self.port = Some(number),
             Word::Addresses(addresses) => self.addresses = Some(addresses),
             Word::Timeout(seconds) => self.timeout = Some(seconds),
@@ -78,7 +100,7 @@ impl Plan {
         }
     }
 
-    /// Returns the command, with the defaults of what words have not set.
+    /// The command, with what is usual where nothing was said.
     pub fn complete(self, alloc: Global, env: &Env) -> Result<Command, WordFault>
         ensures made { IfOk result (λ command. Completes self env.now command) }
         ensures fault { (count : ℕ) → IfErr result (λ fault. NamesWord count fault) }
@@ -99,16 +121,12 @@ impl Plan {
             Some(port) => port,
             None => usual_port(&env.port)?,
         };
-        let addresses = match addresses {
-            Some(addresses) => addresses,
-            None => everywhere(alloc)?,
-        };
         Ok(Command {
             action: action.unwrap_or(Action::Serve),
             port,
             says_where,
             relaxed: relaxed || env.relaxed,
-            addresses,
+            addresses: usual_addresses(alloc, addresses)?,
             timeout: timeout.unwrap_or(TIMEOUT),
             workers: workers.unwrap_or(WORKERS),
             debug,

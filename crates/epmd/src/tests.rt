@@ -1,5 +1,5 @@
-//! What no clause states of the program: its words, settings, texts and statuses, and its use of the system. The crates
-//! below have their tests elsewhere.
+//! What no clause says of the program: its words, settings, texts and statuses, and what it takes from the system. The
+//! tests of the crates below stand in crates of their own.
 mod actions;
 mod auditing;
 mod commands;
@@ -12,7 +12,8 @@ mod words;
 
 use std::alloc::{AllocError, Global};
 
-/// Returns the meaning of a byte of a table: `~` is a blank, `|` an end of line, and `?` 0xFF, which is not in UTF-8.
+/// The byte that one of a table stands for: `~` for a blank, `|` for an end of line, and `?` for 0xFF, which is in no
+/// UTF-8.
 fn meant(byte: u8) -> u8 {
     match byte {
         b'~' => b' ',
@@ -22,6 +23,7 @@ fn meant(byte: u8) -> u8 {
     }
 }
 
+/// The bytes that a text of a table stands for.
 fn bytes_of(alloc: Global, text: &str) -> Result<Vec<u8>, AllocError> {
     let mut bytes = Vec::new(alloc);
     for byte in text.bytes() {
@@ -30,8 +32,8 @@ fn bytes_of(alloc: Global, text: &str) -> Result<Vec<u8>, AllocError> {
     Ok(bytes)
 }
 
-/// Returns the end of an action: the status, the output behind `out`, and the lines on standard error behind `err`. `|`
-/// is an end of line, and `\u{a6}` a `|`.
+/// How an action ends: the status, behind `out` what is written and behind `err` what is told of errors, where there is
+/// any. `|` is an end of line, and `\u{a6}` a `|`.
 fn ending(alloc: Global, status: u8, output: &[u8], errors: &[u8]) -> Result<String, AllocError> {
     let mut printed = format!(in alloc; "{status}")?;
     for (word, bytes) in [("out", output), ("err", errors)] {

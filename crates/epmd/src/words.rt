@@ -1,4 +1,4 @@
-//! The command that words and the environment say.
+//! The words of the command.
 ghost use Rattle.std.specs.Prelude.{◌≡◌, ◌≤◌, List, [], length, map, string_bytes, IfOk, IfErr};
 ghost use Rattle.epmd.specs.Numbers.{IsWithin};
 ghost use Rattle.epmd.specs.Errors.{IsSaid};
@@ -6,11 +6,10 @@ ghost use Rattle.epmd.specs.Meaning.{CanServe, SaysCommand, Holds, NamesWord, st
 ghost use Rattle.epmd.specs.Words.{Spells};
 ghost use Rattle.epmd.specs.declared.items.Word.{Word};
 
-use crate::actions::{Failure, REFUSED, fail};
-use crate::errors::{say, say_all};
-use crate::items::Behind;
+use crate::actions::{FAILED, MEMORY_RAN_OUT, REFUSED};
+use crate::errors::{say, say_number};
+use crate::items::read_word;
 use crate::plan::Plan;
-use itoa::Buffer;
 use portmap_link::{NoMemory, Writing};
 use portmap_record::Text;
 use portmap_wire::Name;
@@ -19,32 +18,41 @@ use std::io;
 use std::io::{ErrorKind, Write};
 use thiserror::Error;
 
-/// A request to the port mapper of this host.
+const BAD_WORD: &[u8] = b"epmd: bad word ";
+
+const BAD_PORT: &[u8] = b"epmd: bad port in environment\n";
+
+/// What the daemon on this host is asked.
 #[derive(Drop)]
 pub enum Ask {
+    /// The names that it knows.
     Names,
+    /// To end.
     Kill,
-    /// Retires an active name.
+    /// To forget that a name is active.
     Stop(Name),
+    /// All that it knows.
     Dump,
 }
 
+/// What the command is asked to do.
 #[derive(Drop)]
 pub enum Action {
-    /// Serves as the daemon.
+    /// To serve as the daemon.
     Serve,
+    /// To ask the daemon on this host.
     Ask(Ask),
-    /// Checks that the port mapper of this host registers a name, finds it and frees it.
+    /// To check that the daemon on this host registers names, finds them and frees them.
     Health,
-    /// Replies to one request from standard input, on standard output.
+    /// To answer one request from standard input, on standard output.
     Once,
-    /// Checks the session in the file of this path, and writes this text of it.
+    /// To judge the recorded session in the file of this path, and to write this of it.
     Inspect(Text, String),
-    /// Checks the files of a recording as one session. The first file has this path.
+    /// To judge the files of the recording whose first one has this path, as one session.
     Audit(String),
 }
 
-/// The variables of the environment that the command reads.
+/// What the environment says.
 #[derive(Drop)]
 pub struct Env {
     /// The text of `ERL_EPMD_PORT`.
@@ -53,44 +61,44 @@ pub struct Env {
     pub relaxed: bool,
 }
 
-/// An action and its settings.
+/// What the command is asked to do, and how.
 #[derive(Drop)]
 pub struct Command {
     pub action: Action,
     /// 1 to 65,535.
     pub port: u16,
-    /// True if a word or the environment sets the port, or a word the addresses.
+    /// Whether a word or the environment says the port, or a word the addresses.
     pub says_where: bool,
     pub relaxed: bool,
-    /// The IPv4 addresses that the daemon listens on.
+    /// What the daemon listens on.
     pub addresses: Vec<[u8; 4]>,
-    /// Seconds after which an inactive connection is closed: 1 to 86,400.
+    /// For how many seconds a connection may move no byte: 1 to 86,400.
     pub timeout: u32,
     /// 1 to 64.
     pub workers: u32,
     pub debug: bool,
-    /// The path of the recording.
+    /// The path of the file that the daemon records to, if any.
     pub recording: Option<String>,
-    /// The path of the file for counters.
+    /// The path of the file for counters, if any.
     pub figures: Option<String>,
 }
 
-/// The reason for which words are not a command. Words are numbered from 0.
+/// Why words are no command. A word is named by its number, from 0.
 #[derive(Clone, Copy, Debug, PartialEq, Eq, Error)]
 pub enum WordFault {
-    /// The word is not known. It is word 0 if any word is not UTF-8.
+    /// No such word is known, or one is not UTF-8: that is called word 0.
     #[error("bad word {0}")]
     Unknown(usize),
-    /// No value follows this word, which needs one.
+    /// No value is behind this word, which wants one.
     #[error("bad word {0}")]
     MissingValue(usize),
-    /// The word before does not accept this value.
+    /// This value is none that the word before it takes.
     #[error("bad word {0}")]
     BadValue(usize),
-    /// This word sets a second action.
+    /// This word asks for an action, and so did one before it.
     #[error("bad word {0}")]
     TwoCommands(usize),
-    /// The environment's port is malformed, and no word sets a port.
+    /// The environment's text is no port, and no word says one.
     #[error("bad port in environment")]
     BadEnvPort,
     #[error("out of memory")]
@@ -115,7 +123,7 @@ impl From<io::Error> for WordFault {
 
     ghost from_gives = { λ error fault. fault ≡ fault_of_words (error_kind error) };
 
-    // The program's own words cannot be read if memory runs out, or if a word is not UTF-8.
+    // The system's words can't be had for want of memory, or where one is not UTF-8.
     fn from(error: io::Error) -> WordFault {
         match error.kind() {
             ErrorKind::OutOfMemory => WordFault::NoMemory,
@@ -124,29 +132,33 @@ impl From<io::Error> for WordFault {
     }
 }
 
-/// Prints the line of a fault to `errors`, and returns its status.
+/// The status that tells this fault.
+fn status_of(fault: WordFault) -> u8
+    ensures { result ≡ status_of_fault fault }
+{
+    match fault {
+        WordFault::NoMemory => FAILED,
+        _ => REFUSED,
+    }
+}
+
+/// Tells why words are no command, and gives the status that does. A failure of `errors` changes nothing else.
 pub fn refuse<E: Write>(errors: &mut Writing<E>, fault: WordFault) -> u8
     ensures status { result ≡ status_of_fault fault }
     ensures line { IsSaid E.contents (line_of_fault fault) errors.old errors.new }
 {
-    match fault {
+    let _ = match fault {
         WordFault::Unknown(index)
         | WordFault::MissingValue(index)
         | WordFault::BadValue(index)
-        | WordFault::TwoCommands(index) => {
-            let mut digits = Buffer::new();
-            let digits = digits.format(index).as_bytes();
-            let _ = say_all(errors, &[b"epmd: bad word ", digits, b"\n"]);
-            REFUSED
-        }
-        WordFault::BadEnvPort => {
-            let _ = say(errors, b"epmd: bad port in environment\n");
-            REFUSED
-        }
-        WordFault::NoMemory => fail(errors, Failure::Memory),
-    }
+        | WordFault::TwoCommands(index) => say_number(errors, BAD_WORD, index as u64, b"\n"),
+        WordFault::BadEnvPort => say(errors, BAD_PORT),
+        WordFault::NoMemory => say(errors, MEMORY_RAN_OUT),
+    };
+    status_of(fault)
 }
 
+/// What these words say, one behind the other.
 fn read_all(alloc: Global, words: &[String]) -> Result<Plan, WordFault>
     ensures said { IfOk result (λ plan. (items : List Word) × Spells (map string_bytes words.now) items
         × Holds items plan) }
@@ -155,23 +167,17 @@ fn read_all(alloc: Global, words: &[String]) -> Result<Plan, WordFault>
     let mut plan = Plan::new();
     let mut rest = words;
     while let [first, behind @ ..] = rest {
-        let mut values = Behind {
-            words: behind,
-            index: words.len() - rest.len(),
-            has_action: plan.action.is_some(),
-        };
-        let item = values.read(alloc, first)?;
-        plan.add(item);
-        rest = values.words;
+        let index = words.len() - rest.len();
+        let (said, after) = read_word(alloc, first, behind, index, plan.has_action())?;
+        plan.add(said);
+        rest = after;
     }
     Ok(plan)
 }
 
-/// Reads a command from words, without the program's name, and from the environment.
-///
-/// # Errors
-/// Words are read from left to right, and the first fault is returned. At each word the order is `Unknown`,
-/// `TwoCommands`, `MissingValue`, `BadValue`. `BadEnvPort` comes last. `NoMemory` may occur at any value.
+/// The command that the words, behind the program's own name, and the environment say. Words are read from left to
+/// right and the first fault ends the reading; at one word the order is `Unknown`, `TwoCommands`, `MissingValue`,
+/// `BadValue`. The environment's port is looked at last, where no word says one. Want of memory can come at any value.
 pub fn read_words(alloc: Global, words: &[String], env: &Env) -> Result<Command, WordFault>
     ensures port { IfOk result (λ command. IsWithin 1 65535 command.port) }
     ensures ranges { IfOk result CanServe }

@@ -1,22 +1,14 @@
 //! Books, and operations on them.
 use crate::bytes::KILL;
-use crate::peers::Client;
 use portmap_book::{Book, Desk, Seat};
 use portmap_core::{Answer, Config, Fate};
 use std::alloc::Global;
-use std::fs::{File, Files};
 use std::rt::Clock;
 use std::sync::Wait;
 use std::sync::atomic::{AtomicU64, Ordering};
 use std::sync::ledger::Ledger;
 use std::thread;
-use std::thread::Threads;
 use std::time::Duration;
-
-/// The runtime of a test. A function has `Threads` and `Wait` by a bound alone.
-pub trait Runtime: Threads + Wait + Client + Files<File = File> + AllocGlobal + Copy + Sync {}
-
-impl<R: Threads + Wait + Client + Files<File = File> + AllocGlobal + Copy + Sync> Runtime for R {}
 
 pub fn book(alloc: Global, relaxed: bool, conn_max: u32) -> Option<Book> {
     let config = Config::new(4369, relaxed, conn_max, 4096).ok()?;

@@ -12,16 +12,22 @@ pub enum SampleEntry {
 }
 
 pub fn entry(alloc: Global, kept: &SampleEntry) -> Result<Entry, AllocError> {
-    Ok(match *kept {
-        SampleEntry::Connected(local, slot) => Entry::Connected { local, slot },
+    Ok(match kept {
+        SampleEntry::Connected(local, slot) => Entry::Connected {
+            local: *local,
+            slot: *slot,
+        },
         SampleEntry::Piece(slot, bytes, reply, fate) => Entry::Piece {
-            slot,
+            slot: *slot,
             bytes: bytes.to_vec(alloc)?,
             reply: reply.to_vec(alloc)?,
-            fate,
+            fate: *fate,
         },
-        SampleEntry::Closed(slot) => Entry::Closed { slot },
-        SampleEntry::Faulted(slot) => Entry::Faulted { slot },
-        SampleEntry::Late(slot, fate) => Entry::Late { slot, fate },
+        SampleEntry::Closed(slot) => Entry::Closed { slot: *slot },
+        SampleEntry::Faulted(slot) => Entry::Faulted { slot: *slot },
+        SampleEntry::Late(slot, fate) => Entry::Late {
+            slot: *slot,
+            fate: *fate,
+        },
     })
 }

@@ -5,14 +5,9 @@ use std::rt::Clock;
 use std::thread;
 use std::time::Duration;
 
-/// The runtime of a peer.
-pub trait Client: Net<Stream = TcpStream> + Clock {}
-
-impl<R: Net<Stream = TcpStream> + Clock> Client for R {}
-
 /// Connects as soon as the daemon listens. Until then the system refuses the connection. A read fails after ten
 /// seconds.
-pub fn connect(rt: &impl Client, port: u16) -> Option<TcpStream> {
+pub fn connect<R: Net<Stream = TcpStream> + Clock>(rt: &R, port: u16) -> Option<TcpStream> {
     for _ in 0..500u32 {
         match TcpStream::connect(rt, (Ipv4Addr::LOCALHOST, port)) {
             Ok(stream) => {
@@ -28,7 +23,11 @@ pub fn connect(rt: &impl Client, port: u16) -> Option<TcpStream> {
 }
 
 /// Returns a connection over which `request` was sent.
-pub fn sent(rt: &impl Client, port: u16, request: &[u8]) -> Option<TcpStream> {
+pub fn sent<R: Net<Stream = TcpStream> + Clock>(
+    rt: &R,
+    port: u16,
+    request: &[u8],
+) -> Option<TcpStream> {
     let mut stream = connect(rt, port)?;
     stream.write_all(request).ok()?;
     Some(stream)

@@ -1,4 +1,4 @@
-//! The audit of recorded sessions in several files.
+//! Recorded sessions in several files, judged as one.
 use crate::devices::plan;
 use crate::words::{by_name, bytes, number, text};
 use anyhow::Result;
@@ -8,7 +8,7 @@ use portmap_testing::tape::Tape;
 use std::alloc::Global;
 use std::collections::VecDeque;
 
-/// Audits these files, the oldest first. Each is read from a device of this kind, with this limit of turns.
+/// What is found of these files, the oldest first, which are read from devices of a kind with so many turns each.
 pub fn audited(alloc: Global, device: &str, turns: &str, words: &[&str]) -> Result<String> {
     let mut files = Vec::new(alloc);
     for word in words {
@@ -22,13 +22,18 @@ pub fn audited(alloc: Global, device: &str, turns: &str, words: &[&str]) -> Resu
     actual(alloc, marked!(alloc, audit(alloc, inputs, turns)))
 }
 
-/// A lack of memory is written without the file, as for every call.
+/// Want of memory is told without the file, as by every call.
 fn actual(alloc: Global, outcome: Result<Audited, AuditFault>) -> Result<String> {
     match outcome {
         Ok(Audited::Run { entries, tail }) => text(format!(in alloc; "run {entries} {tail:?}")),
         Ok(Audited::Broken { file, entry }) => text(format!(in alloc; "broken {file} at {entry}")),
         Ok(Audited::Apart { file, gap }) => text(format!(in alloc; "apart {file} by {gap:?}")),
-        Err(error) if error.fault == PlayFault::NoMemory => by_name(alloc, &error.fault),
+        Err(
+            AuditFault {
+                fault: PlayFault::NoMemory,
+                ..
+            },
+        ) => by_name(alloc, &PlayFault::NoMemory),
         Err(AuditFault { file, fault }) => text(format!(in alloc; "fault {file} {fault:?}")),
     }
 }

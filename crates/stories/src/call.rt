@@ -1,4 +1,4 @@
-//! Calls of a client, one connection that is served, and an outbox with its device.
+//! Calls of a client, one connection served, and bytes that wait for a device.
 use crate::devices::{device, plan};
 use crate::lists::{dumped, listed};
 use crate::played::played;
@@ -12,10 +12,10 @@ use portmap_testing::tape::{DevicePlan, STEADY, Tape};
 use portmap_wire::Reg;
 use std::alloc::Global;
 
-/// The state of a story about calls.
+/// What calls write, and bytes that wait for a device.
 #[derive(Drop)]
 pub struct Calls {
-    /// The bytes that a call wrote before it ran out of memory.
+    /// What a call wrote to which memory was refused.
     begun: Vec<u8>,
     outbox: Outbox,
     output: Tape<'static>,
@@ -30,7 +30,7 @@ impl Calls {
         }
     }
 
-    /// Returns the actual result of a line.
+    /// What comes of an act.
     pub fn came(&mut self, alloc: Global, words: &[&str]) -> Result<String> {
         match *words {
             [ref call @ .., "gives", answer, device] => {
@@ -44,8 +44,7 @@ impl Calls {
         }
     }
 
-    /// Calls the client over a device that gives these bytes. Returns the result, the written bytes, and the unread
-    /// rest.
+    /// What a call says, writes, and leaves of the answer that this device gives.
     fn called(
         &mut self,
         alloc: Global,
@@ -62,7 +61,7 @@ impl Calls {
         self.wrote(alloc, says.as_str(), &tape)
     }
 
-    /// Registers a node. The result is its creation, or the fault.
+    /// The same of a registration: the creation that it gives, or why it gives none.
     fn registered(&mut self, alloc: Global, node: &Reg, tape: Tape<'_>) -> Result<String> {
         match marked!(alloc, Registration::make(alloc, tape, node)) {
             Ok(registration) => {
@@ -73,7 +72,7 @@ impl Calls {
         }
     }
 
-    /// Checks the written bytes. A call that runs out of memory must have written a prefix of them.
+    /// The same of what it says. Where memory is refused to it, a front of what it writes is written.
     fn wrote(&mut self, alloc: Global, says: &str, tape: &Tape<'_>) -> Result<String> {
         let is_so = tape.sink.starts_with(&self.begun);
         ensure!(is_so, "a refusal has written something else");
@@ -85,9 +84,10 @@ impl Calls {
         text(format!(in alloc; "{says} wrote {sink} left {left}"))
     }
 
-    /// Acts on the outbox and on its device.
+    /// What comes of bytes that wait for a device.
     fn sent(&mut self, alloc: Global, words: &[&str]) -> Result<String> {
         match *words {
+            // Another device, for which no bytes wait.
             ["to", device] => {
                 self.output = Tape::new(alloc, &[], plan(device)?);
                 self.outbox = Outbox::new(alloc);
@@ -116,6 +116,7 @@ impl Calls {
     }
 }
 
+/// What a call over a stream says.
 fn asked<S: Input + Output>(alloc: Global, stream: &mut S, call: &[&str]) -> Result<String> {
     match *call {
         ["kill"] => shown(alloc, marked!(alloc, kill(alloc, stream))),
@@ -133,6 +134,7 @@ fn asked<S: Input + Output>(alloc: Global, stream: &mut S, call: &[&str]) -> Res
     }
 }
 
+/// The fields of the node that is found.
 fn found(alloc: Global, says: Result<Option<Reg>, ClientFault>) -> Result<String> {
     match says {
         Ok(Some(reg)) => text(format!(in alloc; "{}", Fields(&reg))),
@@ -140,8 +142,8 @@ fn found(alloc: Global, says: Result<Option<Reg>, ClientFault>) -> Result<String
     }
 }
 
-/// Calls the client over a stream of more letters `a` than any call may read. Returns the result and the number of
-/// letters that were read.
+/// What a call says to which a stream gives the letter `a`, more often than any call may take it, and how many it
+/// takes.
 fn endless(alloc: Global, call: &str) -> Result<String> {
     let mut source = Vec::new(alloc);
     source.resize(20_000_000, b'a')?;

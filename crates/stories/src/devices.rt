@@ -1,12 +1,13 @@
-//! The devices of stories, by name.
+//! Devices by their names.
 use crate::words::{number, unknown};
 use anyhow::Result;
 use portmap_testing::tape::{DevicePlan, Tape};
 use std::alloc::Global;
 
+/// As many bytes as are wanted.
 const ALL: usize = usize::MAX;
 
-/// The name, the most bytes that a call moves, and the ranges of calls that return `Later`.
+/// Which calls say Later, where others move what is wanted, or so many bytes at most.
 const DEVICES: &[(&str, usize, &[(usize, usize)])] = &[
     ("steady", ALL, &[]),
     ("single", 1, &[]),
@@ -15,7 +16,7 @@ const DEVICES: &[(&str, usize, &[(usize, usize)])] = &[
     ("sevens", 7, &[]),
     ("large", 512, &[]),
     ("never", ALL, &[(0, usize::MAX)]),
-    // `Later` before the calls of these numbers, and between them.
+    // Laters in front of the calls of these numbers, and between them.
     ("silent-from-1", ALL, &[(1, usize::MAX)]),
     ("later-0-to-999", ALL, &[(0, 999)]),
     ("later-0-to-1000", ALL, &[(0, 1000)]),
@@ -39,7 +40,7 @@ const DEVICES: &[(&str, usize, &[(usize, usize)])] = &[
     ("forties-but-501-to-1002", 40, &[(1, 501), (502, 1002)]),
 ];
 
-/// Returns the plan of a device. In `NAME:N`, call `N` fails.
+/// How a device answers: the word for that, and behind a `:` the call that fails.
 pub fn plan(word: &str) -> Result<DevicePlan> {
     let (name, fault) = match word.split_once(':') {
         Some((name, call)) => (name, Some(number(call)?)),
@@ -55,7 +56,7 @@ pub fn plan(word: &str) -> Result<DevicePlan> {
     }
 }
 
-/// Returns a device that gives these bytes, and takes `room` bytes without an allocation.
+/// A device that gives these bytes, and takes so many without memory.
 pub fn device(alloc: Global, bytes: &[u8], plan: DevicePlan, room: usize) -> Result<Tape<'_>> {
     let mut tape = Tape::new(alloc, bytes, plan);
     tape.sink.reserve(room)?;

@@ -1,10 +1,10 @@
 //! Events, answers and entries in the words of a transcript.
-use crate::words::{Digits, bytes, choice, number, text, wrong};
+use crate::words::{Digits, bytes, number, text, unknown, wrong};
 use anyhow::Result;
 use portmap_core::{Answer, Entry, Event, Fate, Refusal};
 use std::alloc::Global;
 
-/// Parses an event.
+/// The event that words tell of.
 pub fn event(alloc: Global, words: &[&str]) -> Result<Event> {
     let [act, word, ref rest @ ..] = *words else {
         return wrong("no such act");
@@ -26,7 +26,7 @@ pub fn event(alloc: Global, words: &[&str]) -> Result<Event> {
     })
 }
 
-/// Parses an entry.
+/// The entry that words tell of.
 pub fn entry(alloc: Global, words: &[&str]) -> Result<Entry> {
     let [act, word, ref rest @ ..] = *words else {
         return wrong("no such entry");
@@ -53,16 +53,22 @@ pub fn entry(alloc: Global, words: &[&str]) -> Result<Entry> {
     })
 }
 
-/// Parses the word for this host or for another host.
+/// Whether a word is for this host, and not for another one.
 pub fn is_local(word: &str) -> Result<bool> {
-    let table = &[("local", true), ("remote", false)];
-    choice(table, "neither local nor remote", word)
+    match word {
+        "local" => Ok(true),
+        "remote" => Ok(false),
+        _ => unknown("neither local nor remote", word),
+    }
 }
 
 fn fate(word: &str) -> Result<Fate> {
-    let fates = [Fate::Stay, Fate::Close, Fate::Halt];
-    let table = fates.map(|fate| (word_of(fate), fate));
-    choice(&table, "no fate", word)
+    match word {
+        "stay" => Ok(Fate::Stay),
+        "close" => Ok(Fate::Close),
+        "halt" => Ok(Fate::Halt),
+        _ => unknown("no fate", word),
+    }
 }
 
 fn word_of(fate: Fate) -> &'static str {
@@ -73,8 +79,7 @@ fn word_of(fate: Fate) -> &'static str {
     }
 }
 
-/// Writes the answer to an event. A timeout without a reply has only a fate. Fails if memory is refused to an event
-/// that ends a connection.
+/// The words for what comes of an act. One who is late is told a fate alone; memory is never refused to one who goes.
 pub fn came_of(alloc: Global, act: &str, outcome: &Result<Answer, Refusal>) -> Result<String> {
     let is_late = act.starts_with("late");
     let goes = act.starts_with("close") || act.starts_with("fault");
@@ -95,7 +100,7 @@ pub fn came_of(alloc: Global, act: &str, outcome: &Result<Answer, Refusal>) -> R
     })
 }
 
-/// Writes the line of the transcript for an event that was answered.
+/// The line of a transcript for an act that was answered.
 pub fn line(alloc: Global, number: u64, words: &[&str], came: &str) -> Result<String> {
     text(match *words {
         ["connect", whence] => format!(in alloc; "{number} connect {came} {whence}\n"),

@@ -1,11 +1,11 @@
-//! Requests as they arrive on a stream, in chunks.
+//! Requests as they come on a stream, in pieces.
 use crate::words::{Digits, bytes, number, text, wrong};
 use anyhow::{Result, ensure};
 use portmap_feed::{Feed, Seen};
 use portmap_testing::marked;
 use std::alloc::Global;
 
-/// The decoder of one stream, fed with the chunks of a story and byte by byte.
+/// What has come of one stream: in the pieces of a story, and byte by byte.
 #[derive(Drop)]
 pub struct Pieces {
     whole: Feed,
@@ -20,12 +20,12 @@ impl Pieces {
         }
     }
 
-    /// Returns whether both decoders have kept the same bytes.
+    /// Whether as much is kept of the pieces as of the bytes one by one.
     pub fn stands(&self) -> bool {
         self.whole.kept() == self.single.kept() && self.whole.body() == self.single.body()
     }
 
-    /// Returns the actual result of a line: the framing, the kept bytes, and the body.
+    /// What comes of an act: what is seen, kept and lent as the body.
     pub fn came(&mut self, alloc: Global, words: &[&str]) -> Result<String> {
         let seen = match *words {
             ["push", piece] => self.push(alloc, &bytes(alloc, piece)?)?,
@@ -43,7 +43,7 @@ impl Pieces {
         }
     }
 
-    /// Pushes a chunk. Returns `None` if memory is refused, which may happen only before the length is known.
+    /// What is seen of a piece, none where memory is refused: that is only before the length is known.
     fn push(&mut self, alloc: Global, piece: &[u8]) -> Result<Option<Seen>> {
         let is_known = self.whole.kept().len() >= 2;
         let seen = marked!(alloc, self.whole.push(piece));
@@ -58,7 +58,7 @@ impl Pieces {
         Ok(Some(seen))
     }
 
-    /// Cuts all but the first bytes.
+    /// What is seen once all but the first bytes are taken back.
     fn cut(&mut self, len: usize) -> Result<Option<Seen>> {
         let least = self.whole.kept().len().min(self.single.kept().len());
         ensure!(len <= least, "fewer bytes are kept");

@@ -1,4 +1,4 @@
-//! Entries, and what is recorded and printed of them.
+//! Entries, and what is recorded and told of them.
 use crate::events::entry;
 use crate::session::written;
 use crate::words::{by_name, bytes_told, digits_of, number, text, wanted, wrong};
@@ -11,7 +11,7 @@ use portmap_record::{
 use std::alloc::Global;
 use std::mem;
 
-/// Returns the actual result of a line.
+/// What comes of an act on entries to be recorded.
 pub fn came(alloc: Global, entries: &mut Vec<Entry>, words: &[&str]) -> Result<String> {
     match *words {
         ["entry", ref words @ ..] => {
@@ -41,12 +41,12 @@ pub fn came(alloc: Global, entries: &mut Vec<Entry>, words: &[&str]) -> Result<S
     }
 }
 
-/// Returns the settings of a session: port 4369, not relaxed, with limits of two connections and two names.
+/// The settings of a session: port 4369, not relaxed, two connections and two names at most.
 pub fn settings() -> Result<Config> {
     wanted(Config::new(4369, false, 2, 2), "no settings")
 }
 
-/// Takes the entries as a record.
+/// The record of the entries, of which none are left.
 pub fn recorded(alloc: Global, entries: &mut Vec<Entry>) -> Result<Record> {
     Ok(Record {
         config: settings()?,
@@ -55,6 +55,7 @@ pub fn recorded(alloc: Global, entries: &mut Vec<Entry>) -> Result<Record> {
     })
 }
 
+/// The numbers of workers.
 pub fn workers(alloc: Global, words: &[&str]) -> Result<Vec<u32>> {
     let mut workers = Vec::new(alloc);
     for word in words {
@@ -63,7 +64,7 @@ pub fn workers(alloc: Global, words: &[&str]) -> Result<Vec<u32>> {
     Ok(workers)
 }
 
-/// Returns the number of bytes of a record, which must be read as its entries, or the fault.
+/// How many bytes a record has, which are read as its entries; or why there are none.
 fn size(alloc: Global, session: &Record) -> Result<String> {
     let written = match write_record(alloc, session) {
         Ok(written) => written,

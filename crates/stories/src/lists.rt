@@ -6,7 +6,7 @@ use std::alloc::Global;
 use std::convert::AsSlice;
 use std::fmt::Debug;
 
-/// Writes the reply to NAMES_REQ, at once and line by line.
+/// The answer to NAMES_REQ of names and their ports, whole and line by line.
 pub fn written_names(alloc: Global, port: &str, words: &[&str]) -> Result<String> {
     let own_port = number(port)?;
     let mut lines = Vec::new(alloc);
@@ -22,7 +22,7 @@ pub fn written_names(alloc: Global, port: &str, words: &[&str]) -> Result<String
     written(alloc, write_names(alloc, own_port, &lines), reply)
 }
 
-/// Writes the reply to DUMP_REQ, at once and line by line. The slot of a retired name is `-`.
+/// The answer to DUMP_REQ of names, their ports and their slots, which are `-` for a retired name.
 pub fn written_dump(alloc: Global, port: &str, words: &[&str]) -> Result<String> {
     let own_port = number(port)?;
     let mut lines = Vec::new(alloc);
@@ -32,9 +32,10 @@ pub fn written_dump(alloc: Global, port: &str, words: &[&str]) -> Result<String>
             return wrong("a name without a port and a slot");
         };
         let (name, port) = (name(alloc, word)?, number(port)?);
-        let slot = match slot {
-            "-" => None,
-            slot => Some(number(slot)?),
+        let slot = if slot == "-" {
+            None
+        } else {
+            Some(number(slot)?)
         };
         reply = reply.with_dump_line(&name, port, slot)?;
         lines.push(DumpLine { port, slot, name })?;
@@ -42,7 +43,7 @@ pub fn written_dump(alloc: Global, port: &str, words: &[&str]) -> Result<String>
     written(alloc, write_dump(alloc, own_port, &lines), reply)
 }
 
-/// Checks that both ways write the same bytes.
+/// The bytes of a list, which are the same line by line.
 fn written(alloc: Global, whole: Result<Vec<u8>, NoMemory>, by_line: ListReply) -> Result<String> {
     let whole = whole?;
     let is_same = whole.as_slice() == by_line.into_bytes().as_slice();
@@ -50,7 +51,7 @@ fn written(alloc: Global, whole: Result<Vec<u8>, NoMemory>, by_line: ListReply) 
     digits_of(alloc, &whole)
 }
 
-/// Writes the port of a list and each name with its port, or the fault.
+/// The port of a list of names, and each name with its port; or why there are none.
 pub fn listed<E: Debug + Drop>(alloc: Global, list: Result<(u32, Vec<Line>), E>) -> Result<String> {
     let (port, lines) = match list {
         Ok(list) => list,
@@ -63,7 +64,7 @@ pub fn listed<E: Debug + Drop>(alloc: Global, list: Result<(u32, Vec<Line>), E>)
     Ok(actual)
 }
 
-/// Writes the port and the text of a dump, or the fault.
+/// The port and the text of a dump, or why there are none.
 pub fn dumped<T: AsSlice<u8> + Drop, E: Debug + Drop>(
     alloc: Global,
     dump: Result<(u32, T), E>,

@@ -1,4 +1,4 @@
-//! The machine with its log and a replay beside it. At the end of a story, a run and a recording follow.
+//! The machine with its log, and what follows it: a replay, and at the end a run and a recording.
 use crate::events::{came_of, entry, event, line};
 use crate::recording::{is_recorded, recorded_part};
 use crate::run::{Happened, is_at, runs_so};
@@ -16,35 +16,35 @@ use portmap_testing::marked;
 use std::alloc::Global;
 use std::mem;
 
-/// The machine of a story.
+/// A machine with its log, and what follows it.
 #[derive(Drop)]
 pub struct Machine {
     book: Book,
     first: u32,
     replay: Replay,
     actual: Vec<Happened>,
-    /// The transcript of the log, and the number of its lines.
+    /// The transcript of the log, and of how many entries it is.
     lines: String,
     lines_told: u64,
     kept: State,
-    /// The number of the worker of the next event.
+    /// The number of who hands in what comes next.
     worker: u32,
-    /// Whether the oldest entry is drained after each event.
+    /// Whether the oldest entry is taken out behind each event.
     is_followed: bool,
-    /// The sealed segments, and the tickets of all events.
+    /// What was sealed, and what those were told who handed in events.
     segments: Vec<Segment>,
     tickets: Vec<Ticket>,
 }
 
 impl Machine {
-    /// Returns a machine with the usual settings: port 4369, not relaxed, limits of 1,024 connections and 4,096 names,
-    /// and creations from 4 on.
+    /// A machine on port 4369 that is set to what is usual: checks are not relaxed, 1,024 connections and 4,096 names
+    /// at most, and creations from 4 on.
     pub fn new(alloc: Global) -> Result<Box<Machine>> {
         let config = wanted(Config::new(4369, false, 1024, 4096), "no settings")?;
         Ok(Box::new(alloc, Machine::of(alloc, config, 4, State::empty(alloc))?)?)
     }
 
-    /// Returns a machine with these settings and this kept state.
+    /// A machine with these settings, beside what is kept.
     fn of(alloc: Global, config: Config, first: u32, kept: State) -> Result<Machine> {
         Ok(Machine {
             book: Book::new(alloc, config, first)?,
@@ -61,7 +61,7 @@ impl Machine {
         })
     }
 
-    /// Returns the actual result of a line.
+    /// What comes of an act.
     pub fn came(&mut self, alloc: Global, words: &[&str]) -> Result<String> {
         match *words {
             ["with", ref settings @ ..] => return self.set(alloc, settings),
@@ -80,7 +80,7 @@ impl Machine {
         Ok(String::new(alloc))
     }
 
-    /// Starts again with these settings, or returns why they are invalid.
+    /// Begins anew with these settings, or says why they are none.
     fn set(&mut self, alloc: Global, words: &[&str]) -> Result<String> {
         let [checks, "conn", conn_max, "known", known_max, "first", first] = *words else {
             return wrong("no such settings");
@@ -92,7 +92,7 @@ impl Machine {
         }
     }
 
-    /// Starts again, once the story before has ended well. The kept state stays.
+    /// Begins anew, once what was before has ended well. What is kept is kept.
     fn begin_anew(&mut self, alloc: Global, config: Config, first: u32) -> Result<String> {
         self.ended(alloc)?;
         let kept = mem::replace(&mut self.kept, State::empty(alloc));
@@ -101,7 +101,7 @@ impl Machine {
         Ok(String::new(alloc))
     }
 
-    /// Answers a question about the machine or about an argument.
+    /// What is seen of it, or of what is handed in.
     fn look(&self, alloc: Global, words: &[&str]) -> Result<String> {
         let core = self.book.core();
         let is_so = match *words {
@@ -117,7 +117,7 @@ impl Machine {
         answer(alloc, is_so)
     }
 
-    /// Returns whether an entry is a legal transition, without making it.
+    /// Whether an entry may be recorded next. The state stays as it is.
     fn may(&self, alloc: Global, words: &[&str]) -> Result<String> {
         let core = self.book.core();
         let entry = entry(alloc, words)?;
@@ -125,7 +125,7 @@ impl Machine {
         answer(alloc, moved)
     }
 
-    /// Applies an event, which the replay follows.
+    /// What is answered to an event, which the replay follows.
     fn event(&mut self, alloc: Global, words: &[&str]) -> Result<String> {
         let outcome = self.acted(alloc, event(alloc, words)?)?;
         let came = came_of(alloc, words.first().copied().unwrap_or(""), &outcome)?;
@@ -139,8 +139,8 @@ impl Machine {
         Ok(came)
     }
 
-    /// Appends the line of a logged event to the transcript, and keeps its ticket. If the story follows, its entry is
-    /// drained.
+    /// Adds the line of an event that was logged to the transcript, and its ticket; where entries are taken out as they
+    /// come, this one is.
     fn show(&mut self, alloc: Global, words: &[&str], came: &str) -> Result<()> {
         if self.book.log().len() as u64 == self.lines_told {
             return Ok(());
@@ -158,7 +158,7 @@ impl Machine {
         Ok(())
     }
 
-    /// Seals the log. Returns its first position and length, or the bytes of its record.
+    /// The place of the first entry that is sealed, and how many are; or the bytes of their record, which begins there.
     fn sealed(&mut self, alloc: Global, is_whole: bool) -> Result<String> {
         let (first, len) = (self.book.first(), self.book.log().len());
         match marked!(alloc, self.book.seal(alloc)) {
@@ -170,6 +170,7 @@ impl Machine {
         }
     }
 
+    /// Takes a segment that was sealed: the bytes of its record, or its first place and how many entries it has.
     fn take(&mut self, alloc: Global, mut segment: Segment, is_whole: bool) -> Result<String> {
         self.is_sealed(alloc, &segment)?;
         let bytes = recorded_part(alloc, &mut segment, self.lines.as_str())?;
@@ -183,7 +184,7 @@ impl Machine {
         text(format!(in alloc; "first {first} entries {count}"))
     }
 
-    /// Fails unless a segment has all entries, and its second snapshot is the state of the machine.
+    /// Fails unless a segment has taken all entries, and ends where the machine stands.
     fn is_sealed(&self, alloc: Global, segment: &Segment) -> Result<()> {
         let is_taken = self.book.log().is_empty() && self.stands(alloc)?;
         let is_after = is_at(alloc, self.book.core(), &segment.after)?;
@@ -191,7 +192,7 @@ impl Machine {
         Ok(())
     }
 
-    /// Drains the log. Returns the number of drained entries, of entries left, and of all entries before the log.
+    /// How many entries are taken out of the log's front, how many are left, and how many were before the log in all.
     fn advanced(&mut self, alloc: Global) -> Result<String> {
         let (mut gone, mut makers) = (Vec::new(alloc), Vec::new(alloc));
         self.book.advance(alloc, &mut gone, &mut makers);
@@ -204,7 +205,7 @@ impl Machine {
         text(format!(in alloc; "{} {left} {first}", gone.len()))
     }
 
-    /// Has the book act on an event. The entry must have the next position.
+    /// What the book answers to an event: at the next place of its log. The replay moves by its entry.
     fn acted(&mut self, alloc: Global, event: Event) -> Result<Result<Answer, Refusal>> {
         let count = self.book.count();
         match marked!(alloc, self.book.act(alloc, self.worker, event)) {
@@ -218,7 +219,7 @@ impl Machine {
         }
     }
 
-    /// Returns whether the log leads from the snapshot to the state of the machine.
+    /// Whether its log leads from its base to where it stands.
     pub fn stands(&self, alloc: Global) -> Result<bool> {
         let (book, core) = (&self.book, self.book.core());
         let is_counted = book.count() == book.first().saturating_add(book.log().len() as u64);
@@ -234,7 +235,7 @@ impl Machine {
         Ok(is_counted && is_at(alloc, core, &state)?)
     }
 
-    /// Checks the end of a story. The replay is used up.
+    /// What is wrong at the end, if anything is. None is left of the replay.
     pub fn ended(&mut self, alloc: Global) -> Result<()> {
         let none = Replay::new(alloc, *self.book.core().config())?;
         let replayed = mem::replace(&mut self.replay, none).into_state(alloc)?;
@@ -248,7 +249,7 @@ impl Machine {
         is_recorded(alloc, &self.book, self.lines.as_str())
     }
 
-    /// Fails unless the state can be built from its items, and a run of all events leads to it.
+    /// Fails unless its state is that of its parts, and a run comes to it.
     fn is_run(&self, alloc: Global) -> Result<()> {
         let (config, state) = (self.book.core().config(), self.book.core().state(alloc)?);
         let is_so = is_built_again(alloc, config, &state)?;
@@ -256,7 +257,8 @@ impl Machine {
         runs_so(alloc, *config, self.first, &self.actual, &state)
     }
 
-    /// Fails unless the tickets of all acts are the log. A log that was drained is not checked.
+    /// Fails unless the tickets of all acts are the log, where nothing was taken out of it but as segments. None are
+    /// left.
     fn is_gathered(&mut self, alloc: Global) -> Result<()> {
         let tickets = mem::replace(&mut self.tickets, Vec::new(alloc));
         if self.book.first() > 0 && self.segments.is_empty() {
@@ -267,18 +269,20 @@ impl Machine {
     }
 }
 
-/// Returns whether a copy of a state moves by an entry. A replay from that state must do the same.
+/// Whether a copy of a state, and a replay that goes on from it, move by an entry.
 fn moves(alloc: Global, config: &Config, before: &State, entry: &Entry) -> Result<bool> {
     let mut state = before.try_copy(alloc)?;
     let moved = state.step(alloc, config, entry)?;
-    let is_kept = moved || state.same(before);
-    ensure!(is_kept, "a state moves by what may not be");
+    ensure!(
+        moved || state.same(before),
+        "a state moves by what may not be"
+    );
     let replayed = replays(alloc, *config, before, entry, &state)?;
     ensure!(replayed == moved, "a replay moves otherwise");
     Ok(moved)
 }
 
-/// Returns whether a replay moves by an entry. It must arrive at `to`.
+/// Whether a replay that goes on from a state moves by an entry. It comes to the other state.
 fn replays(alloc: Global, config: Config, from: &State, entry: &Entry, to: &State) -> Result<bool> {
     let Some(mut replay) = Replay::of(alloc, config, from)? else {
         return wrong("no replay goes on from here");
@@ -289,12 +293,13 @@ fn replays(alloc: Global, config: Config, from: &State, entry: &Entry, to: &Stat
     Ok(moved)
 }
 
+/// The entry of a line of a transcript.
 fn entry_of(alloc: Global, line: &str) -> Result<Entry> {
     let words: Vec<&str> = line.split_whitespace().skip(1).collect(alloc)?;
     entry(alloc, &words)
 }
 
-/// Writes the phase of a connection, or `-` if its slot is not open.
+/// Where a connection stands; `-` where it is not open.
 fn phase(alloc: Global, core: &Core, slot: u64) -> Result<String> {
     match core.phase(slot) {
         Some(phase) => by_name(alloc, &phase),
@@ -302,7 +307,7 @@ fn phase(alloc: Global, core: &Core, slot: u64) -> Result<String> {
     }
 }
 
-/// Writes the name that a chunk asks to register, or `-`.
+/// The name that a piece asks to register; `-` where it asks for none.
 fn asked(alloc: Global, piece: &[u8]) -> Result<String> {
     match name_to_register(alloc, piece) {
         Some(name) => digits_of(alloc, name.bytes()),
@@ -310,6 +315,7 @@ fn asked(alloc: Global, piece: &[u8]) -> Result<String> {
     }
 }
 
+/// The address of these bytes.
 fn address(alloc: Global, word: &str) -> Result<Ip> {
     let bytes = bytes(alloc, word)?;
     match (bytes.as_slice().try_into(), bytes.as_slice().try_into()) {

@@ -46,12 +46,23 @@ fn main(rt: HostRuntime) -> Result<ExitCode> {
     Ok(ExitCode::FAILURE)
 }
 
-/// Checks the stories of a file, and returns whether all of them hold.
+/// Tells the stories of a file, and whether all of them hold.
 fn tell_file<R: Wait>(rt: &HostRuntime, host: &R, path: &str, names: &mut Names) -> Result<bool> {
     let text = fs::read_to_string(rt, path).context(format_args!("{path}"))?;
+    tell_all(rt, host, path, text.as_str(), names)
+}
+
+/// Tells the stories of a text, and whether all of them hold.
+fn tell_all<R: Wait>(
+    rt: &HostRuntime,
+    host: &R,
+    path: &str,
+    text: &str,
+    names: &mut Names,
+) -> Result<bool> {
     let mut story = Story::none(host, rt.alloc());
     let mut all_hold = true;
-    for (place, line) in text.as_str().lines().enumerate() {
+    for (place, line) in text.lines().enumerate() {
         if let Some(next) = Story::begun(host, rt.alloc(), line)? {
             all_hold &= turn(rt, path, &mut story, next)?;
         } else if let Some(wrong) = story.wrong(rt.alloc(), names, line)? {
@@ -61,7 +72,7 @@ fn tell_file<R: Wait>(rt: &HostRuntime, host: &R, path: &str, names: &mut Names)
     Ok(turn(rt, path, &mut story, Story::none(host, rt.alloc()))? && all_hold)
 }
 
-/// Ends a story, prints its result, and begins the next story. Returns whether the ended story holds.
+/// Turns to the next story, once it is told that the one before holds, or what is wrong at its end. Whether it holds.
 fn turn<'a, R: Wait>(
     rt: &HostRuntime,
     path: &str,

@@ -12,10 +12,11 @@ use portmap_table::Table;
 use std::alloc::Global;
 use std::sync::Wait;
 
-/// The part of a story, with its state.
+/// What a story is about, as it stands.
 #[derive(Drop)]
 pub enum Subject {
     None,
+    /// Requests and replies as bytes.
     Wire,
     Feed(Pieces),
     Table(Box<Table>),
@@ -27,7 +28,7 @@ pub enum Subject {
 }
 
 impl Subject {
-    /// Returns the part that a word names.
+    /// The part that a word stands for, as a story begins, if it stands for one.
     pub fn begun(alloc: Global, word: &str) -> Result<Option<Subject>> {
         Ok(match word {
             "wire" => Some(Subject::Wire),
@@ -42,7 +43,7 @@ impl Subject {
         })
     }
 
-    /// Returns the actual result of a line.
+    /// What comes of an act.
     pub fn came<R: Wait>(&mut self, host: &R, alloc: Global, words: &[&str]) -> Result<String> {
         match self {
             Subject::None => wrong("no story has begun"),
@@ -57,7 +58,7 @@ impl Subject {
         }
     }
 
-    /// Returns whether the state is unchanged after memory was refused to a line.
+    /// Whether it stands as it did before an act to which memory was refused.
     pub fn stands(&self, alloc: Global) -> Result<bool> {
         match self {
             Subject::Machine(machine) => machine.stands(alloc),
@@ -66,7 +67,7 @@ impl Subject {
         }
     }
 
-    /// Checks the end of a story.
+    /// What is wrong at the end of a story, if anything is.
     pub fn ended(self, alloc: Global) -> Result<()> {
         match self {
             Subject::Machine(mut machine) => machine.ended(alloc),

@@ -1,4 +1,4 @@
-//! One connection that is served, and recorded sessions that are shown, from one device to another.
+//! One connection served, and recorded sessions shown, from one device to another.
 use crate::devices::{device, plan};
 use crate::words::{Digits, number, shown, text, wanted, wrong};
 use anyhow::{Result, ensure};
@@ -9,8 +9,9 @@ use portmap_testing::marked;
 use portmap_testing::tape::Tape;
 use std::alloc::Global;
 
-/// Serves the bytes as one connection, or shows them as a session: whole, by its verdict, or without its remote peers.
-/// Returns the result and the output, or the number of pulls. A call that runs out of memory must write nothing.
+/// How it ends, and what is written, where bytes are served as one connection, or a session is shown whole, by its
+/// verdict alone, or left without its remote peers; of a connection also how many pulls it takes. Where memory is
+/// refused nothing is written.
 pub fn played(alloc: Global, act: &str, bytes: &[u8], devices: &[&str]) -> Result<String> {
     let [input, output, turns] = *devices else {
         return wrong("no two devices and a number of turns");
@@ -28,7 +29,7 @@ pub fn played(alloc: Global, act: &str, bytes: &[u8], devices: &[&str]) -> Resul
     text(format!(in alloc; "{ended} {}", Digits(&output.sink)))
 }
 
-/// Returns the result of the call. A port mapper for one connection has creations from 7 on.
+/// How it ends. The creations of a port mapper that serves one connection start at 7.
 fn ended(
     alloc: Global,
     act: &str,
@@ -37,19 +38,22 @@ fn ended(
     turns: u64,
 ) -> Result<String> {
     match act {
-        "tell" => {
-            let found = marked!(alloc, show(alloc, input, output, turns, Text::Verdict));
-            shown(alloc, found.map(|found| found == Verdict::Run))
-        }
-        "leave" => {
-            let left = marked!(alloc, show(alloc, input, output, turns, Text::LocalRecord));
-            shown(alloc, left)
-        }
+        "tell" => shown(
+            alloc,
+            marked!(alloc, show(alloc, input, output, turns, Text::Verdict)).map(|found| found
+                == Verdict::Run),
+        ),
+        "leave" => shown(
+            alloc,
+            marked!(alloc, show(alloc, input, output, turns, Text::LocalRecord)),
+        ),
         "play" => shown(alloc, marked!(alloc, play(alloc, input, output, turns))),
         _ => {
             let config = wanted(Config::new(4369, false, 1024, 4096), "no settings")?;
-            let served = marked!(alloc, once(alloc, config, 7, input, output, turns));
-            shown(alloc, served)
+            shown(
+                alloc,
+                marked!(alloc, once(alloc, config, 7, input, output, turns)),
+            )
         }
     }
 }

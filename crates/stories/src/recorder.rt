@@ -11,8 +11,8 @@ use portmap_testing::tape::Tape;
 use portmap_worker::Recorder;
 use std::alloc::Global;
 
-/// Records the header, two entries and the others. Returns the three results, the number of puts, and the number of
-/// written bytes. These must be a prefix of `bytes`.
+/// What a recorder over a device answers at the header, at two entries and at the others, with the numbers of workers,
+/// and how many puts it makes and bytes it writes, which are a front of these.
 pub fn recorded(alloc: Global, words: &[&str], entries: &[Entry], bytes: &[u8]) -> Result<String> {
     let [device, ref numbers @ ..] = *words else {
         return wrong("no device");

@@ -1,4 +1,4 @@
-//! Sessions that are recorded, read, checked and shown.
+//! Sessions as they are recorded, read, judged and shown.
 use crate::session::record_in;
 use crate::words::{digits_of, text, wanted, wrong};
 use anyhow::{Result, ensure};
@@ -12,7 +12,7 @@ use portmap_testing::tape::{STEADY, Tape};
 use std::alloc::Global;
 use std::mem;
 
-/// Fails unless the log has these lines as its transcript, and its record is a run with these lines in both versions.
+/// Fails unless a log is recorded, and its record, in both versions, is a run that is shown by these lines.
 pub fn is_recorded(alloc: Global, book: &Book, lines: &str) -> Result<()> {
     let shown = run_lines(alloc, lines, book.log())?;
     let transcript = transcript(alloc, book.log(), Verdict::Run)?;
@@ -23,6 +23,7 @@ pub fn is_recorded(alloc: Global, book: &Book, lines: &str) -> Result<()> {
     is_run(alloc, &upgraded(alloc, &bytes)?, book.log(), shown.as_str())
 }
 
+/// The lines of a run of these entries.
 fn run_lines(alloc: Global, lines: &str, entries: &[Entry]) -> Result<String> {
     text(format!(in alloc; "{lines}run of {} entries\n", entries.len()))
 }
@@ -34,7 +35,7 @@ fn log_bytes(alloc: Global, book: &Book) -> Result<Vec<u8>> {
     Ok(bytes)
 }
 
-/// Upgrades a record to version 2.
+/// A record in version 2.
 fn upgraded(alloc: Global, bytes: &[u8]) -> Result<Vec<u8>> {
     match upgrade(alloc, record_in(alloc, bytes)?) {
         Ok(session) => written(alloc, &session),
@@ -42,7 +43,8 @@ fn upgraded(alloc: Global, bytes: &[u8]) -> Result<Vec<u8>> {
     }
 }
 
-/// Returns the record of a segment, which must be a run with these lines.
+/// The bytes of a segment's record, from the place and the state on that it begins with. It is a run that is shown by
+/// these lines.
 pub fn recorded_part(alloc: Global, segment: &mut Segment, lines: &str) -> Result<String> {
     let bytes = segment_bytes(alloc, segment)?;
     let shown = run_lines(alloc, lines, &segment.entries)?;
@@ -50,7 +52,7 @@ pub fn recorded_part(alloc: Global, segment: &mut Segment, lines: &str) -> Resul
     digits_of(alloc, &bytes)
 }
 
-/// Writes the record of a segment, which has its entries again then.
+/// The same, while its record has its entries.
 fn segment_bytes(alloc: Global, segment: &mut Segment) -> Result<Vec<u8>> {
     let mut session = record_of(alloc, segment)?;
     mem::swap(&mut session.entries, &mut segment.entries);
@@ -59,7 +61,7 @@ fn segment_bytes(alloc: Global, segment: &mut Segment) -> Result<Vec<u8>> {
     bytes
 }
 
-/// Returns the record of a segment without its entries.
+/// A segment's record without its entries.
 fn record_of(alloc: Global, segment: &Segment) -> Result<Record> {
     let version = Version::Two {
         first: segment.first,
@@ -77,8 +79,8 @@ fn written(alloc: Global, session: &Record) -> Result<Vec<u8>> {
     wanted(write_record(alloc, session), "it is not recorded")
 }
 
-/// Fails unless the bytes are the record of these entries, are written again as the same bytes, and are played as
-/// `shown`.
+/// Fails unless bytes are read as the record of these entries, which is a run, is written as these bytes, and is shown
+/// so from one device to another.
 fn is_run(alloc: Global, bytes: &[u8], entries: &[Entry], shown: &str) -> Result<()> {
     let session = record_in(alloc, bytes)?;
     let is_same = session.entries.as_slice() == entries;
@@ -89,6 +91,7 @@ fn is_run(alloc: Global, bytes: &[u8], entries: &[Entry], shown: &str) -> Result
     is_played(alloc, bytes, shown)
 }
 
+/// Fails unless a recorded session is shown so from one device to another.
 fn is_played(alloc: Global, bytes: &[u8], shown: &str) -> Result<()> {
     let mut input = Tape::new(alloc, bytes, STEADY);
     let mut output = Tape::new(alloc, &[], STEADY);

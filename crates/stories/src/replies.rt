@@ -1,4 +1,4 @@
-//! The replies to a registration and to a lookup as bytes.
+//! The answers to a registration and to a look-up as bytes.
 use crate::requests::Fields;
 use crate::words::{Digits, by_name, bytes, digits_of, number, shown, text, wrong};
 use anyhow::Result;
@@ -8,7 +8,7 @@ use portmap_wire::{
 };
 use std::alloc::Global;
 
-/// Writes the reply to a registration by a node of this highest version.
+/// How a registration is answered to a node of this highest version.
 pub fn registered(alloc: Global, high: &str, code: &str, creation: &str) -> Result<String> {
     let (high, creation) = (number::<u16>(high)?, number::<u32>(creation)?);
     if high < WIDE_VERSION && creation > 0xFFFF {
@@ -17,11 +17,12 @@ pub fn registered(alloc: Global, high: &str, code: &str, creation: &str) -> Resu
     digits_of(alloc, &write_alive(alloc, high, number(code)?, creation)?)
 }
 
+/// What an answer to a registration says.
 pub fn read_registered(alloc: Global, reply: &str) -> Result<String> {
     shown(alloc, read_alive(&bytes(alloc, reply)?))
 }
 
-/// Reads the reply to a lookup and writes it again, or returns its fault.
+/// What an answer to a look-up says, and how that is written; or its fault.
 pub fn read_found(alloc: Global, reply: &str) -> Result<String> {
     let found = match read_port2(alloc, &bytes(alloc, reply)?) {
         Ok(found) => found,
@@ -34,7 +35,8 @@ pub fn read_found(alloc: Global, reply: &str) -> Result<String> {
     }
 }
 
-/// Returns, for each prefix of a reply, how many bytes are missing at least.
+/// How many bytes are missing at least of each front of an answer to a registration, or to a look-up, of none of its
+/// bytes to all of them.
 pub fn missing(alloc: Global, reply: &str, to_registration: bool) -> Result<String> {
     let reply = bytes(alloc, reply)?;
     let mut counts = String::new(alloc);

@@ -8,6 +8,7 @@ use portmap_wire::{
 use std::alloc::{AllocError, Global};
 use std::fmt;
 
+/// The fields of a registration.
 #[derive(Clone, Copy)]
 pub struct Fields<'a>(pub &'a Reg);
 
@@ -15,12 +16,15 @@ impl<'a> fmt::Display for Fields<'a> {
     fn fmt<W: fmt::Write>(&self, f: &mut fmt::Formatter<W>) -> fmt::Result {
         let reg = self.0;
         let (name, extra) = (Digits(reg.name.bytes()), Digits(&reg.extra));
-        write!(f, "{} {} {}", reg.port, reg.kind, reg.proto)?;
-        write!(f, " {} {} {name} {extra}", reg.high, reg.low)
+        write!(
+            f,
+            "{} {} {} {} {} {name} {extra}",
+            reg.port, reg.kind, reg.proto, reg.high, reg.low
+        )
     }
 }
 
-/// Returns the bytes of a name, or its fault.
+/// The bytes of a name's copy, or why these are no name.
 pub fn named(alloc: Global, word: &str) -> Result<String> {
     let name = Name::read(alloc, &bytes(alloc, word)?);
     match name {
@@ -29,7 +33,7 @@ pub fn named(alloc: Global, word: &str) -> Result<String> {
     }
 }
 
-/// Writes what a request asks. The fields of a registration are those of its copy.
+/// What a body asks, with a registration's fields by its copy.
 fn asks(alloc: Global, request: &Request) -> Result<String, AllocError> {
     match request {
         Request::Alive(reg) => format!(in alloc; "Alive {}", Fields(&reg.try_copy(alloc)?)),
@@ -41,7 +45,7 @@ fn asks(alloc: Global, request: &Request) -> Result<String, AllocError> {
     }
 }
 
-/// Writes a request by the function for its kind.
+/// How a request is sent, by the call for its kind alone.
 fn sent(alloc: Global, request: &Request) -> Result<Vec<u8>, AllocError> {
     match request {
         Request::Alive(reg) => write_registration(alloc, reg),
@@ -51,7 +55,7 @@ fn sent(alloc: Global, request: &Request) -> Result<Vec<u8>, AllocError> {
     }
 }
 
-/// Returns what a body asks and the bytes of that request, or its fault.
+/// What a body asks and how that is sent, or why it is no request.
 pub fn asked(alloc: Global, word: &str) -> Result<String> {
     let request = match read_request(alloc, &bytes(alloc, word)?) {
         Ok(request) => request,
@@ -63,7 +67,7 @@ pub fn asked(alloc: Global, word: &str) -> Result<String> {
     text(format!(in alloc; "{} sent {}", asks(alloc, &request)?, Digits(&written)))
 }
 
-/// Returns whether two bodies have equal names, or register equal nodes.
+/// Whether two bodies ask of equal names, or register equal nodes.
 pub fn are_equal(alloc: Global, one: &str, other: &str) -> Result<String> {
     match (read(alloc, one)?, read(alloc, other)?) {
         (Request::Port(name), Request::Port(wanted)) => answer(alloc, name == wanted),
@@ -76,7 +80,8 @@ fn read(alloc: Global, word: &str) -> Result<Request> {
     wanted(read_request(alloc, &bytes(alloc, word)?), "no request")
 }
 
-/// Returns a normal node, or the fault of its extra bytes. Its lowest version is 5.
+/// What a normal node of this port, highest version, name and extra bytes registers, or why these are too many. Its
+/// lowest version is 5.
 fn made(
     alloc: Global,
     port: u16,
@@ -88,12 +93,12 @@ fn made(
     Ok(Reg::new(alloc, port, 77, 0, high, 5, name, extra))
 }
 
-/// Returns a normal node, and fails for too many extra bytes.
+/// The same of one whose extra bytes are not too many.
 pub fn registration(alloc: Global, port: u16, high: u16, word: &str, extra: &[u8]) -> Result<Reg> {
     wanted(made(alloc, port, high, word, extra)?, "no node")
 }
 
-/// Writes the registration of a normal node with versions 5 to 6, or the fault of its extra bytes.
+/// How a normal node that speaks versions 5 to 6 registers, or why its extra bytes are too many.
 pub fn node(alloc: Global, port: &str, word: &str, extra: &str) -> Result<String> {
     let made = made(alloc, number(port)?, 6, word, &bytes(alloc, extra)?)?;
     match made {

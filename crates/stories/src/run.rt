@@ -7,18 +7,18 @@ use portmap_testing::marked;
 use portmap_testing::marks::was_refused;
 use std::alloc::Global;
 
-/// An event of a story with its answer.
+/// An event, and what came of it.
 #[derive(Drop)]
 pub struct Happened {
     pub act: String,
     pub came: String,
 }
 
-/// The answers of a run, and whether memory was refused to it.
+/// What a run tells of its events, and whether memory was refused to it.
 type Results = (Vec<(Event, Result<Answer, Refusal>)>, bool);
 
-/// Fails unless a run over the events of a story has the same answers and the same final state. Events to which memory
-/// was refused are skipped.
+/// Fails unless a run over the events of a story answers them as they were answered one by one, and ends in the same
+/// state. What memory was refused to is skipped.
 pub fn runs_so(
     alloc: Global,
     config: Config,
@@ -37,11 +37,12 @@ pub fn runs_so(
     Ok(())
 }
 
+/// Whether a machine stands so.
 pub fn is_at(alloc: Global, core: &Core, state: &State) -> Result<bool> {
     Ok(core.state(alloc)?.same(state))
 }
 
-/// Makes a run. A run that is refused as a whole has changed nothing, and is made once more.
+/// What a run tells of all events. One that is refused as a whole has changed nothing, and is made once more.
 fn results_of(alloc: Global, core: &mut Core, actual: &[Happened]) -> Result<Results> {
     let events = events_of(alloc, actual)?;
     let results = marked!(alloc, core.run(alloc, events));
@@ -62,8 +63,8 @@ fn events_of(alloc: Global, actual: &[Happened]) -> Result<Vec<Event>> {
     Ok(events)
 }
 
-/// Compares a run with its story and with another machine, event by event. Returns whether memory was refused to no
-/// event. After a refusal, only the other machine is compared.
+/// Whether memory was refused to none of the events. Fails unless another machine answers each of the others like the
+/// run, and it was answered so where memory was refused to none before.
 fn follows(alloc: Global, other: &mut Core, actual: &[Happened], results: Results) -> Result<bool> {
     let (results, is_refused) = results;
     let mut is_whole = true;
@@ -79,8 +80,10 @@ fn follows(alloc: Global, other: &mut Core, actual: &[Happened], results: Result
             again == came,
             "a machine answers {act} otherwise than a run"
         );
-        let is_same = !is_whole || one.came == came;
-        ensure!(is_same, "a run answers {act} otherwise");
+        ensure!(
+            !is_whole || one.came == came,
+            "a run answers {act} otherwise"
+        );
     }
     Ok(is_whole)
 }

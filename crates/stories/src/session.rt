@@ -1,4 +1,4 @@
-//! Recorded sessions as bytes: read, written, checked, and without their remote peers.
+//! Recorded sessions as bytes: read, written, judged, and left without their remote peers.
 use crate::audited::audited;
 use crate::listed;
 use crate::listed::workers;
@@ -6,7 +6,7 @@ use crate::played::played;
 use crate::recorder::recorded;
 use crate::states::copied;
 use crate::words::{
-    Digits, by_name, bytes, bytes_told, choice, digits_of, number, text, wanted, wrong, yes,
+    Digits, by_name, bytes, bytes_told, digits_of, number, text, unknown, wanted, wrong, yes,
 };
 use anyhow::{Context, Result, ensure};
 use portmap_core::{Entry, State};
@@ -18,7 +18,7 @@ use portmap_testing::marked;
 use portmap_testing::marks::was_refused;
 use std::alloc::Global;
 
-/// A recorded session, and entries for a recording.
+/// A recorded session, and entries to be recorded.
 #[derive(Drop)]
 pub struct Session {
     bytes: Vec<u8>,
@@ -33,7 +33,7 @@ impl Session {
         }
     }
 
-    /// Returns the actual result of a line.
+    /// What comes of an act.
     pub fn came(&mut self, alloc: Global, words: &[&str]) -> Result<String> {
         match *words {
             ["bytes", word] => self.take(alloc, word),
@@ -44,9 +44,28 @@ impl Session {
             ["recorder", ref words @ ..] => recorded(alloc, words, &self.entries, &self.bytes),
             ["audit", device, turns, ref files @ ..] => audited(alloc, device, turns, files),
             ["local"] => left(alloc, &self.bytes),
-            ["check" | "begins" | "upgrade" | "workers" | "alone", ..] => {
-                of_record(alloc, record_in(alloc, &self.bytes)?, words)
-            }
+            ["check" | "begins" | "upgrade" | "workers" | "alone", ..] => of_record(
+                alloc,
+                record_in(alloc, &self.bytes)?,
+                words,
+            ),
+            [
+                "read" | "cut" | "at" | "whole" | "front" | "judged" | "play" | "tell" | "leave",
+                ..
+            ] => { self.read(alloc, words) }
+            _ => listed::came(alloc, &mut self.entries, words),
+        }
+    }
+
+    /// Takes these bytes as the session.
+    fn take(&mut self, alloc: Global, word: &str) -> Result<String> {
+        self.bytes = bytes(alloc, word)?;
+        Ok(String::new(alloc))
+    }
+
+    /// What it, or what is made of its bytes, is read as.
+    fn read(&self, alloc: Global, words: &[&str]) -> Result<String> {
+        match *words {
             ["read"] => counted(alloc, &self.bytes),
             ["cut", len] => counted(alloc, self.front(number(len)?)),
             ["at", place, word] => self.at(alloc, number(place)?, word, usize::MAX),
@@ -59,21 +78,16 @@ impl Session {
             [act @ ("play" | "tell" | "leave"), ref devices @ ..] => {
                 played(alloc, act, &self.bytes, devices)
             }
-            _ => listed::came(alloc, &mut self.entries, words),
+            _ => wrong("no such act"),
         }
     }
 
-    fn take(&mut self, alloc: Global, word: &str) -> Result<String> {
-        self.bytes = bytes(alloc, word)?;
-        Ok(String::new(alloc))
-    }
-
-    /// Returns the first `len` bytes, or all of fewer bytes.
+    /// Its first bytes, so many of them.
     fn front(&self, len: usize) -> &[u8] {
         self.bytes.get(..len).unwrap_or(&self.bytes)
     }
 
-    /// Reads the session with these bytes at `place`, truncated to `len` bytes.
+    /// What its first bytes are read as, so many of them, with these bytes from this place on.
     fn at(&self, alloc: Global, place: usize, word: &str, len: usize) -> Result<String> {
         let new = bytes(alloc, word)?;
         let mut all = self.bytes.clone()?;
@@ -84,7 +98,7 @@ impl Session {
         counted(alloc, &all)
     }
 
-    /// Returns how often the session is a record, over all values of each byte.
+    /// How many records it is read as, whatever one byte of it is.
     fn judged(&self, alloc: Global) -> Result<String> {
         let mut all = self.bytes.clone()?;
         let mut count = 0u32;
@@ -105,7 +119,7 @@ fn put(bytes: &mut Vec<u8>, place: usize, new: u8) {
     }
 }
 
-/// Returns whether these bytes are a record. Fails unless the verdict or the fault is what is printed for them from one
+/// Whether these bytes are a record. Fails unless its verdict, or why they are none, is what is told of them from one
 /// device to another.
 fn is_judged(alloc: Global, bytes: &[u8]) -> Result<bool> {
     let session = read_record(alloc, bytes);
@@ -118,7 +132,7 @@ fn is_judged(alloc: Global, bytes: &[u8]) -> Result<bool> {
     Ok(session.is_ok())
 }
 
-/// Returns the text that must be printed for a record, which must be written again as these bytes.
+/// What is to be told of a record, which is written back as these bytes.
 fn verdict_of(alloc: Global, session: &Record, bytes: &[u8]) -> Result<String> {
     is_written_back(alloc, session, bytes)?;
     let count = session.entries.len();
@@ -137,11 +151,12 @@ fn is_written_back(alloc: Global, session: &Record, bytes: &[u8]) -> Result<()> 
     Ok(())
 }
 
+/// The record that these bytes are.
 pub fn record_in(alloc: Global, bytes: &[u8]) -> Result<Record> {
     wanted(read_record(alloc, bytes), "it is no record")
 }
 
-/// Returns the number of entries of a record, which must be written again as these bytes, or its fault.
+/// How many entries these bytes are the record of, by which they are written again; or their fault.
 fn counted(alloc: Global, bytes: &[u8]) -> Result<String> {
     match marked!(alloc, read_record(alloc, bytes)) {
         Ok(session) => {
@@ -152,14 +167,17 @@ fn counted(alloc: Global, bytes: &[u8]) -> Result<String> {
     }
 }
 
-/// Returns the length of the complete entries of these bytes.
+/// How many of these bytes are whole entries.
 fn whole(alloc: Global, form: &str, bytes: &[u8]) -> Result<String> {
-    let table = &[("numbered", Form::Numbered), ("plain", Form::Plain)];
-    let form = choice(table, "no form", form)?;
+    let form = match form {
+        "numbered" => Form::Numbered,
+        "plain" => Form::Plain,
+        _ => return unknown("no form", form),
+    };
     text(format!(in alloc; "{}", whole_entries(form, bytes)))
 }
 
-/// Writes a record, or its fault. After a refusal of memory, writes it once more.
+/// The bytes of a record, or why there are none. Where memory was refused, they are asked for once more.
 pub fn written(alloc: Global, session: &Record) -> Result<String> {
     let mut written = marked!(alloc, write_record(alloc, session));
     if matches!(&written, Err(WriteRecordFault::NoMemory)) && was_refused(alloc) {
@@ -168,6 +186,7 @@ pub fn written(alloc: Global, session: &Record) -> Result<String> {
     bytes_told(alloc, written)
 }
 
+/// What is found of a record, or made of it.
 fn of_record(alloc: Global, session: Record, words: &[&str]) -> Result<String> {
     match *words {
         ["check"] => found(alloc, &session),
@@ -179,6 +198,7 @@ fn of_record(alloc: Global, session: Record, words: &[&str]) -> Result<String> {
     }
 }
 
+/// What is found of a record.
 fn found(alloc: Global, session: &Record) -> Result<String> {
     match marked!(alloc, check(alloc, session)) {
         Ok(()) => text(String::from_str(alloc, "Run")),
@@ -186,7 +206,7 @@ fn found(alloc: Global, session: &Record) -> Result<String> {
     }
 }
 
-/// Upgrades a record to version 2. If that is refused, the record must be unchanged.
+/// The record in version 2; where that is refused, it comes back as it was.
 fn upgraded(alloc: Global, session: Record) -> Result<String> {
     let before = written(alloc, &session)?;
     match marked!(alloc, upgrade(alloc, session)) {
@@ -199,7 +219,7 @@ fn upgraded(alloc: Global, session: Record) -> Result<String> {
     }
 }
 
-/// Writes the record without its remote peers.
+/// What is left of the record that these bytes are without its remote peers.
 fn left(alloc: Global, bytes: &[u8]) -> Result<String> {
     let Ok(session) = read_record(alloc, bytes) else {
         return wrong("it is no record");
@@ -210,8 +230,9 @@ fn left(alloc: Global, bytes: &[u8]) -> Result<String> {
     }
 }
 
-/// Writes the settings of a record. For version 2, also writes the first position, the names, the connections, whether
-/// the port mapper has ended, and the worker of each entry.
+/// The settings of a record, and where it begins: the place of its first entry, whether the port mapper has ended, the
+/// active names with their creations and slots, the retired ones with their creations, the connections, and the worker
+/// of each entry.
 fn beginning(alloc: Global, session: &Record) -> Result<String> {
     let config = &session.config;
     let mut actual = format!(in alloc; "{} {}", config.port, yes(config.relaxed))?;
@@ -232,10 +253,15 @@ fn beginning(alloc: Global, session: &Record) -> Result<String> {
     Ok(actual)
 }
 
+/// Tells a state by its parts.
 fn write_start(actual: &mut String, start: &State) -> Result<()> {
     for row in start.active() {
-        let (name, port) = (Digits(row.reg.name.bytes()), row.reg.port);
-        write!(actual, " row {name} {port} {} {}", row.creation, row.slot)?;
+        let name = Digits(row.reg.name.bytes());
+        write!(
+            actual,
+            " row {name} {} {} {}",
+            row.reg.port, row.creation, row.slot
+        )?;
     }
     for old in start.retired() {
         let name = Digits(old.name.bytes());
@@ -243,8 +269,11 @@ fn write_start(actual: &mut String, start: &State) -> Result<()> {
     }
     for held in start.conns() {
         let (local, bytes) = (yes(held.local), Digits(&held.bytes));
-        write!(actual, " conn {} {local}", held.slot)?;
-        write!(actual, " {:?} {bytes}", held.phase)?;
+        write!(
+            actual,
+            " conn {} {local} {:?} {bytes}",
+            held.slot, held.phase
+        )?;
     }
     if start.halted() {
         actual.push_str(" halted")?;
@@ -252,7 +281,7 @@ fn write_start(actual: &mut String, start: &State) -> Result<()> {
     Ok(())
 }
 
-/// Writes a record of version 2 with other workers. If `alone`, its start state has only the active names.
+/// How a record of version 2 is written with these workers, and with its active names alone where that is asked for.
 fn written_by(alloc: Global, mut session: Record, numbers: &[&str], alone: bool) -> Result<String> {
     let Version::Two {
         start,
@@ -269,7 +298,7 @@ fn written_by(alloc: Global, mut session: Record, numbers: &[&str], alone: bool)
     written(alloc, &session)
 }
 
-/// Returns a state with the active names only.
+/// The active names of a state, without any connection.
 fn active_alone(alloc: Global, start: &State) -> Result<State> {
     let rows = copied!(alloc, start.active());
     let state = State::build(rows, Vec::new(alloc), Vec::new(alloc), false);

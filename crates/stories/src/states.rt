@@ -1,15 +1,14 @@
-//! States that are built from their items.
+//! States of parts.
 use crate::events::is_local;
 use crate::listed::settings;
 use crate::requests::registration;
-use crate::words::{bytes, choice, name, number, text, wrong};
+use crate::words::{bytes, name, number, text, unknown, wrong};
 use anyhow::{Result, ensure};
 use portmap_core::{Config, Entry, Held, Old, Phase, Row, State};
-use portmap_wire::Reg;
 use std::alloc::Global;
 use std::mem;
 
-/// Copies all items of a kind.
+/// Copies of the parts of a state of one kind.
 macro_rules! copied {
     ($alloc:expr, $parts:expr) => {{
         let mut copies = Vec::new($alloc);
@@ -22,7 +21,7 @@ macro_rules! copied {
 
 pub(crate) use copied;
 
-/// The items of a state.
+/// Parts of a state.
 #[derive(Drop)]
 pub struct Parts {
     active: Vec<Row>,
@@ -39,14 +38,11 @@ impl Parts {
         }
     }
 
-    /// Returns the actual result of a line, which adds an item or builds the state.
+    /// What comes of an act: parts are added, or what there are is built.
     pub fn came(&mut self, alloc: Global, words: &[&str]) -> Result<String> {
         match *words {
-            ["row", word, creation, slot] => {
-                let reg = registration(alloc, 5000, 6, word, &[])?;
-                self.active.push(row(reg, creation, slot)?)?
-            }
-            ["old", word, creation] => self.retired.push(old(alloc, 5000, word, creation)?)?,
+            ["row", word, creation, slot] => self.active.push(row(alloc, word, creation, slot)?)?,
+            ["old", word, creation] => self.retired.push(old(alloc, word, creation)?)?,
             ["conn", slot, whence, phase, kept] => self
                 .connections
                 .push(conn(alloc, slot, whence, (phase, kept))?)?,
@@ -57,17 +53,17 @@ impl Parts {
     }
 }
 
-pub fn row(reg: Reg, creation: &str, slot: &str) -> Result<Row> {
+fn row(alloc: Global, word: &str, creation: &str, slot: &str) -> Result<Row> {
     Ok(Row {
         creation: number(creation)?,
         slot: number(slot)?,
-        reg,
+        reg: registration(alloc, 5000, 6, word, &[])?,
     })
 }
 
-pub fn old(alloc: Global, port: u16, word: &str, creation: &str) -> Result<Old> {
+fn old(alloc: Global, word: &str, creation: &str) -> Result<Old> {
     Ok(Old {
-        port,
+        port: 5000,
         creation: number(creation)?,
         name: name(alloc, word)?,
     })
@@ -77,18 +73,21 @@ fn conn(alloc: Global, slot: &str, whence: &str, (phase, kept): (&str, &str)) ->
     Ok(Held {
         slot: number(slot)?,
         local: is_local(whence)?,
-        phase: choice(PHASES, "no phase", phase)?,
+        phase: phase_of(phase)?,
         bytes: bytes(alloc, kept)?,
     })
 }
 
-const PHASES: &[(&str, Phase)] = &[
-    ("waiting", Phase::Waiting),
-    ("holding", Phase::Holding),
-    ("done", Phase::Done),
-];
+fn phase_of(word: &str) -> Result<Phase> {
+    match word {
+        "waiting" => Ok(Phase::Waiting),
+        "holding" => Ok(Phase::Holding),
+        "done" => Ok(Phase::Done),
+        _ => unknown("no phase", word),
+    }
+}
 
-/// Returns whether the items are a state, and whether that state is valid for two connections and two names.
+/// Whether parts are a state, and a port mapper of two connections and two names comes to it.
 fn built(alloc: Global, parts: Parts) -> Result<String> {
     let config = settings()?;
     let state = State::build(parts.active, parts.retired, parts.connections, false);
@@ -101,15 +100,17 @@ fn built(alloc: Global, parts: Parts) -> Result<String> {
     text(String::from_str(alloc, kind))
 }
 
-/// Returns whether a copy of an invalid state refuses a connection.
+/// Whether a copy of a state stays as it is where a connection comes.
 fn stays(alloc: Global, config: &Config, state: &State) -> Result<bool> {
     let mut copy = state.try_copy(alloc)?;
-    let (local, slot) = (true, 9);
-    let entry = Entry::Connected { local, slot };
+    let entry = Entry::Connected {
+        local: true,
+        slot: 9,
+    };
     Ok(!copy.step(alloc, config, &entry)? && copy.same(state))
 }
 
-/// Returns whether a state is valid. The state of copies of its items must be the same.
+/// Whether a port mapper comes to a state. It is that of copies of its parts, in either case.
 pub fn is_built_again(alloc: Global, config: &Config, state: &State) -> Result<bool> {
     let built = copy_of(alloc, state)?;
     let is_same = built.is_some_and(|built| built.same(state));
@@ -117,6 +118,7 @@ pub fn is_built_again(alloc: Global, config: &Config, state: &State) -> Result<b
     Ok(state.owned(alloc, config)?)
 }
 
+/// The state of copies of a state's parts.
 fn copy_of(alloc: Global, state: &State) -> Result<Option<State>> {
     let active = copied!(alloc, state.active());
     let retired = copied!(alloc, state.retired());

@@ -1,4 +1,4 @@
-//! A story: its lines, their expansion, and the comparison of the expected and the actual result.
+//! A story: what it shows, what comes in turn, and what is wanted.
 use crate::part::Subject;
 use crate::words::{Names, wrong};
 use anyhow::{Result, ensure};
@@ -6,7 +6,7 @@ use portmap_testing::marks::was_refused;
 use std::alloc::Global;
 use std::sync::Wait;
 
-/// The current story.
+/// A story that is being told.
 #[derive(Drop)]
 pub struct Story<'a, R: Wait> {
     host: &'a R,
@@ -16,7 +16,7 @@ pub struct Story<'a, R: Wait> {
 }
 
 impl<'a, R: Wait> Story<'a, R> {
-    /// The state before the first story of a file.
+    /// What stands before the first story of a file.
     pub fn none(host: &'a R, alloc: Global) -> Story<'a, R> {
         Story {
             host,
@@ -26,7 +26,7 @@ impl<'a, R: Wait> Story<'a, R> {
         }
     }
 
-    /// Returns the story that a line begins, if it begins a story: its part, and what it shows.
+    /// The story that a line begins, if it begins one: by the part that it is about, and what it shows.
     pub fn begun(host: &'a R, alloc: Global, line: &str) -> Result<Option<Story<'a, R>>> {
         let (word, name) = line.split_once(' ').unwrap_or((line, ""));
         let Some(part) = Subject::begun(alloc, word)? else {
@@ -38,8 +38,9 @@ impl<'a, R: Wait> Story<'a, R> {
         Ok(Some(story))
     }
 
-    /// Checks a line, and returns what is wrong with it. `times 1 9` before a line repeats it for each number, as `$`.
-    /// ` && ` joins acts, and `each 1 9` before an act repeats the act for each number, as `@`.
+    /// What is wrong with a line, if anything is. One that begins with `times 1 9` is told for each number from 1 to 9,
+    /// which stands there as `$`. ` && ` joins acts, of which one that begins with `each 1 9` is told for each number,
+    /// as `@`.
     pub fn wrong(
         &mut self,
         alloc: Global,
@@ -62,7 +63,7 @@ impl<'a, R: Wait> Story<'a, R> {
         Ok(None)
     }
 
-    /// Checks an expanded line.
+    /// What is wrong with a line that is told once, if anything is.
     fn once(&mut self, alloc: Global, names: &mut Names, line: &str) -> Result<Option<String>> {
         let line = names.spelled(alloc, line)?;
         let (act, wanted) = line
@@ -79,7 +80,7 @@ impl<'a, R: Wait> Story<'a, R> {
         Ok(Some(wrong))
     }
 
-    /// Returns the actual result of a line. Returns `None` for a `maybe` to which memory is refused.
+    /// What comes of an act; behind `maybe` it may be nothing, where memory is refused to it.
     fn came(&mut self, alloc: Global, names: &mut Names, act: &str) -> Result<Option<String>> {
         let words: Vec<&str> = act.split_whitespace().collect(alloc)?;
         match *words.as_slice() {
@@ -99,7 +100,7 @@ impl<'a, R: Wait> Story<'a, R> {
         }
     }
 
-    /// Runs an act. Returns `None` if memory is refused to it, which must change nothing.
+    /// What comes of an act, unless it is that memory was refused to it: then nothing has changed.
     fn tried(&mut self, alloc: Global, words: &[&str]) -> Result<Option<String>> {
         let came = self.part.came(self.host, alloc, words)?;
         if !was_refused(alloc) || !came.as_str().contains("NoMemory") {
@@ -109,8 +110,7 @@ impl<'a, R: Wait> Story<'a, R> {
         Ok(None)
     }
 
-    /// Ends a story. Returns whether it holds, and its line of output. A story with a wrong line has no line at its
-    /// end.
+    /// Whether it holds, and the line for that; there is none where a line of it was told to be wrong.
     pub fn ended(self, alloc: Global, path: &str) -> Result<(bool, String)> {
         let Story {
             name,
@@ -126,7 +126,7 @@ impl<'a, R: Wait> Story<'a, R> {
     }
 }
 
-/// Expands a repeat into its lines, upwards or downwards.
+/// A line for each number, where this word and two numbers stand before it, from the first of these to the second.
 fn spread(alloc: Global, line: &str, word: &str, mark: &str) -> Result<Vec<String>> {
     let mut lines = Vec::new(alloc);
     let Some((from, until, line)) = range(line, word) else {
@@ -144,14 +144,15 @@ fn spread(alloc: Global, line: &str, word: &str, mark: &str) -> Result<Vec<Strin
     Ok(lines)
 }
 
-/// Returns the range of a repeat, and the rest of the line.
+/// From where to where a line is told, and the line.
 fn range<'a>(line: &'a str, word: &str) -> Option<(u32, u32, &'a str)> {
     let (from, rest) = line.strip_prefix(word)?.split_once(' ')?;
     let (until, line) = rest.split_once(' ')?;
     Some((from.parse::<u32>().ok()?, until.parse::<u32>().ok()?, line))
 }
 
-/// Replaces the mark by a number, `%` by its eight digits of base 16, and the mark with `+1` by the next number.
+/// A line with a number in the place of its mark, with eight digits of base 16 in that of `%`, and with the next number
+/// where `+1` stands behind the mark.
 fn numbered(alloc: Global, line: &str, mark: &str, number: u32) -> Result<String> {
     let next = format!(in alloc; "{mark}+1")?;
     let line = replaced(alloc, line, next.as_str(), number.saturating_add(1))?;

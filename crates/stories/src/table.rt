@@ -1,6 +1,5 @@
-//! The table of names.
+//! The names that a port mapper knows.
 use crate::requests::registration;
-use crate::states::{old, row};
 use crate::words::{Digits, answer, digits_of, name, number, shown, text, wrong};
 use anyhow::{Context, Result, ensure};
 use portmap_table::{Old, RegFault, Row, Table};
@@ -8,31 +7,36 @@ use portmap_testing::marked;
 use portmap_wire::{Name, Reg};
 use std::alloc::Global;
 
+/// The creation that a name is offered, or why it is offered none.
 type Offer = Result<u32, RegFault>;
 
-/// Returns a node with the usual port and extra bytes of these stories.
+/// The node of this name and this highest version, as each is registered here.
 fn node(alloc: Global, word: &str, high: &str) -> Result<Reg> {
     registration(alloc, 40_000, number(high)?, word, &[7])
 }
 
+/// Whether a node is as each is registered here.
 fn is_usual(reg: &Reg) -> bool {
     (reg.port, reg.kind, reg.proto, reg.low) == (40_000, 77, 0, 5)
         && reg.extra.as_slice() == [7].as_slice()
 }
 
+/// Adds a name, its slot and its creation.
 fn write_row(actual: &mut String, row: &Row) -> Result<()> {
     ensure!(is_usual(&row.reg), "a node that was not registered so");
     let name = Digits(row.reg.name.bytes());
     Ok(write!(actual, " {name} {} {}", row.slot, row.creation)?)
 }
 
+/// Adds a retired name and its creation.
 fn write_old(actual: &mut String, old: &Old) -> Result<()> {
     let is_usual = old.port == 40_000;
     ensure!(is_usual, "a retired node that was not registered so");
     Ok(write!(actual, " {} {}", Digits(old.name.bytes()), old.creation)?)
 }
 
-/// Writes the active names with slots and creations, and the retired names with creations, from copies.
+/// The active names, each with its slot and its creation, and the retired ones, each with its creation; by copies of
+/// both.
 fn known(alloc: Global, names: &Table) -> Result<String> {
     let mut actual = String::from_str(alloc, "active")?;
     for place in 0..names.active_len() {
@@ -47,7 +51,7 @@ fn known(alloc: Global, names: &Table) -> Result<String> {
     Ok(actual)
 }
 
-/// Writes the slot that owns a name, or `-` if the name is not active.
+/// The slot that owns a name, which is that of its row; `-` where the name is not active.
 fn owner(alloc: Global, names: &Table, word: &str) -> Result<String> {
     let name = name(alloc, word)?;
     let (owner, row) = (names.owner(&name), names.find(&name));
@@ -59,7 +63,7 @@ fn owner(alloc: Global, names: &Table, word: &str) -> Result<String> {
     }
 }
 
-/// Returns the actual result of a line.
+/// What comes of an act on a table.
 pub fn came(alloc: Global, table: &mut Table, words: &[&str]) -> Result<String> {
     match *words {
         ["with", "known", known_max, "first", first] => {
@@ -69,20 +73,22 @@ pub fn came(alloc: Global, table: &mut Table, words: &[&str]) -> Result<String> 
         [
             "with",
             "known",
-            most,
+            known_max,
             "first",
             first,
             "active",
             ref names @ ..,
         ] => {
-            let made = made(alloc, number(most)?, number(first)?, names)?;
+            let made = made(alloc, number(known_max)?, number(first)?, names)?;
             set(alloc, table, made)
         }
         ["offer", word, high] => shown(alloc, table.offer(&name(alloc, word)?, number(high)?)),
-        ["register", word, high, slot] => {
-            let reg = node(alloc, word, high)?;
-            registered(alloc, table, number(slot)?, reg)
-        }
+        ["register", word, high, slot] => registered(
+            alloc,
+            table,
+            number(slot)?,
+            node(alloc, word, high)?,
+        ),
         ["retire", slot] => retired(alloc, table, number(slot)?),
         ["knows"] => known(alloc, table),
         ["owner", name] => owner(alloc, table, name),
@@ -92,6 +98,7 @@ pub fn came(alloc: Global, table: &mut Table, words: &[&str]) -> Result<String> 
     }
 }
 
+/// Turns to this table. Whether there is one.
 fn set(alloc: Global, table: &mut Table, made: Option<Table>) -> Result<String> {
     let is_made = made.is_some();
     if let Some(made) = made {
@@ -100,13 +107,13 @@ fn set(alloc: Global, table: &mut Table, made: Option<Table>) -> Result<String> 
     answer(alloc, is_made)
 }
 
-/// Writes the retired name at an index, with its creation.
+/// The retired name at a place, and its creation.
 fn retired_at(alloc: Global, table: &Table, place: usize) -> Result<String> {
     let old = table.retired_at(place).context("fewer names are retired")?;
     text(format!(in alloc; "{} {}", Digits(old.name.bytes()), old.creation))
 }
 
-/// Returns the table of these names, if a port mapper with this limit can have come to it.
+/// The table of these names, active and retired, if a port mapper that may know so many can have come to them.
 fn made(alloc: Global, known_max: u32, first: u32, names: &[&str]) -> Result<Option<Table>> {
     let place = names.iter().position(|word| *word == "retired");
     let (active, retired) = names.split_at(place.context("no retired names")?);
@@ -121,7 +128,11 @@ fn rows(alloc: Global, words: &[&str]) -> Result<Vec<Row>> {
         let [word, high, creation, slot] = *words else {
             return wrong("no row");
         };
-        rows.push(row(node(alloc, word, high)?, creation, slot)?)?;
+        rows.push(Row {
+            creation: number(creation)?,
+            slot: number(slot)?,
+            reg: node(alloc, word, high)?,
+        })?;
     }
     Ok(rows)
 }
@@ -132,34 +143,45 @@ fn olds(alloc: Global, words: &[&str]) -> Result<Vec<Old>> {
         let [word, creation] = *words else {
             return wrong("no retired name");
         };
-        olds.push(old(alloc, 40_000, word, creation)?)?;
+        olds.push(Old {
+            port: 40_000,
+            creation: number(creation)?,
+            name: name(alloc, word)?,
+        })?;
     }
     Ok(olds)
 }
 
+/// What is answered to a registration.
 fn registered(alloc: Global, table: &mut Table, slot: u64, reg: Reg) -> Result<String> {
     let name = reg.name.try_copy(alloc)?;
     shown(alloc, entered(alloc, table, &name, reg, slot)?)
 }
 
-/// Registers a node. A refusal must leave the offer for its name and the counts unchanged.
+/// The same. Where it is refused, the name is offered the same as before, and as many names are known.
 fn entered(alloc: Global, table: &mut Table, name: &Name, reg: Reg, slot: u64) -> Result<Offer> {
     ensure!(!table.holds(slot), "the slot owns a name");
     let (high, before) = (reg.high, stands(table, name, reg.high));
     let registered = marked!(alloc, table.register(reg, slot));
     let is_same = !table.holds(slot) && stands(table, name, high) == before;
-    let is_kept = registered.is_ok() || is_same;
-    ensure!(is_kept, "a refusal has changed the table");
+    ensure!(
+        registered.is_ok() || is_same,
+        "a refusal has changed the table"
+    );
     Ok(registered)
 }
 
-/// Returns the offer for a name, the counts of active and retired names, and the counter of creations.
+/// What a name is offered, how many names are active and retired, and what the next creation is taken from.
 fn stands(table: &Table, name: &Name, high: u16) -> (Offer, usize, usize, u32) {
-    let (active, retired) = (table.active_len(), table.retired_len());
-    (table.offer(name, high), active, retired, table.counter())
+    (
+        table.offer(name, high),
+        table.active_len(),
+        table.retired_len(),
+        table.counter(),
+    )
 }
 
-/// Retires the name of a slot, which never allocates.
+/// Whether the name that a slot owns is retired, for which no memory is wanted.
 fn retired(alloc: Global, table: &mut Table, slot: u64) -> Result<String> {
     answer(alloc, marked!(alloc, table.retire(slot)))
 }

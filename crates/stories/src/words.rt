@@ -1,4 +1,4 @@
-//! The words of a line: digits, quoted text, repeats, and names for bytes.
+//! The words of a line: bytes as digits, quoted text, repeats, names that stand for bytes, and what joins them.
 use anyhow::{Error, Result, bail};
 use portmap_wire::Name;
 use std::alloc::{AllocError, Global};
@@ -6,7 +6,7 @@ use std::collections::BTreeMap;
 use std::fmt;
 use std::str::FromStr;
 
-/// Bytes as two digits each, or `-` for no bytes.
+/// Bytes as digits, two for each; `-` where there are none.
 #[derive(Clone, Copy)]
 pub struct Digits<'a>(pub &'a [u8]);
 
@@ -22,25 +22,29 @@ impl<'a> fmt::Display for Digits<'a> {
     }
 }
 
-/// The digits of each name.
+/// What names stand for: digits.
 #[derive(Drop)]
-pub struct Names(BTreeMap<String, String>);
+pub struct Names {
+    digits: BTreeMap<String, String>,
+}
 
 impl Names {
     pub fn new(alloc: Global) -> Names {
-        Names(BTreeMap::new(alloc))
+        Names {
+            digits: BTreeMap::new(alloc),
+        }
     }
 
-    /// Defines a name as the digits of these words.
+    /// Has a name stand for the digits of all these words.
     pub fn put(&mut self, alloc: Global, name: &str, words: &[&str]) -> Result<()> {
-        let key = String::from_str(alloc, name)?;
-        self.0.insert(key, String::new(alloc))?;
+        self.digits
+            .insert(String::from_str(alloc, name)?, String::new(alloc))?;
         self.add(name, words)
     }
 
-    /// Appends the digits of these words to a name.
+    /// Has a name stand for the digits of all these words too, behind its own.
     pub fn add(&mut self, name: &str, words: &[&str]) -> Result<()> {
-        let Some(digits) = self.0.get_mut(name) else {
+        let Some(digits) = self.digits.get_mut(name) else {
             return unknown("no name", name);
         };
         for word in words {
@@ -49,8 +53,8 @@ impl Names {
         Ok(())
     }
 
-    /// Replaces quoted text, repeats such as `61*3`, and names by their digits. `+` joins digits. The name in a
-    /// definition stays.
+    /// A line with digits in the place of quoted text, of repeats as `61*3`, and of names; `+` joins them. A name that
+    /// is given digits stands for itself.
     pub fn spelled(&self, alloc: Global, line: &str) -> Result<String> {
         let mut spelled = String::new(alloc);
         for word in unquoted(alloc, line)?.as_str().split_whitespace() {
@@ -78,8 +82,8 @@ impl Names {
         Ok(())
     }
 
-    /// Returns the digits of a name, of its first bytes (`NAME[..3]`) or of its other bytes (`NAME[3..]`). Any other
-    /// word is returned unchanged.
+    /// What a part of a word stands for: the digits of a name, of its first bytes as `NAME[..3]` or of those behind
+    /// them as `NAME[3..]`, or itself.
     fn part<'a>(&'a self, part: &'a str) -> Result<&'a str> {
         let Some((name, range)) = part.split_once('[') else {
             return Ok(self.meant(part));
@@ -98,14 +102,14 @@ impl Names {
     }
 
     fn meant<'a>(&'a self, part: &'a str) -> &'a str {
-        match self.0.get(part) {
+        match self.digits.get(part) {
             Some(digits) => digits.as_str(),
             None => part,
         }
     }
 }
 
-/// Replaces quoted text by its digits.
+/// A line with digits in the place of quoted text.
 fn unquoted(alloc: Global, line: &str) -> Result<String> {
     let mut bare = String::new(alloc);
     for (place, part) in line.split('"').enumerate() {
@@ -118,6 +122,7 @@ fn unquoted(alloc: Global, line: &str) -> Result<String> {
     Ok(bare)
 }
 
+/// Words as a line.
 pub fn joined(alloc: Global, words: &[&str]) -> Result<String, AllocError> {
     let mut line = String::new(alloc);
     for word in words {
@@ -129,6 +134,7 @@ pub fn joined(alloc: Global, words: &[&str]) -> Result<String, AllocError> {
     Ok(line)
 }
 
+/// The bytes of a word.
 pub fn bytes(alloc: Global, word: &str) -> Result<Vec<u8>> {
     if word == "-" {
         return Ok(Vec::new(alloc));
@@ -136,6 +142,7 @@ pub fn bytes(alloc: Global, word: &str) -> Result<Vec<u8>> {
     hex::decode(alloc, word).or_else(|_| unknown("no bytes", word))
 }
 
+/// The number that a word writes.
 pub fn number<T: FromStr>(word: &str) -> Result<T>
 where
     T::Err: Drop,
@@ -143,36 +150,36 @@ where
     word.parse::<T>().or_else(|_| unknown("no number", word))
 }
 
+/// The name that a word has the bytes of.
 pub fn name(alloc: Global, word: &str) -> Result<Name> {
     wanted(Name::read(alloc, &bytes(alloc, word)?), "no name")
 }
 
+/// The digits of bytes.
 pub fn digits_of(alloc: Global, bytes: &[u8]) -> Result<String> {
     text(format!(in alloc; "{}", Digits(bytes)))
 }
 
-/// Returns the value beside a word in a table. `what` is the text of the failure.
-pub fn choice<T: Copy>(table: &[(&str, T)], what: &str, word: &str) -> Result<T> {
-    match table.iter().find(|row| row.0 == word) {
-        Some(row) => Ok(row.1),
-        None => unknown(what, word),
+/// Whether a word is for relaxed checks, and not for strict ones.
+pub fn is_relaxed(word: &str) -> Result<bool> {
+    match word {
+        "relaxed" => Ok(true),
+        "strict" => Ok(false),
+        _ => unknown("neither relaxed nor strict", word),
     }
 }
 
-pub fn is_relaxed(word: &str) -> Result<bool> {
-    let table = &[("relaxed", true), ("strict", false)];
-    choice(table, "neither relaxed nor strict", word)
-}
-
+/// The word for whether something is so.
 pub fn yes(is_so: bool) -> &'static str {
     if is_so { "yes" } else { "no" }
 }
 
+/// That word, as what comes of an act.
 pub fn answer(alloc: Global, is_so: bool) -> Result<String> {
     text(String::from_str(alloc, yes(is_so)))
 }
 
-/// Writes a value or its fault.
+/// The words for a value, or for why there is none.
 pub fn shown<T: fmt::Debug + Drop, E: fmt::Debug + Drop>(
     alloc: Global,
     outcome: Result<T, E>,
@@ -183,7 +190,7 @@ pub fn shown<T: fmt::Debug + Drop, E: fmt::Debug + Drop>(
     }
 }
 
-/// Writes bytes or their fault.
+/// The digits of bytes, or the words for why there are none.
 pub fn bytes_told<E: fmt::Debug + Drop>(alloc: Global, made: Result<Vec<u8>, E>) -> Result<String> {
     match made {
         Ok(bytes) => digits_of(alloc, &bytes),
@@ -191,26 +198,27 @@ pub fn bytes_told<E: fmt::Debug + Drop>(alloc: Global, made: Result<Vec<u8>, E>)
     }
 }
 
+/// The words for what has a name.
 pub fn by_name<T: fmt::Debug>(alloc: Global, value: &T) -> Result<String> {
     text(format!(in alloc; "{value:?}"))
 }
 
-/// Converts an allocation error.
+/// A text, where there was memory for it.
 pub fn text(made: Result<String, AllocError>) -> Result<String> {
     Ok(made?)
 }
 
-/// Fails with this text.
+/// Fails, and says why.
 pub fn wrong<T>(why: &str) -> Result<T> {
     Err(Error::msg(why))
 }
 
-/// Fails with this text and the word.
+/// Fails, and says what a word is not.
 pub fn unknown<T>(what: &str, word: &str) -> Result<T> {
     bail!("{what}: {word}")
 }
 
-/// Returns the value, or fails with this text and the fault.
+/// A value; or fails, and says what there is not, and why.
 pub fn wanted<T, E: fmt::Debug + Drop>(outcome: Result<T, E>, what: &str) -> Result<T> {
     match outcome {
         Ok(value) => Ok(value),

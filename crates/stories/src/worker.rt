@@ -1,4 +1,4 @@
-//! A worker of the daemon with a source of two links.
+//! A worker of the daemon, and the turns that a source of two links tells it.
 ghost use Rattle.std.specs.Prelude.{◌≡◌};
 
 use crate::devices::{device, plan};
@@ -18,25 +18,27 @@ use std::slice::Iter;
 use std::sync::Wait;
 use std::sync::ledger::{Blank, Ledger};
 
-/// The turns of a worker. Each line runs all turns again over a new source, which then stops.
+/// What a source brings to a worker. Each line is told over a new one, which makes all turns up to there and then
+/// stops.
 #[derive(Drop)]
 pub struct WorkerSetup {
     is_relaxed: bool,
     conn_max: u32,
-    /// The bytes that links 7 and 8 give. Link 8 moves all bytes at each call.
+    /// What the links 7 and 8 give. Link 8 moves all at each call.
     seven: Vec<u8>,
     eight: Vec<u8>,
     plan: DevicePlan,
-    /// Whether another connection ended the port mapper before.
+    /// Whether another connection has ended the port mapper before.
     is_killed: bool,
     turns: Vec<Turn>,
     actual: Amounts,
 }
 
-/// The numbers of entries, of bytes of links 7 and 8, and of closed links that were compared.
+/// How many entries, bytes of link 7, bytes of link 8 and ended links were told.
 type Amounts = [usize; 4];
 
-/// Links 7 and 8, the closed links, and the log before the stop. Memory may be refused after `unmarked` turns.
+/// The links 7 and 8, which were given up, what is logged before the worker is told to stop, and how many turns are
+/// made before one to which memory may be refused.
 #[derive(Drop)]
 struct Wires<'a> {
     unmarked: usize,
@@ -46,7 +48,7 @@ struct Wires<'a> {
     log: Vec<Entry>,
 }
 
-/// A source that returns the turns of a list, drains the log, and returns `Stop`.
+/// A source that tells the turns of a list, and then Stop, once it has taken out the log. It has no link but those two.
 #[derive(Drop)]
 struct Listed<'a, 'b, L: Ledger, R: Wait> {
     rt: &'a R,
@@ -90,18 +92,26 @@ impl<'a> Wires<'a> {
         desk.advance(rt, alloc, &mut self.log, &mut Vec::new(alloc));
     }
 
+    /// How much has come.
     fn amounts(&self) -> Amounts {
         let (seven, eight) = (self.seven.sink.len(), self.eight.sink.len());
         [self.log.len(), seven, eight, self.ended.len()]
     }
 
-    /// Writes the results since the last line: entries, written bytes, and closed links.
+    /// What has come behind what was told: entries, and what both links got and gave up.
     fn line(&self, alloc: Global, actual: Amounts, is_over: bool) -> Result<String> {
-        let [entries, seven, eight, ended] = actual;
-        let mut line = entry_words(alloc, self.log.get(entries..).unwrap_or(&[]))?;
-        put_bytes(&mut line, 7, self.seven.sink.get(seven..).unwrap_or(&[]))?;
-        put_bytes(&mut line, 8, self.eight.sink.get(eight..).unwrap_or(&[]))?;
-        for key in self.ended.iter().skip(ended) {
+        let mut line = entry_words(alloc, self.log.get(actual[0]..).unwrap_or(&[]))?;
+        put_bytes(
+            &mut line,
+            7,
+            self.seven.sink.get(actual[1]..).unwrap_or(&[]),
+        )?;
+        put_bytes(
+            &mut line,
+            8,
+            self.eight.sink.get(actual[2]..).unwrap_or(&[]),
+        )?;
+        for key in self.ended.iter().skip(actual[3]) {
             write!(line, " ; ends {key}")?;
         }
         if is_over {
@@ -110,7 +120,7 @@ impl<'a> Wires<'a> {
         text(String::from_str(alloc, line.as_str().trim_start_matches(" ; ")))
     }
 
-    /// Writes the number of connections, the bytes of link 7, and the results of link 8.
+    /// How many connections have come, what link 7 got, and what has come of link 8.
     fn line_of_8(&self, alloc: Global) -> Result<String> {
         let comes = |entry: &&Entry| matches!(entry, Entry::Connected { .. });
         let count = self.log.iter().filter(comes).count();
@@ -138,7 +148,7 @@ impl WorkerSetup {
         }
     }
 
-    /// Returns the actual result of a line.
+    /// What comes of an act.
     pub fn came<R: Wait>(&mut self, rt: &R, alloc: Global, words: &[&str]) -> Result<String> {
         match *words {
             ["with" | "gives", ..] => self.set(alloc, words)?,
@@ -156,7 +166,7 @@ impl WorkerSetup {
         Ok(String::new(alloc))
     }
 
-    /// Starts again with these settings, or with these bytes of a link.
+    /// Begins anew, with these settings or with what a link gives.
     fn set(&mut self, alloc: Global, words: &[&str]) -> Result<()> {
         self.is_killed = false;
         self.turns.clear();
@@ -176,7 +186,7 @@ impl WorkerSetup {
         Ok(())
     }
 
-    /// Adds turns, which `;` separates.
+    /// Adds turns, between which stands a `;`.
     fn add(&mut self, words: &[&str]) -> Result<()> {
         for words in words.split(|word| *word == ";") {
             self.turns.push(turn(words)?)?;
@@ -184,8 +194,8 @@ impl WorkerSetup {
         Ok(())
     }
 
-    /// Returns the results since the last line. If memory is refused to the last turn, the worker closes the link of
-    /// that turn, and all turns run once more.
+    /// Tells what has come of all turns and was not told. Where memory is refused to the last one, its link is given
+    /// up, and all are made once more.
     fn came_new<R: Wait>(&mut self, rt: &R, alloc: Global) -> Result<String> {
         let given_up = end_of(alloc, self.turns.last())?;
         let (mut line, mut actual) = self.line(rt, alloc, !given_up.is_empty())?;
@@ -200,14 +210,15 @@ impl WorkerSetup {
         Ok(line)
     }
 
-    /// Runs all turns. Returns the results since the last line, and the new amounts.
+    /// What has come of all turns and was not told, and how much that is with it. Memory may be refused to the last
+    /// one.
     fn line<R: Wait>(&self, rt: &R, alloc: Global, is_marked: bool) -> Result<(String, Amounts)> {
         let mut wires = self.wires(alloc, self.plan, is_marked)?;
         let is_over = serve_all(rt, alloc, self, &mut wires)?;
         Ok((wires.line(alloc, self.actual, is_over)?, wires.amounts()))
     }
 
-    /// Returns the results of both links if this call of link 7 fails.
+    /// What comes of both links where link 7 fails at this call of it.
     fn failed<R: Wait>(&self, rt: &R, alloc: Global, call: usize) -> Result<String> {
         let plan = DevicePlan {
             fault: Some(call),
@@ -218,7 +229,7 @@ impl WorkerSetup {
         wires.line_of_8(alloc)
     }
 
-    /// Returns the links. They have room for their results, so that only the worker allocates.
+    /// The links, where link 7 answers so. What they get and give up is noted without memory.
     fn wires(&self, alloc: Global, plan: DevicePlan, is_marked: bool) -> Result<Wires<'_>> {
         let last = self.turns.len().saturating_sub(1);
         Ok(Wires {
@@ -231,7 +242,7 @@ impl WorkerSetup {
     }
 }
 
-/// Runs all turns, and returns whether the port mapper has ended.
+/// Has a worker make all turns. Whether the port mapper has ended.
 fn serve_all<R: Wait>(
     rt: &R,
     alloc: Global,
@@ -242,8 +253,8 @@ fn serve_all<R: Wait>(
     served.context("it closes not all as it stops, or has served otherwise than it says")
 }
 
-/// Fails unless the worker and its seat count the same acts, and the worker closes exactly the open connections when it
-/// stops.
+/// The same, if a worker has served what it says and its seat has counted, and as it stops it closes what is open, and
+/// does nothing else.
 fn served<L: Ledger, R: Wait>(
     rt: &R,
     alloc: Global,
@@ -284,6 +295,7 @@ fn ended<L: Ledger>(alloc: Global, desk: Desk<L>, seat: Seat<L>, count: u64) -> 
     (are_closed && book.count() == count).then_some(core.halted())
 }
 
+/// The turn that words tell of.
 fn turn(words: &[&str]) -> Result<Turn> {
     Ok(match *words {
         ["fresh", key, whence] => Turn::Fresh {
@@ -298,7 +310,7 @@ fn turn(words: &[&str]) -> Result<Turn> {
     })
 }
 
-/// Writes the end of the link of a turn.
+/// How a line says that the link of a turn is given up; nothing where the turn has none.
 fn end_of(alloc: Global, turn: Option<&Turn>) -> Result<String> {
     match turn {
         Some(Turn::Fresh { key, .. } | Turn::Ready(key) | Turn::Late(key)) => {
@@ -308,7 +320,7 @@ fn end_of(alloc: Global, turn: Option<&Turn>) -> Result<String> {
     }
 }
 
-/// Writes entries as in a transcript, separated by `;`.
+/// The words of a transcript for entries, each behind a `;`.
 fn entry_words(alloc: Global, entries: &[Entry]) -> Result<String> {
     let text = String::from_utf8(transcript(alloc, entries, Verdict::Run)?)?;
     let mut words = String::new(alloc);
@@ -319,6 +331,7 @@ fn entry_words(alloc: Global, entries: &[Entry]) -> Result<String> {
     Ok(words)
 }
 
+/// Adds to a line what the link with this key got, if it got any.
 fn put_bytes(line: &mut String, key: u64, bytes: &[u8]) -> Result<()> {
     if !bytes.is_empty() {
         write!(line, " ; gets {key} {}", Digits(bytes))?;

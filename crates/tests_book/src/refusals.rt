@@ -1,5 +1,5 @@
-//! Tests of calls that run out of memory: they return an error and change nothing, or return the expected result.
-//! Memory is ample here. `make faults` starts each test once for each request for memory between two marks, and refuses
-//! that request.
+//! What calls answer where a request for memory is refused to them: their refusal, with all as it stood, or what worked
+//! examples say. Here memory is ample; `make faults` starts each of these tests once for each request that it makes
+//! between two marks, and has that one refused.
 mod book;
 mod desk;

@@ -1,16 +1,14 @@
-//! Tests of segments and of the tickets of their entries.
-use crate::desk::ticket;
-use portmap_book::GatherFault::{BrokenChain, Differs, Missing, Stranger, Twice};
+//! A log in segments, and the tickets of its entries.
+use crate::desk::{book, ticket};
 use portmap_book::{Book, GatherFault, Segment, Ticket, gather};
 use portmap_core::{Event, Fate};
-use portmap_testing::books::book;
 use portmap_testing::bytes::{ALIVE_A, FIFTH, FOURTH};
 use portmap_testing::cases::{Case, all_hold};
 use portmap_testing::entries::{SampleEntry, entry};
 use std::alloc::Global;
 use std::test::Fail;
 
-/// Tickets for the log of a node that connects, registers and leaves, with the result of `gather`.
+/// Tickets for the log of a node that connects, registers and leaves, and what is found of them.
 struct Gathered(&'static [(u64, SampleEntry)], Result<(), GatherFault>);
 
 const OPENED: SampleEntry = SampleEntry::Connected(true, 0);
@@ -19,28 +17,37 @@ const REGISTERED: SampleEntry = SampleEntry::Piece(0, ALIVE_A, FOURTH, Fate::Sta
 
 const LEFT: SampleEntry = SampleEntry::Closed(0);
 
-const DIFFERS: SampleEntry = SampleEntry::Piece(0, ALIVE_A, FIFTH, Fate::Stay);
-
-const REMOTE: SampleEntry = SampleEntry::Connected(false, 0);
-
-const FAULTED: SampleEntry = SampleEntry::Faulted(0);
-
 const GATHERED: &[Gathered] = &[
     Gathered(&[(0, OPENED), (1, REGISTERED), (2, LEFT)], Ok(())),
     Gathered(&[(2, LEFT), (0, OPENED), (1, REGISTERED)], Ok(())),
     Gathered(
         &[(0, OPENED), (1, REGISTERED), (2, LEFT), (1, REGISTERED)],
-        Err(Twice(1)),
+        Err(GatherFault::Twice(1)),
     ),
-    Gathered(&[(0, OPENED), (3, LEFT), (3, LEFT)], Err(Stranger(3))),
-    Gathered(&[(0, OPENED), (1, DIFFERS)], Err(Differs(1))),
-    Gathered(&[(0, OPENED), (2, FAULTED)], Err(Differs(2))),
-    Gathered(&[(0, REMOTE)], Err(Differs(0))),
-    Gathered(&[(0, OPENED), (2, LEFT)], Err(Missing(1))),
-    Gathered(&[], Err(Missing(0))),
+    Gathered(
+        &[(0, OPENED), (3, LEFT), (3, LEFT)],
+        Err(GatherFault::Stranger(3)),
+    ),
+    Gathered(
+        &[
+            (0, OPENED),
+            (1, SampleEntry::Piece(0, ALIVE_A, FIFTH, Fate::Stay)),
+        ],
+        Err(GatherFault::Differs(1)),
+    ),
+    Gathered(
+        &[(0, OPENED), (2, SampleEntry::Faulted(0))],
+        Err(GatherFault::Differs(2)),
+    ),
+    Gathered(
+        &[(0, SampleEntry::Connected(false, 0))],
+        Err(GatherFault::Differs(0)),
+    ),
+    Gathered(&[(0, OPENED), (2, LEFT)], Err(GatherFault::Missing(1))),
+    Gathered(&[], Err(GatherFault::Missing(0))),
 ];
 
-/// Connects a node, which registers and leaves.
+/// A node connects, registers and leaves.
 fn come_and_go(alloc: Global, book: &mut Book) -> Option<()> {
     book.act(alloc, 1, Event::Connect { local: true }).ok()?;
     let bytes = ALIVE_A.to_vec(alloc).ok()?;
@@ -49,8 +56,9 @@ fn come_and_go(alloc: Global, book: &mut Book) -> Option<()> {
     Some(())
 }
 
+/// The book of that node.
 fn one_node(alloc: Global) -> Option<Book> {
-    let mut book = book(alloc, false, 2)?;
+    let mut book = book(alloc, false)?;
     come_and_go(alloc, &mut book)?;
     Some(book)
 }
@@ -78,25 +86,25 @@ fn tickets_are_the_log_or_the_first_fault_is_told(rt: HostRuntime) -> Result<(),
     all_hold(&rt, GATHERED)
 }
 
-/// Segments of a log before the book of `two_nodes`, whether they are of a relaxed port mapper, unlike the book, and
-/// the result of `gather`.
+/// Which segments of a log are handed over with the book behind the second, whether they are of a relaxed port mapper,
+/// as the book is not, and what is found of the tickets of all.
 struct Chained(&'static [usize], bool, Result<(), GatherFault>);
 
-/// The tickets of a node that connects, registers and leaves, and of another connection.
+/// A node connects, registers and leaves, and another one connects.
 pub const ALL: &[(u64, SampleEntry)] = &[(0, OPENED), (1, REGISTERED), (2, LEFT), (3, OPENED)];
 
 const CHAINED: &[Chained] = &[
     Chained(&[0, 1], false, Ok(())),
-    Chained(&[1, 0], false, Err(BrokenChain(1))),
-    Chained(&[0], false, Err(BrokenChain(1))),
-    Chained(&[0, 0, 1], false, Err(BrokenChain(1))),
-    Chained(&[0, 1, 1], false, Err(BrokenChain(2))),
-    Chained(&[0, 1], true, Err(BrokenChain(0))),
-    Chained(&[1], false, Err(Stranger(0))),
-    Chained(&[], false, Err(Stranger(0))),
+    Chained(&[1, 0], false, Err(GatherFault::BrokenChain(1))),
+    Chained(&[0], false, Err(GatherFault::BrokenChain(1))),
+    Chained(&[0, 0, 1], false, Err(GatherFault::BrokenChain(1))),
+    Chained(&[0, 1, 1], false, Err(GatherFault::BrokenChain(2))),
+    Chained(&[0, 1], true, Err(GatherFault::BrokenChain(0))),
+    Chained(&[1], false, Err(GatherFault::Stranger(0))),
+    Chained(&[], false, Err(GatherFault::Stranger(0))),
 ];
 
-/// Returns the segment of the first node, or the next segment with the other connection.
+/// The segment of the node that comes and leaves, or the one behind it, of the other node.
 fn segment_in(alloc: Global, book: &mut Book, place: usize) -> Option<Segment> {
     come_and_go(alloc, book)?;
     if place == 1 {
@@ -107,7 +115,7 @@ fn segment_in(alloc: Global, book: &mut Book, place: usize) -> Option<Segment> {
 }
 
 fn segment_of(alloc: Global, relaxed: bool, place: usize) -> Option<Segment> {
-    let mut book = book(alloc, relaxed, 2)?;
+    let mut book = book(alloc, relaxed)?;
     segment_in(alloc, &mut book, place)
 }
 
@@ -119,14 +127,14 @@ pub fn segments_of(alloc: Global, relaxed: bool, places: &[usize]) -> Option<Vec
     Some(segments)
 }
 
-/// Returns the book after both segments.
+/// The book behind both segments.
 pub fn two_nodes(alloc: Global) -> Option<Book> {
-    let mut book = book(alloc, false, 2)?;
+    let mut book = book(alloc, false)?;
     segment_in(alloc, &mut book, 1)?;
     Some(book)
 }
 
-/// Returns whether `gather` returns this for all tickets.
+/// Whether this is found of the tickets of all.
 fn is_found(
     alloc: Global,
     segments: &[Segment],

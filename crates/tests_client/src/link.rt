@@ -1,2 +1,2 @@
-//! Tests of the adapters of readers and writers.
+//! What the adapters of readers and writers answer.
 mod adapters;

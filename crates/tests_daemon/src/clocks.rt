@@ -10,30 +10,31 @@ use std::sync::{Arc, Wait};
 use std::thread::Threads;
 use std::time::Duration;
 
-/// A runtime with a clock that a test pushes forward, and with memory that a test makes short. It counts the notices of
-/// the daemon, and records also to a file behind a symbolic link.
+/// A runtime whose clock can be pushed forward, and whose memory can be short. It counts what the operator is told, and
+/// records also to a file that a link leads to.
 #[derive(Drop)]
 pub struct Pushed<R: Clock> {
     rt: R,
     shared: Arc<Pushing>,
 }
 
-/// State that all copies of a `Pushed` share.
+/// What the copies of it share.
 #[derive(Drop, Default)]
 pub struct Pushing {
-    /// The seconds by which the clock was pushed.
+    /// By how many seconds it was pushed.
     seconds: AtomicU64,
-    /// If true, only pushes move the clock.
+    /// The clock goes on by that alone.
     stands: AtomicBool,
-    /// If true, the host reports that memory is short. `asked` counts the questions.
+    /// No memory can be had, as the host tells it, and how often it was asked.
     pub is_short: AtomicBool,
     pub asked: AtomicU64,
-    /// The number of notices of a recording that failed.
+    /// How often the operator was told that the recording has failed.
     pub actual: AtomicU64,
-    /// The numbers of notices of a recording that continues, and of short memory.
+    /// How often, that it goes on again, that memory is short, and that another host was refused.
     pub again: AtomicU64,
     pub short: AtomicU64,
-    /// If true, a clone fails.
+    pub remote: AtomicU64,
+    /// No further copy of it can be had.
     pub is_alone: AtomicBool,
 }
 
@@ -43,19 +44,20 @@ impl<R: Clock + Copy> Pushed<R> {
         Ok(Pushed { rt, shared })
     }
 
+    /// By how much it is pushed.
     pub fn pushing(&self) -> &Pushing {
         &self.shared
     }
 }
 
 impl Pushing {
-    /// Stops the clock but for pushes, and makes memory short.
+    /// From now on it goes on by what it is pushed alone, and no memory can be had.
     pub fn stand(&self) {
         self.stands.store(true, Ordering::SeqCst);
         self.is_short.store(true, Ordering::SeqCst);
     }
 
-    /// Pushes the clock forward.
+    /// Pushes the clock forward by so many seconds.
     pub fn push(&self, seconds: u64) {
         self.seconds.fetch_add(seconds, Ordering::SeqCst);
     }
@@ -66,8 +68,10 @@ impl<R: Clock + Copy> Clone for Pushed<R> {
         if self.shared.is_alone.load(Ordering::SeqCst) {
             return Err(AllocError);
         }
-        let (rt, shared) = (self.rt, Arc::try_clone(&self.shared)?);
-        Ok(Pushed { rt, shared })
+        Ok(Pushed {
+            rt: self.rt,
+            shared: Arc::try_clone(&self.shared)?,
+        })
     }
 }
 
@@ -119,6 +123,7 @@ impl<R: Clock + Files<File = File>> Host for Pushed<R> {
             Notice::RecordingFailed { .. } => &self.shared.actual,
             Notice::RecordingAgain { .. } => &self.shared.again,
             Notice::ShortOfMemory(_) => &self.shared.short,
+            Notice::Remote(_) => &self.shared.remote,
             _ => return,
         };
         count.fetch_add(1, Ordering::SeqCst);

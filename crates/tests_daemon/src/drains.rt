@@ -1,21 +1,29 @@
-//! A test of the drain with a poll that fails.
+//! Who takes the log out, where its poll fails.
 ghost use Rattle.std.specs.Prelude.{◌≡◌};
 
 use portmap_book::{Desk, PARTS};
 use portmap_daemon::{MioStream, MioSystem, MioWaker};
-use portmap_testing::books::{Runtime, small_book};
-use portmap_worker::{Drain, Interest, Report, Shared, System, UNSENT_BYTES_MOST, drain_log};
+use portmap_testing::books::small_book;
+use portmap_worker::{Drain, Host, Interest, Report, Shared, System, UNSENT_BYTES_MOST, drain_log};
+use std::alloc::Global;
+use std::fs::File;
 use std::io::ErrorKind;
 use std::marker::Brand;
-use std::net::IpAddr;
+use std::net::{IpAddr, Net};
+use std::rt::Clock;
+use std::sync::Wait;
 use std::sync::atomic::{AtomicU64, Ordering};
 use std::sync::ledger::{Blank, Ledger};
+use std::test::Fail;
+use std::thread::Threads;
 use std::time::Duration;
 use std::{io, thread};
 
 /// A system whose polls fail. It counts them.
 #[derive(Drop)]
-struct Deaf<'a>(&'a AtomicU64);
+struct Deaf<'a> {
+    polls: &'a AtomicU64,
+}
 
 impl System for Deaf<'_> {
     type Stream = MioStream;
@@ -23,7 +31,7 @@ impl System for Deaf<'_> {
     type Waker = MioWaker;
 
     fn poll(&mut self, _timeout_ms: u64) -> bool {
-        self.0.fetch_add(1, Ordering::SeqCst);
+        self.polls.fetch_add(1, Ordering::SeqCst);
         false
     }
 
@@ -60,32 +68,40 @@ impl System for Deaf<'_> {
     }
 }
 
-/// Ends the only worker after one and a half seconds.
-fn end_late<R: Runtime>(rt: &R, shared: &Shared<MioWaker>) {
+/// The only worker ends after a second and a half.
+fn end_late<R: Wait + Clock>(rt: &R, shared: &Shared<MioWaker>) {
     thread::sleep(rt, Duration::from_millis(1500));
     shared.end_worker(0, 0);
 }
 
-/// Returns the number of polls until the drain ends.
-fn polls<L: Ledger + Send + Sync, R: Runtime + Sync>(rt: &R, blank: Blank) -> Option<u64>
+/// How often it polls until then, if it ends with that.
+fn polls<L: Ledger + Send + Sync, R: Net + Host<File = File> + Threads + Wait + Clock + Sync>(
+    rt: &R,
+    alloc: Global,
+    blank: Blank,
+) -> Option<u64>
     requires name { blank.name ≡ L.name }
     requires parts { blank.parts ≡ L.parts }
     requires enough { blank.parts ≡ PARTS }
 {
-    let alloc = rt.alloc();
     let desk: Desk<L> = Desk::new(blank, small_book(alloc)?);
     let (_, waker) = MioSystem::open(rt, alloc, &[]).ok()?;
     let shared = Shared::new(rt, Vec::new(alloc), waker, 2, UNSENT_BYTES_MOST);
     shared.ending.begin_one();
     let drain = Drain::begin(rt, alloc, &desk, None, 2, None).ok()?;
     let polls = AtomicU64::new(0);
-    let drains = || drain_log(rt, alloc, &desk, &shared, drain, Deaf(&polls));
-    let (is_out, _) = thread::join(rt, drains, || end_late(rt, &shared));
+    let deaf = Deaf { polls: &polls };
+    let (is_out, _) = thread::join(
+        rt,
+        || drain_log(rt, alloc, &desk, &shared, drain, deaf),
+        || end_late(rt, &shared),
+    );
     is_out.then_some(polls.load(Ordering::SeqCst))
 }
 
 #[test]
-fn who_takes_the_log_out_sleeps_where_its_poll_fails(rt: HostRuntime) {
-    let polls = polls::<Brand, HostRuntime>(&rt, Blank::new(PARTS)).unwrap_or(0);
+fn who_takes_the_log_out_sleeps_where_its_poll_fails(rt: HostRuntime) -> Result<(), Fail> {
+    let polls = polls::<Brand, HostRuntime>(&rt, rt.alloc(), Blank::new(PARTS)).unwrap_or(0);
     assert!(rt; polls > 0 && polls < 10);
+    Ok(())
 }

@@ -1,22 +1,23 @@
-//! Tests of recordings that continue in a second file.
+//! A recording that goes on in a further file once one is full.
 ghost use Rattle.std.specs.Prelude.{◌≡◌};
 
 use portmap_book::{Desk, PARTS};
-use portmap_testing::books::{Runtime, small_book};
+use portmap_testing::books::small_book;
 use portmap_testing::bytes::ALIVE_A;
-use portmap_testing::cases::is_so;
 use portmap_testing::sessions::CLOSES;
 use portmap_worker::{RecordItem, RecordQueue, begin_file, write_recording};
 use std::alloc::Global;
+use std::fs::{File, Files};
 use std::marker::Brand;
 use std::rt::Clock;
+use std::sync::Wait;
 use std::sync::ledger::{Blank, Ledger};
 use std::test::Fail;
+use std::thread::Threads;
 use std::time::Duration;
 use std::{fs, thread};
 
-/// A recording with limits of two connections and two names, from position 0 and with no names: worker 1 admits a node,
-/// which registers.
+/// Two connections and two names at most, from place 0 and nothing known on: worker 1 has a node connect and register.
 pub const REGISTERS: [u8; 93] = [
     0x45, 0x50, 0x4D, 0x53, 2, 0, 0x11, 0x11, 0, 0, 0, 2, 0, 0, 0, 2, //
     0, 0, 0, 0, 0, 0, 0, 0, 0, 0, 0, 0, 0, 0, 0, 0, 0, 0, 0, 0, 0, //
@@ -25,29 +26,32 @@ pub const REGISTERS: [u8; 93] = [
     0, 1, 0x61, 0, 0, 0, 0, 0, 0, 6, 0x76, 0, 0, 0, 0, 4,
 ];
 
-/// The number of milliseconds to wait for a full file.
+/// For so many milliseconds a file is waited for that is full.
 const PATIENCE: u32 = 500;
 
-/// When the second file begins.
+/// When the next file is begun.
 #[derive(Clone, Copy, PartialEq, Eq)]
 enum Turn {
-    /// Once the first file is full, or never.
+    /// Once the one that is being written is full, if it ever is.
     Full,
-    /// Before any byte of the first file is written.
+    /// Before any of it is written.
     AtOnce,
-    /// There is no second file, and no first one is begun either.
+    /// Not at all, nor is a first one.
     Never,
 }
 
-/// Drains the log into the queue, as the daemon does.
-fn record_log<L: Ledger, R: Runtime>(rt: &R, desk: &Desk<L>, queue: &RecordQueue) {
-    let (mut entries, mut makers) = (Vec::new(rt.alloc()), Vec::new(rt.alloc()));
-    desk.advance(rt, rt.alloc(), &mut entries, &mut makers);
+/// Takes the log out and has it recorded, as the daemon does.
+fn record_log<L: Ledger, R: Wait>(rt: &R, alloc: Global, desk: &Desk<L>, queue: &RecordQueue) {
+    let mut entries = Vec::new(alloc);
+    let mut makers = Vec::new(alloc);
+    desk.advance(rt, alloc, &mut entries, &mut makers);
     queue.put(rt, Some(RecordItem::Entries(entries, makers)));
 }
 
-fn turn_over<L: Ledger, R: Runtime>(
+/// Begins the next file.
+fn turn_over<L: Ledger, R: Wait + Clock>(
     rt: &R,
+    alloc: Global,
     desk: &Desk<L>,
     queue: &RecordQueue,
     turn: Turn,
@@ -57,36 +61,38 @@ fn turn_over<L: Ledger, R: Runtime>(
     }
     for _ in 0..PATIENCE {
         if turn == Turn::AtOnce || queue.is_full(rt) {
-            return begin_file(rt, rt.alloc(), queue, desk);
+            return begin_file(rt, alloc, queue, desk);
         }
         thread::sleep(rt, Duration::from_millis(1));
     }
     true
 }
 
-/// Admits a node by worker 1, which registers, and closes it by worker 2. Drains the log after either.
-fn comes_and_leaves<L: Ledger, R: Runtime>(
+/// A node comes by worker 1 and registers, and leaves by worker 2. The log is recorded after either.
+fn comes_and_leaves<L: Ledger, R: Wait + Clock>(
     rt: &R,
+    alloc: Global,
     desk: &Desk<L>,
     queue: &RecordQueue,
     turn: Turn,
 ) -> Option<bool> {
-    let (mut one, mut two) = (desk.seat(rt, 1)?, desk.seat(rt, 2)?);
-    let alloc = rt.alloc();
+    let mut one = desk.seat(rt, 1)?;
+    let mut two = desk.seat(rt, 2)?;
     let (_, conn) = desk.connect(rt, alloc, &mut one, true).ok()?;
     desk.piece(rt, alloc, &mut one, &conn, ALIVE_A).ok()?;
-    record_log(rt, desk, queue);
-    let turns = turn_over(rt, desk, queue, turn);
+    record_log(rt, alloc, desk, queue);
+    let turns = turn_over(rt, alloc, desk, queue, turn);
     desk.close(rt, alloc, &mut two, conn).ok()?;
-    record_log(rt, desk, queue);
-    // The log is empty now.
-    record_log(rt, desk, queue);
+    record_log(rt, alloc, desk, queue);
+    // There is nothing more in the log.
+    record_log(rt, alloc, desk, queue);
     Some(turns)
 }
 
-/// Returns whether all of that is queued.
-fn is_handed_on<L: Ledger, R: Runtime>(
+/// Whether all of that is handed on to be recorded.
+fn is_handed_on<L: Ledger, R: Wait + Clock>(
     rt: &R,
+    alloc: Global,
     blank: Blank,
     queue: &RecordQueue,
     turn: Turn,
@@ -95,33 +101,45 @@ fn is_handed_on<L: Ledger, R: Runtime>(
     requires parts { blank.parts ≡ L.parts }
     requires enough { blank.parts ≡ PARTS }
 {
-    let desk: Desk<L> = Desk::new(blank, small_book(rt.alloc())?);
-    let begins = turn == Turn::Never || begin_file(rt, rt.alloc(), queue, &desk);
-    let turns = comes_and_leaves(rt, &desk, queue, turn);
+    let desk: Desk<L> = Desk::new(blank, small_book(alloc)?);
+    let begins = turn == Turn::Never || begin_file(rt, alloc, queue, &desk);
+    let turns = comes_and_leaves(rt, alloc, &desk, queue, turn);
     queue.close(rt);
     Some(begins && turns?)
 }
 
-/// Queues all of that at a desk of its own.
-fn hand_on<R: Runtime>(rt: &R, queue: &RecordQueue, turn: Turn) -> Option<bool> {
-    is_handed_on::<Brand, R>(rt, Blank::new(PARTS), queue, turn)
+/// The same, at a desk of its own.
+fn hand_on<R: Wait + Clock>(
+    rt: &R,
+    alloc: Global,
+    queue: &RecordQueue,
+    turn: Turn,
+) -> Option<bool> {
+    is_handed_on::<Brand, R>(rt, alloc, Blank::new(PARTS), queue, turn)
 }
 
+/// A queue for a recording at this path.
 fn queue_at(alloc: Global, path: &str) -> Option<RecordQueue> {
     Some(RecordQueue::new(alloc, path.to_string(alloc).ok()?))
 }
 
-/// Queues all of that, and then writes it to files of `file_most` bytes. Returns whether all is written, and whether
-/// the queue reports a full file.
-fn written<R: Runtime>(rt: &R, turn: Turn, file_most: u64, path: &str) -> Option<(bool, bool)> {
-    let queue = queue_at(rt.alloc(), path)?;
-    let is_handed_on = hand_on(rt, &queue, turn)?;
-    write_recording(rt, rt.alloc(), &queue, file_most);
+/// Whether all of that, which is handed on before any of it is written, is written to a file that is full once it has
+/// so many bytes, and whether the queue says then that it is full.
+fn written<R: Files<File = File> + Wait + Clock>(
+    rt: &R,
+    alloc: Global,
+    turn: Turn,
+    file_most: u64,
+    path: &str,
+) -> Option<(bool, bool)> {
+    let queue = queue_at(alloc, path)?;
+    let is_handed_on = hand_on(rt, alloc, &queue, turn)?;
+    write_recording(rt, alloc, &queue, file_most);
     let is_written = is_handed_on && queue.is_written(rt, Duration::ZERO);
     Some((is_written, queue.is_full(rt)))
 }
 
-/// Compares the bytes of a file, and removes the file.
+/// Whether a file has these bytes. It is removed.
 fn has_had(rt: &HostRuntime, path: &str, bytes: &[u8]) -> Result<bool, Fail> {
     let held = fs::read(rt, path)?;
     fs::remove_file(rt, path)?;
@@ -134,14 +152,14 @@ fn a_file_that_is_full_is_followed_by_one_that_begins_where_it_ended(
 ) -> Result<(), Fail> {
     let queue = RecordQueue::new(rt.alloc(), "full".to_string(rt.alloc())?);
     let writer = || write_recording(&rt, rt.alloc(), &queue, 93);
-    let client = || hand_on(&rt, &queue, Turn::Full);
+    let client = || hand_on(&rt, rt.alloc(), &queue, Turn::Full);
     let (_, is_handed_on) = thread::join(&rt, writer, client);
     assert!(rt; is_handed_on == Some(true) && queue.is_written(&rt, Duration::ZERO));
     assert!(rt; has_had(&rt, "full", &REGISTERS)? && has_had(&rt, "full.1", &CLOSES)?);
     Ok(())
 }
 
-/// Returns whether the file has the entries of both recordings behind one header.
+/// Both as one record.
 fn is_one_record(rt: &HostRuntime, path: &str) -> Result<bool, Fail> {
     let mut all = REGISTERS.to_vec(rt.alloc())?;
     let (_, close) = CLOSES.split_at(72);
@@ -151,73 +169,85 @@ fn is_one_record(rt: &HostRuntime, path: &str) -> Result<bool, Fail> {
 
 #[test]
 fn a_file_that_is_not_full_goes_on(rt: HostRuntime) -> Result<(), Fail> {
-    let written = written(&rt, Turn::Full, 107, "room");
+    let written = written(&rt, rt.alloc(), Turn::Full, 107, "room");
     assert!(rt; matches!(written, Some((true, _))));
     assert!(rt; is_one_record(&rt, "room")? && !fs::exists(&rt, "room.1")?);
     Ok(())
 }
 
-/// The first file has 93 bytes and is full. The second file of 86 bytes waits for it.
+/// The first one is full, of 93 bytes, and the second one, of 86, waits for it.
 #[test]
 fn a_file_that_waits_for_the_one_before_it_is_not_full(rt: HostRuntime) -> Result<(), Fail> {
-    let written = written(&rt, Turn::AtOnce, 90, "behind");
+    let written = written(&rt, rt.alloc(), Turn::AtOnce, 90, "behind");
     assert_eq!(rt; written, Some((true, false)));
     assert!(rt; has_had(&rt, "behind", &REGISTERS)? && has_had(&rt, "behind.1", &CLOSES)?);
     Ok(())
 }
 
-/// Ends an empty recording after 100 milliseconds.
-fn end_late<R: Runtime>(rt: &R, queue: &RecordQueue) {
+/// Ends a recording to which nothing is put, after a moment.
+fn end_late<R: Files<File = File> + Wait + Clock>(rt: &R, alloc: Global, queue: &RecordQueue) {
     thread::sleep(rt, Duration::from_millis(100));
-    write_recording(rt, rt.alloc(), queue, 93);
+    write_recording(rt, alloc, queue, 93);
 }
 
 #[test]
 fn who_waits_for_the_end_of_a_recording_is_told_at_once(rt: HostRuntime) -> Result<(), Fail> {
-    let queue = RecordQueue::new(rt.alloc(), "none".to_string(rt.alloc())?);
+    let (alloc, patience) = (rt.alloc(), Duration::from_secs(10));
+    let queue = RecordQueue::new(alloc, "none".to_string(alloc)?);
     queue.close(&rt);
     let before = rt.monotonic()?;
-    let client = || queue.is_written(&rt, Duration::from_secs(10));
-    let (_, is_written) = thread::join(&rt, || end_late(&rt, &queue), client);
+    let client = || queue.is_written(&rt, patience);
+    let (_, is_written) = thread::join(&rt, || end_late(&rt, alloc, &queue), client);
     let waited = rt.monotonic()?.saturating_sub(before);
     assert!(rt; is_written && waited < Duration::from_secs(5));
     Ok(())
 }
 
-/// Queues two logs, each from its own position 0. Returns whether the recording ends between them.
-fn ends_between<R: Runtime>(rt: &R, second: Turn, path: &str) -> Option<bool> {
-    let queue = queue_at(rt.alloc(), path)?;
-    let first = hand_on(rt, &queue, Turn::Full)?;
-    let second = hand_on(rt, &queue, second)?;
-    write_recording(rt, rt.alloc(), &queue, u64::MAX);
+/// Whether two logs, each from its beginning on, are handed on one behind the other, and the recording ends between
+/// them.
+fn ends_between<R: Files<File = File> + Wait + Clock>(
+    rt: &R,
+    alloc: Global,
+    second: Turn,
+    path: &str,
+) -> Option<bool> {
+    let queue = queue_at(alloc, path)?;
+    let first = hand_on(rt, alloc, &queue, Turn::Full)?;
+    let second = hand_on(rt, alloc, &queue, second)?;
+    write_recording(rt, alloc, &queue, u64::MAX);
     Some(first && second && !queue.is_written(rt, Duration::ZERO))
 }
 
-/// The second file begins at position 0, and the first file ends at position 3.
+/// The second file begins at place 0 again, and the first one ends at place 3.
 #[test]
 fn a_file_that_does_not_follow_is_not_begun(rt: HostRuntime) -> Result<(), Fail> {
-    assert_eq!(rt; ends_between(&rt, Turn::Full, "apart"), Some(true));
+    let ends = ends_between(&rt, rt.alloc(), Turn::Full, "apart");
+    assert_eq!(rt; ends, Some(true));
     assert!(rt; is_one_record(&rt, "apart")? && !fs::exists(&rt, "apart.1")?);
     Ok(())
 }
 
-/// The name gets its creation a second time.
+/// The name gets the creation again that it had.
 #[test]
 fn entries_that_are_no_run_are_not_recorded(rt: HostRuntime) -> Result<(), Fail> {
-    assert_eq!(rt; ends_between(&rt, Turn::Never, "again"), Some(true));
-    is_so(&rt, is_one_record(&rt, "again"))
+    let ends = ends_between(&rt, rt.alloc(), Turn::Never, "again");
+    assert_eq!(rt; ends, Some(true));
+    assert!(rt; is_one_record(&rt, "again")?);
+    Ok(())
 }
 
+/// A device that takes all.
 #[test]
-fn what_is_no_plain_file_is_never_full(rt: HostRuntime) {
-    assert_eq!(rt;
-        written(&rt, Turn::Full, 1, "/dev/null"),
-        Some((true, false))
-    );
+fn what_is_no_plain_file_is_never_full(rt: HostRuntime) -> Result<(), Fail> {
+    let written = written(&rt, rt.alloc(), Turn::Full, 1, "/dev/null");
+    assert_eq!(rt; written, Some((true, false)));
+    Ok(())
 }
 
+/// A device that takes no byte.
 #[test]
-fn a_file_that_takes_nothing_is_told(rt: HostRuntime) {
-    let written = written(&rt, Turn::Full, 94, "/dev/full");
+fn a_file_that_takes_nothing_is_told(rt: HostRuntime) -> Result<(), Fail> {
+    let written = written(&rt, rt.alloc(), Turn::Full, 94, "/dev/full");
     assert!(rt; matches!(written, Some((false, _))));
+    Ok(())
 }

@@ -1,110 +1,119 @@
-//! Gates that hold a worker until another worker is as far, for ten seconds at most.
+//! Gates that hold a worker until another one has come as far, for a bounded time.
 use portmap_testing::books::is_raised;
 use portmap_worker::{Gate, Point};
+use std::rt::Clock;
 use std::sync::atomic::{AtomicU64, Ordering};
 
-/// A gate for two workers. The second worker begins when the gate lets it.
+/// A gate that says when a worker that is to come behind another one may begin.
 pub trait Order: Gate {
-    /// Returns once the second worker may begin.
-    fn follow(&self) {}
+    /// Returns once it may.
+    fn follow(&self);
 }
 
-/// The progress of two workers, and the number of waits that took ten seconds.
+/// A gate at which two workers meet with no lock held: the one that comes first at `Answered` is held there until one
+/// with another number has passed. After ten seconds it lets go, and notes it.
 #[derive(Drop)]
-struct Progress<'a> {
-    rt: &'a HostRuntime,
+pub struct Meet<'a, R: Clock> {
+    rt: &'a R,
+    /// The number of the worker that came first, and 1; or 0.
     first: AtomicU64,
-    second: AtomicU64,
-    missed: AtomicU64,
+    others: AtomicU64,
+    noted: AtomicU64,
 }
 
-impl<'a> Progress<'a> {
-    fn new(rt: &'a HostRuntime) -> Progress<'a> {
-        Progress {
+impl<'a, R: Clock> Meet<'a, R> {
+    pub fn new(rt: &'a R) -> Meet<'a, R> {
+        Meet {
             rt,
             first: AtomicU64::new(0),
-            second: AtomicU64::new(0),
-            missed: AtomicU64::new(0),
+            others: AtomicU64::new(0),
+            noted: AtomicU64::new(0),
         }
     }
 
-    fn wait(&self, flag: &AtomicU64) {
-        if !is_raised(self.rt, flag) {
-            self.missed.fetch_add(1, Ordering::SeqCst);
-        }
-    }
-}
-
-/// A gate at which two workers meet with no lock held. It holds the first worker at `Answered` until another worker
-/// passes. `first` is the number of the first worker plus 1.
-#[derive(Drop)]
-pub struct Meet<'a>(Progress<'a>);
-
-impl<'a> Meet<'a> {
-    pub fn new(rt: &'a HostRuntime) -> Meet<'a> {
-        Meet(Progress::new(rt))
-    }
-
-    /// Returns whether two workers have met and no wait took ten seconds.
+    /// Whether two workers have met, and it let go of none before.
     pub fn have_met(&self) -> bool {
-        let has_second = self.0.second.load(Ordering::SeqCst) > 0;
-        has_second && self.0.missed.load(Ordering::SeqCst) == 0
+        self.others.load(Ordering::SeqCst) > 0 && self.noted.load(Ordering::SeqCst) == 0
     }
 
+    /// Whether no worker with another number came first.
     fn is_first(&self, worker: u32) -> bool {
-        let (own, order) = (u64::from(worker) + 1, Ordering::SeqCst);
-        match self.0.first.compare_exchange(0, own, order, order) {
+        let own = u64::from(worker) + 1;
+        match self
+            .first
+            .compare_exchange(0, own, Ordering::SeqCst, Ordering::SeqCst)
+        {
             Ok(_) => true,
             Err(first) => first == own,
         }
     }
 }
 
-impl Gate for Meet<'_> {
+impl<R: Clock> Gate for Meet<'_, R> {
     fn pass(&self, worker: u32, point: Point) {
         if point == Point::Sent {
             return;
         }
-        if self.is_first(worker) {
-            self.0.wait(&self.0.second);
-        } else {
-            self.0.second.store(1, Ordering::SeqCst);
+        if !self.is_first(worker) {
+            self.others.store(1, Ordering::SeqCst);
+        } else if !is_raised(self.rt, &self.others) {
+            self.noted.fetch_add(1, Ordering::SeqCst);
         }
     }
 }
 
-impl Order for Meet<'_> {}
+impl<R: Clock> Order for Meet<'_, R> {
+    fn follow(&self) {}
+}
 
-/// A gate that holds worker 0 at `Sent` until the other worker is at `Sent` too.
+/// A gate for a worker 0 and one that comes behind it: it holds worker 0 at `Sent` until the other one is there too.
+/// After ten seconds it lets go, and notes it.
 #[derive(Drop)]
-pub struct Relay<'a>(Progress<'a>);
+pub struct Relay<'a, R: Clock> {
+    rt: &'a R,
+    ahead: AtomicU64,
+    behind: AtomicU64,
+    noted: AtomicU64,
+}
 
-impl<'a> Relay<'a> {
-    pub fn new(rt: &'a HostRuntime) -> Relay<'a> {
-        Relay(Progress::new(rt))
+impl<'a, R: Clock> Relay<'a, R> {
+    pub fn new(rt: &'a R) -> Relay<'a, R> {
+        Relay {
+            rt,
+            ahead: AtomicU64::new(0),
+            behind: AtomicU64::new(0),
+            noted: AtomicU64::new(0),
+        }
     }
 
-    pub fn missed(&self) -> u64 {
-        self.0.missed.load(Ordering::SeqCst)
+    /// How often a wait took too long.
+    pub fn noted(&self) -> u64 {
+        self.noted.load(Ordering::SeqCst)
+    }
+
+    fn wait(&self, flag: &AtomicU64) {
+        if !is_raised(self.rt, flag) {
+            self.noted.fetch_add(1, Ordering::SeqCst);
+        }
     }
 }
 
-impl Gate for Relay<'_> {
+impl<R: Clock> Gate for Relay<'_, R> {
     fn pass(&self, worker: u32, point: Point) {
         match (worker, point) {
             (_, Point::Answered) => {}
             (0, Point::Sent) => {
-                self.0.first.store(1, Ordering::SeqCst);
-                self.0.wait(&self.0.second);
+                self.ahead.store(1, Ordering::SeqCst);
+                self.wait(&self.behind);
             }
-            (_, Point::Sent) => self.0.second.store(1, Ordering::SeqCst),
+            (_, Point::Sent) => self.behind.store(1, Ordering::SeqCst),
         }
     }
 }
 
-impl Order for Relay<'_> {
-    /// Returns once worker 0 is at `Sent`.
+impl<R: Clock> Order for Relay<'_, R> {
+    /// Once worker 0 is at `Sent`.
     fn follow(&self) {
-        self.0.wait(&self.0.first);
+        self.wait(&self.ahead);
     }
 }

@@ -1,7 +1,6 @@
-//! Tests of the files that the host makes for a recording, and of the notices for the operator.
+//! The file of a recording as the host makes it, and what an operator reads.
 use portmap_core::Fate;
 use portmap_testing::bytes::{ALIVE_A, ALIVE_B, DUMP, FOURTH, KILL, NOT_FOUND, PORT_A, STOP_A};
-use portmap_testing::cases::is_so;
 use portmap_testing::entries::{SampleEntry, entry};
 use portmap_worker::{Host, LocalRequest, Notice, RecordFile, Refused, RemoteRefused, RemoteSlots};
 use std::alloc::Global;
@@ -11,24 +10,24 @@ use std::io::Write;
 use std::os::unix::fs::{MetadataExt, PermissionsExt, symlink};
 use std::test::Fail;
 
-/// The number of a user other than root.
+/// A user that is not root.
 const NOBODY: u32 = 65_534;
 
-/// Returns whether the file has these bytes and only its owner may read and write it.
+/// Whether the file at the path has these bytes, and its owner alone may read and write it.
 fn is_private(rt: &HostRuntime, path: &str, bytes: &[u8]) -> Result<bool, Fail> {
     let mode = fs::metadata(rt, path)?.mode() % 0o1000;
     Ok(mode == 0o600 && fs::read(rt, path)?.as_slice() == bytes)
 }
 
-/// Makes a file that everybody may read.
+/// Makes a file with these bytes that everybody may read.
 fn write_public(rt: &HostRuntime, path: &str, bytes: &[u8]) -> Result<(), Fail> {
     fs::write(rt, path, bytes)?;
     fs::set_permissions(rt, path, Permissions::from_mode(0o644))?;
     Ok(())
 }
 
-/// Has the host make a file, and writes to it. Returns whether the file has only these bytes and is private. Removes
-/// the file.
+/// Makes the file at the path by the host and writes to it. Whether it has that alone, and is its owner's. It is
+/// removed then.
 fn records_to(rt: &HostRuntime, path: &str) -> Result<bool, Fail> {
     let mut file: File = rt.make(path)?;
     file.write_all(b"new")?;
@@ -39,16 +38,18 @@ fn records_to(rt: &HostRuntime, path: &str) -> Result<bool, Fail> {
 
 #[test]
 fn a_file_that_is_made_is_its_owners(rt: HostRuntime) -> Result<(), Fail> {
-    is_so(&rt, records_to(&rt, "made"))
+    assert!(rt; records_to(&rt, "made")?);
+    Ok(())
 }
 
 #[test]
 fn a_file_that_is_there_is_emptied_and_is_its_owners(rt: HostRuntime) -> Result<(), Fail> {
     write_public(&rt, "public", b"what it held")?;
-    is_so(&rt, records_to(&rt, "public"))
+    assert!(rt; records_to(&rt, "public")?);
+    Ok(())
 }
 
-/// Returns whether the host refuses two links, to a file and to no file, and leaves the file unchanged.
+/// Whether the host refuses a link to a file, and one to no file, and leaves the file as it was.
 fn refuses_links(rt: &HostRuntime) -> Result<bool, Fail> {
     fs::write(rt, "target", b"kept")?;
     symlink(rt, "target", "link")?;
@@ -64,14 +65,15 @@ fn refuses_links(rt: &HostRuntime) -> Result<bool, Fail> {
 
 #[test]
 fn a_link_is_not_followed(rt: HostRuntime) -> Result<(), Fail> {
-    is_so(&rt, refuses_links(&rt))
+    assert!(rt; refuses_links(&rt)?);
+    Ok(())
 }
 
-/// Returns whether the host refuses a file of another user and leaves it unchanged.
+/// Whether a file of another user is refused and keeps what it has.
 fn refuses_others(rt: &HostRuntime) -> Result<bool, Fail> {
     fs::write(rt, "others", b"kept")?;
     let user = fs::metadata(rt, "others")?.uid();
-    // Only root may give a file to another user. The file stays ours if we are that user already.
+    // Only root may give a file away, and who has the other user's number already keeps it.
     let _ = rt.chown("others", Some(NOBODY), None);
     if fs::metadata(rt, "others")?.uid() == user {
         fs::remove_file(rt, "others")?;
@@ -85,10 +87,11 @@ fn refuses_others(rt: &HostRuntime) -> Result<bool, Fail> {
 
 #[test]
 fn a_file_of_another_user_is_refused(rt: HostRuntime) -> Result<(), Fail> {
-    is_so(&rt, refuses_others(&rt))
+    assert!(rt; refuses_others(&rt)?);
+    Ok(())
 }
 
-/// The device can be written, its mode is unchanged, and it is not a plain file.
+/// A device is written to, stays everybody's, and is no plain file.
 #[test]
 fn a_device_is_taken_as_it_is(rt: HostRuntime) -> Result<(), Fail> {
     let before = fs::metadata(&rt, "/dev/null")?.mode();
@@ -97,7 +100,8 @@ fn a_device_is_taken_as_it_is(rt: HostRuntime) -> Result<(), Fail> {
     Ok(())
 }
 
-/// Returns whether `cut` leaves the first five bytes of a plain file. Removes the file.
+/// Whether a file has the first bytes alone of what was written to it once it was cut, and is a plain one. It is
+/// removed.
 fn is_cut(rt: &HostRuntime, path: &str) -> Result<bool, Fail> {
     let mut file: File = rt.make(path)?;
     file.write_all(b"whole half")?;
@@ -109,7 +113,8 @@ fn is_cut(rt: &HostRuntime, path: &str) -> Result<bool, Fail> {
 
 #[test]
 fn a_plain_file_is_cut(rt: HostRuntime) -> Result<(), Fail> {
-    is_so(&rt, is_cut(&rt, "cut"))
+    assert!(rt; is_cut(&rt, "cut")?);
+    Ok(())
 }
 
 /// The lines of the notices below.
@@ -127,7 +132,6 @@ epmd: at most 990 connections, since the limit of descriptors is 1024
 fn an_operator_reads_a_line_of_each_kind(rt: HostRuntime) -> Result<(), Fail> {
     let alloc = rt.alloc();
     let (path, reason) = ("/var/session", b"No space left on device");
-    let (places, limit) = (990, 1024);
     let notices = [
         Notice::CannotAccept,
         Notice::ShortOfMemory(1200),
@@ -139,7 +143,10 @@ fn an_operator_reads_a_line_of_each_kind(rt: HostRuntime) -> Result<(), Fail> {
         },
         Notice::RecordingAgain { path, number: 12 },
         Notice::FiguresLost(path),
-        Notice::FewerPlaces { places, limit },
+        Notice::FewerPlaces {
+            places: 990,
+            limit: 1024,
+        },
     ];
     for (notice, line) in notices.iter().zip(NOTICE_LINES.lines()) {
         let read = format!(in alloc; "{line}\n")?;
@@ -149,14 +156,14 @@ fn an_operator_reads_a_line_of_each_kind(rt: HostRuntime) -> Result<(), Fail> {
     Ok(())
 }
 
-/// A wide and a short reply for a name in use, and a reply for lack of room.
+/// A wide answer and a short one that the name is in use, and one that there is no room for it.
 const IN_USE: &[u8] = &[0x76, 0x01, 0x00, 0x00, 0x00, 0x00];
 
 const IN_USE_SHORT: &[u8] = &[0x79, 0x01, 0x00, 0x00];
 
 const NO_ROOM: &[u8] = &[0x76, 0x02, 0x00, 0x00, 0x00, 0x00];
 
-/// None of these registrations is refused because its name is in use.
+/// Of these none is refused since its name is in use.
 const OTHERS: &[SampleEntry] = &[
     SampleEntry::Connected(true, 0),
     SampleEntry::Piece(0, PORT_A, NOT_FOUND, Fate::Close),
@@ -164,14 +171,14 @@ const OTHERS: &[SampleEntry] = &[
     SampleEntry::Piece(2, ALIVE_B, NO_ROOM, Fate::Close),
 ];
 
-/// The end of a registration, and two complete registrations.
+/// The end of a registration, and two whole ones.
 const REFUSED: &[SampleEntry] = &[
     SampleEntry::Piece(3, b"c\0\0", IN_USE, Fate::Close),
     SampleEntry::Piece(4, ALIVE_A, IN_USE_SHORT, Fate::Close),
     SampleEntry::Piece(5, ALIVE_B, IN_USE, Fate::Close),
 ];
 
-/// Returns whether this many entries count, and the notice has this line.
+/// Whether so many of these entries count, and this line tells of them.
 fn is_told(alloc: Global, entries: &[SampleEntry], count: u64, line: &[u8]) -> Result<bool, Fail> {
     let mut refused = Refused::new();
     for kept in entries {
@@ -191,15 +198,15 @@ fn an_operator_reads_of_names_that_are_in_use(rt: HostRuntime) -> Result<(), Fai
     Ok(())
 }
 
-/// Slots 1 and 3 belong to another host, and slot 2 to this host.
+/// Another host has slots 1 and 3, and this one slot 2.
 const ROUNDS: &[SampleEntry] = &[
     SampleEntry::Connected(false, 1),
     SampleEntry::Connected(true, 2),
     SampleEntry::Connected(false, 3),
 ];
 
-/// None of these counts as a refused request of another host. They are requests of this host, answered requests,
-/// incomplete requests, a lookup, and a slot that belongs to this host again.
+/// None of these is a request of another host that was refused: of this host, answered, in parts, a look-up, or of a
+/// slot that is this host's again.
 const UNCOUNTED: &[SampleEntry] = &[
     SampleEntry::Piece(2, DUMP, b"", Fate::Close),
     SampleEntry::Piece(1, DUMP, b"dump", Fate::Close),
@@ -212,7 +219,7 @@ const UNCOUNTED: &[SampleEntry] = &[
     SampleEntry::Piece(7, DUMP, b"", Fate::Close),
 ];
 
-/// Each of these is a refused request of another host.
+/// Each of these is one.
 const COUNTED: &[SampleEntry] = &[
     SampleEntry::Piece(3, STOP_A, b"", Fate::Close),
     SampleEntry::Piece(3, KILL, b"", Fate::Close),
@@ -220,7 +227,7 @@ const COUNTED: &[SampleEntry] = &[
     SampleEntry::Piece(3, ALIVE_A, b"", Fate::Close),
 ];
 
-/// Applies these entries to the counts and to the slots.
+/// Notes these entries of a log with five slots.
 fn note_all(
     alloc: Global,
     refused: &mut RemoteRefused,
@@ -244,9 +251,13 @@ fn an_operator_reads_of_other_hosts(rt: HostRuntime) -> Result<(), Fail> {
     note_all(alloc, &mut refused, &mut slots, UNCOUNTED)?;
     assert_eq!(rt; refused.count(), 0);
     note_all(alloc, &mut refused, &mut slots, COUNTED)?;
-    let first = Some(LocalRequest::Stop);
-    assert_eq!(rt; (refused.count(), refused.first()), (4, first));
-    let line = b"epmd: a STOP from another host was refused, and 3 more\n".as_slice();
-    assert_eq!(rt; refused.line(alloc)?.as_slice(), line);
+    assert_eq!(rt;
+        (refused.count(), refused.first()),
+        (4, Some(LocalRequest::Stop))
+    );
+    assert_eq!(rt;
+        refused.line(alloc)?.as_slice(),
+        b"epmd: a STOP from another host was refused, and 3 more\n".as_slice()
+    );
     Ok(())
 }

@@ -1,5 +1,5 @@
-//! Tests of the daemon beyond clauses and stories: two workers over memory, the daemon over sockets of this host,
-//! and its recordings.
+//! Tests of the daemon beyond clauses and stories: two workers over memory, the daemon over sockets of this host, and
+//! its recordings.
 #![tactic(auto)]
 
 #[cfg(test)]

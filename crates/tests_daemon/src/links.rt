@@ -1,4 +1,4 @@
-//! Tests of a stream as a link: after which calls a worker must wait for an edge of the poll.
+//! A stream as a link: what its calls say to a source that is told of news once.
 use mio::net;
 use portmap_daemon::MioStream;
 use portmap_link::{Input, Output, Pull, Put};
@@ -10,22 +10,23 @@ use std::io::ErrorKind;
 use std::net::{IpAddr, Ipv4Addr, TcpListener, TcpStream};
 use std::test::Fail;
 
+/// What is called.
 #[derive(Clone, Copy)]
 enum Call {
     Pull,
     Put,
 }
 
-/// A call, the result of the stream, whether the link returns `Later`, and whether the link may have more without a
-/// report.
+/// What the stream tells at a call, whether the link says Later to it, and whether there may be more without a report.
 struct Step(Call, CallOutcome, bool, bool);
 
 const CUT_SHORT: CallOutcome = CallOutcome::Error(ErrorKind::Interrupted);
 
 const WAITS: CallOutcome = CallOutcome::Error(ErrorKind::WouldBlock);
 
-/// An interrupted call says nothing about the stream. Only a call that would block does, or a pull of fewer bytes than
-/// the buffer holds, also if a later put succeeds. While a put waits for a report, the link tries nothing else.
+/// A call that a signal cut short says nothing of the stream: only one that would have waited does, and a pull that
+/// gave less than there was room for, which a put that was taken doesn't change. While a put waits for a report nothing
+/// else is tried.
 const STEPS: &[Step] = &[
     Step(Call::Pull, CUT_SHORT, true, true),
     Step(Call::Pull, CallOutcome::Count(8), false, true),
@@ -44,7 +45,7 @@ const STEPS: &[Step] = &[
 ];
 
 impl Call {
-    /// Makes the call, and returns whether the link returns `Later`.
+    /// Makes the call. Whether the link says Later.
     fn is_later(self, link: &mut Link<Script<'_>>) -> bool {
         match self {
             Call::Pull => link.pull(&mut [0; 8]) == Pull::Later,
@@ -59,13 +60,15 @@ fn only_a_call_that_would_have_waited_ends_the_asking(rt: HostRuntime) -> Result
     let mut link = Link::new(rt.alloc(), scripted(&actual), false, 0);
     assert!(rt; link.may_move());
     for Step(call, _, is_later, may_move) in STEPS {
-        let actual = (call.is_later(&mut link), link.may_move());
-        assert_eq!(rt; actual, (*is_later, *may_move));
+        assert_eq!(rt;
+            (call.is_later(&mut link), link.may_move()),
+            (*is_later, *may_move)
+        );
     }
     Ok(())
 }
 
-/// The first bytes, whether they are of this host, and whether the link keeps them back as a registration.
+/// What comes first, whether it is from this host, and whether it is kept back as a request to register a name.
 const FIRST: &[(&[u8], bool, bool)] = &[
     (ALIVE_A, true, true),
     (ALIVE_A, false, false),
@@ -75,15 +78,15 @@ const FIRST: &[(&[u8], bool, bool)] = &[
     (&[0x00], true, false),
 ];
 
-/// The number and the kind of the errors of a stream before it gives its bytes.
+/// How often, and in which way, a stream fails before it gives them.
 const FIRST_FAULTS: [(u32, ErrorKind); 3] = [
     (0, ErrorKind::Other),
     (1, ErrorKind::WouldBlock),
     (1, ErrorKind::Interrupted),
 ];
 
-/// Returns whether a link gives these bytes at once after it returned `Later` for each error of its stream. If the link
-/// keeps the bytes back as a registration of `a`, it returns `Later` once more before.
+/// Whether a link gives these bytes at once, once it has said Later to as many pulls as its stream fails so. If they
+/// are kept back, that it is asked to register `a`, it says Later to one pull before.
 fn gives(
     alloc: Global,
     (failing, kind): (u32, ErrorKind),
@@ -111,18 +114,19 @@ fn asks(link: &Link<Giving<'_>>, name: &[u8]) -> bool {
 }
 
 #[test]
-fn a_first_piece_that_registers_a_name_is_kept_back(rt: HostRuntime) {
+fn a_first_piece_that_registers_a_name_is_kept_back(rt: HostRuntime) -> Result<(), Fail> {
     for case in FIRST {
         for first in FIRST_FAULTS {
             assert!(rt; gives(rt.alloc(), first, *case));
         }
     }
+    Ok(())
 }
 
-/// A second address of this host. The address of the peer is another one.
+/// This host has this address too, and who connects there has another one.
 const SECOND: [u8; 4] = [127, 0, 0, 2];
 
-/// Returns the local address of a connection that was accepted at `SECOND`.
+/// The own address of a connection that was accepted there.
 fn own_of_accepted(rt: &HostRuntime) -> Result<Option<IpAddr>, Fail> {
     let address = Ipv4Addr::from(SECOND);
     let listener = TcpListener::bind(rt, (address, 14_442))?;

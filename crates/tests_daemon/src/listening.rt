@@ -1,6 +1,5 @@
-//! Tests of where a daemon listens: at IPv6 addresses beside its IPv4 addresses, and over sockets that are passed
-//! to it.
-use crate::daemon::{ends, is_answered, settings_at, told_at};
+//! Where a daemon listens: at the IPv6 addresses beside its own, and over sockets that are handed over to it.
+use crate::daemon::{is_answered, settings_at, told_at};
 use portmap_daemon::{FILE_BYTES_MOST, HandedFault, Open, beside, handed_over, run, run_over};
 use portmap_testing::bytes::{ALIVE_A, KILL, NAMES, NOT_FOUND, PORT_A};
 use std::alloc::Global;
@@ -11,14 +10,14 @@ use std::os::fd::IntoRawFd;
 use std::test::Fail;
 use std::{io, thread};
 
-/// Each test has a port of its own. The second is 0x386E.
+/// Ports of these tests alone. The second is 0x386E.
 const PORT: u16 = 14_445;
 
 const HANDED_PORT: u16 = 14_446;
 
 const NONE_LISTED: &[u8] = &[0x00, 0x00, 0x38, 0x6E];
 
-/// The beginning of a reply to an accepted registration.
+/// A registration that was taken.
 const TAKEN: &[u8] = &[0x76, 0x00];
 
 const LOOPBACK: IpAddr = IpAddr::V4(Ipv4Addr::LOCALHOST);
@@ -26,23 +25,24 @@ const LOOPBACK: IpAddr = IpAddr::V4(Ipv4Addr::LOCALHOST);
 const LOOPBACK_OF_IPV6: IpAddr = IpAddr::V6(Ipv6Addr::LOCALHOST);
 
 #[test]
-fn beside_an_ipv4_address_stands_one_of_ipv6(rt: HostRuntime) {
+fn beside_an_ipv4_address_stands_one_of_ipv6(rt: HostRuntime) -> Result<(), Fail> {
     assert_eq!(rt; beside([0, 0, 0, 0]), Some(Ipv6Addr::UNSPECIFIED));
     assert_eq!(rt; beside([127, 0, 0, 1]), Some(Ipv6Addr::LOCALHOST));
     assert_eq!(rt; beside([127, 0, 0, 2]), None);
+    Ok(())
 }
 
-/// Returns the results of a lookup and of a registration at the IPv6 address, and whether the daemon at 127.0.0.1 ends
+/// What comes of a look-up and of a registration at the host's IPv6 address, and whether the daemon at 127.0.0.1 ends
 /// then.
 fn actual(rt: &HostRuntime) -> ([Option<bool>; 2], bool) {
     let is_up = is_answered(rt, PORT, PORT_A, NOT_FOUND) == Some(true);
     let looked_up = told_at(rt, LOOPBACK_OF_IPV6, PORT, PORT_A, NOT_FOUND).ok();
     let registered = told_at(rt, LOOPBACK_OF_IPV6, PORT, ALIVE_A, TAKEN).ok();
-    let has_ended = ends(rt, PORT);
+    let has_ended = is_answered(rt, PORT, KILL, b"OK") == Some(true);
     ([looked_up, registered], is_up && has_ended)
 }
 
-/// A host without IPv6 refuses both connections.
+/// Where the host has no IPv6 nobody can be asked there.
 #[test]
 fn a_daemon_of_the_host_serves_its_ipv6_peers_too(rt: HostRuntime) -> Result<(), Fail> {
     let alloc = rt.alloc();
@@ -54,7 +54,7 @@ fn a_daemon_of_the_host_serves_its_ipv6_peers_too(rt: HostRuntime) -> Result<(),
     Ok(())
 }
 
-/// Returns a listening socket for both families, or for IPv4 alone on a host without IPv6.
+/// A socket that listens for peers of both families, or for those of IPv4 where the host has no IPv6.
 fn socket(rt: &HostRuntime) -> Result<TcpListener, Fail> {
     match TcpListener::bind(rt, (Ipv6Addr::UNSPECIFIED, HANDED_PORT)) {
         Ok(socket) => Ok(socket),
@@ -62,13 +62,15 @@ fn socket(rt: &HostRuntime) -> Result<TcpListener, Fail> {
     }
 }
 
-/// Passes a copy of the socket as a descriptor.
+/// A socket as it is handed over.
 fn handed(alloc: Global, socket: &TcpListener) -> io::Result<Vec<TcpListener>> {
-    let listening = handed_over(alloc, socket.try_clone()?.into_raw_fd(), 1);
-    listening.map_err(|_| io::Error::from(ErrorKind::InvalidInput))
+    match handed_over(alloc, socket.try_clone()?.into_raw_fd(), 1) {
+        Ok(listening) => Ok(listening),
+        Err(_) => Err(io::Error::from(ErrorKind::InvalidInput)),
+    }
 }
 
-/// Returns whether a daemon over the socket reports the port of the socket, registers a peer of this host, and ends.
+/// Whether a daemon over the socket tells its port as its own, a peer of this host registers, and it ends.
 fn is_served(rt: &HostRuntime) -> bool {
     let is_listed = told_at(rt, LOOPBACK, HANDED_PORT, NAMES, NONE_LISTED);
     let is_taken = told_at(rt, LOOPBACK, HANDED_PORT, ALIVE_A, TAKEN);
@@ -76,13 +78,13 @@ fn is_served(rt: &HostRuntime) -> bool {
     [is_listed, is_taken, has_ended] == [Ok(true); 3]
 }
 
-/// The first daemon leaves the socket open.
+/// The first one has left the socket as it was.
 #[test]
 fn who_connects_between_two_daemons_is_served_by_the_second(rt: HostRuntime) -> Result<(), Fail> {
     let alloc = rt.alloc();
     let socket = socket(&rt)?;
     for _ in 0..2u32 {
-        // The settings have another port.
+        // It is set to another port.
         let settings = settings_at(alloc, 1, 60, 2, None)?;
         let listening = handed(alloc, &socket)?;
         let daemon = || run_over(&rt, alloc, settings, &Open, listening, FILE_BYTES_MOST);
@@ -92,7 +94,7 @@ fn who_connects_between_two_daemons_is_served_by_the_second(rt: HostRuntime) -> 
     Ok(())
 }
 
-/// Passes a file, a connection and a listening socket. Returns which of them are refused.
+/// Which descriptors that are handed over are refused: a file, a connection, and a socket that listens.
 fn refused(rt: &HostRuntime) -> Result<[bool; 3], Fail> {
     let listener = TcpListener::bind(rt, (LOOPBACK, 0))?;
     let peer = TcpStream::connect(rt, listener.local_addr()?)?;

@@ -1,11 +1,12 @@
-//! A test of a daemon that is short of memory, with a clock that is pushed forward.
+//! A daemon that is short of memory, with a clock that is pushed forward.
 use crate::clocks::{Pushed, Pushing};
 use crate::daemon::{is_answered, registered, settings_at};
 use portmap_daemon::{RunFault, run};
 use portmap_testing::bytes::{ALIVE_A, NOT_FOUND, PORT_A};
 use portmap_testing::peers::sent;
 use std::io::{Read, Write};
-use std::net::{Ipv4Addr, TcpStream};
+use std::net::{Ipv4Addr, Net, TcpStream};
+use std::rt::Clock;
 use std::sync::atomic::Ordering;
 use std::test::Fail;
 use std::thread;
@@ -14,17 +15,17 @@ use std::time::Duration;
 /// A port of this test alone.
 const PORT: u16 = 14_460;
 
-/// The daemon checks memory twice when it starts: before and after it takes its reserve.
+/// The daemon looks for memory as it begins, before it takes its reserve and behind that.
 const FIRST_LOOKS: u64 = 2;
 
-/// The milliseconds within which the daemon checks memory again while memory is short.
+/// In so many milliseconds it has looked once more, where memory is short.
 const LOOK: u64 = 200;
 
-/// More seconds than the daemon runs while no peer is answered.
+/// So many seconds are more than it serves on while nothing gets through.
 const SECONDS: u32 = 40;
 
-/// Returns whether the daemon starts within ten seconds.
-fn has_begun(rt: &HostRuntime, host: &Pushing) -> bool {
+/// Whether the daemon has begun, within ten seconds.
+fn has_begun<R: Clock>(rt: &R, host: &Pushing) -> bool {
     for _ in 0..1000u32 {
         if host.asked.load(Ordering::SeqCst) >= FIRST_LOOKS {
             return true;
@@ -34,8 +35,8 @@ fn has_begun(rt: &HostRuntime, host: &Pushing) -> bool {
     false
 }
 
-/// Returns whether a registration in two chunks is answered.
-fn is_taken_in_two(rt: &HostRuntime) -> Option<bool> {
+/// Whether a registration is answered that comes in two pieces.
+fn is_taken_in_two<R: Net<Stream = TcpStream> + Clock>(rt: &R) -> Option<bool> {
     let (front, rest) = ALIVE_A.split_at(4);
     let mut stream = sent(rt, PORT, front)?;
     thread::sleep(rt, Duration::from_millis(LOOK));
@@ -43,16 +44,16 @@ fn is_taken_in_two(rt: &HostRuntime) -> Option<bool> {
     Some(is_sent && stream.read_exact(&mut [0; 6]).is_ok())
 }
 
-/// Makes memory short. Returns whether a lookup is answered before and after that, and no name is registered.
-fn is_spared(rt: &HostRuntime, host: &Pushing) -> Option<bool> {
+/// No memory can be had from now on: whether a look-up is answered then, as before, and no name registered.
+fn is_spared<R: Net<Stream = TcpStream> + Clock>(rt: &R, host: &Pushing) -> Option<bool> {
     let was_answered = is_answered(rt, PORT, PORT_A, NOT_FOUND)?;
     host.is_short.store(true, Ordering::SeqCst);
     let is_taken = registered(rt, PORT).is_some() || is_taken_in_two(rt)?;
     Some(is_answered(rt, PORT, PORT_A, NOT_FOUND)? && was_answered && !is_taken)
 }
 
-/// Ends the shortage. Returns whether a name is registered soon.
-fn is_over(rt: &HostRuntime, host: &Pushing) -> bool {
+/// Memory can be had again: whether a name is registered soon, before the second is over.
+fn is_over<R: Net<Stream = TcpStream> + Clock>(rt: &R, host: &Pushing) -> bool {
     host.is_short.store(false, Ordering::SeqCst);
     for _ in 0..50u32 {
         if registered(rt, PORT).is_some() {
@@ -63,8 +64,8 @@ fn is_over(rt: &HostRuntime, host: &Pushing) -> bool {
     false
 }
 
-/// Makes memory short again. Returns whether each registration is refused until the daemon listens no more.
-fn starves(rt: &HostRuntime, host: &Pushing) -> Option<bool> {
+/// No memory can be had again: in each second a name is refused, until nobody listens any more.
+fn starves<R: Net<Stream = TcpStream> + Clock>(rt: &R, host: &Pushing) -> Option<bool> {
     host.is_short.store(true, Ordering::SeqCst);
     for _ in 0..SECONDS {
         if TcpStream::connect(rt, (Ipv4Addr::LOCALHOST, PORT)).is_err() {

@@ -1,4 +1,4 @@
-//! Tests of the system of `mio` and the kernel over sockets of this host: the reports of a poll, and how long it
+//! The system as `mio` and the kernel give it, over sockets of this host: what a poll reports, and for how long it
 //! waits.
 use mio::net;
 use portmap_daemon::{MioStream, MioSystem};
@@ -8,14 +8,16 @@ use std::alloc::Global;
 use std::io::{ErrorKind, Read, Write};
 use std::net::{Ipv4Addr, TcpListener, TcpStream};
 use std::rt::Clock;
+use std::test::Fail;
 use std::time::Duration;
 
+/// The key of the stream that is watched.
 const KEY: usize = 7;
 
-/// More milliseconds than an expected report takes.
+/// So many milliseconds are more than enough for what is to be reported.
 const PATIENCE: u64 = 5000;
 
-/// Returns a system that listens at these ports of this host.
+/// A system that listens at these ports of this host.
 fn listening(rt: &HostRuntime, ports: &[u16]) -> Option<MioSystem> {
     let mut sockets = Vec::new(rt.alloc());
     for port in ports {
@@ -29,7 +31,7 @@ fn listening(rt: &HostRuntime, ports: &[u16]) -> Option<MioSystem> {
     Some(system)
 }
 
-/// Returns the report of the next poll, or `None` unless there is exactly one.
+/// What the next poll reports, if it is one thing alone.
 fn reported(system: &mut MioSystem, timeout: u64) -> Option<Report> {
     if !system.poll(timeout) || system.report(1).is_some() {
         return None;
@@ -37,7 +39,7 @@ fn reported(system: &mut MioSystem, timeout: u64) -> Option<Report> {
     system.report(0)
 }
 
-/// Returns whether a connection is reported at the second of two listeners, and not after that listener is left.
+/// Whether a connection is reported at the second of two listeners, and none once that was left.
 fn tells_where(rt: &HostRuntime) -> Option<bool> {
     let mut system = listening(rt, &[14_450, 14_451])?;
     let _first = connect(rt, 14_451)?;
@@ -48,11 +50,12 @@ fn tells_where(rt: &HostRuntime) -> Option<bool> {
 }
 
 #[test]
-fn the_listener_is_told_at_which_a_connection_waits(rt: HostRuntime) {
+fn the_listener_is_told_at_which_a_connection_waits(rt: HostRuntime) -> Result<(), Fail> {
     assert_eq!(rt; tells_where(&rt), Some(true));
+    Ok(())
 }
 
-/// Connects, and returns both ends of the connection.
+/// A connection, as it was accepted there.
 fn accepted(rt: &HostRuntime, system: &mut MioSystem, port: u16) -> Option<(TcpStream, MioStream)> {
     let peer = connect(rt, port)?;
     reported(system, PATIENCE)?;
@@ -60,8 +63,7 @@ fn accepted(rt: &HostRuntime, system: &mut MioSystem, port: u16) -> Option<(TcpS
     Some((peer, stream))
 }
 
-/// Returns the report of a connection that its peer closes. If a byte of the daemon is unread then, the connection is
-/// reset.
+/// What is reported of a connection whose peer ends it, with a byte of ours unread or not: then it is reset.
 fn end_of(rt: &HostRuntime, port: u16, is_unread: bool) -> Option<Report> {
     let mut system = listening(rt, &[port])?;
     let (peer, mut stream) = accepted(rt, &mut system, port)?;
@@ -76,15 +78,18 @@ fn end_of(rt: &HostRuntime, port: u16, is_unread: bool) -> Option<Report> {
 }
 
 #[test]
-fn a_stream_that_was_reset_is_not_told_as_closed(rt: HostRuntime) {
+fn a_stream_that_was_reset_is_not_told_as_closed(rt: HostRuntime) -> Result<(), Fail> {
     for (port, is_unread) in [(14_452, false), (14_453, true)] {
-        let (key, is_closed) = (KEY, !is_unread);
-        let ended = Report::Stream { key, is_closed };
+        let ended = Report::Stream {
+            key: KEY,
+            is_closed: !is_unread,
+        };
         assert_eq!(rt; end_of(&rt, port, is_unread), Some(ended));
     }
+    Ok(())
 }
 
-/// Returns whether a watched stream can be watched for writing too, and is reported then.
+/// Whether a stream that is watched already can be watched for more, and is reported for that.
 fn is_watched_for_more(rt: &HostRuntime, port: u16) -> Option<bool> {
     let mut system = listening(rt, &[port])?;
     let (_peer, mut stream) = accepted(rt, &mut system, port)?;
@@ -96,11 +101,12 @@ fn is_watched_for_more(rt: &HostRuntime, port: u16) -> Option<bool> {
 }
 
 #[test]
-fn a_stream_that_is_watched_may_be_watched_for_more(rt: HostRuntime) {
+fn a_stream_that_is_watched_may_be_watched_for_more(rt: HostRuntime) -> Result<(), Fail> {
     assert_eq!(rt; is_watched_for_more(&rt, 14_458), Some(true));
+    Ok(())
 }
 
-/// Returns what a peer reads when its connection is reset or closed.
+/// What a peer reads where its connection is reset, or just ends.
 fn read_at_end(rt: &HostRuntime, port: u16, is_reset: bool) -> Option<Result<usize, ErrorKind>> {
     let mut system = listening(rt, &[port])?;
     let (mut peer, mut stream) = accepted(rt, &mut system, port)?;
@@ -112,13 +118,14 @@ fn read_at_end(rt: &HostRuntime, port: u16, is_reset: bool) -> Option<Result<usi
 }
 
 #[test]
-fn a_peer_sees_that_its_connection_was_reset(rt: HostRuntime) {
+fn a_peer_sees_that_its_connection_was_reset(rt: HostRuntime) -> Result<(), Fail> {
     assert_eq!(rt; read_at_end(&rt, 14_454, false), Some(Ok(0)));
     let reset = ErrorKind::ConnectionReset;
     assert_eq!(rt; read_at_end(&rt, 14_455, true), Some(Err(reset)));
+    Ok(())
 }
 
-/// Watches one connection under `count` keys and closes it. Returns whether the poll that reports all of them is full.
+/// Whether the poll is full that reports the end of one connection under so many keys, and nothing else.
 fn is_full_of(rt: &HostRuntime, port: u16, count: usize) -> Option<bool> {
     let mut system = listening(rt, &[port])?;
     let (peer, stream) = accepted(rt, &mut system, port)?;
@@ -135,12 +142,13 @@ fn is_full_of(rt: &HostRuntime, port: u16, count: usize) -> Option<bool> {
 }
 
 #[test]
-fn a_poll_that_reports_256_may_have_more(rt: HostRuntime) {
+fn a_poll_that_reports_256_may_have_more(rt: HostRuntime) -> Result<(), Fail> {
     assert_eq!(rt; is_full_of(&rt, 14_456, 255), Some(false));
     assert_eq!(rt; is_full_of(&rt, 14_457, 256), Some(true));
+    Ok(())
 }
 
-/// Returns how long a poll with no report takes.
+/// How long a poll takes that has nothing to report.
 fn waited(rt: &HostRuntime, timeout: u64) -> Option<Duration> {
     let mut system = listening(rt, &[])?;
     let before = rt.monotonic().ok()?;
@@ -150,7 +158,8 @@ fn waited(rt: &HostRuntime, timeout: u64) -> Option<Duration> {
 }
 
 #[test]
-fn a_poll_of_100_milliseconds_takes_so_long(rt: HostRuntime) {
+fn a_poll_of_100_milliseconds_takes_so_long(rt: HostRuntime) -> Result<(), Fail> {
     let waited = waited(&rt, 100).unwrap_or(Duration::ZERO);
     assert!(rt; waited >= Duration::from_millis(90) && waited < Duration::from_secs(1));
+    Ok(())
 }

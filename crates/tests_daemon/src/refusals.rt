@@ -1,5 +1,5 @@
-//! A test of the result of a recording if memory is refused to the drain. Memory is ample here. `make faults`
-//! starts this test once for each request for memory between two marks, and refuses that request.
+//! What is told of a recording where memory is refused to who takes the log out. Here memory is ample; `make faults`
+//! starts this test once for each request that it makes between two marks, and has that one refused.
 ghost use Rattle.std.specs.Prelude.{◌≡◌};
 
 use crate::clocks::Pushed;
@@ -22,12 +22,7 @@ use std::sync::ledger::{Blank, Ledger};
 use std::test::Fail;
 use std::time::Duration;
 
-/// The host of a recording.
-trait Recorded: Host + Wait + Clock {}
-
-impl<R: Host + Wait + Clock> Recorded for R {}
-
-/// A waker that wakes no thread.
+/// Nobody waits.
 #[derive(Drop)]
 struct Nobody;
 
@@ -35,29 +30,28 @@ impl Wake for Nobody {
     fn wake(&self) {}
 }
 
-/// Admits a node by worker 1, which registers.
-fn registers<L: Ledger, R: Recorded>(host: &R, alloc: Global, desk: &Desk<L>) -> Option<()> {
-    let mut seat = desk.seat(host, 1)?;
-    let (_, conn) = desk.connect(host, alloc, &mut seat, true).ok()?;
-    desk.piece(host, alloc, &mut seat, &conn, ALIVE_A).ok()?;
+/// A node comes by worker 1 and registers.
+fn registers<L: Ledger, R: Wait>(rt: &R, alloc: Global, desk: &Desk<L>) -> Option<()> {
+    let mut seat = desk.seat(rt, 1)?;
+    let (_, conn) = desk.connect(rt, alloc, &mut seat, true).ok()?;
+    desk.piece(rt, alloc, &mut seat, &conn, ALIVE_A).ok()?;
     Some(())
 }
 
-/// Returns whether the last turn of the drain reports that the log is empty. Memory may be refused meanwhile. There is
-/// no worker.
-fn is_out<L: Ledger, R: Recorded>(
-    host: &R,
+/// Whether the last turn says that the log is out, while memory may be refused. No worker serves.
+fn is_out<L: Ledger, R: Host + Wait + Clock>(
+    rt: &R,
     alloc: Global,
     desk: &Desk<L>,
     drain: &mut Drain<'_>,
 ) -> bool {
-    let shared = Shared::new(host, Vec::new(alloc), Nobody, 2, UNSENT_BYTES_MOST);
-    marked!(alloc, drain.turn(host, alloc, desk, &shared)) == Drained::Done(true)
+    let shared = Shared::new(rt, Vec::new(alloc), Nobody, 2, UNSENT_BYTES_MOST);
+    marked!(alloc, drain.turn(rt, alloc, desk, &shared)) == Drained::Done(true)
 }
 
-/// Returns whether the queue reports that all was recorded at this path.
-fn is_told_whole<L: Ledger, R: Recorded>(
-    host: &R,
+/// Whether it is told that all was recorded at this path.
+fn is_told_whole<L: Ledger, R: Host + Wait + Clock>(
+    rt: &R,
     alloc: Global,
     blank: Blank,
     path: String,
@@ -68,15 +62,15 @@ fn is_told_whole<L: Ledger, R: Recorded>(
 {
     let desk: Desk<L> = Desk::new(blank, small_book(alloc)?);
     let queue = RecordQueue::new(alloc, path);
-    let mut drain = Drain::begin(host, alloc, &desk, Some(&queue), 2, None).ok()?;
-    registers(host, alloc, &desk)?;
-    let is_out = is_out(host, alloc, &desk, &mut drain);
-    queue.close(host);
-    write_recording(host, alloc, &queue, u64::MAX);
-    Some(is_out && queue.is_written(host, Duration::ZERO))
+    let mut drain = Drain::begin(rt, alloc, &desk, Some(&queue), 2, None).ok()?;
+    registers(rt, alloc, &desk)?;
+    let is_out = is_out(rt, alloc, &desk, &mut drain);
+    queue.close(rt);
+    write_recording(rt, alloc, &queue, u64::MAX);
+    Some(is_out && queue.is_written(rt, Duration::ZERO))
 }
 
-/// Returns whether the pipe received all of the log.
+/// Whether what was written to a pipe is all of the log.
 fn has_all(alloc: Global, mut pipe: PipeReader) -> Result<bool, Fail> {
     let mut bytes = Vec::new(alloc);
     pipe.read_to_end(&mut bytes)?;
@@ -89,7 +83,8 @@ fn a_recording_that_lacks_entries_is_told_to_have_failed(rt: HostRuntime) -> Res
     let (reader, writer) = pipe(&rt)?;
     let path = path_of(alloc, &writer)?;
     let host = Pushed::new(rt, alloc)?;
-    let actual = is_told_whole::<Brand, Pushed<HostRuntime>>(&host, alloc, Blank::new(PARTS), path);
+    let blank = Blank::new(PARTS);
+    let actual = is_told_whole::<Brand, Pushed<HostRuntime>>(&host, alloc, blank, path);
     drop(writer);
     let has_all = has_all(alloc, reader)?;
     assert_eq!(rt; actual, Some(has_all));

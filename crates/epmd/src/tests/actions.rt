@@ -17,7 +17,7 @@ use std::alloc::Global;
 use std::io::{ErrorKind, Read, Write};
 use std::test::Fail;
 
-/// A failure, and the end of an action with it.
+/// A failure, and how it ends the program.
 struct Failed(Failure, &'static str);
 
 const FAILURES: &[Failed] = &[
@@ -43,6 +43,7 @@ fn each_failure_has_a_status_and_a_line(rt: HostRuntime) -> Result<(), Fail> {
     all_hold(&rt, FAILURES)
 }
 
+/// Bytes that have a name.
 const NAMED: &[(&str, Bytes)] = &[
     ("NAMES", NAMES),
     ("KILL", KILL),
@@ -64,7 +65,7 @@ const NAMED: &[(&str, Bytes)] = &[
     ("WRONG_LOOK_UP_LINES", WRONG_LOOK_UP_LINES),
 ];
 
-/// Returns the name of these bytes, or the bytes.
+/// The name of these bytes, if they have one, else themselves.
 fn name_of(bytes: &[u8]) -> &[u8] {
     for (name, named) in NAMED {
         if *named == bytes {
@@ -74,8 +75,8 @@ fn name_of(bytes: &[u8]) -> &[u8] {
     bytes
 }
 
-/// Returns the bytes that a word names or spells, and behind a `:` their number. `WRONG` is a session that ends in a
-/// wrong reply.
+/// The bytes that a word names, `WRONG` being those of a session that ends in a wrong reply, or that it stands for;
+/// behind a `:` how many of them.
 fn input_of(alloc: Global, word: &str) -> Result<Vec<u8>, Fail> {
     let (word, count) = word.split_once(':').unwrap_or((word, "1000"));
     let mut bytes = match NAMED.iter().find(|named| named.0 == word) {
@@ -95,6 +96,7 @@ fn text_of(word: &str) -> Text {
     }
 }
 
+/// The status that an action ends with.
 fn status_of<R: Read + Drop, W: Write>(
     alloc: Global,
     word: &str,
@@ -109,8 +111,8 @@ fn status_of<R: Read + Drop, W: Write>(
     do_file(alloc, text_of(word), &mut input, output, errors)
 }
 
-/// Returns the status of an action on an input, and its errors. The input `broken` fails, and `interrupted:2` is
-/// interrupted twice before NAMES.
+/// The status that an action on an input ends with, and what is told of errors. `broken` is an input that fails, and
+/// `interrupted:2` one that is interrupted twice and then asks for the names.
 fn acted<W: Write>(
     alloc: Global,
     given: &str,
@@ -134,13 +136,14 @@ fn acted<W: Write>(
     Ok((status, errors.into_inner()))
 }
 
+/// How an action ends with an output that is not shown.
 fn unshown<W: Write + Drop>(alloc: Global, given: &str, output: W) -> Result<String, Fail> {
     let (status, errors) = acted(alloc, given, &mut Writing::new(output))?;
     Ok(ending(alloc, status, b"", &errors)?)
 }
 
-/// An action, its input, and behind `to` its output if that is not memory: `full:2` has room for two bytes, and `broken`
-/// takes every byte and cannot be flushed.
+/// An action, its input, and behind `to` its output where that is no memory: `full:2` has room for two bytes, and
+/// `broken` takes all and passes nothing on.
 struct Acts;
 
 impl Trial for Acts {
@@ -180,7 +183,7 @@ fn one_request_is_answered(rt: HostRuntime) -> Result<(), Fail> {
 
 #[test]
 fn a_million_turns_are_made(rt: HostRuntime) -> Result<(), Fail> {
-    // One more turn reads the request, and one writes the reply.
+    // One turn more reads the request, and one writes the reply.
     let table = "
         once interrupted:999998 -> 0 out NONE_LISTED
         once interrupted:999999 -> 3 err epmd: input or output failed|
@@ -190,7 +193,7 @@ fn a_million_turns_are_made(rt: HostRuntime) -> Result<(), Fail> {
 
 #[test]
 fn a_recorded_session_is_judged_and_shown(rt: HostRuntime) -> Result<(), Fail> {
-    // All peers of SESSION are local, so nothing is left out.
+    // All peers of SESSION are local, so all of it is left.
     let table = "
         play SESSION -> 0 out LOOK_UP_LINES
         play WRONG -> 1 out WRONG_LOOK_UP_LINES
@@ -210,7 +213,7 @@ fn a_recorded_session_is_judged_and_shown(rt: HostRuntime) -> Result<(), Fail> {
 
 #[test]
 fn a_session_is_written_without_its_remote_peers(rt: HostRuntime) -> Result<(), Fail> {
-    // A session that begins with a remote peer is refused.
+    // One that begins with a remote peer is no such session.
     let table = "
         local REMOTE_NAMES -> 0 out HEADER
         local CLOSES -> 0 out CLOSES

@@ -10,7 +10,7 @@ use std::alloc::{AllocError, Global};
 use std::collections::VecDeque;
 use std::test::Fail;
 
-/// The number of a file of this name, of the recording `session`.
+/// The number of a name, of a recording that begins with `session`.
 struct Numbers;
 
 impl Trial for Numbers {
@@ -47,7 +47,7 @@ fn a_file_is_known_by_its_name(rt: HostRuntime) -> Result<(), Fail> {
     all_come(&rt, &Numbers, table)
 }
 
-/// Returns the events of a node that registers, of a peer that sends NAMES and leaves, and of the node that leaves.
+/// What comes to a port mapper: a node registers, another peer asks for the names and leaves, and the node leaves.
 fn events(alloc: Global, node: &[u8]) -> Result<Vec<Event>, AllocError> {
     let mut events = Vec::new(alloc);
     for (slot, bytes) in [(0, node), (1, NAMES)] {
@@ -60,7 +60,8 @@ fn events(alloc: Global, node: &[u8]) -> Result<Vec<Event>, AllocError> {
     Ok(events)
 }
 
-/// Returns the entries `first..behind` of a port mapper with these events, and the state before them.
+/// That port mapper with so many connections at most, from an entry on up to another one: as it begins, and the
+/// entries.
 fn session(
     alloc: Global,
     node: &[u8],
@@ -82,8 +83,9 @@ fn session(
     }
     Ok((start, entries))
 }
-/// Returns the bytes of a file. `a2..5` has the entries 2, 3 and 4 of a node of the name `a`. Behind a `/` is the limit of
-/// connections, and behind a `:` the number of bytes. With `!` at its end the file has its last entry twice.
+/// The bytes of a file: `a2..5` has the entries 2, 3 and 4 where the node's name is `a`. Behind a `/` stands how many
+/// connections there may be, and behind a `:` how many bytes are there; in one that ends in `!` the last entry stands
+/// twice.
 pub fn file_of(alloc: Global, word: &str) -> Result<Vec<u8>, Fail> {
     let (word, count) = word.split_once(':').unwrap_or((word, "1000"));
     let (word, most) = word.split_once('/').unwrap_or((word, "8"));
@@ -117,29 +119,27 @@ pub fn file_of(alloc: Global, word: &str) -> Result<Vec<u8>, Fail> {
     Ok(bytes)
 }
 
-/// The files of a recording, with their numbers.
+/// The files of a recording, each with its number.
 struct Files;
 
 impl Trial for Files {
     fn came(&self, alloc: Global, given: &str) -> Result<String, Fail> {
         let mut numbers = Vec::new(alloc);
-        let mut contents = Vec::new(alloc);
+        let mut files = Vec::new(alloc);
         for word in given.split_whitespace() {
             let (number, word) = word.split_once('=').unwrap_or(("0", word));
             numbers.push(number.parse::<u64>()?)?;
-            contents.push(file_of(alloc, word)?)?;
+            files.push(file_of(alloc, word)?)?;
         }
-        let files = files_of(alloc, "session", numbers)?;
-        let first = contents
-            .first()
-            .map_or(0, |bytes| first_place(bytes.as_slice()));
+        let parts = files_of(alloc, "session", numbers)?;
+        let first = files.first().map_or(0, |file| first_place(file.as_slice()));
         let mut inputs = VecDeque::new(alloc);
-        for bytes in &contents {
-            inputs.push_back(Reading::new(bytes.as_slice()))?;
+        for file in &files {
+            inputs.push_back(Reading::new(file.as_slice()))?;
         }
         let mut output = Writing::new(Vec::new(alloc));
         let mut errors = Writing::new(Vec::new(alloc));
-        let status = do_audit(alloc, &files, first, inputs, &mut output, &mut errors);
+        let status = do_audit(alloc, &parts, first, inputs, &mut output, &mut errors);
         Ok(ending(alloc, status, &output.into_inner(), &errors.into_inner())?)
     }
 }

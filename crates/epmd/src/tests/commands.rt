@@ -13,7 +13,7 @@ use std::alloc::Global;
 use std::io::{ErrorKind, Write};
 use std::test::Fail;
 
-/// Returns the meaning of a word, and its request. The name to stop is `a`.
+/// What a word asks for, and its request; the name to be forgotten is `a`.
 fn asked(alloc: Global, word: &str) -> Result<(Ask, Bytes), Fail> {
     Ok(match word {
         "names" => (Ask::Names, NAMES),
@@ -23,8 +23,8 @@ fn asked(alloc: Global, word: &str) -> Result<(Ask, Bytes), Fail> {
     })
 }
 
-/// Returns how a stream answers its calls. The first call is the put of the request: `fails:1` fails at the second call,
-/// and `later:999` blocks for 999 calls from the second call on.
+/// How a stream answers its calls, the first one being the put of the request: `fails:1` fails at its second call, and
+/// `later:999` is not ready for so many from that one on.
 fn plan(word: &str) -> DevicePlan {
     let fault = word
         .strip_prefix("fails:")
@@ -39,13 +39,13 @@ fn plan(word: &str) -> DevicePlan {
     DevicePlan { most, later, fault }
 }
 
-/// The first line of a list. In a table `4369:` is this line, or the first bytes of the answer.
+/// The first line of a list. In a table `4369:` stands for it, as it does for the first bytes of the answer.
 const HEAD: &str = "epmd: up and running on port 4369 with data:|";
 
-/// A line of a list. In a table `MANY` is three hundred of them.
+/// A line of a list. In a table `MANY` stands for three hundred of them.
 const LINE: &str = "name a at port 5000|";
 
-/// Returns the status of an action over this stream, and true if its request was written completely.
+/// The status that ends an action over this stream, and whether its request was written whole.
 fn ended<W: Write>(
     alloc: Global,
     word: &str,
@@ -58,7 +58,7 @@ fn ended<W: Write>(
     Ok((status, tape.sink.as_slice() == request))
 }
 
-/// Returns the end of an action over this stream, behind `unasked` if its request was not written completely.
+/// How an action ends over this stream, behind `unasked` where its request was not written whole.
 fn printed(alloc: Global, word: &str, tape: &mut Tape<'_>) -> Result<String, Fail> {
     let mut output = Writing::new(Vec::new(alloc));
     let mut errors = Writing::new(Vec::new(alloc));
@@ -68,7 +68,7 @@ fn printed(alloc: Global, word: &str, tape: &mut Tape<'_>) -> Result<String, Fai
     Ok(format!(in alloc; "{asked}{ending}")?)
 }
 
-/// A word, behind a `/` how the stream answers, and the port mapper's answer.
+/// What is asked for, behind a `/` how the stream answers, and the port mapper's answer.
 struct Asks;
 
 impl Trial for Asks {
@@ -87,7 +87,7 @@ impl Trial for Asks {
 
 #[test]
 fn what_is_asked_for_is_done_and_told(rt: HostRuntime) -> Result<(), Fail> {
-    // The text of a dump is not read.
+    // The text of a dump is not looked at.
     let table = "
         names 4369:name a at port 5000| -> 0 out 4369:name a at port 5000|
         names/single 4369:name a at port 5000| -> 0 out 4369:name a at port 5000|
@@ -111,7 +111,7 @@ fn what_is_asked_for_is_done_and_told(rt: HostRuntime) -> Result<(), Fail> {
 
 #[test]
 fn no_terminal_obeys_what_is_printed(rt: HostRuntime) -> Result<(), Fail> {
-    // epmd-log prints names in the same form.
+    // As epmd-log prints names.
     let table = "
         names 4369:name \u{9b}31m at port 1| -> 0 out 4369:name \\x9b31m at port 1|
         names 4369:name a? at port 1| -> 0 out 4369:name a\\xff at port 1|
@@ -136,7 +136,7 @@ fn what_is_not_allowed_is_told(rt: HostRuntime) -> Result<(), Fail> {
 
 #[test]
 fn an_answer_that_is_none_is_strange(rt: HostRuntime) -> Result<(), Fail> {
-    // A port mapper closes in the middle of its answer, or its answer is malformed.
+    // A port mapper that hangs up in the middle of its answer, or says what is none.
     let table = "
         names \0\0\x11 -> 1 err epmd: strange answer|
         names 4369:name a at po -> 1 err epmd: strange answer|
@@ -173,7 +173,7 @@ fn a_silent_port_mapper_is_strange_at_the_thousandth_later(rt: HostRuntime) -> R
 
 const FAILED: &[u8] = b"epmd: input or output failed\n";
 
-/// Returns true if a list to this output ends with this status and these errors.
+/// Whether a list to this output ends with this status, and this is told of errors.
 fn is_printed<W: Write>(
     alloc: Global,
     output: &mut Writing<W>,
@@ -196,7 +196,7 @@ fn an_output_that_fails_is_told(rt: HostRuntime) -> Result<(), Fail> {
     Ok(())
 }
 
-/// An output that takes the first bytes of a list, is interrupted, and takes the rest.
+/// An output that takes the front of a list, is interrupted, and takes the rest.
 const IN_PARTS: &[CallOutcome] = &[
     CallOutcome::Count(10),
     CallOutcome::Error(ErrorKind::Interrupted),

@@ -1,4 +1,4 @@
-//! The health check, of port mappers that reply by a script.
+//! The health check, of port mappers that reply as they are told.
 ghost use Rattle.std.specs.Prelude.{◌≡◌};
 
 use super::{bytes_of, ending};
@@ -11,7 +11,7 @@ use portmap_testing::tape::{STEADY, Tape};
 use std::alloc::Global;
 use std::test::Fail;
 
-/// A port mapper that replies to each request by the next word, and counts the steps.
+/// A port mapper that replies to each request by the next of these words. It counts what it was asked.
 #[derive(Drop)]
 struct Scripted<'a> {
     words: Vec<&'a str>,
@@ -45,6 +45,7 @@ impl<'a> Scripted<'a> {
         }
     }
 
+    /// What comes of the request of this number.
     fn reply(&self) -> Outcome {
         let index = self.registrations.saturating_add(self.look_ups);
         match self.words.get(index.saturating_sub(1)) {
@@ -54,6 +55,7 @@ impl<'a> Scripted<'a> {
     }
 }
 
+/// What comes of a request that is answered so.
 fn meant(word: &str) -> Outcome {
     match word {
         "granted" | "found" => Ok(true),
@@ -78,7 +80,7 @@ impl Checked for Scripted<'_> {
     }
 }
 
-/// Returns the words of a line. `19*refused` is nineteen words.
+/// The words of a line, of which `19*refused` is nineteen.
 fn words_of<'a>(alloc: Global, line: &'a str) -> Result<Vec<&'a str>, Fail> {
     let mut words = Vec::new(alloc);
     for word in line.split_whitespace() {
@@ -90,7 +92,7 @@ fn words_of<'a>(alloc: Global, line: &'a str) -> Result<Vec<&'a str>, Fail> {
     Ok(words)
 }
 
-/// Appends the numbers of registrations, look-ups, closes and pauses.
+/// Appends how many registrations, look-ups, closes and pauses a port mapper saw.
 fn put_counts(printed: &mut String, peer: &Scripted<'_>) -> Result<(), Fail> {
     let (first, second) = (peer.registrations, peer.look_ups);
     let (closed, pauses) = (peer.closed, peer.pauses);
@@ -98,7 +100,7 @@ fn put_counts(printed: &mut String, peer: &Scripted<'_>) -> Result<(), Fail> {
     Ok(())
 }
 
-/// The scripts of two port mappers, with a `/` between: the end of a check of both, and the steps of each.
+/// What two port mappers reply, around a `/`: how a check of both ends, and what each one saw.
 struct Checks;
 
 impl Trial for Checks {
@@ -151,6 +153,7 @@ const ALIVE: Bytes = b"\x00\x18x\x00\x01H\x00\x00\x06\x00\x05\x00\x0Bepmd-health
 
 const PORT: Bytes = b"\x00\x0Czepmd-health";
 
+/// What comes of a registration over this stream, and the request.
 fn registered(alloc: Global, tape: Tape<'_>) -> Result<(Outcome, Vec<u8>), Fail> {
     Ok(match register(alloc, tape, &health_node(alloc)?) {
         Ok(Some(held)) => (Ok(true), held.leave().sink),
@@ -159,13 +162,14 @@ fn registered(alloc: Global, tape: Tape<'_>) -> Result<(Outcome, Vec<u8>), Fail>
     })
 }
 
+/// What comes of a look-up over this stream, and the request.
 fn looked_up(alloc: Global, tape: Tape<'_>) -> Result<(Outcome, Vec<u8>), Fail> {
     let mut tape = tape;
     let outcome = look_up(alloc, &mut tape, &health_node(alloc)?);
     Ok((outcome, tape.sink))
 }
 
-/// A request and its answer: the result, behind `unasked` if another request was written.
+/// A request and its answer: what comes of it, behind `unasked` if another request was written.
 struct Requests;
 
 impl Trial for Requests {

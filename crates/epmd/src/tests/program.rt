@@ -1,4 +1,4 @@
-//! The program's use of the system: the clock, files and sockets.
+//! What the program takes from the system: the clock, files, and where it listens and connects.
 use super::auditing::file_of;
 use super::ending;
 use super::typed::command;
@@ -19,7 +19,7 @@ use std::thread::Threads;
 use std::time::Duration;
 use std::{fs, io, thread};
 
-/// A clock with one time, or a clock that fails.
+/// A clock that shows one time, or none.
 struct Stopped(Option<u64>);
 
 impl Clock for Stopped {
@@ -45,11 +45,12 @@ fn the_time_is_that_of_the_clock(rt: HostRuntime) -> Result<(), Fail> {
     Ok(())
 }
 
-/// Returns true for 10 to 20 milliseconds: the system may round 10 up to ticks of its clock.
+/// Whether it is a hundredth of a second, which the system may round up to ticks of its clock, or twice that at most.
 fn is_short(turn: Option<Duration>) -> bool {
     turn.is_some_and(|turn| 10 <= turn.as_millis() && turn.as_millis() <= 20)
 }
 
+/// Whether each read and each write of a connection of the client's gives up so soon.
 fn is_impatient(rt: &HostRuntime, port: u16) -> Option<bool> {
     let stream = connect(rt, port).ok()?;
     Some(is_short(stream.read_timeout().ok()?) && is_short(stream.write_timeout().ok()?))
@@ -64,7 +65,7 @@ fn a_port_mapper_that_is_silent_holds_nobody(rt: HostRuntime) -> Result<(), Fail
 
 #[test]
 fn a_port_mapper_of_ipv6_alone_is_found(rt: HostRuntime) -> Result<(), Fail> {
-    // A system without IPv6 cannot listen there.
+    // A system without IPv6 has none.
     if let Ok(_listener) = TcpListener::bind(&rt, (Ipv6Addr::LOCALHOST, 14_473)) {
         assert_eq!(rt; is_impatient(&rt, 14_473), Some(true));
     }
@@ -74,7 +75,7 @@ fn a_port_mapper_of_ipv6_alone_is_found(rt: HostRuntime) -> Result<(), Fail> {
 /// An ALIVE2_REQ of the name `a` by a node of version 6.
 const ALIVE: &[u8] = b"\x00\x0E\x78\x13\x88\x4D\x00\x00\x06\x00\x05\x00\x01\x61\x00\x00";
 
-/// Registers a node at this port, and returns its connection and its creation.
+/// A node that registers at this port, and the creation that it is given.
 fn node<R: Net<Stream = TcpStream> + Clock>(rt: &R, port: u16) -> Option<(TcpStream, u64)> {
     let mut stream = sent(rt, port, ALIVE)?;
     let mut reply = [0; 6];
@@ -85,7 +86,7 @@ fn node<R: Net<Stream = TcpStream> + Clock>(rt: &R, port: u16) -> Option<(TcpStr
     Some((stream, u64::from(u32::from_be_bytes([a, b, c, d]))))
 }
 
-/// Returns true if the node's creation is a nanosecond between these times, all modulo 2^32.
+/// Whether the first creation is a nanosecond between these times, all modulo 2^32.
 fn is_between(
     node: &Option<(TcpStream, u64)>,
     before: Option<Duration>,
@@ -101,8 +102,7 @@ fn is_between(
     }
 }
 
-/// Returns true if the command of this line has this end. Its input fails, and a daemon has the threads and sockets of
-/// `host`.
+/// Whether a command of this line ends so, as a daemon with this host and with an input that fails.
 fn ends_so<
     R: Net + Host<File = File> + Threads + Wait + Clock + Clone + Drop + Send + Sync + 'static,
 >(rt: &HostRuntime, host: &R, line: &str, wanted: &str) -> bool {
@@ -193,7 +193,7 @@ fn a_folder_is_no_record(rt: HostRuntime) -> Result<(), Fail> {
     Ok(())
 }
 
-/// Files of a recording, and other files of its folder.
+/// Files of a recording, and others beside them.
 const RECORDED: &[(&str, &str)] = &[
     ("recorded", "a0..2"),
     ("recorded.2", "a2..5"),
@@ -265,6 +265,7 @@ fn what_is_open_needs_no_stand_in(rt: HostRuntime) -> Result<(), Fail> {
     Ok(())
 }
 
+/// Whether a file stands in that can't be read.
 fn is_mute(stand_in: Option<File>) -> bool {
     let Some(mut file) = stand_in else {
         return false;
@@ -272,6 +273,7 @@ fn is_mute(stand_in: Option<File>) -> bool {
     file.read(&mut [0; 1]).is_err()
 }
 
+/// Whether a file stands in that can't be written.
 fn is_deaf(stand_in: Option<File>) -> bool {
     let Some(mut file) = stand_in else {
         return false;

@@ -1,4 +1,4 @@
-//! The settings of a command's daemon, and its end.
+//! What the daemon of a command is set to, and what is told when it has ended.
 use super::ending;
 use super::typed::command;
 use crate::daemon::{end_daemon, settings};
@@ -10,13 +10,14 @@ use std::alloc::Global;
 use std::test::Fail;
 use std::time::Duration;
 
-/// Returns a command to serve on two addresses, with more words behind.
+/// A command to serve on two addresses, with more words behind.
 fn serving(alloc: Global, more: &str) -> Result<Command, WordFault> {
     let words = "-relaxed_command_check -address 10.0.0.1 -packet_timeout 7 -workers 2";
     let line = format!(in alloc; "epmd -port 4370 {words} {more}")?;
     command(alloc, line.as_str())
 }
 
+/// Whether a daemon is set to what these words and the limits say.
 fn is_set(set: &Settings) -> bool {
     set.config.port == 4370
         && set.config.relaxed
@@ -27,19 +28,18 @@ fn is_set(set: &Settings) -> bool {
         && set.workers == 2
 }
 
-/// Returns the first creation at this time since 1970, and the path of the recording.
+/// Where creations start at this time since 1970, and what is recorded to.
 fn set_by(alloc: Global, command: &Command, now: Option<Duration>) -> Result<String, Fail> {
     let set = settings(alloc, command, now)?;
     let first = set.first;
-    Ok(match (&set.recording, &set.figures) {
+    Ok(match &set.recording {
         _ if !is_set(&set) => String::from_str(alloc, "otherwise")?,
-        (Some(path), _) => format!(in alloc; "{first} record <{path}>")?,
-        (None, Some(path)) => format!(in alloc; "{first} figures <{path}>")?,
-        (None, None) => format!(in alloc; "{first}")?,
+        Some(path) => format!(in alloc; "{first} record <{path}>")?,
+        None => format!(in alloc; "{first}")?,
     })
 }
 
-/// Milliseconds since 1970, or `never`, and more words of the command.
+/// The milliseconds since 1970, or `never`, and more words of the command.
 struct Sets;
 
 impl Trial for Sets {
@@ -77,7 +77,7 @@ fn a_daemon_records_where_its_command_says(rt: HostRuntime) -> Result<(), Fail> 
     all_come(&rt, &Sets, table)
 }
 
-/// Reads the end of a daemon: the operations of each worker, and whether all of them are recorded; or the fault.
+/// How a daemon ended: how many acts each worker made, and whether all was recorded; or why.
 fn end_of(alloc: Global, words: &str) -> Result<Result<RunEnd, RunFault>, Fail> {
     let (end, rest) = words.split_once(' ').unwrap_or((words, ""));
     Ok(match end {
@@ -96,13 +96,14 @@ fn end_of(alloc: Global, words: &str) -> Result<Result<RunEnd, RunFault>, Fail> 
     })
 }
 
+/// How the daemon of this command ends the program.
 fn ended(alloc: Global, command: &Command, end: &str) -> Result<String, Fail> {
     let mut errors = Writing::new(Vec::new(alloc));
     let status = end_daemon(&mut errors, command, &end_of(alloc, end)?);
     Ok(ending(alloc, status, b"", &errors.into_inner())?)
 }
 
-/// More words of the command, and behind `ends` the end of its daemon.
+/// More words of the command, and behind `ends` how its daemon ended.
 struct Ends;
 
 impl Trial for Ends {

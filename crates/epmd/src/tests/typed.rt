@@ -1,4 +1,4 @@
-//! Command lines.
+//! Lines as they are typed.
 ghost use Rattle.std.specs.Prelude.{◌≡◌, ◌≤◌, IfOk, length};
 ghost use Rattle.epmd.specs.Meaning.{CanServe};
 
@@ -8,12 +8,12 @@ use crate::words::{Command, WordFault};
 use std::alloc::Global;
 use std::env::{Env, FillError};
 
-/// A command line: variables, the program's name and its words, with blanks between. In a word `~` is a blank, `|` an end
-/// of line, and `?` a byte that is not UTF-8. `''` is the empty word.
+/// A line as it is typed: variables, the program's own name and its words, with blanks between. A blank in one of them
+/// is written `~`, an end of line `|`, a byte that is not UTF-8 `?`, and the empty word `''`.
 #[derive(Clone, Copy)]
 struct Typed<'a>(&'a str);
 
-/// Replaces each byte by its meaning.
+/// Puts the bytes in the place of those that stand for them.
 fn mean(bytes: &mut [u8])
     ensures { length bytes.new ≡ length bytes.old }
 {
@@ -22,6 +22,7 @@ fn mean(bytes: &mut [u8])
     }
 }
 
+/// Copies what is asked for, if it is there.
 fn give(text: Option<&str>, buffer: &mut [u8]) -> Result<usize, FillError>
     ensures { IfOk result (λ n. n ≤ length buffer.new) }
 {
@@ -58,6 +59,7 @@ impl Env for Typed<'_> {
     }
 }
 
+/// The command that a line asks for.
 pub fn command(alloc: Global, line: &str) -> Result<Command, WordFault>
     ensures { IfOk result (λ command. CanServe command) }
 {

@@ -1,4 +1,4 @@
-//! The words of the command, and their values.
+//! The words of the command: each word, and what it takes.
 mod faults;
 
 use super::typed::command;
@@ -9,7 +9,7 @@ use std::alloc::Global;
 use std::fmt;
 use std::test::Fail;
 
-/// A command as a table shows it: the action with its value, and each setting that is not the default.
+/// A command as a line wants it: the action with its value, and what is not as usual.
 #[derive(Drop)]
 struct Shown<'a>(&'a Command);
 
@@ -32,6 +32,7 @@ fn show_action<W: fmt::Write>(action: &Action, f: &mut fmt::Formatter<W>) -> fmt
     }
 }
 
+/// What is listened on, unless that is every address.
 fn show_addresses<W: fmt::Write>(all: &[[u8; 4]], f: &mut fmt::Formatter<W>) -> fmt::Result {
     if all == [[0, 0, 0, 0]].as_slice() {
         return Ok(());
@@ -62,19 +63,17 @@ impl fmt::Display for Shown<'_> {
                 write!(f, " {name}")?;
             }
         }
-        for (name, path) in [
-            ("record", &command.recording),
-            ("figures", &command.figures),
-        ] {
-            if let Some(path) = path {
-                write!(f, " {name} <{path}>")?;
-            }
+        if let Some(path) = &command.figures {
+            write!(f, " figures <{path}>")?;
         }
-        Ok(())
+        match &command.recording {
+            Some(path) => write!(f, " record <{path}>"),
+            None => Ok(()),
+        }
     }
 }
 
-/// A command line: its command, or its fault.
+/// A line as it is typed: what it asks for, or its fault.
 struct Asks;
 
 impl Trial for Asks {
@@ -140,7 +139,6 @@ fn an_option_has_its_last_value(rt: HostRuntime) -> Result<(), Fail> {
         epmd -d -debug -d -> serve debug
         epmd -figures a -> serve figures <a>
         epmd -figures a -figures -d -> serve figures <-d>
-        epmd -figures '' -record b -> serve record <b> figures <>
         epmd -daemon -> serve
         epmd -daemon -daemon -> serve
         epmd -d -workers 8 -names -port 1024 -packet_timeout 5 -> names port 1024 timeout 5 workers 8 debug
@@ -169,7 +167,8 @@ fn a_daemon_listens_on_the_host_too(rt: HostRuntime) -> Result<(), Fail> {
 
 #[test]
 fn a_daemon_records_to_the_last_path(rt: HostRuntime) -> Result<(), Fail> {
-    // The last path counts. The word behind `-record` is always a path, and every action accepts `-record`.
+    // The last path counts, the word behind `-record` is one whatever it begins with, and it is taken with every
+    // action.
     let table = "
         epmd -record x -> serve record <x>
         epmd -d -record x -> serve debug record <x>
@@ -234,7 +233,7 @@ fn the_port_of_the_environment_is_digits_too(rt: HostRuntime) -> Result<(), Fail
 
 #[test]
 fn words_or_the_environment_relax(rt: HostRuntime) -> Result<(), Fail> {
-    // Any text of the variable counts.
+    // The variable is set to any text.
     let table = "
         ERL_EPMD_RELAXED_COMMAND_CHECK=1 epmd -> serve relaxed
         ERL_EPMD_RELAXED_COMMAND_CHECK= epmd -> serve relaxed

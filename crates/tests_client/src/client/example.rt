@@ -1,11 +1,11 @@
-//! The client as a library, as the README shows it.
+//! The client as a library: what the README shows.
 use portmap_client::{ClientFault, Registration, lookup, names};
 use portmap_link::Both;
 use portmap_wire::{Line, Reg};
 use std::alloc::Global;
 use std::net::TcpStream;
 
-/// Registers a node over one connection. Looks its name up and lists all names over two others. The node stays
+/// Registers a node over one connection, and asks who has its name and who is there over two others. The node stays
 /// registered until the registration is dropped.
 pub fn register(
     alloc: Global,

@@ -1,8 +1,7 @@
-//! A test of the calls over sockets, with a listener of the test.
+//! The calls over sockets, against a listener of the test.
 use crate::client::example::register;
 use portmap_client::ClientFault;
 use portmap_testing::bytes::{A_LISTED, ALIVE_A, FOUND_A, FOURTH, NAMES, PORT_A};
-use portmap_testing::cases::is_so;
 use portmap_testing::nodes::{is_node_a, node_a};
 use portmap_wire::{Line, Reg};
 use std::alloc::Global;
@@ -13,28 +12,28 @@ use std::thread::Threads;
 use std::time::Duration;
 use std::{io, thread};
 
-/// The milliseconds of a read by the listener.
+/// How many milliseconds a read of the listener's side may take.
 const PATIENCE: u64 = 5000;
 
-/// The milliseconds of a read by the client. A longer read returns `Later`, of which a call accepts 999.
+/// And one of a client's. A read that takes longer is a Later, of which a call bears 999.
 const TURN: u64 = 20;
 
-/// Reads a request of this length, and sends a reply.
+/// Takes a request of so many bytes, and answers it.
 fn serve(stream: &mut TcpStream, request: &mut [u8], reply: &[u8]) -> io::Result<()> {
     stream.set_read_timeout(Some(Duration::from_millis(PATIENCE)))?;
     stream.read_exact(request)?;
     stream.write_all(reply)
 }
 
-/// Accepts a connection, and answers its request.
+/// Takes a connection, and a request that is answered so.
 fn answer(listener: &TcpListener, request: &mut [u8], reply: &[u8]) -> io::Result<TcpStream> {
     let (mut stream, _) = listener.accept()?;
     serve(&mut stream, request, reply)?;
     Ok(stream)
 }
 
-/// Answers a registration, a lookup and a question for all names. Returns whether these requests arrived, and nothing
-/// after the registration before its connection closed.
+/// Answers a registration, a look-up and a question for all names, and says whether these came, and nothing behind the
+/// registration before its connection was closed.
 fn answer_three(listener: &TcpListener) -> io::Result<bool> {
     let (mut first, mut second, mut third) = ([0; 16], [0; 4], [0; 3]);
     let mut registered = answer(listener, &mut first, FOURTH)?;
@@ -45,14 +44,16 @@ fn answer_three(listener: &TcpListener) -> io::Result<bool> {
     Ok(are_asked && third.as_slice() == NAMES && behind == 0)
 }
 
-/// Registers the node, and returns whether all calls return what the listener answers.
+/// Registers the node, and says whether it and all else were told as answered.
 fn is_told(alloc: Global, streams: [TcpStream; 3], node: &Reg) -> Result<bool, ClientFault> {
     let (registration, found, lines) = register(alloc, streams, node)?;
+    let creation = registration.creation();
+    drop(registration);
     let is_found = found.is_some_and(|reg| is_node_a(&reg));
-    Ok(is_found && registration.creation() == 4 && is_a_listed(&lines))
+    Ok(is_found && creation == 4 && is_a_listed(&lines))
 }
 
-/// Returns whether this is the list of the name `a` with port 5000 alone.
+/// Whether this is the list of the name `a` and port 5000 alone.
 fn is_a_listed(lines: &[Line]) -> bool {
     match lines {
         [line] => line.port == 5000 && line.name.bytes() == b"a".as_slice(),
@@ -66,14 +67,14 @@ fn connect(rt: &HostRuntime, address: SocketAddr) -> io::Result<TcpStream> {
     Ok(stream)
 }
 
-/// The backlog of the listener holds all three connections.
+/// The listener's queue holds all three, so it waits for none.
 fn connect_three(rt: &HostRuntime, address: SocketAddr) -> io::Result<[TcpStream; 3]> {
     let first = connect(rt, address)?;
     let second = connect(rt, address)?;
     Ok([first, second, connect(rt, address)?])
 }
 
-/// Returns whether the listener and the client have what they should.
+/// Whether the listener was asked, and the node told, all that they should.
 fn both_agree(
     rt: &impl Threads,
     alloc: Global,
@@ -81,8 +82,11 @@ fn both_agree(
     streams: [TcpStream; 3],
     node: &Reg,
 ) -> Result<bool, Fail> {
-    let client = move || is_told(alloc, streams, node);
-    let (are_asked, is_told) = thread::join(rt, move || answer_three(listener), client);
+    let (are_asked, is_told) = thread::join(
+        rt,
+        move || answer_three(listener),
+        move || is_told(alloc, streams, node),
+    );
     Ok(are_asked? && is_told?)
 }
 
@@ -91,5 +95,6 @@ fn a_node_registers_and_is_found_over_sockets(rt: HostRuntime) -> Result<(), Fai
     let node = node_a(rt.alloc())?;
     let listener = TcpListener::bind(&rt, SocketAddr::from((Ipv4Addr::LOCALHOST, 0)))?;
     let streams = connect_three(&rt, listener.local_addr()?)?;
-    is_so(&rt, both_agree(&rt, rt.alloc(), &listener, streams, &node))
+    assert!(rt; both_agree(&rt, rt.alloc(), &listener, streams, &node)?);
+    Ok(())
 }

@@ -1,4 +1,4 @@
-//! Tests of the adapters of readers and writers.
+//! What the adapters make of readers and writers.
 use portmap_link::{Both, Input, Output, Pull, Put, Reading, Writing};
 use portmap_testing::cases::is_so;
 use portmap_testing::streams::{Broken, CallOutcome, Script, scripted};
@@ -7,7 +7,7 @@ use std::alloc::Global;
 use std::io::ErrorKind;
 use std::test::Fail;
 
-/// Returns whether each pull has its expected result, and the input has failed after a fault only.
+/// Whether each pull answers as wanted, and the input is failed behind a fault and only there.
 fn pulls<R: Input>(input: &mut R, wants: &[Pull]) -> bool {
     let mut buffer = [0; 8];
     for want in wants {
@@ -18,7 +18,7 @@ fn pulls<R: Input>(input: &mut R, wants: &[Pull]) -> bool {
     true
 }
 
-/// Returns whether each put of four bytes has its expected result, and the output has failed after a fault only.
+/// The same of puts of four bytes.
 fn puts<W: Output>(output: &mut W, wants: &[Put]) -> bool {
     for want in wants {
         if output.put(b"name") != *want || output.failed() != (*want == Put::Fault) {
@@ -50,7 +50,7 @@ fn what_has_failed_stays_failed(rt: HostRuntime) {
     assert!(rt; pulls(&mut tape, PULLS_OF_FAILING));
 }
 
-/// Returns whether one pull gives these bytes, or the end for no bytes.
+/// Whether the bytes of one pull are these; none where it gave no piece.
 fn gives(reading: &mut Reading<&[u8]>, want: &[u8]) -> bool {
     let mut buffer = [0; 4];
     match reading.pull(&mut buffer) {
@@ -74,7 +74,7 @@ fn a_slice_is_read_in_pieces_to_its_end(rt: HostRuntime) -> Result<(), Fail> {
     is_so(&rt, Ok(is_read_to_its_end()))
 }
 
-// Two errors that pass, a count, a fault, and a count that no call may ask for.
+// Two errors that pass, one that doesn't, and what is never asked for.
 const ERRORS: &[CallOutcome] = &[
     CallOutcome::Error(ErrorKind::Interrupted),
     CallOutcome::Error(ErrorKind::WouldBlock),
@@ -107,7 +107,7 @@ fn errors_that_pass_are_later_and_others_faults(rt: HostRuntime) {
     assert!(rt; puts(&mut writing, PUTS_OF_ERRORS) && writing.into_inner().asked == 4);
 }
 
-/// Returns whether a stream returns these results of puts, and then a fault from a pull.
+/// Whether a stream answers the puts and then a pull with a fault.
 fn fails_both_ways(both: &mut Both<Script<'_>>, wants: &[Put]) -> bool {
     puts(both, wants) && pulls(both, &[Pull::Fault])
 }

@@ -7,15 +7,14 @@ use Rattle.epmd.proofs.words.read_all.Goals as goal
 
 pub loop-rest-preserved : goal.loop-rest-preserved
 loop-rest-preserved c =
-    let after = c.read.new.self.words.now in
     let some : 1 ≤ length c.loop-rest.rest.now = c.in-len1-up.len_at_least in
-    let begins : Begins c.in_ok-item.item (map string_bytes c.loop-rest.rest.now) (map string_bytes after) =
-    subst (λ (words : List (List ℕ)). Begins c.in_ok-item.item words (map string_bytes after))
-    (in_prefix string_bytes c.loop-rest.rest.now c.first-item.result some c.first-item.is) c.in_ok-item.ensures.spelled in
-    let one = λ (is : is_action c.in_ok-item.item ≡ true). sym c.is_some.ensures ∙ c.in_ok-item.ensures.one is in
-    let fewer = c.in_ok-item.ensures.fewer in (
-      says_more (map string_bytes c.args.words.now) (map string_bytes c.loop-rest.rest.now) (map string_bytes after)
-          c.in_ok-item.item c.loop-rest.plan c.add.new.self c.loop-rest.invariant.0 begins c.add.ensures one,
+    let begins : Begins c.in_ok-said.said (map string_bytes c.loop-rest.rest.now) (map string_bytes c.in_ok-said.after.now) =
+    subst (λ (words : List (List ℕ)). Begins c.in_ok-said.said words (map string_bytes c.in_ok-said.after.now))
+    (in_prefix string_bytes c.loop-rest.rest.now c.first-item.result some c.first-item.is) c.in_ok-said.ensures.spelled in
+    let one = λ (is : is_action c.in_ok-said.said ≡ true). sym c.has_action.ensures ∙ c.in_ok-said.ensures.one is in
+    let fewer = c.in_ok-said.ensures.fewer in (
+      says_more (map string_bytes c.args.words.now) (map string_bytes c.loop-rest.rest.now) (map string_bytes c.in_ok-said.after.now)
+          c.in_ok-said.said c.loop-rest.plan c.add.new.self c.loop-rest.invariant.0 begins c.add.ensures one,
       omega (
         arith,
         c.loop-rest.invariant.1,

@@ -1,4 +1,4 @@
-//! Words that are not a command: their faults, and the lines of these.
+//! Words that are no command: which fault they have, and how it is told.
 use super::Asks;
 use crate::tests::ending;
 use crate::words::{WordFault, refuse};
@@ -74,7 +74,7 @@ fn a_name_to_stop_is_a_name(rt: HostRuntime) -> Result<(), Fail> {
 
 #[test]
 fn the_first_fault_is_told(rt: HostRuntime) -> Result<(), Fail> {
-    // An unknown word comes first, then a second action, a missing value and a bad value.
+    // Unknown words come before a second action, that before a value that is missing, and that before a bad one.
     let table = "
         epmd -names -foo -> fault Unknown(1)
         epmd -names -stop -> fault TwoCommands(1)
@@ -106,7 +106,7 @@ fn words_are_read_before_the_environment(rt: HostRuntime) -> Result<(), Fail> {
     all_come(&rt, &Asks, table)
 }
 
-/// The words of each action, and their number.
+/// The words of each action, and how many.
 const ACTIONS: &[(&str, usize)] = &[
     ("-names", 1),
     ("-kill", 1),
@@ -120,7 +120,7 @@ const ACTIONS: &[(&str, usize)] = &[
     ("-audit a", 2),
 ];
 
-/// Fails unless each action behind this action is refused at its first word.
+/// A failure, unless each action behind this one is refused at its first word.
 fn stands_last(alloc: Global, first: &str, count: usize) -> Result<(), Fail> {
     for (second, _) in ACTIONS {
         let line = format!(in alloc; "epmd {first} {second} -> fault TwoCommands({count})")?;
@@ -137,7 +137,7 @@ fn no_action_stands_behind_another(rt: HostRuntime) -> Result<(), Fail> {
     Ok(())
 }
 
-/// A fault, and the end of the program with it.
+/// A fault, and how it ends the program.
 struct FaultText(WordFault, &'static str);
 
 const FAULT_TEXTS: &[FaultText] = &[
