@@ -20,7 +20,7 @@ def samples(path):
     try:
         with open(path) as file:
             found = dict(line.rsplit(" ", 1) for line in file.read().splitlines())
-    except FileNotFoundError:
+    except (FileNotFoundError, ValueError):
         return None
     return tuple(int(found.pop(name)) for name in COUNTED) if found.keys() == set(COUNTED) else None
 
