@@ -105,7 +105,7 @@ class Alerts(unittest.TestCase):
         actions = read(os.path.join(TOP, "crates", "epmd", "src", "actions.rt"))
         most = {name: int(number) for name, number in re.findall(r"pub const (\w+_MOST): u32 = (\d+);", actions)}
         limits = read(os.path.join(TOP, "crates", "portmap_worker", "src", "limits.rt"))
-        share = int(re.search(r"KEPT_SHARE: u64 = (\d+);", limits)[1])
+        share = int(re.search(r"RESERVED_SHARE: u64 = (\d+);", limits)[1])
         near = {name: limit - limit // share for name, limit in most.items()}
         self.assertRegex(alerts()["EpmdNamesNearLimit"], rf" >= {near['NAMES_MOST']}$")
         self.assertRegex(alerts()["EpmdConnectionsNearLimit"], rf" >= {near['CONNECTIONS_MOST']}$")

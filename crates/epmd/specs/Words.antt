@@ -1,5 +1,5 @@
--- The words of the command: the options of epmd(1) and, as profile, -workers, -record, -figures, -dump, -health, -once, -check, -play, -local and
--- -audit.
+-- The words of the command: the options of epmd(1) and, as profile, -workers, -record, -figures, -dump, -health, -once, -check, -play,
+-- -local and -audit.
 use Rattle.std.specs.Option.{option_or}
 use Rattle.std.specs.Prelude.{◌≡◌, ℕ, List, [], ◌∷◌, Bool, true, false, codes, string_bytes, Option, Some, None, ◌⊎◌}
 use Rattle.std.specs.{Prelude.String, declared.alloc.Global.Global, declared.vec.Vec.Vec}
