@@ -149,6 +149,7 @@ impl<'a, L: Ledger, S: System, R: Host + Wait + Clock> SocketSource<'a, L, S, R>
         if fresh.is_none() {
             self.tally.news.exhausted = true;
             self.tally.on_unanswered(self.shared);
+            self.tally.on_no_memory(self.shared);
         }
         fresh
     }

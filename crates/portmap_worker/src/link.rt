@@ -1,5 +1,5 @@
 //! A connection that a worker holds: its stream as a device, and what the source of the worker has to know of it.
-ghost use Rattle.std.specs.Prelude.{◌≡◌, ◌↔◌, ◌+◌, ◌-◌, ◌^◌, ◌<◌, [], ◌∷◌, ◌++◌, min, Some, None, true, false};
+ghost use Rattle.std.specs.Prelude.{◌≡◌, ◌↔◌, ℕ, ◌+◌, ◌-◌, ◌^◌, ◌<◌, [], ◌∷◌, ◌++◌, min, Some, None, true, false};
 ghost use Rattle.portmap_link.specs.Adapters.{pull_of, put_of};
 ghost use Rattle.portmap_link.specs.Device.{pull_is_fault, put_is_fault};
 ghost use Rattle.portmap_worker.specs.Link.{IsBroken, IsOf, is_answered, is_timed, may_move, unsent_after, would_block};
@@ -183,7 +183,9 @@ impl<S: Read + Write> Link<S> {
         self.timer.is_late = false;
     }
 
-    pub(crate) fn set_late(&mut self, is_late: bool) {
+    pub(crate) fn set_late(&mut self, is_late: bool)
+        ensures { self.new ≡ record self.old { timer = record self.old.timer { is_late = is_late } } }
+    {
         self.timer.is_late = is_late;
     }
 
@@ -304,6 +306,8 @@ impl<S: Read + Write> Link<S> {
         ensures pulls { self.new.history.pulls ≡ self.old.history.pulls ++ result ∷ [] }
         ensures puts { self.new.history.puts ≡ self.old.history.puts }
         ensures noted { self.new.readiness.notes ≡ self.old.readiness.notes ++ Read (would_block outcome) ∷ [] }
+        ensures moved { (count : ℕ) → result ≡ Pull.Piece count
+            → (self.new.timer.has_moved ≡ true) × (self.new.is_paused ≡ is_answered self.old.progress) }
     {
         let is_blocked = would_block(&outcome);
         let answer = pull_from(outcome);
@@ -322,6 +326,8 @@ impl<S: Read + Write> Link<S> {
         ensures puts { self.new.history.puts ≡ self.old.history.puts ++ result ∷ [] }
         ensures pulls { self.new.history.pulls ≡ self.old.history.pulls }
         ensures noted { self.new.readiness.notes ≡ self.old.readiness.notes ++ Wrote result (would_block outcome) ∷ [] }
+        ensures moved { (count : ℕ) → result ≡ Put.Wrote count
+            → (self.new.timer.has_moved ≡ true) × (is_answered self.new.progress ≡ true) }
     {
         let is_blocked = would_block(&outcome);
         let answer = put_from(outcome);

@@ -92,6 +92,14 @@ impl WorkerActivity {
         self.publish(shared);
     }
 
+    /// Wakes the main thread, as there is no memory for a connection. The first unanswered end of this second may have
+    /// woken the main thread while there was memory; it would then free the reserve only after the second.
+    pub(crate) fn on_no_memory<W: Wake>(&self, shared: &Shared<W>) {
+        if !shared.short.load(Ordering::SeqCst) {
+            shared.wake_drain();
+        }
+    }
+
     pub(crate) fn note_refused(&mut self) {
         self.news.refused = self.news.refused.saturating_add(1);
     }

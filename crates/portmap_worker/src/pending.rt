@@ -3,6 +3,7 @@
 //! If a name is active when a node asks for it, the connection that owns it may have ended, or may be ending. The name
 //! is then free soon. What the machine answers after the wait is final.
 ghost use Rattle.std.specs.Prelude.{◌≡◌, ◌↔◌, ◌<◌, ◌≤◌, true, false, Some, None, IfSome};
+ghost use Rattle.portmap_ready.specs.Links.{link_at};
 ghost use Rattle.portmap_worker.specs.Pending.{Awaits, StopsWaiting, GoesOn, earliest, until};
 ghost use Rattle.portmap_worker.specs.IdleLinks.{Keeps, Returns};
 ghost use Rattle.portmap_worker.specs.Link.{IsOf};
@@ -204,6 +205,7 @@ fn resume<S: Stream>(links: &mut Links<'_, S>, key: usize, is_short: bool)
     requires { links.old.current ≡ Some key }
     ensures current { links.new.current ≡ None }
     ensures links { Keeps links.old links.new }
+    ensures late { IfSome (link_at links.new key) (λ l. l.0.link.timer.is_late ≡ is_short) }
 {
     if let Some(held) = links.get_mut(key) {
         held.link.set_late(is_short);

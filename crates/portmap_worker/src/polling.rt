@@ -1,5 +1,5 @@
 //! The polls of a worker, and the handling of their reports.
-ghost use Rattle.std.specs.Prelude.{◌≡◌, ◌⊎◌, ◌<◌, [], None, true};
+ghost use Rattle.std.specs.Prelude.{◌≡◌, ◌⊎◌, ◌<◌, ◌≤◌, ◌/◌, ℕ, [], None, true, drop, length};
 ghost use Rattle.portmap_worker.specs.IdleLinks.{Keeps, Returns};
 ghost use Rattle.portmap_worker.specs.Schedule.{IsPolled};
 
@@ -58,6 +58,8 @@ impl<L: Ledger, S: System, R: Host + Wait + Clock> SocketSource<'_, L, S, R> {
     fn on_polled(&mut self, after: u64)
         ensures links { Keeps self.old.ready self.new.ready }
         ensures schedule { self.new.schedule ≡ self.old.schedule }
+        ensures resumed { self.old.rounds.time < after / 1000
+            → (n : ℕ) × (0 < n) × (self.new.ready.paused ≡ drop n self.old.ready.paused) }
     {
         if self.rounds.on_polled(after) {
             let most = resumes_most(self.shared.unsent.is_crowded());
@@ -119,6 +121,7 @@ impl<L: Ledger, S: System, R: Host + Wait + Clock> SocketSource<'_, L, S, R> {
     fn wait(&mut self) -> bool
         ensures links { Keeps self.old.ready self.new.ready }
         ensures schedule { self.new.schedule ≡ record self.old.schedule { turns = 0 } }
+        ensures counted { result ≡ true → self.old.rounds.pass.left ≡ 0 → length self.new.ready.queue ≤ self.new.rounds.pass.left }
     {
         self.schedule.end_turns();
         if !self.rounds.pass.is_over() {
