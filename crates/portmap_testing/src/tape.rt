@@ -36,7 +36,7 @@ impl DevicePlan {
         later.any(|(from, until)| *from <= call && call < *until)
     }
 
-    fn turn(&self, calls: &mut usize, failed: bool) -> TapeStep
+    fn step(&self, calls: &mut usize, failed: bool) -> TapeStep
         ensures { failed ≡ true → result ≡ TapeStep.Fault }
     {
         let call = *calls;
@@ -96,13 +96,13 @@ impl<'a> Device for Tape<'a> {
 
 impl<'a> Input for Tape<'a> {
     fn pull(&mut self, buffer: &mut [u8]) -> Pull {
-        let answer = match self.plan.turn(&mut self.calls, self.failed) {
+        let answer = match self.plan.step(&mut self.calls, self.failed) {
             TapeStep::Move if self.source.is_empty() => Pull::End,
             TapeStep::Move => {
                 let most = self.plan.most.max(1);
                 let n = most.min(buffer.len()).min(self.source.len());
-                let (front, rest) = self.source.split_at(n);
-                buffer[..n].copy_from_slice(front);
+                let (prefix, rest) = self.source.split_at(n);
+                buffer[..n].copy_from_slice(prefix);
                 self.source = rest;
                 Pull::Piece(n)
             }
@@ -121,7 +121,7 @@ impl<'a> Input for Tape<'a> {
 
 impl<'a> Output for Tape<'a> {
     fn put(&mut self, bytes: &[u8]) -> Put {
-        let answer = match self.plan.turn(&mut self.calls, self.failed) {
+        let answer = match self.plan.step(&mut self.calls, self.failed) {
             TapeStep::Move => {
                 let n = self.plan.most.max(1).min(bytes.len());
                 match self.sink.extend_from_slice(&bytes[..n]) {

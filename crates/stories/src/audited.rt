@@ -1,4 +1,4 @@
-//! Recorded sessions in several files, judged as one.
+//! Recorded sessions in several files, checked as one.
 use crate::devices::plan;
 use crate::words::{by_name, bytes, number, text};
 use anyhow::Result;
@@ -8,7 +8,7 @@ use portmap_testing::tape::Tape;
 use std::alloc::Global;
 use std::collections::VecDeque;
 
-/// What is found of these files, the oldest first, which are read from devices of a kind with so many turns each.
+/// Audits the files, from the oldest on. Each is read from a device of this kind, with this limit of turns.
 pub fn audited(alloc: Global, device: &str, turns: &str, words: &[&str]) -> Result<String> {
     let mut files = Vec::new(alloc);
     for word in words {
@@ -22,7 +22,7 @@ pub fn audited(alloc: Global, device: &str, turns: &str, words: &[&str]) -> Resu
     actual(alloc, marked!(alloc, audit(alloc, inputs, turns)))
 }
 
-/// Want of memory is told without the file, as by every call.
+/// Prints a lack of memory without the number of the file, as every other call does.
 fn actual(alloc: Global, outcome: Result<Audited, AuditFault>) -> Result<String> {
     match outcome {
         Ok(Audited::Run { entries, tail }) => text(format!(in alloc; "run {entries} {tail:?}")),

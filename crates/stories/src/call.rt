@@ -12,10 +12,9 @@ use portmap_testing::tape::{DevicePlan, STEADY, Tape};
 use portmap_wire::Reg;
 use std::alloc::Global;
 
-/// What calls write, and bytes that wait for a device.
 #[derive(Drop)]
 pub struct Calls {
-    /// What a call wrote to which memory was refused.
+    /// The bytes that a call wrote before memory was refused to it.
     begun: Vec<u8>,
     outbox: Outbox,
     output: Tape<'static>,
@@ -30,8 +29,7 @@ impl Calls {
         }
     }
 
-    /// What comes of an act.
-    pub fn came(&mut self, alloc: Global, words: &[&str]) -> Result<String> {
+    pub fn perform(&mut self, alloc: Global, words: &[&str]) -> Result<String> {
         match *words {
             [ref call @ .., "gives", answer, device] => {
                 self.called(alloc, call, plan(device)?, &bytes(alloc, answer)?)
@@ -44,7 +42,8 @@ impl Calls {
         }
     }
 
-    /// What a call says, writes, and leaves of the answer that this device gives.
+    /// Makes a call over a device that gives these bytes. Prints its result, the bytes that it wrote, and those that it
+    /// left unread.
     fn called(
         &mut self,
         alloc: Global,
@@ -61,7 +60,7 @@ impl Calls {
         self.wrote(alloc, says.as_str(), &tape)
     }
 
-    /// The same of a registration: the creation that it gives, or why it gives none.
+    /// Prints the creation of a registration, or its fault.
     fn registered(&mut self, alloc: Global, node: &Reg, tape: Tape<'_>) -> Result<String> {
         match marked!(alloc, Registration::make(alloc, tape, node)) {
             Ok(registration) => {
@@ -72,7 +71,8 @@ impl Calls {
         }
     }
 
-    /// The same of what it says. Where memory is refused to it, a front of what it writes is written.
+    /// Prints what a call wrote and left. A call to which memory is refused writes a prefix of what it writes
+    /// otherwise.
     fn wrote(&mut self, alloc: Global, says: &str, tape: &Tape<'_>) -> Result<String> {
         let is_so = tape.sink.starts_with(&self.begun);
         ensure!(is_so, "a refusal has written something else");
@@ -84,7 +84,6 @@ impl Calls {
         text(format!(in alloc; "{says} wrote {sink} left {left}"))
     }
 
-    /// What comes of bytes that wait for a device.
     fn sent(&mut self, alloc: Global, words: &[&str]) -> Result<String> {
         match *words {
             // Another device, for which no bytes wait.
@@ -116,7 +115,6 @@ impl Calls {
     }
 }
 
-/// What a call over a stream says.
 fn asked<S: Input + Output>(alloc: Global, stream: &mut S, call: &[&str]) -> Result<String> {
     match *call {
         ["kill"] => shown(alloc, marked!(alloc, kill(alloc, stream))),
@@ -134,7 +132,6 @@ fn asked<S: Input + Output>(alloc: Global, stream: &mut S, call: &[&str]) -> Res
     }
 }
 
-/// The fields of the node that is found.
 fn found(alloc: Global, says: Result<Option<Reg>, ClientFault>) -> Result<String> {
     match says {
         Ok(Some(reg)) => text(format!(in alloc; "{}", Fields(&reg))),
@@ -142,8 +139,8 @@ fn found(alloc: Global, says: Result<Option<Reg>, ClientFault>) -> Result<String
     }
 }
 
-/// What a call says to which a stream gives the letter `a`, more often than any call may take it, and how many it
-/// takes.
+/// Makes a call over a stream that gives more letters `a` than any call may read. Prints the number of letters that the
+/// call read.
 fn endless(alloc: Global, call: &str) -> Result<String> {
     let mut source = Vec::new(alloc);
     source.resize(20_000_000, b'a')?;

@@ -4,10 +4,9 @@ use anyhow::Result;
 use portmap_testing::tape::{DevicePlan, Tape};
 use std::alloc::Global;
 
-/// As many bytes as are wanted.
 const ALL: usize = usize::MAX;
 
-/// Which calls say Later, where others move what is wanted, or so many bytes at most.
+/// The name of a device, the number of bytes that a call moves at most, and the ranges of calls that would block.
 const DEVICES: &[(&str, usize, &[(usize, usize)])] = &[
     ("steady", ALL, &[]),
     ("single", 1, &[]),
@@ -16,7 +15,6 @@ const DEVICES: &[(&str, usize, &[(usize, usize)])] = &[
     ("sevens", 7, &[]),
     ("large", 512, &[]),
     ("never", ALL, &[(0, usize::MAX)]),
-    // Laters in front of the calls of these numbers, and between them.
     ("silent-from-1", ALL, &[(1, usize::MAX)]),
     ("later-0-to-999", ALL, &[(0, 999)]),
     ("later-0-to-1000", ALL, &[(0, 1000)]),
@@ -40,7 +38,7 @@ const DEVICES: &[(&str, usize, &[(usize, usize)])] = &[
     ("forties-but-501-to-1002", 40, &[(1, 501), (502, 1002)]),
 ];
 
-/// How a device answers: the word for that, and behind a `:` the call that fails.
+/// Returns the plan of the device with this name. The number of the first call that fails follows a `:`.
 pub fn plan(word: &str) -> Result<DevicePlan> {
     let (name, fault) = match word.split_once(':') {
         Some((name, call)) => (name, Some(number(call)?)),
@@ -56,7 +54,7 @@ pub fn plan(word: &str) -> Result<DevicePlan> {
     }
 }
 
-/// A device that gives these bytes, and takes so many without memory.
+/// Returns a device that gives these bytes, and accepts `room` bytes without an allocation.
 pub fn device(alloc: Global, bytes: &[u8], plan: DevicePlan, room: usize) -> Result<Tape<'_>> {
     let mut tape = Tape::new(alloc, bytes, plan);
     tape.sink.reserve(room)?;

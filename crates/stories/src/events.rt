@@ -4,7 +4,6 @@ use anyhow::Result;
 use portmap_core::{Answer, Entry, Event, Fate, Refusal};
 use std::alloc::Global;
 
-/// The event that words tell of.
 pub fn event(alloc: Global, words: &[&str]) -> Result<Event> {
     let [act, word, ref rest @ ..] = *words else {
         return wrong("no such act");
@@ -26,7 +25,6 @@ pub fn event(alloc: Global, words: &[&str]) -> Result<Event> {
     })
 }
 
-/// The entry that words tell of.
 pub fn entry(alloc: Global, words: &[&str]) -> Result<Entry> {
     let [act, word, ref rest @ ..] = *words else {
         return wrong("no such entry");
@@ -53,7 +51,6 @@ pub fn entry(alloc: Global, words: &[&str]) -> Result<Entry> {
     })
 }
 
-/// Whether a word is for this host, and not for another one.
 pub fn is_local(word: &str) -> Result<bool> {
     match word {
         "local" => Ok(true),
@@ -79,8 +76,9 @@ fn word_of(fate: Fate) -> &'static str {
     }
 }
 
-/// The words for what comes of an act. One who is late is told a fate alone; memory is never refused to one who goes.
-pub fn came_of(alloc: Global, act: &str, outcome: &Result<Answer, Refusal>) -> Result<String> {
+/// Prints what an event returned. After a timeout that has no reply, that is the fate alone. Fails if memory is refused
+/// to a connection that ends.
+pub fn outcome_text(alloc: Global, act: &str, outcome: &Result<Answer, Refusal>) -> Result<String> {
     let is_late = act.starts_with("late");
     let goes = act.starts_with("close") || act.starts_with("fault");
     text(match outcome {
@@ -100,14 +98,14 @@ pub fn came_of(alloc: Global, act: &str, outcome: &Result<Answer, Refusal>) -> R
     })
 }
 
-/// The line of a transcript for an act that was answered.
-pub fn line(alloc: Global, number: u64, words: &[&str], came: &str) -> Result<String> {
+/// Returns the line of a transcript for an event that was answered.
+pub fn line(alloc: Global, number: u64, words: &[&str], outcome: &str) -> Result<String> {
     text(match *words {
-        ["connect", whence] => format!(in alloc; "{number} connect {came} {whence}\n"),
+        ["connect", whence] => format!(in alloc; "{number} connect {outcome} {whence}\n"),
         ["piece", slot, "get", piece] => format!(in alloc;
-            "{number} piece {slot} get {piece} {came}\n"
+            "{number} piece {slot} get {piece} {outcome}\n"
         ),
-        ["late", slot] => format!(in alloc; "{number} late {slot} {came}\n"),
+        ["late", slot] => format!(in alloc; "{number} late {slot} {outcome}\n"),
         [act, slot] => format!(in alloc; "{number} {act} {slot}\n"),
         _ => return wrong("no such act"),
     })

@@ -1,11 +1,11 @@
-//! Requests as they come on a stream, in pieces.
+//! Requests as they arrive on a stream, in chunks.
 use crate::words::{Digits, bytes, number, text, wrong};
 use anyhow::{Result, ensure};
 use portmap_feed::{Feed, Seen};
 use portmap_testing::marked;
 use std::alloc::Global;
 
-/// What has come of one stream: in the pieces of a story, and byte by byte.
+/// One stream twice: in the chunks of a story, and byte by byte.
 #[derive(Drop)]
 pub struct Pieces {
     whole: Feed,
@@ -20,13 +20,13 @@ impl Pieces {
         }
     }
 
-    /// Whether as much is kept of the pieces as of the bytes one by one.
+    /// Returns true if both hold the same bytes.
     pub fn stands(&self) -> bool {
         self.whole.kept() == self.single.kept() && self.whole.body() == self.single.body()
     }
 
-    /// What comes of an act: what is seen, kept and lent as the body.
-    pub fn came(&mut self, alloc: Global, words: &[&str]) -> Result<String> {
+    /// Prints the framing, the bytes that are kept, and the body.
+    pub fn perform(&mut self, alloc: Global, words: &[&str]) -> Result<String> {
         let seen = match *words {
             ["push", piece] => self.push(alloc, &bytes(alloc, piece)?)?,
             ["cut", len] => self.cut(number(len)?)?,
@@ -43,7 +43,8 @@ impl Pieces {
         }
     }
 
-    /// What is seen of a piece, none where memory is refused: that is only before the length is known.
+    /// Returns the framing after a chunk, or `None` if memory is refused. That may happen only before the length is
+    /// known.
     fn push(&mut self, alloc: Global, piece: &[u8]) -> Result<Option<Seen>> {
         let is_known = self.whole.kept().len() >= 2;
         let seen = marked!(alloc, self.whole.push(piece));
@@ -58,7 +59,7 @@ impl Pieces {
         Ok(Some(seen))
     }
 
-    /// What is seen once all but the first bytes are taken back.
+    /// Returns the framing after all bytes but the first `len` are removed.
     fn cut(&mut self, len: usize) -> Result<Option<Seen>> {
         let least = self.whole.kept().len().min(self.single.kept().len());
         ensure!(len <= least, "fewer bytes are kept");

@@ -1,7 +1,7 @@
-//! Entries, and what is recorded and told of them.
+//! Entries, their transcripts and their records.
 use crate::events::entry;
 use crate::session::written;
-use crate::words::{by_name, bytes_told, digits_of, number, text, wanted, wrong};
+use crate::words::{by_name, digits_of, number, shown_bytes, text, wanted, wrong};
 use anyhow::{Result, ensure};
 use portmap_core::{Config, Entry};
 use portmap_record::{
@@ -11,8 +11,7 @@ use portmap_record::{
 use std::alloc::Global;
 use std::mem;
 
-/// What comes of an act on entries to be recorded.
-pub fn came(alloc: Global, entries: &mut Vec<Entry>, words: &[&str]) -> Result<String> {
+pub fn perform(alloc: Global, entries: &mut Vec<Entry>, words: &[&str]) -> Result<String> {
     match *words {
         ["entry", ref words @ ..] => {
             entries.push(entry(alloc, words)?)?;
@@ -33,7 +32,7 @@ pub fn came(alloc: Global, entries: &mut Vec<Entry>, words: &[&str]) -> Result<S
         ["entries", ref numbers @ ..] => {
             let workers = workers(alloc, numbers)?;
             let workers = (!workers.is_empty()).then_some(workers.as_slice());
-            bytes_told(alloc, write_entries(alloc, entries, workers))
+            shown_bytes(alloc, write_entries(alloc, entries, workers))
         }
         ["record"] => written(alloc, &recorded(alloc, entries)?),
         ["size"] => size(alloc, &recorded(alloc, entries)?),
@@ -41,12 +40,12 @@ pub fn came(alloc: Global, entries: &mut Vec<Entry>, words: &[&str]) -> Result<S
     }
 }
 
-/// The settings of a session: port 4369, not relaxed, two connections and two names at most.
+/// Port 4369, not relaxed, at most two connections and two names.
 pub fn settings() -> Result<Config> {
     wanted(Config::new(4369, false, 2, 2), "no settings")
 }
 
-/// The record of the entries, of which none are left.
+/// Moves the entries into a record of version 1.
 pub fn recorded(alloc: Global, entries: &mut Vec<Entry>) -> Result<Record> {
     Ok(Record {
         config: settings()?,
@@ -55,7 +54,6 @@ pub fn recorded(alloc: Global, entries: &mut Vec<Entry>) -> Result<Record> {
     })
 }
 
-/// The numbers of workers.
 pub fn workers(alloc: Global, words: &[&str]) -> Result<Vec<u32>> {
     let mut workers = Vec::new(alloc);
     for word in words {
@@ -64,7 +62,7 @@ pub fn workers(alloc: Global, words: &[&str]) -> Result<Vec<u32>> {
     Ok(workers)
 }
 
-/// How many bytes a record has, which are read as its entries; or why there are none.
+/// Prints the number of bytes of a record. Fails if they are not read as its entries.
 fn size(alloc: Global, session: &Record) -> Result<String> {
     let written = match write_record(alloc, session) {
         Ok(written) => written,
@@ -79,7 +77,7 @@ fn size(alloc: Global, session: &Record) -> Result<String> {
 fn verdict_of(words: &[&str]) -> Result<Verdict> {
     match *words {
         ["run"] => Ok(Verdict::Run),
-        ["broken", place] => Ok(Verdict::Broken(number(place)?)),
+        ["broken", index] => Ok(Verdict::Broken(number(index)?)),
         _ => wrong("no verdict"),
     }
 }

@@ -6,7 +6,7 @@ use std::alloc::Global;
 use std::convert::AsSlice;
 use std::fmt::Debug;
 
-/// The answer to NAMES_REQ of names and their ports, whole and line by line.
+/// Prints the reply to NAMES_REQ for names and their ports. Fails if a reply built line by line differs.
 pub fn written_names(alloc: Global, port: &str, words: &[&str]) -> Result<String> {
     let own_port = number(port)?;
     let mut lines = Vec::new(alloc);
@@ -22,7 +22,7 @@ pub fn written_names(alloc: Global, port: &str, words: &[&str]) -> Result<String
     written(alloc, write_names(alloc, own_port, &lines), reply)
 }
 
-/// The answer to DUMP_REQ of names, their ports and their slots, which are `-` for a retired name.
+/// Prints the reply to DUMP_REQ for names, their ports and their slots. The slot of a retired name is `-`.
 pub fn written_dump(alloc: Global, port: &str, words: &[&str]) -> Result<String> {
     let own_port = number(port)?;
     let mut lines = Vec::new(alloc);
@@ -43,7 +43,6 @@ pub fn written_dump(alloc: Global, port: &str, words: &[&str]) -> Result<String>
     written(alloc, write_dump(alloc, own_port, &lines), reply)
 }
 
-/// The bytes of a list, which are the same line by line.
 fn written(alloc: Global, whole: Result<Vec<u8>, NoMemory>, by_line: ListReply) -> Result<String> {
     let whole = whole?;
     let is_same = whole.as_slice() == by_line.into_bytes().as_slice();
@@ -51,7 +50,7 @@ fn written(alloc: Global, whole: Result<Vec<u8>, NoMemory>, by_line: ListReply) 
     digits_of(alloc, &whole)
 }
 
-/// The port of a list of names, and each name with its port; or why there are none.
+/// Prints the port of a list of names, and each name with its port.
 pub fn listed<E: Debug + Drop>(alloc: Global, list: Result<(u32, Vec<Line>), E>) -> Result<String> {
     let (port, lines) = match list {
         Ok(list) => list,
@@ -64,7 +63,6 @@ pub fn listed<E: Debug + Drop>(alloc: Global, list: Result<(u32, Vec<Line>), E>)
     Ok(actual)
 }
 
-/// The port and the text of a dump, or why there are none.
 pub fn dumped<T: AsSlice<u8> + Drop, E: Debug + Drop>(
     alloc: Global,
     dump: Result<(u32, T), E>,

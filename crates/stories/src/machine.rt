@@ -1,6 +1,6 @@
 //! The machine with its log, and what follows it: a replay, and at the end a run and a recording.
-use crate::events::{came_of, entry, event, line};
-use crate::recording::{is_recorded, recorded_part};
+use crate::events::{entry, event, line, outcome_text};
+use crate::recording::{is_recorded, recorded_segment};
 use crate::run::{Happened, is_at, runs_so};
 use crate::states::is_built_again;
 use crate::words::{
@@ -16,35 +16,33 @@ use portmap_testing::marked;
 use std::alloc::Global;
 use std::mem;
 
-/// A machine with its log, and what follows it.
 #[derive(Drop)]
 pub struct Machine {
     book: Book,
     first: u32,
     replay: Replay,
     actual: Vec<Happened>,
-    /// The transcript of the log, and of how many entries it is.
+    /// The transcript of the log, and its number of entries.
     lines: String,
-    lines_told: u64,
+    line_count: u64,
     kept: State,
-    /// The number of who hands in what comes next.
+    /// The number of the worker that hands in the next event.
     worker: u32,
-    /// Whether the oldest entry is taken out behind each event.
+    /// True if the oldest entry is drained after each event.
     is_followed: bool,
-    /// What was sealed, and what those were told who handed in events.
+    /// The segments that were sealed, and the tickets of all events.
     segments: Vec<Segment>,
     tickets: Vec<Ticket>,
 }
 
 impl Machine {
-    /// A machine on port 4369 that is set to what is usual: checks are not relaxed, 1,024 connections and 4,096 names
-    /// at most, and creations from 4 on.
+    /// Returns a machine with the usual settings: port 4369, not relaxed, at most 1,024 connections and 4,096 names,
+    /// creations from 4 on.
     pub fn new(alloc: Global) -> Result<Box<Machine>> {
         let config = wanted(Config::new(4369, false, 1024, 4096), "no settings")?;
         Ok(Box::new(alloc, Machine::of(alloc, config, 4, State::empty(alloc))?)?)
     }
 
-    /// A machine with these settings, beside what is kept.
     fn of(alloc: Global, config: Config, first: u32, kept: State) -> Result<Machine> {
         Ok(Machine {
             book: Book::new(alloc, config, first)?,
@@ -52,7 +50,7 @@ impl Machine {
             replay: Replay::new(alloc, config)?,
             actual: Vec::new(alloc),
             lines: String::new(alloc),
-            lines_told: 0,
+            line_count: 0,
             kept,
             worker: 1,
             is_followed: false,
@@ -61,8 +59,7 @@ impl Machine {
         })
     }
 
-    /// What comes of an act.
-    pub fn came(&mut self, alloc: Global, words: &[&str]) -> Result<String> {
+    pub fn perform(&mut self, alloc: Global, words: &[&str]) -> Result<String> {
         match *words {
             ["with", ref settings @ ..] => return self.set(alloc, settings),
             ["keep"] => self.kept = self.book.core().state(alloc)?,
@@ -80,20 +77,20 @@ impl Machine {
         Ok(String::new(alloc))
     }
 
-    /// Begins anew with these settings, or says why they are none.
+    /// Starts again with these settings, or prints why they are refused.
     fn set(&mut self, alloc: Global, words: &[&str]) -> Result<String> {
         let [checks, "conn", conn_max, "known", known_max, "first", first] = *words else {
             return wrong("no such settings");
         };
         let (conn_max, known_max) = (number(conn_max)?, number(known_max)?);
         match Config::new(4369, is_relaxed(checks)?, conn_max, known_max) {
-            Ok(config) => self.begin_anew(alloc, config, number(first)?),
+            Ok(config) => self.begin_again(alloc, config, number(first)?),
             Err(fault) => by_name(alloc, &fault),
         }
     }
 
-    /// Begins anew, once what was before has ended well. What is kept is kept.
-    fn begin_anew(&mut self, alloc: Global, config: Config, first: u32) -> Result<String> {
+    /// Starts again, if the checks at the end of the old run succeed. The state that was kept remains.
+    fn begin_again(&mut self, alloc: Global, config: Config, first: u32) -> Result<String> {
         self.ended(alloc)?;
         let kept = mem::replace(&mut self.kept, State::empty(alloc));
         *self = Machine::of(alloc, config, first, kept)?;
@@ -101,7 +98,7 @@ impl Machine {
         Ok(String::new(alloc))
     }
 
-    /// What is seen of it, or of what is handed in.
+    /// Prints a fact about the machine, or about the words themselves.
     fn look(&self, alloc: Global, words: &[&str]) -> Result<String> {
         let core = self.book.core();
         let is_so = match *words {
@@ -117,7 +114,7 @@ impl Machine {
         answer(alloc, is_so)
     }
 
-    /// Whether an entry may be recorded next. The state stays as it is.
+    /// Prints whether the entry is the next one that a recording may have. The state does not change.
     fn may(&self, alloc: Global, words: &[&str]) -> Result<String> {
         let core = self.book.core();
         let entry = entry(alloc, words)?;
@@ -125,40 +122,40 @@ impl Machine {
         answer(alloc, moved)
     }
 
-    /// What is answered to an event, which the replay follows.
+    /// Prints the answer to an event. The replay follows it.
     fn event(&mut self, alloc: Global, words: &[&str]) -> Result<String> {
         let outcome = self.acted(alloc, event(alloc, words)?)?;
-        let came = came_of(alloc, words.first().copied().unwrap_or(""), &outcome)?;
-        if came.as_str() != "NoMemory" {
-            self.show(alloc, words, came.as_str())?;
+        let result = outcome_text(alloc, words.first().copied().unwrap_or(""), &outcome)?;
+        if result.as_str() != "NoMemory" {
+            self.show(alloc, words, result.as_str())?;
             self.actual.push(Happened {
                 act: joined(alloc, words)?,
-                came: came.clone()?,
+                result: result.clone()?,
             })?;
         }
-        Ok(came)
+        Ok(result)
     }
 
-    /// Adds the line of an event that was logged to the transcript, and its ticket; where entries are taken out as they
-    /// come, this one is.
-    fn show(&mut self, alloc: Global, words: &[&str], came: &str) -> Result<()> {
-        if self.book.log().len() as u64 == self.lines_told {
+    /// Adds the line of a logged event to the transcript, and its ticket to the tickets. If the log is followed, drains
+    /// the entry.
+    fn show(&mut self, alloc: Global, words: &[&str], outcome: &str) -> Result<()> {
+        if self.book.log().len() as u64 == self.line_count {
             return Ok(());
         }
-        let line = line(alloc, self.lines_told, words, came)?;
+        let line = line(alloc, self.line_count, words, outcome)?;
         self.tickets.push(Ticket {
             place: self.book.count().saturating_sub(1),
             entry: entry_of(alloc, line.as_str())?,
         })?;
         self.lines.push_str(line.as_str())?;
-        self.lines_told = self.lines_told.saturating_add(1);
+        self.line_count = self.line_count.saturating_add(1);
         if self.is_followed && !self.advanced(alloc)?.as_str().starts_with("1 0 ") {
             return wrong("its entry is not taken out");
         }
         Ok(())
     }
 
-    /// The place of the first entry that is sealed, and how many are; or the bytes of their record, which begins there.
+    /// Seals the log. Prints the position of its first entry and the number of entries, or the bytes of their record.
     fn sealed(&mut self, alloc: Global, is_whole: bool) -> Result<String> {
         let (first, len) = (self.book.first(), self.book.log().len());
         match marked!(alloc, self.book.seal(alloc)) {
@@ -170,12 +167,11 @@ impl Machine {
         }
     }
 
-    /// Takes a segment that was sealed: the bytes of its record, or its first place and how many entries it has.
     fn take(&mut self, alloc: Global, mut segment: Segment, is_whole: bool) -> Result<String> {
         self.is_sealed(alloc, &segment)?;
-        let bytes = recorded_part(alloc, &mut segment, self.lines.as_str())?;
+        let bytes = recorded_segment(alloc, &mut segment, self.lines.as_str())?;
         self.lines.clear();
-        self.lines_told = 0;
+        self.line_count = 0;
         let (first, count) = (segment.first, segment.entries.len());
         self.segments.push(segment)?;
         if is_whole {
@@ -184,7 +180,7 @@ impl Machine {
         text(format!(in alloc; "first {first} entries {count}"))
     }
 
-    /// Fails unless a segment has taken all entries, and ends where the machine stands.
+    /// Fails unless the segment has all entries, and ends at the state of the machine.
     fn is_sealed(&self, alloc: Global, segment: &Segment) -> Result<()> {
         let is_taken = self.book.log().is_empty() && self.stands(alloc)?;
         let is_after = is_at(alloc, self.book.core(), &segment.after)?;
@@ -192,24 +188,24 @@ impl Machine {
         Ok(())
     }
 
-    /// How many entries are taken out of the log's front, how many are left, and how many were before the log in all.
+    /// Drains the log. Prints the number of entries drained, of entries left, and of all entries before the log.
     fn advanced(&mut self, alloc: Global) -> Result<String> {
-        let (mut gone, mut makers) = (Vec::new(alloc), Vec::new(alloc));
-        self.book.advance(alloc, &mut gone, &mut makers);
-        if gone.len() != makers.len() || !self.stands(alloc)? {
+        let (mut drained, mut workers) = (Vec::new(alloc), Vec::new(alloc));
+        self.book.advance(alloc, &mut drained, &mut workers);
+        if drained.len() != workers.len() || !self.stands(alloc)? {
             return wrong("it is taken out otherwise");
         }
         self.lines.clear();
-        self.lines_told = self.book.log().len() as u64;
-        let (left, first) = (self.lines_told, self.book.first());
-        text(format!(in alloc; "{} {left} {first}", gone.len()))
+        self.line_count = self.book.log().len() as u64;
+        let (left, first) = (self.line_count, self.book.first());
+        text(format!(in alloc; "{} {left} {first}", drained.len()))
     }
 
-    /// What the book answers to an event: at the next place of its log. The replay moves by its entry.
+    /// Applies an event at the next position of the log. The replay follows with its entry.
     fn acted(&mut self, alloc: Global, event: Event) -> Result<Result<Answer, Refusal>> {
         let count = self.book.count();
         match marked!(alloc, self.book.act(alloc, self.worker, event)) {
-            Ok((place, answer)) if place == count => {
+            Ok((position, answer)) if position == count => {
                 let entry = self.book.log().last().context("it is not logged")?;
                 ensure!(self.replay.step(alloc, entry)?, "a replay does not follow");
                 Ok(Ok(answer))
@@ -219,7 +215,7 @@ impl Machine {
         }
     }
 
-    /// Whether its log leads from its base to where it stands.
+    /// Returns true if the log leads from the snapshot before it to the state of the machine.
     pub fn stands(&self, alloc: Global) -> Result<bool> {
         let (book, core) = (&self.book, self.book.core());
         let is_counted = book.count() == book.first().saturating_add(book.log().len() as u64);
@@ -235,7 +231,7 @@ impl Machine {
         Ok(is_counted && is_at(alloc, core, &state)?)
     }
 
-    /// What is wrong at the end, if anything is. None is left of the replay.
+    /// Fails unless the replay, a run, a recording and the tickets agree with the machine. The replay starts again.
     pub fn ended(&mut self, alloc: Global) -> Result<()> {
         let none = Replay::new(alloc, *self.book.core().config())?;
         let replayed = mem::replace(&mut self.replay, none).into_state(alloc)?;
@@ -249,7 +245,7 @@ impl Machine {
         is_recorded(alloc, &self.book, self.lines.as_str())
     }
 
-    /// Fails unless its state is that of its parts, and a run comes to it.
+    /// Fails unless the state can be built from its items, and a run leads to it.
     fn is_run(&self, alloc: Global) -> Result<()> {
         let (config, state) = (self.book.core().config(), self.book.core().state(alloc)?);
         let is_so = is_built_again(alloc, config, &state)?;
@@ -257,8 +253,8 @@ impl Machine {
         runs_so(alloc, *config, self.first, &self.actual, &state)
     }
 
-    /// Fails unless the tickets of all acts are the log, where nothing was taken out of it but as segments. None are
-    /// left.
+    /// Fails unless the tickets of all events are the log. A log that was drained other than by segments is skipped. No
+    /// ticket is left.
     fn is_gathered(&mut self, alloc: Global) -> Result<()> {
         let tickets = mem::replace(&mut self.tickets, Vec::new(alloc));
         if self.book.first() > 0 && self.segments.is_empty() {
@@ -269,7 +265,7 @@ impl Machine {
     }
 }
 
-/// Whether a copy of a state, and a replay that goes on from it, move by an entry.
+/// Returns true if a copy of a state, and a replay that starts at it, accept an entry.
 fn moves(alloc: Global, config: &Config, before: &State, entry: &Entry) -> Result<bool> {
     let mut state = before.try_copy(alloc)?;
     let moved = state.step(alloc, config, entry)?;
@@ -282,7 +278,7 @@ fn moves(alloc: Global, config: &Config, before: &State, entry: &Entry) -> Resul
     Ok(moved)
 }
 
-/// Whether a replay that goes on from a state moves by an entry. It comes to the other state.
+/// Returns true if a replay that starts at `from` accepts an entry. Fails unless it ends at `to`.
 fn replays(alloc: Global, config: Config, from: &State, entry: &Entry, to: &State) -> Result<bool> {
     let Some(mut replay) = Replay::of(alloc, config, from)? else {
         return wrong("no replay goes on from here");
@@ -293,13 +289,12 @@ fn replays(alloc: Global, config: Config, from: &State, entry: &Entry, to: &Stat
     Ok(moved)
 }
 
-/// The entry of a line of a transcript.
 fn entry_of(alloc: Global, line: &str) -> Result<Entry> {
     let words: Vec<&str> = line.split_whitespace().skip(1).collect(alloc)?;
     entry(alloc, &words)
 }
 
-/// Where a connection stands; `-` where it is not open.
+/// Prints the phase of a connection, or `-` if it is not open.
 fn phase(alloc: Global, core: &Core, slot: u64) -> Result<String> {
     match core.phase(slot) {
         Some(phase) => by_name(alloc, &phase),
@@ -307,7 +302,7 @@ fn phase(alloc: Global, core: &Core, slot: u64) -> Result<String> {
     }
 }
 
-/// The name that a piece asks to register; `-` where it asks for none.
+/// Prints the name that a chunk asks to register, or `-`.
 fn asked(alloc: Global, piece: &[u8]) -> Result<String> {
     match name_to_register(alloc, piece) {
         Some(name) => digits_of(alloc, name.bytes()),
@@ -315,7 +310,6 @@ fn asked(alloc: Global, piece: &[u8]) -> Result<String> {
     }
 }
 
-/// The address of these bytes.
 fn address(alloc: Global, word: &str) -> Result<Ip> {
     let bytes = bytes(alloc, word)?;
     match (bytes.as_slice().try_into(), bytes.as_slice().try_into()) {

@@ -12,7 +12,6 @@ mod feed;
 mod listed;
 mod lists;
 mod machine;
-mod part;
 mod played;
 mod recorder;
 mod recording;
@@ -22,6 +21,7 @@ mod run;
 mod session;
 mod states;
 mod story;
+mod subject;
 mod table;
 mod wire;
 mod words;
@@ -38,7 +38,7 @@ fn main(rt: HostRuntime) -> Result<ExitCode> {
     let mut names = Names::new(rt.alloc());
     let mut all_hold = true;
     for path in env::args(&rt)?.skip(1) {
-        all_hold &= tell_file(&rt, &rt, path.as_str(), &mut names)?;
+        all_hold &= run_file(&rt, &rt, path.as_str(), &mut names)?;
     }
     if all_hold {
         return Ok(ExitCode::SUCCESS);
@@ -46,14 +46,14 @@ fn main(rt: HostRuntime) -> Result<ExitCode> {
     Ok(ExitCode::FAILURE)
 }
 
-/// Tells the stories of a file, and whether all of them hold.
-fn tell_file<R: Wait>(rt: &HostRuntime, host: &R, path: &str, names: &mut Names) -> Result<bool> {
+/// Runs the stories of a file, and returns true if all of them hold.
+fn run_file<R: Wait>(rt: &HostRuntime, host: &R, path: &str, names: &mut Names) -> Result<bool> {
     let text = fs::read_to_string(rt, path).context(format_args!("{path}"))?;
-    tell_all(rt, host, path, text.as_str(), names)
+    run_all(rt, host, path, text.as_str(), names)
 }
 
-/// Tells the stories of a text, and whether all of them hold.
-fn tell_all<R: Wait>(
+/// Runs the stories of a text, and returns true if all of them hold.
+fn run_all<R: Wait>(
     rt: &HostRuntime,
     host: &R,
     path: &str,
@@ -62,17 +62,17 @@ fn tell_all<R: Wait>(
 ) -> Result<bool> {
     let mut story = Story::none(host, rt.alloc());
     let mut all_hold = true;
-    for (place, line) in text.lines().enumerate() {
+    for (index, line) in text.lines().enumerate() {
         if let Some(next) = Story::begun(host, rt.alloc(), line)? {
             all_hold &= turn(rt, path, &mut story, next)?;
         } else if let Some(wrong) = story.wrong(rt.alloc(), names, line)? {
-            println!(rt; "BAD {path}:{} {wrong}", place.saturating_add(1))?;
+            println!(rt; "BAD {path}:{} {wrong}", index.saturating_add(1))?;
         }
     }
     Ok(turn(rt, path, &mut story, Story::none(host, rt.alloc()))? && all_hold)
 }
 
-/// Turns to the next story, once it is told that the one before holds, or what is wrong at its end. Whether it holds.
+/// Ends a story, prints its line, and begins the next story. Returns true if the ended story holds.
 fn turn<'a, R: Wait>(
     rt: &HostRuntime,
     path: &str,

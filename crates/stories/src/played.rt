@@ -9,9 +9,8 @@ use portmap_testing::marked;
 use portmap_testing::tape::Tape;
 use std::alloc::Global;
 
-/// How it ends, and what is written, where bytes are served as one connection, or a session is shown whole, by its
-/// verdict alone, or left without its remote peers; of a connection also how many pulls it takes. Where memory is
-/// refused nothing is written.
+/// Serves the bytes as one connection, or shows them as a recorded session. Prints how that ends and what is written;
+/// for `pulls`, the number of pulls. Fails if bytes are written although memory is refused.
 pub fn played(alloc: Global, act: &str, bytes: &[u8], devices: &[&str]) -> Result<String> {
     let [input, output, turns] = *devices else {
         return wrong("no two devices and a number of turns");
@@ -29,7 +28,7 @@ pub fn played(alloc: Global, act: &str, bytes: &[u8], devices: &[&str]) -> Resul
     text(format!(in alloc; "{ended} {}", Digits(&output.sink)))
 }
 
-/// How it ends. The creations of a port mapper that serves one connection start at 7.
+/// The creations of a port mapper that serves one connection start at 7.
 fn ended(
     alloc: Global,
     act: &str,

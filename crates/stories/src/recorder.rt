@@ -11,8 +11,8 @@ use portmap_testing::tape::Tape;
 use portmap_worker::Recorder;
 use std::alloc::Global;
 
-/// What a recorder over a device answers at the header, at two entries and at the others, with the numbers of workers,
-/// and how many puts it makes and bytes it writes, which are a front of these.
+/// Records the header, two entries and the other entries with the numbers of their workers. Prints the three results,
+/// the number of puts and of bytes. Fails unless the bytes are a prefix of `bytes`.
 pub fn recorded(alloc: Global, words: &[&str], entries: &[Entry], bytes: &[u8]) -> Result<String> {
     let [device, ref numbers @ ..] = *words else {
         return wrong("no device");

@@ -1,4 +1,4 @@
-//! Sessions as they are recorded, read, judged and shown.
+//! Sessions as they are recorded, read, checked and shown.
 use crate::session::record_in;
 use crate::words::{digits_of, text, wanted, wrong};
 use anyhow::{Result, ensure};
@@ -12,7 +12,7 @@ use portmap_testing::tape::{STEADY, Tape};
 use std::alloc::Global;
 use std::mem;
 
-/// Fails unless a log is recorded, and its record, in both versions, is a run that is shown by these lines.
+/// Fails unless the record of a log is a run in both versions, and is shown by these lines.
 pub fn is_recorded(alloc: Global, book: &Book, lines: &str) -> Result<()> {
     let shown = run_lines(alloc, lines, book.log())?;
     let transcript = transcript(alloc, book.log(), Verdict::Run)?;
@@ -23,7 +23,6 @@ pub fn is_recorded(alloc: Global, book: &Book, lines: &str) -> Result<()> {
     is_run(alloc, &upgraded(alloc, &bytes)?, book.log(), shown.as_str())
 }
 
-/// The lines of a run of these entries.
 fn run_lines(alloc: Global, lines: &str, entries: &[Entry]) -> Result<String> {
     text(format!(in alloc; "{lines}run of {} entries\n", entries.len()))
 }
@@ -35,7 +34,7 @@ fn log_bytes(alloc: Global, book: &Book) -> Result<Vec<u8>> {
     Ok(bytes)
 }
 
-/// A record in version 2.
+/// Returns the record in version 2.
 fn upgraded(alloc: Global, bytes: &[u8]) -> Result<Vec<u8>> {
     match upgrade(alloc, record_in(alloc, bytes)?) {
         Ok(session) => written(alloc, &session),
@@ -43,16 +42,16 @@ fn upgraded(alloc: Global, bytes: &[u8]) -> Result<Vec<u8>> {
     }
 }
 
-/// The bytes of a segment's record, from the place and the state on that it begins with. It is a run that is shown by
-/// these lines.
-pub fn recorded_part(alloc: Global, segment: &mut Segment, lines: &str) -> Result<String> {
+/// Returns the bytes of a segment's record, which starts at the segment's position and state. Fails unless it is a run
+/// that is shown by these lines.
+pub fn recorded_segment(alloc: Global, segment: &mut Segment, lines: &str) -> Result<String> {
     let bytes = segment_bytes(alloc, segment)?;
     let shown = run_lines(alloc, lines, &segment.entries)?;
     is_run(alloc, &bytes, &segment.entries, shown.as_str())?;
     digits_of(alloc, &bytes)
 }
 
-/// The same, while its record has its entries.
+/// The record borrows the entries while it is written.
 fn segment_bytes(alloc: Global, segment: &mut Segment) -> Result<Vec<u8>> {
     let mut session = record_of(alloc, segment)?;
     mem::swap(&mut session.entries, &mut segment.entries);
@@ -61,7 +60,7 @@ fn segment_bytes(alloc: Global, segment: &mut Segment) -> Result<Vec<u8>> {
     bytes
 }
 
-/// A segment's record without its entries.
+/// Returns a segment's record without its entries.
 fn record_of(alloc: Global, segment: &Segment) -> Result<Record> {
     let version = Version::Two {
         first: segment.first,
@@ -79,8 +78,8 @@ fn written(alloc: Global, session: &Record) -> Result<Vec<u8>> {
     wanted(write_record(alloc, session), "it is not recorded")
 }
 
-/// Fails unless bytes are read as the record of these entries, which is a run, is written as these bytes, and is shown
-/// so from one device to another.
+/// Fails unless the bytes are the record of these entries, which is a run, is written as these bytes, and is shown by
+/// these lines.
 fn is_run(alloc: Global, bytes: &[u8], entries: &[Entry], shown: &str) -> Result<()> {
     let session = record_in(alloc, bytes)?;
     let is_same = session.entries.as_slice() == entries;
@@ -91,7 +90,6 @@ fn is_run(alloc: Global, bytes: &[u8], entries: &[Entry], shown: &str) -> Result
     is_played(alloc, bytes, shown)
 }
 
-/// Fails unless a recorded session is shown so from one device to another.
 fn is_played(alloc: Global, bytes: &[u8], shown: &str) -> Result<()> {
     let mut input = Tape::new(alloc, bytes, STEADY);
     let mut output = Tape::new(alloc, &[], STEADY);

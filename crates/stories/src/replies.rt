@@ -1,4 +1,4 @@
-//! The answers to a registration and to a look-up as bytes.
+//! The replies to a registration and to a lookup as bytes.
 use crate::requests::Fields;
 use crate::words::{Digits, by_name, bytes, digits_of, number, shown, text, wrong};
 use anyhow::Result;
@@ -8,7 +8,7 @@ use portmap_wire::{
 };
 use std::alloc::Global;
 
-/// How a registration is answered to a node of this highest version.
+/// Prints the reply to a registration by a node of this highest version.
 pub fn registered(alloc: Global, high: &str, code: &str, creation: &str) -> Result<String> {
     let (high, creation) = (number::<u16>(high)?, number::<u32>(creation)?);
     if high < WIDE_VERSION && creation > 0xFFFF {
@@ -17,12 +17,11 @@ pub fn registered(alloc: Global, high: &str, code: &str, creation: &str) -> Resu
     digits_of(alloc, &write_alive(alloc, high, number(code)?, creation)?)
 }
 
-/// What an answer to a registration says.
 pub fn read_registered(alloc: Global, reply: &str) -> Result<String> {
     shown(alloc, read_alive(&bytes(alloc, reply)?))
 }
 
-/// What an answer to a look-up says, and how that is written; or its fault.
+/// Prints the fields of a reply to a lookup, and the bytes that it is written as.
 pub fn read_found(alloc: Global, reply: &str) -> Result<String> {
     let found = match read_port2(alloc, &bytes(alloc, reply)?) {
         Ok(found) => found,
@@ -35,17 +34,16 @@ pub fn read_found(alloc: Global, reply: &str) -> Result<String> {
     }
 }
 
-/// How many bytes are missing at least of each front of an answer to a registration, or to a look-up, of none of its
-/// bytes to all of them.
+/// Prints a lower bound of the missing bytes for each prefix of a reply, from the empty prefix on.
 pub fn missing(alloc: Global, reply: &str, to_registration: bool) -> Result<String> {
     let reply = bytes(alloc, reply)?;
     let mut counts = String::new(alloc);
     for len in 0..=reply.len() {
-        let front = reply.get(..len).unwrap_or(&[]);
+        let prefix = reply.get(..len).unwrap_or(&[]);
         let count = if to_registration {
-            alive_missing(front)
+            alive_missing(prefix)
         } else {
-            port2_missing(front)
+            port2_missing(prefix)
         };
         write!(counts, "{count} ")?;
     }

@@ -8,7 +8,6 @@ use portmap_wire::{
 use std::alloc::{AllocError, Global};
 use std::fmt;
 
-/// The fields of a registration.
 #[derive(Clone, Copy)]
 pub struct Fields<'a>(pub &'a Reg);
 
@@ -24,7 +23,7 @@ impl<'a> fmt::Display for Fields<'a> {
     }
 }
 
-/// The bytes of a name's copy, or why these are no name.
+/// Prints the bytes of a copy of a name, or the fault of the bytes.
 pub fn named(alloc: Global, word: &str) -> Result<String> {
     let name = Name::read(alloc, &bytes(alloc, word)?);
     match name {
@@ -33,7 +32,7 @@ pub fn named(alloc: Global, word: &str) -> Result<String> {
     }
 }
 
-/// What a body asks, with a registration's fields by its copy.
+/// Prints a request. The fields of a registration are those of its copy.
 fn asks(alloc: Global, request: &Request) -> Result<String, AllocError> {
     match request {
         Request::Alive(reg) => format!(in alloc; "Alive {}", Fields(&reg.try_copy(alloc)?)),
@@ -45,7 +44,7 @@ fn asks(alloc: Global, request: &Request) -> Result<String, AllocError> {
     }
 }
 
-/// How a request is sent, by the call for its kind alone.
+/// Writes a request by the call for its kind.
 fn sent(alloc: Global, request: &Request) -> Result<Vec<u8>, AllocError> {
     match request {
         Request::Alive(reg) => write_registration(alloc, reg),
@@ -55,7 +54,7 @@ fn sent(alloc: Global, request: &Request) -> Result<Vec<u8>, AllocError> {
     }
 }
 
-/// What a body asks and how that is sent, or why it is no request.
+/// Prints a request and the bytes that it is written as, or its fault.
 pub fn asked(alloc: Global, word: &str) -> Result<String> {
     let request = match read_request(alloc, &bytes(alloc, word)?) {
         Ok(request) => request,
@@ -67,7 +66,7 @@ pub fn asked(alloc: Global, word: &str) -> Result<String> {
     text(format!(in alloc; "{} sent {}", asks(alloc, &request)?, Digits(&written)))
 }
 
-/// Whether two bodies ask of equal names, or register equal nodes.
+/// Prints whether two lookups have equal names, or two registrations equal nodes.
 pub fn are_equal(alloc: Global, one: &str, other: &str) -> Result<String> {
     match (read(alloc, one)?, read(alloc, other)?) {
         (Request::Port(name), Request::Port(wanted)) => answer(alloc, name == wanted),
@@ -80,8 +79,7 @@ fn read(alloc: Global, word: &str) -> Result<Request> {
     wanted(read_request(alloc, &bytes(alloc, word)?), "no request")
 }
 
-/// What a normal node of this port, highest version, name and extra bytes registers, or why these are too many. Its
-/// lowest version is 5.
+/// Returns a normal node whose lowest version is 5, or the fault of too many extra bytes.
 fn made(
     alloc: Global,
     port: u16,
@@ -93,12 +91,11 @@ fn made(
     Ok(Reg::new(alloc, port, 77, 0, high, 5, name, extra))
 }
 
-/// The same of one whose extra bytes are not too many.
 pub fn registration(alloc: Global, port: u16, high: u16, word: &str, extra: &[u8]) -> Result<Reg> {
     wanted(made(alloc, port, high, word, extra)?, "no node")
 }
 
-/// How a normal node that speaks versions 5 to 6 registers, or why its extra bytes are too many.
+/// Prints the registration of a normal node for versions 5 to 6.
 pub fn node(alloc: Global, port: &str, word: &str, extra: &str) -> Result<String> {
     let made = made(alloc, number(port)?, 6, word, &bytes(alloc, extra)?)?;
     match made {

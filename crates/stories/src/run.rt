@@ -1,5 +1,5 @@
 //! All events of a story at once, as one run.
-use crate::events::{came_of, event};
+use crate::events::{event, outcome_text};
 use crate::words::wrong;
 use anyhow::{Result, ensure};
 use portmap_core::{Answer, Config, Core, Event, Refusal, State};
@@ -7,18 +7,18 @@ use portmap_testing::marked;
 use portmap_testing::marks::was_refused;
 use std::alloc::Global;
 
-/// An event, and what came of it.
+/// An event, and its result.
 #[derive(Drop)]
 pub struct Happened {
     pub act: String,
-    pub came: String,
+    pub result: String,
 }
 
-/// What a run tells of its events, and whether memory was refused to it.
+/// The results of a run, and whether memory was refused to it.
 type Results = (Vec<(Event, Result<Answer, Refusal>)>, bool);
 
-/// Fails unless a run over the events of a story answers them as they were answered one by one, and ends in the same
-/// state. What memory was refused to is skipped.
+/// Fails unless a run over the events of a story has the results that they had one by one, and ends in the same state.
+/// Events to which memory was refused are skipped.
 pub fn runs_so(
     alloc: Global,
     config: Config,
@@ -37,12 +37,11 @@ pub fn runs_so(
     Ok(())
 }
 
-/// Whether a machine stands so.
 pub fn is_at(alloc: Global, core: &Core, state: &State) -> Result<bool> {
     Ok(core.state(alloc)?.same(state))
 }
 
-/// What a run tells of all events. One that is refused as a whole has changed nothing, and is made once more.
+/// Runs all events. A run that is refused as a whole has changed nothing, and is repeated.
 fn results_of(alloc: Global, core: &mut Core, actual: &[Happened]) -> Result<Results> {
     let events = events_of(alloc, actual)?;
     let results = marked!(alloc, core.run(alloc, events));
@@ -63,25 +62,25 @@ fn events_of(alloc: Global, actual: &[Happened]) -> Result<Vec<Event>> {
     Ok(events)
 }
 
-/// Whether memory was refused to none of the events. Fails unless another machine answers each of the others like the
-/// run, and it was answered so where memory was refused to none before.
+/// Returns true if memory was refused to none of the events. Fails unless another machine answers every other event
+/// like the run. Until the first refusal, the answers are also those of the story.
 fn follows(alloc: Global, other: &mut Core, actual: &[Happened], results: Results) -> Result<bool> {
     let (results, is_refused) = results;
     let mut is_whole = true;
     for (one, (event, outcome)) in actual.iter().zip(results) {
         let act = one.act.as_str();
-        let came = came_of(alloc, act, &outcome)?;
-        if is_refused && came.as_str() == "NoMemory" {
+        let result = outcome_text(alloc, act, &outcome)?;
+        if is_refused && result.as_str() == "NoMemory" {
             is_whole = false;
             continue;
         }
-        let again = came_of(alloc, act, &other.event(alloc, event))?;
+        let again = outcome_text(alloc, act, &other.event(alloc, event))?;
         ensure!(
-            again == came,
+            again == result,
             "a machine answers {act} otherwise than a run"
         );
         ensure!(
-            !is_whole || one.came == came,
+            !is_whole || one.result == result,
             "a run answers {act} otherwise"
         );
     }

@@ -1,4 +1,4 @@
-//! Recorded sessions as bytes: read, written, judged, and left without their remote peers.
+//! Recorded sessions as bytes: read, written, checked, and without their remote peers.
 use crate::audited::audited;
 use crate::listed;
 use crate::listed::workers;
@@ -6,7 +6,7 @@ use crate::played::played;
 use crate::recorder::recorded;
 use crate::states::copied;
 use crate::words::{
-    Digits, by_name, bytes, bytes_told, digits_of, number, text, unknown, wanted, wrong, yes,
+    Digits, by_name, bytes, digits_of, number, shown_bytes, text, unknown, wanted, wrong, yes,
 };
 use anyhow::{Context, Result, ensure};
 use portmap_core::{Entry, State};
@@ -33,8 +33,7 @@ impl Session {
         }
     }
 
-    /// What comes of an act.
-    pub fn came(&mut self, alloc: Global, words: &[&str]) -> Result<String> {
+    pub fn perform(&mut self, alloc: Global, words: &[&str]) -> Result<String> {
         match *words {
             ["bytes", word] => self.take(alloc, word),
             ["recorded"] => {
@@ -53,26 +52,25 @@ impl Session {
                 "read" | "cut" | "at" | "whole" | "front" | "judged" | "play" | "tell" | "leave",
                 ..
             ] => { self.read(alloc, words) }
-            _ => listed::came(alloc, &mut self.entries, words),
+            _ => listed::perform(alloc, &mut self.entries, words),
         }
     }
 
-    /// Takes these bytes as the session.
     fn take(&mut self, alloc: Global, word: &str) -> Result<String> {
         self.bytes = bytes(alloc, word)?;
         Ok(String::new(alloc))
     }
 
-    /// What it, or what is made of its bytes, is read as.
+    /// Reads the session, or a variant of its bytes.
     fn read(&self, alloc: Global, words: &[&str]) -> Result<String> {
         match *words {
             ["read"] => counted(alloc, &self.bytes),
-            ["cut", len] => counted(alloc, self.front(number(len)?)),
-            ["at", place, word] => self.at(alloc, number(place)?, word, usize::MAX),
-            ["at", place, word, "cut", len] => self.at(alloc, number(place)?, word, number(len)?),
-            ["whole", form, len] => whole(alloc, form, self.front(number(len)?)),
+            ["cut", len] => counted(alloc, self.prefix(number(len)?)),
+            ["at", offset, word] => self.at(alloc, number(offset)?, word, usize::MAX),
+            ["at", offset, word, "cut", len] => self.at(alloc, number(offset)?, word, number(len)?),
+            ["whole", form, len] => whole(alloc, form, self.prefix(number(len)?)),
             ["front", len, ref devices @ ..] => {
-                played(alloc, "play", self.front(number(len)?), devices)
+                played(alloc, "play", self.prefix(number(len)?), devices)
             }
             ["judged"] => self.judged(alloc),
             [act @ ("play" | "tell" | "leave"), ref devices @ ..] => {
@@ -82,45 +80,43 @@ impl Session {
         }
     }
 
-    /// Its first bytes, so many of them.
-    fn front(&self, len: usize) -> &[u8] {
+    fn prefix(&self, len: usize) -> &[u8] {
         self.bytes.get(..len).unwrap_or(&self.bytes)
     }
 
-    /// What its first bytes are read as, so many of them, with these bytes from this place on.
-    fn at(&self, alloc: Global, place: usize, word: &str, len: usize) -> Result<String> {
+    /// Reads the first `len` bytes of the session, in which these bytes replace those from `offset` on.
+    fn at(&self, alloc: Global, offset: usize, word: &str, len: usize) -> Result<String> {
         let new = bytes(alloc, word)?;
         let mut all = self.bytes.clone()?;
-        for (byte, new) in all.iter_mut().skip(place).zip(&new) {
+        for (byte, new) in all.iter_mut().skip(offset).zip(&new) {
             *byte = *new;
         }
         all.truncate(len);
         counted(alloc, &all)
     }
 
-    /// How many records it is read as, whatever one byte of it is.
+    /// Prints the number of variants in one byte that are records.
     fn judged(&self, alloc: Global) -> Result<String> {
         let mut all = self.bytes.clone()?;
         let mut count = 0u32;
-        for (place, byte) in self.bytes.iter().enumerate() {
+        for (offset, byte) in self.bytes.iter().enumerate() {
             for new in 0..=255 {
-                put(&mut all, place, new);
+                put(&mut all, offset, new);
                 count = count.saturating_add(u32::from(is_judged(alloc, &all)?));
             }
-            put(&mut all, place, *byte);
+            put(&mut all, offset, *byte);
         }
         text(format!(in alloc; "{count}"))
     }
 }
 
-fn put(bytes: &mut Vec<u8>, place: usize, new: u8) {
-    if let Some(byte) = bytes.get_mut(place) {
+fn put(bytes: &mut Vec<u8>, offset: usize, new: u8) {
+    if let Some(byte) = bytes.get_mut(offset) {
         *byte = new;
     }
 }
 
-/// Whether these bytes are a record. Fails unless its verdict, or why they are none, is what is told of them from one
-/// device to another.
+/// Returns true if the bytes are a record. Fails unless a device receives its verdict, or the fault of the bytes.
 fn is_judged(alloc: Global, bytes: &[u8]) -> Result<bool> {
     let session = read_record(alloc, bytes);
     let wanted = match &session {
@@ -132,7 +128,7 @@ fn is_judged(alloc: Global, bytes: &[u8]) -> Result<bool> {
     Ok(session.is_ok())
 }
 
-/// What is to be told of a record, which is written back as these bytes.
+/// Returns the verdict of a record. Fails unless it is written back as these bytes.
 fn verdict_of(alloc: Global, session: &Record, bytes: &[u8]) -> Result<String> {
     is_written_back(alloc, session, bytes)?;
     let count = session.entries.len();
@@ -151,12 +147,12 @@ fn is_written_back(alloc: Global, session: &Record, bytes: &[u8]) -> Result<()> 
     Ok(())
 }
 
-/// The record that these bytes are.
 pub fn record_in(alloc: Global, bytes: &[u8]) -> Result<Record> {
     wanted(read_record(alloc, bytes), "it is no record")
 }
 
-/// How many entries these bytes are the record of, by which they are written again; or their fault.
+/// Prints the number of entries of a record, or the fault of the bytes. Fails unless the record is written back as
+/// these bytes.
 fn counted(alloc: Global, bytes: &[u8]) -> Result<String> {
     match marked!(alloc, read_record(alloc, bytes)) {
         Ok(session) => {
@@ -167,7 +163,7 @@ fn counted(alloc: Global, bytes: &[u8]) -> Result<String> {
     }
 }
 
-/// How many of these bytes are whole entries.
+/// Prints the number of bytes that are complete entries.
 fn whole(alloc: Global, form: &str, bytes: &[u8]) -> Result<String> {
     let form = match form {
         "numbered" => Form::Numbered,
@@ -177,16 +173,15 @@ fn whole(alloc: Global, form: &str, bytes: &[u8]) -> Result<String> {
     text(format!(in alloc; "{}", whole_entries(form, bytes)))
 }
 
-/// The bytes of a record, or why there are none. Where memory was refused, they are asked for once more.
+/// Prints the bytes of a record. If memory is refused, it is written again.
 pub fn written(alloc: Global, session: &Record) -> Result<String> {
     let mut written = marked!(alloc, write_record(alloc, session));
     if matches!(&written, Err(WriteRecordFault::NoMemory)) && was_refused(alloc) {
         written = write_record(alloc, session);
     }
-    bytes_told(alloc, written)
+    shown_bytes(alloc, written)
 }
 
-/// What is found of a record, or made of it.
 fn of_record(alloc: Global, session: Record, words: &[&str]) -> Result<String> {
     match *words {
         ["check"] => found(alloc, &session),
@@ -198,7 +193,6 @@ fn of_record(alloc: Global, session: Record, words: &[&str]) -> Result<String> {
     }
 }
 
-/// What is found of a record.
 fn found(alloc: Global, session: &Record) -> Result<String> {
     match marked!(alloc, check(alloc, session)) {
         Ok(()) => text(String::from_str(alloc, "Run")),
@@ -206,7 +200,7 @@ fn found(alloc: Global, session: &Record) -> Result<String> {
     }
 }
 
-/// The record in version 2; where that is refused, it comes back as it was.
+/// Prints the record in version 2. If memory is refused, fails unless the record comes back unchanged.
 fn upgraded(alloc: Global, session: Record) -> Result<String> {
     let before = written(alloc, &session)?;
     match marked!(alloc, upgrade(alloc, session)) {
@@ -219,7 +213,7 @@ fn upgraded(alloc: Global, session: Record) -> Result<String> {
     }
 }
 
-/// What is left of the record that these bytes are without its remote peers.
+/// Prints the record without its remote peers.
 fn left(alloc: Global, bytes: &[u8]) -> Result<String> {
     let Ok(session) = read_record(alloc, bytes) else {
         return wrong("it is no record");
@@ -230,9 +224,8 @@ fn left(alloc: Global, bytes: &[u8]) -> Result<String> {
     }
 }
 
-/// The settings of a record, and where it begins: the place of its first entry, whether the port mapper has ended, the
-/// active names with their creations and slots, the retired ones with their creations, the connections, and the worker
-/// of each entry.
+/// Prints the settings of a record and the state that it starts at: the position of its first entry, the names, the
+/// connections, and the worker of each entry.
 fn beginning(alloc: Global, session: &Record) -> Result<String> {
     let config = &session.config;
     let mut actual = format!(in alloc; "{} {}", config.port, yes(config.relaxed))?;
@@ -253,7 +246,8 @@ fn beginning(alloc: Global, session: &Record) -> Result<String> {
     Ok(actual)
 }
 
-/// Tells a state by its parts.
+/// Writes the items of a state: rows with ports, creations and slots, retired names with ports and creations, and
+/// connections.
 fn write_start(actual: &mut String, start: &State) -> Result<()> {
     for row in start.active() {
         let name = Digits(row.reg.name.bytes());
@@ -281,7 +275,7 @@ fn write_start(actual: &mut String, start: &State) -> Result<()> {
     Ok(())
 }
 
-/// How a record of version 2 is written with these workers, and with its active names alone where that is asked for.
+/// Prints a record of version 2 with these workers. If `alone`, its start state has the active names only.
 fn written_by(alloc: Global, mut session: Record, numbers: &[&str], alone: bool) -> Result<String> {
     let Version::Two {
         start,
@@ -298,7 +292,7 @@ fn written_by(alloc: Global, mut session: Record, numbers: &[&str], alone: bool)
     written(alloc, &session)
 }
 
-/// The active names of a state, without any connection.
+/// Returns a state with the same active names and no connection.
 fn active_alone(alloc: Global, start: &State) -> Result<State> {
     let rows = copied!(alloc, start.active());
     let state = State::build(rows, Vec::new(alloc), Vec::new(alloc), false);

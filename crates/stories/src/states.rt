@@ -1,4 +1,4 @@
-//! States of parts.
+//! States that are built from items.
 use crate::events::is_local;
 use crate::listed::settings;
 use crate::requests::registration;
@@ -8,12 +8,12 @@ use portmap_core::{Config, Entry, Held, Old, Phase, Row, State};
 use std::alloc::Global;
 use std::mem;
 
-/// Copies of the parts of a state of one kind.
+/// Copies all state items of one kind.
 macro_rules! copied {
-    ($alloc:expr, $parts:expr) => {{
+    ($alloc:expr, $items:expr) => {{
         let mut copies = Vec::new($alloc);
-        for part in $parts {
-            copies.push(part.try_copy($alloc)?)?;
+        for item in $items {
+            copies.push(item.try_copy($alloc)?)?;
         }
         copies
     }};
@@ -21,32 +21,31 @@ macro_rules! copied {
 
 pub(crate) use copied;
 
-/// Parts of a state.
 #[derive(Drop)]
-pub struct Parts {
+pub struct StateItems {
     active: Vec<Row>,
     retired: Vec<Old>,
     connections: Vec<Held>,
 }
 
-impl Parts {
-    pub fn new(alloc: Global) -> Parts {
-        Parts {
+impl StateItems {
+    pub fn new(alloc: Global) -> StateItems {
+        StateItems {
             active: Vec::new(alloc),
             retired: Vec::new(alloc),
             connections: Vec::new(alloc),
         }
     }
 
-    /// What comes of an act: parts are added, or what there are is built.
-    pub fn came(&mut self, alloc: Global, words: &[&str]) -> Result<String> {
+    /// Adds an item, or builds the state of all items.
+    pub fn perform(&mut self, alloc: Global, words: &[&str]) -> Result<String> {
         match *words {
             ["row", word, creation, slot] => self.active.push(row(alloc, word, creation, slot)?)?,
             ["old", word, creation] => self.retired.push(old(alloc, word, creation)?)?,
             ["conn", slot, whence, phase, kept] => self
                 .connections
                 .push(conn(alloc, slot, whence, (phase, kept))?)?,
-            ["build"] => return built(alloc, mem::replace(self, Parts::new(alloc))),
+            ["build"] => return built(alloc, mem::replace(self, StateItems::new(alloc))),
             _ => return wrong("no such act"),
         }
         Ok(String::new(alloc))
@@ -87,10 +86,11 @@ fn phase_of(word: &str) -> Result<Phase> {
     }
 }
 
-/// Whether parts are a state, and a port mapper of two connections and two names comes to it.
-fn built(alloc: Global, parts: Parts) -> Result<String> {
+/// Prints `owned` if a port mapper with two connections and two names can reach the state of the items. Prints
+/// `strange` if it cannot, and `none` if there is no such state.
+fn built(alloc: Global, items: StateItems) -> Result<String> {
     let config = settings()?;
-    let state = State::build(parts.active, parts.retired, parts.connections, false);
+    let state = State::build(items.active, items.retired, items.connections, false);
     let kind = match state {
         None => "none",
         Some(state) if is_built_again(alloc, &config, &state)? => "owned",
@@ -100,7 +100,7 @@ fn built(alloc: Global, parts: Parts) -> Result<String> {
     text(String::from_str(alloc, kind))
 }
 
-/// Whether a copy of a state stays as it is where a connection comes.
+/// Returns true if a copy of the state refuses a connection and does not change.
 fn stays(alloc: Global, config: &Config, state: &State) -> Result<bool> {
     let mut copy = state.try_copy(alloc)?;
     let entry = Entry::Connected {
@@ -110,7 +110,7 @@ fn stays(alloc: Global, config: &Config, state: &State) -> Result<bool> {
     Ok(!copy.step(alloc, config, &entry)? && copy.same(state))
 }
 
-/// Whether a port mapper comes to a state. It is that of copies of its parts, in either case.
+/// Returns true if a port mapper can reach the state. Fails unless the state is that of copies of its items.
 pub fn is_built_again(alloc: Global, config: &Config, state: &State) -> Result<bool> {
     let built = copy_of(alloc, state)?;
     let is_same = built.is_some_and(|built| built.same(state));
@@ -118,7 +118,7 @@ pub fn is_built_again(alloc: Global, config: &Config, state: &State) -> Result<b
     Ok(state.owned(alloc, config)?)
 }
 
-/// The state of copies of a state's parts.
+/// Builds a state from copies of the items of another state.
 fn copy_of(alloc: Global, state: &State) -> Result<Option<State>> {
     let active = copied!(alloc, state.active());
     let retired = copied!(alloc, state.retired());

@@ -1,46 +1,47 @@
-//! A story: what it shows, what comes in turn, and what is wanted.
-use crate::part::Subject;
+//! A story: its title, its operations in order, and the expected result of each.
+use crate::subject::Subject;
 use crate::words::{Names, wrong};
 use anyhow::{Result, ensure};
 use portmap_testing::marks::was_refused;
 use std::alloc::Global;
 use std::sync::Wait;
 
-/// A story that is being told.
+/// A story in progress.
 #[derive(Drop)]
 pub struct Story<'a, R: Wait> {
     host: &'a R,
     name: String,
-    part: Subject,
+    subject: Subject,
     holds: bool,
 }
 
 impl<'a, R: Wait> Story<'a, R> {
-    /// What stands before the first story of a file.
+    /// Returns the state before the first story of a file.
     pub fn none(host: &'a R, alloc: Global) -> Story<'a, R> {
         Story {
             host,
             name: String::new(alloc),
-            part: Subject::None,
+            subject: Subject::None,
             holds: true,
         }
     }
 
-    /// The story that a line begins, if it begins one: by the part that it is about, and what it shows.
+    /// Returns the story that a line begins. The line has the word of a subject and a title.
     pub fn begun(host: &'a R, alloc: Global, line: &str) -> Result<Option<Story<'a, R>>> {
         let (word, name) = line.split_once(' ').unwrap_or((line, ""));
-        let Some(part) = Subject::begun(alloc, word)? else {
+        let Some(subject) = Subject::begun(alloc, word)? else {
             return Ok(None);
         };
         let mut story = Story::none(host, alloc);
         story.name.push_str(name)?;
-        story.part = part;
+        story.subject = subject;
         Ok(Some(story))
     }
 
-    /// What is wrong with a line, if anything is. One that begins with `times 1 9` is told for each number from 1 to 9,
-    /// which stands there as `$`. ` && ` joins acts, of which one that begins with `each 1 9` is told for each number,
-    /// as `@`.
+    /// Returns the fault of a line, if there is one.
+    ///
+    /// A line after `times 1 9` is run for each number from 1 to 9, which replaces `$`. ` && ` joins operations. An
+    /// operation after `each 1 9` is run for each number, which replaces `@`.
     pub fn wrong(
         &mut self,
         alloc: Global,
@@ -63,25 +64,25 @@ impl<'a, R: Wait> Story<'a, R> {
         Ok(None)
     }
 
-    /// What is wrong with a line that is told once, if anything is.
+    /// Runs a line once, and returns its fault.
     fn once(&mut self, alloc: Global, names: &mut Names, line: &str) -> Result<Option<String>> {
         let line = names.spelled(alloc, line)?;
         let (act, wanted) = line
             .as_str()
             .split_once(" -> ")
             .unwrap_or((line.as_str(), ""));
-        let wrong = match self.came(alloc, names, act) {
+        let wrong = match self.perform(alloc, names, act) {
             Ok(None) => return Ok(None),
-            Ok(Some(came)) if came.as_str() == wanted => return Ok(None),
-            Ok(Some(came)) => format!(in alloc; "wanted {wanted} came {came}")?,
+            Ok(Some(actual)) if actual.as_str() == wanted => return Ok(None),
+            Ok(Some(actual)) => format!(in alloc; "wanted {wanted} came {actual}")?,
             Err(error) => format!(in alloc; "wanted {wanted} came no answer: {error}")?,
         };
         self.holds = false;
         Ok(Some(wrong))
     }
 
-    /// What comes of an act; behind `maybe` it may be nothing, where memory is refused to it.
-    fn came(&mut self, alloc: Global, names: &mut Names, act: &str) -> Result<Option<String>> {
+    /// Performs an operation. Returns `None` if it follows `maybe` and memory is refused to it.
+    fn perform(&mut self, alloc: Global, names: &mut Names, act: &str) -> Result<Option<String>> {
         let words: Vec<&str> = act.split_whitespace().collect(alloc)?;
         match *words.as_slice() {
             ["let", name, ref value @ ..] => {
@@ -94,31 +95,34 @@ impl<'a, R: Wait> Story<'a, R> {
             }
             ["maybe", ref words @ ..] => self.tried(alloc, words),
             _ => match self.tried(alloc, &words)? {
-                Some(came) => Ok(Some(came)),
-                None => Ok(Some(self.part.came(self.host, alloc, &words)?)),
+                Some(actual) => Ok(Some(actual)),
+                None => Ok(Some(self.subject.perform(self.host, alloc, &words)?)),
             },
         }
     }
 
-    /// What comes of an act, unless it is that memory was refused to it: then nothing has changed.
+    /// Performs an operation. Returns `None` if memory was refused to it, and fails if that has changed anything.
     fn tried(&mut self, alloc: Global, words: &[&str]) -> Result<Option<String>> {
-        let came = self.part.came(self.host, alloc, words)?;
-        if !was_refused(alloc) || !came.as_str().contains("NoMemory") {
-            return Ok(Some(came));
+        let actual = self.subject.perform(self.host, alloc, words)?;
+        if !was_refused(alloc) || !actual.as_str().contains("NoMemory") {
+            return Ok(Some(actual));
         }
-        ensure!(self.part.stands(alloc)?, "a refusal has changed something");
+        ensure!(
+            self.subject.stands(alloc)?,
+            "a refusal has changed something"
+        );
         Ok(None)
     }
 
-    /// Whether it holds, and the line for that; there is none where a line of it was told to be wrong.
+    /// Returns whether the story holds, and its line. The line is empty if a fault of the story was printed before.
     pub fn ended(self, alloc: Global, path: &str) -> Result<(bool, String)> {
         let Story {
             name,
-            part,
+            subject,
             holds,
             ..
         } = self;
-        Ok(match part.ended(alloc) {
+        Ok(match subject.ended(alloc) {
             Ok(()) if !holds || name.is_empty() => (holds, String::new(alloc)),
             Ok(()) => (true, format!(in alloc; "ok {name}\n")?),
             Err(error) => (false, format!(in alloc; "BAD {path}: {name}: {error}\n")?),
@@ -126,7 +130,7 @@ impl<'a, R: Wait> Story<'a, R> {
     }
 }
 
-/// A line for each number, where this word and two numbers stand before it, from the first of these to the second.
+/// Returns a line for each number of a range that follows `word`, from its first number to its last.
 fn spread(alloc: Global, line: &str, word: &str, mark: &str) -> Result<Vec<String>> {
     let mut lines = Vec::new(alloc);
     let Some((from, until, line)) = range(line, word) else {
@@ -144,15 +148,14 @@ fn spread(alloc: Global, line: &str, word: &str, mark: &str) -> Result<Vec<Strin
     Ok(lines)
 }
 
-/// From where to where a line is told, and the line.
 fn range<'a>(line: &'a str, word: &str) -> Option<(u32, u32, &'a str)> {
     let (from, rest) = line.strip_prefix(word)?.split_once(' ')?;
     let (until, line) = rest.split_once(' ')?;
     Some((from.parse::<u32>().ok()?, until.parse::<u32>().ok()?, line))
 }
 
-/// A line with a number in the place of its mark, with eight digits of base 16 in that of `%`, and with the next number
-/// where `+1` stands behind the mark.
+/// Replaces the mark by the number, `%` by the number in eight digits of base 16, and the mark before `+1` by the next
+/// number.
 fn numbered(alloc: Global, line: &str, mark: &str, number: u32) -> Result<String> {
     let next = format!(in alloc; "{mark}+1")?;
     let line = replaced(alloc, line, next.as_str(), number.saturating_add(1))?;

@@ -7,51 +7,46 @@ use portmap_testing::marked;
 use portmap_wire::{Name, Reg};
 use std::alloc::Global;
 
-/// The creation that a name is offered, or why it is offered none.
+/// The creation that a name is offered, or the fault.
 type Offer = Result<u32, RegFault>;
 
-/// The node of this name and this highest version, as each is registered here.
 fn node(alloc: Global, word: &str, high: &str) -> Result<Reg> {
     registration(alloc, 40_000, number(high)?, word, &[7])
 }
 
-/// Whether a node is as each is registered here.
 fn is_usual(reg: &Reg) -> bool {
     (reg.port, reg.kind, reg.proto, reg.low) == (40_000, 77, 0, 5)
         && reg.extra.as_slice() == [7].as_slice()
 }
 
-/// Adds a name, its slot and its creation.
 fn write_row(actual: &mut String, row: &Row) -> Result<()> {
     ensure!(is_usual(&row.reg), "a node that was not registered so");
     let name = Digits(row.reg.name.bytes());
     Ok(write!(actual, " {name} {} {}", row.slot, row.creation)?)
 }
 
-/// Adds a retired name and its creation.
 fn write_old(actual: &mut String, old: &Old) -> Result<()> {
     let is_usual = old.port == 40_000;
     ensure!(is_usual, "a retired node that was not registered so");
     Ok(write!(actual, " {} {}", Digits(old.name.bytes()), old.creation)?)
 }
 
-/// The active names, each with its slot and its creation, and the retired ones, each with its creation; by copies of
-/// both.
+/// Prints the active names with slots and creations, and the retired names with creations. All are copies.
 fn known(alloc: Global, names: &Table) -> Result<String> {
     let mut actual = String::from_str(alloc, "active")?;
-    for place in 0..names.active_len() {
-        let row = names.active_at(place).context("fewer names are active")?;
+    for index in 0..names.active_len() {
+        let row = names.active_at(index).context("fewer names are active")?;
         write_row(&mut actual, &row.try_copy(alloc)?)?;
     }
     actual.push_str(" retired")?;
-    for place in 0..names.retired_len() {
-        let old = names.retired_at(place).context("fewer names are retired")?;
+    for index in 0..names.retired_len() {
+        let old = names.retired_at(index).context("fewer names are retired")?;
         write_old(&mut actual, &old.try_copy(alloc)?.try_copy(alloc)?)?;
     }
     Ok(actual)
 }
 
-/// The slot that owns a name, which is that of its row; `-` where the name is not active.
+/// Prints the slot that owns a name, or `-`. Fails unless that is the slot of its row.
 fn owner(alloc: Global, names: &Table, word: &str) -> Result<String> {
     let name = name(alloc, word)?;
     let (owner, row) = (names.owner(&name), names.find(&name));
@@ -63,8 +58,7 @@ fn owner(alloc: Global, names: &Table, word: &str) -> Result<String> {
     }
 }
 
-/// What comes of an act on a table.
-pub fn came(alloc: Global, table: &mut Table, words: &[&str]) -> Result<String> {
+pub fn perform(alloc: Global, table: &mut Table, words: &[&str]) -> Result<String> {
     match *words {
         ["with", "known", known_max, "first", first] => {
             *table = Table::new(alloc, number(known_max)?, number(first)?)?;
@@ -93,12 +87,12 @@ pub fn came(alloc: Global, table: &mut Table, words: &[&str]) -> Result<String> 
         ["knows"] => known(alloc, table),
         ["owner", name] => owner(alloc, table, name),
         ["counts"] => text(format!(in alloc; "{} {}", table.active_len(), table.retired_len())),
-        ["retired", place] => retired_at(alloc, table, number(place)?),
+        ["retired", index] => retired_at(alloc, table, number(index)?),
         _ => wrong("no such act"),
     }
 }
 
-/// Turns to this table. Whether there is one.
+/// Replaces the table, and prints whether there is a new one.
 fn set(alloc: Global, table: &mut Table, made: Option<Table>) -> Result<String> {
     let is_made = made.is_some();
     if let Some(made) = made {
@@ -107,16 +101,16 @@ fn set(alloc: Global, table: &mut Table, made: Option<Table>) -> Result<String> 
     answer(alloc, is_made)
 }
 
-/// The retired name at a place, and its creation.
-fn retired_at(alloc: Global, table: &Table, place: usize) -> Result<String> {
-    let old = table.retired_at(place).context("fewer names are retired")?;
+fn retired_at(alloc: Global, table: &Table, index: usize) -> Result<String> {
+    let old = table.retired_at(index).context("fewer names are retired")?;
     text(format!(in alloc; "{} {}", Digits(old.name.bytes()), old.creation))
 }
 
-/// The table of these names, active and retired, if a port mapper that may know so many can have come to them.
+/// Returns the table of these active and retired names, or `None` if no port mapper that may know `known_max` names can
+/// have them.
 fn made(alloc: Global, known_max: u32, first: u32, names: &[&str]) -> Result<Option<Table>> {
-    let place = names.iter().position(|word| *word == "retired");
-    let (active, retired) = names.split_at(place.context("no retired names")?);
+    let index = names.iter().position(|word| *word == "retired");
+    let (active, retired) = names.split_at(index.context("no retired names")?);
     let rows = rows(alloc, active)?;
     let olds = olds(alloc, retired.get(1..).unwrap_or(&[]))?;
     Ok(Table::of(alloc, known_max, first, &rows, &olds)?)
@@ -152,13 +146,13 @@ fn olds(alloc: Global, words: &[&str]) -> Result<Vec<Old>> {
     Ok(olds)
 }
 
-/// What is answered to a registration.
 fn registered(alloc: Global, table: &mut Table, slot: u64, reg: Reg) -> Result<String> {
     let name = reg.name.try_copy(alloc)?;
     shown(alloc, entered(alloc, table, &name, reg, slot)?)
 }
 
-/// The same. Where it is refused, the name is offered the same as before, and as many names are known.
+/// Registers a node. If that is refused, fails unless the name has the same offer and the same number of names is
+/// known.
 fn entered(alloc: Global, table: &mut Table, name: &Name, reg: Reg, slot: u64) -> Result<Offer> {
     ensure!(!table.holds(slot), "the slot owns a name");
     let (high, before) = (reg.high, stands(table, name, reg.high));
@@ -171,7 +165,7 @@ fn entered(alloc: Global, table: &mut Table, name: &Name, reg: Reg, slot: u64) -
     Ok(registered)
 }
 
-/// What a name is offered, how many names are active and retired, and what the next creation is taken from.
+/// Returns the offer for a name, the numbers of active and of retired names, and the source of the next creation.
 fn stands(table: &Table, name: &Name, high: u16) -> (Offer, usize, usize, u32) {
     (
         table.offer(name, high),
@@ -181,7 +175,7 @@ fn stands(table: &Table, name: &Name, high: u16) -> (Offer, usize, usize, u32) {
     )
 }
 
-/// Whether the name that a slot owns is retired, for which no memory is wanted.
+/// Prints whether the name of a slot was retired. That allocates nothing.
 fn retired(alloc: Global, table: &mut Table, slot: u64) -> Result<String> {
     answer(alloc, marked!(alloc, table.retire(slot)))
 }

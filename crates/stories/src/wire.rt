@@ -7,8 +7,7 @@ use anyhow::Result;
 use portmap_wire::{read_dump, read_names};
 use std::alloc::Global;
 
-/// What comes of an act.
-pub fn came(alloc: Global, words: &[&str]) -> Result<String> {
+pub fn perform(alloc: Global, words: &[&str]) -> Result<String> {
     match *words {
         ["name", name] => named(alloc, name),
         ["request", body] => asked(alloc, body),

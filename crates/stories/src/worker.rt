@@ -1,4 +1,4 @@
-//! A worker of the daemon, and the turns that a source of two links tells it.
+//! A worker of the daemon, and a source of two links that gives it turns.
 ghost use Rattle.std.specs.Prelude.{◌≡◌};
 
 use crate::devices::{device, plan};
@@ -18,27 +18,26 @@ use std::slice::Iter;
 use std::sync::Wait;
 use std::sync::ledger::{Blank, Ledger};
 
-/// What a source brings to a worker. Each line is told over a new one, which makes all turns up to there and then
-/// stops.
+/// The input of a worker. Each line is run at a new worker, which makes all turns up to that line and stops.
 #[derive(Drop)]
 pub struct WorkerSetup {
     is_relaxed: bool,
     conn_max: u32,
-    /// What the links 7 and 8 give. Link 8 moves all at each call.
+    /// The bytes that the links 7 and 8 give. Link 8 moves all bytes at each call.
     seven: Vec<u8>,
     eight: Vec<u8>,
     plan: DevicePlan,
-    /// Whether another connection has ended the port mapper before.
+    /// True if another connection has ended the port mapper before.
     is_killed: bool,
     turns: Vec<Turn>,
     actual: Amounts,
 }
 
-/// How many entries, bytes of link 7, bytes of link 8 and ended links were told.
+/// The numbers of entries, of bytes of link 7, of bytes of link 8 and of ended links.
 type Amounts = [usize; 4];
 
-/// The links 7 and 8, which were given up, what is logged before the worker is told to stop, and how many turns are
-/// made before one to which memory may be refused.
+/// The links 7 and 8, the keys of ended links, the log before the worker stops, and the number of turns before the turn
+/// to which memory may be refused.
 #[derive(Drop)]
 struct Wires<'a> {
     unmarked: usize,
@@ -48,7 +47,7 @@ struct Wires<'a> {
     log: Vec<Entry>,
 }
 
-/// A source that tells the turns of a list, and then Stop, once it has taken out the log. It has no link but those two.
+/// A source of two links that gives the turns of a list, drains the log, and then gives Stop.
 #[derive(Drop)]
 struct Listed<'a, 'b, L: Ledger, R: Wait> {
     rt: &'a R,
@@ -92,13 +91,12 @@ impl<'a> Wires<'a> {
         desk.advance(rt, alloc, &mut self.log, &mut Vec::new(alloc));
     }
 
-    /// How much has come.
     fn amounts(&self) -> Amounts {
         let (seven, eight) = (self.seven.sink.len(), self.eight.sink.len());
         [self.log.len(), seven, eight, self.ended.len()]
     }
 
-    /// What has come behind what was told: entries, and what both links got and gave up.
+    /// Returns what follows `actual`: entries, and what both links received and whether they ended.
     fn line(&self, alloc: Global, actual: Amounts, is_over: bool) -> Result<String> {
         let mut line = entry_words(alloc, self.log.get(actual[0]..).unwrap_or(&[]))?;
         put_bytes(
@@ -120,7 +118,7 @@ impl<'a> Wires<'a> {
         text(String::from_str(alloc, line.as_str().trim_start_matches(" ; ")))
     }
 
-    /// How many connections have come, what link 7 got, and what has come of link 8.
+    /// Returns the number of connections, the bytes of link 7, and the bytes and the end of link 8.
     fn line_of_8(&self, alloc: Global) -> Result<String> {
         let comes = |entry: &&Entry| matches!(entry, Entry::Connected { .. });
         let count = self.log.iter().filter(comes).count();
@@ -148,25 +146,24 @@ impl WorkerSetup {
         }
     }
 
-    /// What comes of an act.
-    pub fn came<R: Wait>(&mut self, rt: &R, alloc: Global, words: &[&str]) -> Result<String> {
+    pub fn perform<R: Wait>(&mut self, rt: &R, alloc: Global, words: &[&str]) -> Result<String> {
         match *words {
             ["with" | "gives", ..] => self.set(alloc, words)?,
             ["turns", ref turns @ ..] => self.add(turns)?,
             ["fails", call] => return self.failed(rt, alloc, number(call)?),
             ["killed"] => {
                 self.is_killed = true;
-                return self.came_new(rt, alloc);
+                return self.new_line(rt, alloc);
             }
             _ => {
                 self.add(words)?;
-                return self.came_new(rt, alloc);
+                return self.new_line(rt, alloc);
             }
         }
         Ok(String::new(alloc))
     }
 
-    /// Begins anew, with these settings or with what a link gives.
+    /// Starts again, with these settings or with what a link gives.
     fn set(&mut self, alloc: Global, words: &[&str]) -> Result<()> {
         self.is_killed = false;
         self.turns.clear();
@@ -186,7 +183,7 @@ impl WorkerSetup {
         Ok(())
     }
 
-    /// Adds turns, between which stands a `;`.
+    /// Adds turns, separated by `;`.
     fn add(&mut self, words: &[&str]) -> Result<()> {
         for words in words.split(|word| *word == ";") {
             self.turns.push(turn(words)?)?;
@@ -194,31 +191,31 @@ impl WorkerSetup {
         Ok(())
     }
 
-    /// Tells what has come of all turns and was not told. Where memory is refused to the last one, its link is given
-    /// up, and all are made once more.
-    fn came_new<R: Wait>(&mut self, rt: &R, alloc: Global) -> Result<String> {
-        let given_up = end_of(alloc, self.turns.last())?;
-        let (mut line, mut actual) = self.line(rt, alloc, !given_up.is_empty())?;
+    /// Returns what all turns have caused since the last line. If memory is refused to the last turn, its link is
+    /// closed, and all turns are made again.
+    fn new_line<R: Wait>(&mut self, rt: &R, alloc: Global) -> Result<String> {
+        let link_end = end_of(alloc, self.turns.last())?;
+        let (mut line, mut actual) = self.line(rt, alloc, !link_end.is_empty())?;
         if was_refused(alloc) {
-            let (again, told_again) = self.line(rt, alloc, false)?;
-            let is_so = line == again || line.as_str().contains(given_up.as_str());
+            let (again, actual_again) = self.line(rt, alloc, false)?;
+            let is_so = line == again || line.as_str().contains(link_end.as_str());
             ensure!(is_so, "where memory is refused comes: {line}");
             line = again;
-            actual = told_again;
+            actual = actual_again;
         }
         self.actual = actual;
         Ok(line)
     }
 
-    /// What has come of all turns and was not told, and how much that is with it. Memory may be refused to the last
-    /// one.
+    /// Returns what all turns have caused since the last line, and the amounts after it. Memory may be refused to the
+    /// last turn if `is_marked`.
     fn line<R: Wait>(&self, rt: &R, alloc: Global, is_marked: bool) -> Result<(String, Amounts)> {
         let mut wires = self.wires(alloc, self.plan, is_marked)?;
         let is_over = serve_all(rt, alloc, self, &mut wires)?;
         Ok((wires.line(alloc, self.actual, is_over)?, wires.amounts()))
     }
 
-    /// What comes of both links where link 7 fails at this call of it.
+    /// Returns what both links received if link 7 fails at this call.
     fn failed<R: Wait>(&self, rt: &R, alloc: Global, call: usize) -> Result<String> {
         let plan = DevicePlan {
             fault: Some(call),
@@ -229,7 +226,7 @@ impl WorkerSetup {
         wires.line_of_8(alloc)
     }
 
-    /// The links, where link 7 answers so. What they get and give up is noted without memory.
+    /// The links have room for all that they receive, and the keys of ended links too.
     fn wires(&self, alloc: Global, plan: DevicePlan, is_marked: bool) -> Result<Wires<'_>> {
         let last = self.turns.len().saturating_sub(1);
         Ok(Wires {
@@ -242,33 +239,33 @@ impl WorkerSetup {
     }
 }
 
-/// Has a worker make all turns. Whether the port mapper has ended.
+/// Runs a worker over all turns. Returns true if the port mapper has ended.
 fn serve_all<R: Wait>(
     rt: &R,
     alloc: Global,
-    scene: &WorkerSetup,
+    setup: &WorkerSetup,
     wires: &mut Wires<'_>,
 ) -> Result<bool> {
-    let served = served::<Brand, R>(rt, alloc, Blank::new(PARTS), scene, wires);
+    let served = served::<Brand, R>(rt, alloc, Blank::new(PARTS), setup, wires);
     served.context("it closes not all as it stops, or has served otherwise than it says")
 }
 
-/// The same, if a worker has served what it says and its seat has counted, and as it stops it closes what is open, and
-/// does nothing else.
+/// Returns `None` unless the worker counts what it has served, and closes every open connection when it stops, and does
+/// nothing else.
 fn served<L: Ledger, R: Wait>(
     rt: &R,
     alloc: Global,
     blank: Blank,
-    scene: &WorkerSetup,
+    setup: &WorkerSetup,
     wires: &mut Wires<'_>,
 ) -> Option<bool>
     requires name { blank.name ≡ L.name }
     requires parts { blank.parts ≡ L.parts }
     requires enough { blank.parts ≡ PARTS }
 {
-    let desk: Desk<L> = Desk::new(blank, book(alloc, scene.is_relaxed, scene.conn_max)?);
+    let desk: Desk<L> = Desk::new(blank, book(alloc, setup.is_relaxed, setup.conn_max)?);
     let mut seat = desk.seat(rt, 1)?;
-    if scene.is_killed {
+    if setup.is_killed {
         is_killed(rt, alloc, &desk, &mut seat)?;
     }
     let before = seat.count();
@@ -277,7 +274,7 @@ fn served<L: Ledger, R: Wait>(
         alloc,
         desk: &desk,
         wires: &mut *wires,
-        turns: scene.turns.iter(),
+        turns: setup.turns.iter(),
     };
     let Outcome { seat, served } = serve(rt, alloc, &desk, seat, 0, source, &Open);
     end(alloc);
@@ -295,7 +292,6 @@ fn ended<L: Ledger>(alloc: Global, desk: Desk<L>, seat: Seat<L>, count: u64) -> 
     (are_closed && book.count() == count).then_some(core.halted())
 }
 
-/// The turn that words tell of.
 fn turn(words: &[&str]) -> Result<Turn> {
     Ok(match *words {
         ["fresh", key, whence] => Turn::Fresh {
@@ -310,7 +306,7 @@ fn turn(words: &[&str]) -> Result<Turn> {
     })
 }
 
-/// How a line says that the link of a turn is given up; nothing where the turn has none.
+/// Returns the text for the end of the link of a turn, or no text if the turn has no link.
 fn end_of(alloc: Global, turn: Option<&Turn>) -> Result<String> {
     match turn {
         Some(Turn::Fresh { key, .. } | Turn::Ready(key) | Turn::Late(key)) => {
@@ -320,7 +316,7 @@ fn end_of(alloc: Global, turn: Option<&Turn>) -> Result<String> {
     }
 }
 
-/// The words of a transcript for entries, each behind a `;`.
+/// Returns the words of a transcript, with a `;` before each entry.
 fn entry_words(alloc: Global, entries: &[Entry]) -> Result<String> {
     let text = String::from_utf8(transcript(alloc, entries, Verdict::Run)?)?;
     let mut words = String::new(alloc);
@@ -331,7 +327,6 @@ fn entry_words(alloc: Global, entries: &[Entry]) -> Result<String> {
     Ok(words)
 }
 
-/// Adds to a line what the link with this key got, if it got any.
 fn put_bytes(line: &mut String, key: u64, bytes: &[u8]) -> Result<()> {
     if !bytes.is_empty() {
         write!(line, " ; gets {key} {}", Digits(bytes))?;

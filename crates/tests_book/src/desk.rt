@@ -1,4 +1,4 @@
-//! Many workers on one table: the desk, its seats, and what one worker reads of another.
+//! Many workers at one desk: the seats, and what one worker reads of another.
 ghost use Rattle.std.specs.Prelude.{◌≡◌};
 
 use portmap_book::{
@@ -22,12 +22,12 @@ pub fn book(alloc: Global, relaxed: bool) -> Option<Book> {
     Book::new(alloc, config, 4).ok()
 }
 
-/// Whether the reply gives a creation of four bytes.
+/// Returns true if the reply has a creation of four bytes.
 fn is_registered(reply: &[u8], fate: Fate) -> bool {
     reply.len() == 6 && reply.starts_with(&[0x76, 0]) && fate == Fate::Stay
 }
 
-/// A node connects, registers and leaves: a ticket for each of the three entries.
+/// Connects, registers and closes a node, and returns a ticket for each of the three entries.
 fn round<L: Ledger, R: Wait>(
     rt: &R,
     alloc: Global,
@@ -55,11 +55,14 @@ fn round<L: Ledger, R: Wait>(
     ])
 }
 
-pub fn ticket(place: u64, entry: Entry) -> Ticket {
-    Ticket { place, entry }
+pub fn ticket(position: u64, entry: Entry) -> Ticket {
+    Ticket {
+        place: position,
+        entry,
+    }
 }
 
-/// The reply to a registration that succeeds.
+/// Returns the reply of a registration that succeeds.
 fn reply_of(answer: Answer) -> Option<Vec<u8>> {
     match answer {
         Answer::Said { bytes, fate } if is_registered(&bytes, fate) => Some(bytes),
@@ -67,7 +70,7 @@ fn reply_of(answer: Answer) -> Option<Vec<u8>> {
     }
 }
 
-/// Keeps the tickets, whose places rise from this one on, and gives the place behind the last.
+/// Appends three tickets with rising positions from `next` on, and returns the position after the last.
 fn kept(tickets: &mut Vec<Ticket>, next: u64, three: [Ticket; 3]) -> Option<u64> {
     let mut next = next;
     for ticket in three {
@@ -80,7 +83,7 @@ fn kept(tickets: &mut Vec<Ticket>, next: u64, three: [Ticket; 3]) -> Option<u64>
     Some(next)
 }
 
-/// 500 nodes in turn come and leave. None where something went wrong.
+/// 500 nodes connect and leave, one after the other. Returns `None` if an operation fails.
 fn rounds<L: Ledger, R: Wait>(
     rt: &R,
     alloc: Global,
@@ -97,7 +100,6 @@ fn rounds<L: Ledger, R: Wait>(
     Some(tickets)
 }
 
-/// A worker's seat when it is done, and its tickets.
 fn worked<L: Ledger, R: Wait>(
     rt: &R,
     alloc: Global,
@@ -109,17 +111,15 @@ fn worked<L: Ledger, R: Wait>(
     (seat, tickets)
 }
 
-/// How a desk of two workers ends.
 #[derive(Clone, Copy, Debug, PartialEq, Eq)]
 enum Ended {
-    /// All is counted: so many by each, and so many in the book.
+    /// The counts of the first seat, of the second seat and of the book.
     Whole([u64; 3]),
-    /// A seat is missing: so many are counted, of so many.
+    /// A seat is missing: the count of the other seat, and the length of the log.
     Missing(u64, u64),
 }
 
-/// Whether the book has each ticket as the entry of the worker that was told it: of the first so many of worker 1, and
-/// of the others of worker 2.
+/// Returns true if the first `first` tickets are entries of worker 1, and the others of worker 2.
 fn are_of_workers(book: &Book, tickets: &[Ticket], first: u64) -> bool {
     for (at, ticket) in tickets.iter().enumerate() {
         let worker = if (at as u64) < first { 1 } else { 2 };
@@ -130,7 +130,7 @@ fn are_of_workers(book: &Book, tickets: &[Ticket], first: u64) -> bool {
     true
 }
 
-/// The book tells whether the tickets are its log, each of the worker that was told it.
+/// Returns `None` unless the tickets are the log of the book, each with the number of its worker.
 fn ending_of<L: Ledger>(
     alloc: Global,
     desk: Desk<L>,
@@ -150,7 +150,6 @@ fn ending_of<L: Ledger>(
     }
 }
 
-/// All tickets of two workers.
 fn joined(one: Option<Vec<Ticket>>, two: Option<Vec<Ticket>>) -> Option<Vec<Ticket>> {
     let mut all = one?;
     for ticket in two? {
@@ -159,7 +158,7 @@ fn joined(one: Option<Vec<Ticket>>, two: Option<Vec<Ticket>>) -> Option<Vec<Tick
     Some(all)
 }
 
-/// Two threads at one desk, each with a seat and a name of its own. The second seat may get lost.
+/// Runs two threads at one desk, each with its own seat and node. The second seat may be lost.
 fn two_workers<L: Ledger + Send + Sync, R: Threads + Wait + Sync>(
     rt: &R,
     alloc: Global,
@@ -202,7 +201,7 @@ fn a_seat_that_is_lost_is_missed(rt: HostRuntime) -> Result<(), Fail> {
     Ok(())
 }
 
-/// Whether a desk that has made a seat makes 63 more, and none behind them.
+/// Returns true if a desk with one seat makes 63 more, and no other.
 fn seats_end<L: Ledger, R: Wait>(rt: &R, alloc: Global, desk: &Desk<L>) -> Option<bool> {
     let mut seats = Vec::new(alloc);
     for _ in 1..SEATS_MOST {
@@ -211,8 +210,8 @@ fn seats_end<L: Ledger, R: Wait>(rt: &R, alloc: Global, desk: &Desk<L>) -> Optio
     Some(seats.len() == 63 && desk.seat(rt, 1).is_none())
 }
 
-/// Whether the first three entries of a desk have the places from 0 on.
-fn places_begin<L: Ledger, R: Wait>(
+/// Returns true if the first three entries of a desk have the positions 0 to 2.
+fn positions_begin<L: Ledger, R: Wait>(
     rt: &R,
     alloc: Global,
     desk: &Desk<L>,
@@ -222,7 +221,7 @@ fn places_begin<L: Ledger, R: Wait>(
     Some(opened.place == 0 && said.place == 1 && closed.place == 2)
 }
 
-/// Whether a connection that waits is done once its time is over, and gone once it fails.
+/// Returns true if a timeout ends a waiting connection, and a fault removes it.
 fn fails_late<L: Ledger, R: Wait>(
     rt: &R,
     alloc: Global,
@@ -234,17 +233,15 @@ fn fails_late<L: Ledger, R: Wait>(
     let (_, late) = desk.late(rt, alloc, seat, &conn).ok()?;
     let after = desk.phase(rt, &conn);
     let (_, gone) = desk.fault(rt, alloc, seat, conn).ok()?;
-    let stood = before == Some(Phase::Waiting) && after == Some(Phase::Done);
-    Some(stood && is_said(&late, &[], Fate::Close) && is_gone(&gone))
+    let is_waiting = before == Some(Phase::Waiting) && after == Some(Phase::Done);
+    Some(is_waiting && is_said(&late, &[], Fate::Close) && is_gone(&gone))
 }
 
-/// Whether a segment has so many entries, the first at this place.
-fn is_part(segment: &Segment, first: u64, entries: usize) -> bool {
+fn is_run_part(segment: &Segment, first: u64, entries: usize) -> bool {
     segment.first == first && segment.entries.len() == entries
 }
 
-/// Whether a desk's log, which weighs something, is sealed to so many entries, the first at this place, and weighs
-/// nothing then.
+/// Returns true if a log with some weight is sealed to this number of entries from `first` on, and has no weight then.
 fn is_sealed_to<L: Ledger, R: Wait>(
     rt: &R,
     alloc: Global,
@@ -254,13 +251,13 @@ fn is_sealed_to<L: Ledger, R: Wait>(
 ) -> bool {
     let is_heavy = desk.weight(rt) > 0;
     match desk.seal(rt, alloc) {
-        Ok(segment) => { is_heavy && desk.weight(rt) == 0 && is_part(&segment, first, entries) }
+        Ok(segment) => { is_heavy && desk.weight(rt) == 0 && is_run_part(&segment, first, entries) }
         Err(_) => false,
     }
 }
 
-/// Whether a desk's log of six entries is sealed after one more, while a connection is open, and again after its close,
-/// which has its place.
+/// Seals a log of six entries after a seventh, while a connection is open. Seals it again after the close, at position
+/// 7.
 fn is_sealed_at_desk<L: Ledger, R: Wait>(
     rt: &R,
     alloc: Global,
@@ -269,12 +266,12 @@ fn is_sealed_at_desk<L: Ledger, R: Wait>(
 ) -> Option<bool> {
     let (_, conn) = desk.connect(rt, alloc, seat, true).ok()?;
     let has_seven = is_sealed_to(rt, alloc, desk, 0, 7);
-    let (place, gone) = desk.close(rt, alloc, seat, conn).ok()?;
-    let is_closed = place == 7 && is_gone(&gone);
+    let (position, gone) = desk.close(rt, alloc, seat, conn).ok()?;
+    let is_closed = position == 7 && is_gone(&gone);
     Some(has_seven && is_closed && is_sealed_to(rt, alloc, desk, 7, 1))
 }
 
-/// Whether a first connection has slot 0, and fails once it is late.
+/// Returns true if the first connection has slot 0, and may time out and fail.
 fn first_fails<L: Ledger, R: Wait>(
     rt: &R,
     alloc: Global,
@@ -293,7 +290,7 @@ fn one_worker<L: Ledger, R: Wait>(rt: &R, alloc: Global, blank: Blank) -> Option
     let desk: Desk<L> = Desk::new(blank, book(alloc, false)?);
     let mut seat = desk.seat(rt, 1)?;
     Some(
-        places_begin(rt, alloc, &desk, &mut seat)?
+        positions_begin(rt, alloc, &desk, &mut seat)?
             && first_fails(rt, alloc, &desk, &mut seat)?
             && is_sealed_at_desk(rt, alloc, &desk, &mut seat)?
             && seats_end(rt, alloc, &desk)?
@@ -302,7 +299,7 @@ fn one_worker<L: Ledger, R: Wait>(rt: &R, alloc: Global, blank: Blank) -> Option
 }
 
 #[test]
-fn a_worker_is_told_what_the_machine_says(rt: HostRuntime) -> Result<(), Fail> {
+fn a_worker_gets_the_answers_of_the_machine(rt: HostRuntime) -> Result<(), Fail> {
     assert_eq!(rt;
         one_worker::<Brand, HostRuntime>(&rt, rt.alloc(), Blank::new(PARTS)),
         Some(true)
@@ -310,7 +307,7 @@ fn a_worker_is_told_what_the_machine_says(rt: HostRuntime) -> Result<(), Fail> {
     Ok(())
 }
 
-/// A worker registers a name, and says so by the flag.
+/// Registers a name, and then sets the flag.
 fn registers<L: Ledger, R: Wait + Clock>(
     rt: &R,
     alloc: Global,
@@ -324,7 +321,7 @@ fn registers<L: Ledger, R: Wait + Clock>(
     Some(is_said(&answer, FOURTH, Fate::Stay))
 }
 
-/// Another worker looks the name up once the flag is there.
+/// Looks the name up once the flag is set.
 fn finds<L: Ledger, R: Wait + Clock>(
     rt: &R,
     alloc: Global,

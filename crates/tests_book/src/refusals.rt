@@ -1,5 +1,6 @@
-//! What calls answer where a request for memory is refused to them: their refusal, with all as it stood, or what worked
-//! examples say. Here memory is ample; `make faults` starts each of these tests once for each request that it makes
-//! between two marks, and has that one refused.
+//! Calls to which memory is refused. They return their refusal and change nothing, or succeed.
+//!
+//! Here memory suffices. `make faults` runs each of these tests once for each allocation between two marks, and refuses
+//! that allocation.
 mod book;
 mod desk;

@@ -8,7 +8,7 @@ use portmap_testing::entries::{SampleEntry, entry};
 use std::alloc::Global;
 use std::test::Fail;
 
-/// Tickets for the log of a node that connects, registers and leaves, and what is found of them.
+/// Tickets for the log of a node that connects, registers and leaves, and the result of gathering them.
 struct Gathered(&'static [(u64, SampleEntry)], Result<(), GatherFault>);
 
 const OPENED: SampleEntry = SampleEntry::Connected(true, 0);
@@ -47,7 +47,6 @@ const GATHERED: &[Gathered] = &[
     Gathered(&[], Err(GatherFault::Missing(0))),
 ];
 
-/// A node connects, registers and leaves.
 fn come_and_go(alloc: Global, book: &mut Book) -> Option<()> {
     book.act(alloc, 1, Event::Connect { local: true }).ok()?;
     let bytes = ALIVE_A.to_vec(alloc).ok()?;
@@ -56,7 +55,6 @@ fn come_and_go(alloc: Global, book: &mut Book) -> Option<()> {
     Some(())
 }
 
-/// The book of that node.
 fn one_node(alloc: Global) -> Option<Book> {
     let mut book = book(alloc, false)?;
     come_and_go(alloc, &mut book)?;
@@ -65,8 +63,8 @@ fn one_node(alloc: Global) -> Option<Book> {
 
 pub fn tickets_of(alloc: Global, table: &[(u64, SampleEntry)]) -> Result<Vec<Ticket>, Fail> {
     let mut tickets = Vec::new(alloc);
-    for (place, kept) in table {
-        tickets.push(ticket(*place, entry(alloc, kept)?))?;
+    for (position, kept) in table {
+        tickets.push(ticket(*position, entry(alloc, kept)?))?;
     }
     Ok(tickets)
 }
@@ -82,15 +80,15 @@ impl Case for Gathered {
 }
 
 #[test]
-fn tickets_are_the_log_or_the_first_fault_is_told(rt: HostRuntime) -> Result<(), Fail> {
+fn tickets_are_the_log_or_the_first_fault_is_reported(rt: HostRuntime) -> Result<(), Fail> {
     all_hold(&rt, GATHERED)
 }
 
-/// Which segments of a log are handed over with the book behind the second, whether they are of a relaxed port mapper,
-/// as the book is not, and what is found of the tickets of all.
+/// The indices of the segments that are gathered with the book after the second segment. True if they are of a relaxed
+/// port mapper, which the book is not. The result of gathering all tickets.
 struct Chained(&'static [usize], bool, Result<(), GatherFault>);
 
-/// A node connects, registers and leaves, and another one connects.
+/// A node connects, registers and leaves, and another node connects.
 pub const ALL: &[(u64, SampleEntry)] = &[(0, OPENED), (1, REGISTERED), (2, LEFT), (3, OPENED)];
 
 const CHAINED: &[Chained] = &[
@@ -104,37 +102,37 @@ const CHAINED: &[Chained] = &[
     Chained(&[], false, Err(GatherFault::Stranger(0))),
 ];
 
-/// The segment of the node that comes and leaves, or the one behind it, of the other node.
-fn segment_in(alloc: Global, book: &mut Book, place: usize) -> Option<Segment> {
+/// Returns the segment of the first node, or the segment after it.
+fn segment_in(alloc: Global, book: &mut Book, index: usize) -> Option<Segment> {
     come_and_go(alloc, book)?;
-    if place == 1 {
+    if index == 1 {
         book.seal(alloc).ok()?;
         book.act(alloc, 1, Event::Connect { local: true }).ok()?;
     }
     book.seal(alloc).ok()
 }
 
-fn segment_of(alloc: Global, relaxed: bool, place: usize) -> Option<Segment> {
+fn segment_of(alloc: Global, relaxed: bool, index: usize) -> Option<Segment> {
     let mut book = book(alloc, relaxed)?;
-    segment_in(alloc, &mut book, place)
+    segment_in(alloc, &mut book, index)
 }
 
-pub fn segments_of(alloc: Global, relaxed: bool, places: &[usize]) -> Option<Vec<Segment>> {
+pub fn segments_of(alloc: Global, relaxed: bool, indices: &[usize]) -> Option<Vec<Segment>> {
     let mut segments = Vec::new(alloc);
-    for place in places {
-        segments.push(segment_of(alloc, relaxed, *place)?).ok()?;
+    for index in indices {
+        segments.push(segment_of(alloc, relaxed, *index)?).ok()?;
     }
     Some(segments)
 }
 
-/// The book behind both segments.
+/// Returns the book after both segments.
 pub fn two_nodes(alloc: Global) -> Option<Book> {
     let mut book = book(alloc, false)?;
     segment_in(alloc, &mut book, 1)?;
     Some(book)
 }
 
-/// Whether this is found of the tickets of all.
+/// Returns true if gathering all tickets has this result.
 fn is_found(
     alloc: Global,
     segments: &[Segment],
@@ -157,6 +155,6 @@ impl Case for Chained {
 }
 
 #[test]
-fn segments_follow_one_another_or_the_first_gap_is_told(rt: HostRuntime) -> Result<(), Fail> {
+fn segments_follow_one_another_or_the_first_gap_is_reported(rt: HostRuntime) -> Result<(), Fail> {
     all_hold(&rt, CHAINED)
 }

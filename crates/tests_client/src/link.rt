@@ -1,2 +1,2 @@
-//! What the adapters of readers and writers answer.
+//! The adapters of readers and writers.
 mod adapters;

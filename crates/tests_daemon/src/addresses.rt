@@ -1,5 +1,5 @@
 //! The addresses that a daemon listens on.
-use crate::daemon::{is_answered, settings_at, told_at};
+use crate::daemon::{answered_at, is_answered, settings_at};
 use portmap_daemon::{RunFault, run};
 use portmap_testing::bytes::{KILL, NOT_FOUND, PORT_A};
 use std::io::ErrorKind;
@@ -12,13 +12,12 @@ const PORT: u16 = 14_443;
 
 const TAKEN_PORT: u16 = 14_441;
 
-/// What comes of a look-up at this address of the host.
+/// Looks a name up at this address of the host.
 fn looked_up(rt: &HostRuntime, last: u8) -> Result<bool, ErrorKind> {
-    told_at(rt, IpAddr::from([127, 0, 0, last]), PORT, PORT_A, NOT_FOUND)
+    answered_at(rt, IpAddr::from([127, 0, 0, last]), PORT, PORT_A, NOT_FOUND)
 }
 
-/// What comes of look-ups at three addresses of the host, of which a daemon listens on the first two, and whether it
-/// ends then.
+/// Looks a name up at three addresses of the host. A daemon listens on the first two, and ends then.
 fn actual(rt: &HostRuntime) -> ([Result<bool, ErrorKind>; 3], Option<bool>) {
     let is_first = is_answered(rt, PORT, PORT_A, NOT_FOUND) == Some(true);
     let actual = [Ok(is_first), looked_up(rt, 2), looked_up(rt, 3)];
@@ -44,7 +43,7 @@ fn each_address_that_is_listed_is_listened_on_and_no_other(rt: HostRuntime) -> R
 }
 
 #[test]
-fn the_address_that_is_taken_is_told(rt: HostRuntime) -> Result<(), Fail> {
+fn an_address_in_use_is_reported(rt: HostRuntime) -> Result<(), Fail> {
     let mut settings = settings_at(rt.alloc(), TAKEN_PORT, 60, 1, None)?;
     settings.addresses.push([127, 0, 0, 1])?;
     let ended = run(&rt, rt.alloc(), settings);

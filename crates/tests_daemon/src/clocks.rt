@@ -1,4 +1,4 @@
-//! A clock that a test pushes forward.
+//! A clock that a test moves forward.
 use portmap_worker::{Host, Notice};
 use std::alloc::{AllocError, Global};
 use std::fs::{File, Files};
@@ -10,31 +10,32 @@ use std::sync::{Arc, Wait};
 use std::thread::Threads;
 use std::time::Duration;
 
-/// A runtime whose clock can be pushed forward, and whose memory can be short. It counts what the operator is told, and
-/// records also to a file that a link leads to.
+/// A runtime whose clock can be moved forward, and whose memory can be short. It counts notices to the operator, and
+/// follows a link to the file of a recording.
 #[derive(Drop)]
 pub struct Pushed<R: Clock> {
     rt: R,
     shared: Arc<Pushing>,
 }
 
-/// What the copies of it share.
+/// The state that its copies share.
 #[derive(Drop, Default)]
 pub struct Pushing {
-    /// By how many seconds it was pushed.
+    /// The number of seconds by which the clock was moved.
     seconds: AtomicU64,
-    /// The clock goes on by that alone.
-    stands: AtomicBool,
-    /// No memory can be had, as the host tells it, and how often it was asked.
+    /// True if the clock moves in no other way.
+    is_stopped: AtomicBool,
+    /// Whether the host has no memory, and how often it was asked.
     pub is_short: AtomicBool,
     pub asked: AtomicU64,
-    /// How often the operator was told that the recording has failed.
-    pub actual: AtomicU64,
-    /// How often, that it goes on again, that memory is short, and that another host was refused.
+    /// How often the operator was notified that the recording has failed.
+    pub failures: AtomicU64,
+    /// How often the operator was notified that the recording works again, that memory is short, and that a remote peer
+    /// was refused.
     pub again: AtomicU64,
     pub short: AtomicU64,
     pub remote: AtomicU64,
-    /// No further copy of it can be had.
+    /// True if no further copy of the runtime can be made.
     pub is_alone: AtomicBool,
 }
 
@@ -44,20 +45,18 @@ impl<R: Clock + Copy> Pushed<R> {
         Ok(Pushed { rt, shared })
     }
 
-    /// By how much it is pushed.
     pub fn pushing(&self) -> &Pushing {
         &self.shared
     }
 }
 
 impl Pushing {
-    /// From now on it goes on by what it is pushed alone, and no memory can be had.
+    /// Stops the clock, but for `push`, and the host has no memory from now on.
     pub fn stand(&self) {
-        self.stands.store(true, Ordering::SeqCst);
+        self.is_stopped.store(true, Ordering::SeqCst);
         self.is_short.store(true, Ordering::SeqCst);
     }
 
-    /// Pushes the clock forward by so many seconds.
     pub fn push(&self, seconds: u64) {
         self.seconds.fetch_add(seconds, Ordering::SeqCst);
     }
@@ -78,7 +77,7 @@ impl<R: Clock + Copy> Clone for Pushed<R> {
 impl<R: Clock> Clock for Pushed<R> {
     fn monotonic(&self) -> io::Result<Duration> {
         let pushed = Duration::from_secs(self.shared.seconds.load(Ordering::SeqCst));
-        if self.shared.stands.load(Ordering::SeqCst) {
+        if self.shared.is_stopped.load(Ordering::SeqCst) {
             return Ok(pushed);
         }
         Ok(self.rt.monotonic()?.saturating_add(pushed))
@@ -120,7 +119,7 @@ impl<R: Clock + Files<File = File>> Host for Pushed<R> {
 
     fn notify(&self, _alloc: Global, notice: &Notice<'_>) {
         let count = match notice {
-            Notice::RecordingFailed { .. } => &self.shared.actual,
+            Notice::RecordingFailed { .. } => &self.shared.failures,
             Notice::RecordingAgain { .. } => &self.shared.again,
             Notice::ShortOfMemory(_) => &self.shared.short,
             Notice::Remote(_) => &self.shared.remote,

@@ -1,4 +1,4 @@
-//! The daemon over sockets of this host: each story at a port of its own, with a client that ends it.
+//! The daemon over sockets of this host. Each script has its own port, and its client ends the daemon.
 ghost use Rattle.std.specs.Prelude.{◌<◌, ◌≤◌, vec_len, IfOk};
 ghost use Rattle.portmap_book.specs.declared.desk.TheConstants.{SEATS_MOST};
 ghost use Rattle.portmap_daemon.specs.declared.limits.TheConstants.{TIMEOUT_SECONDS_MOST};
@@ -20,27 +20,27 @@ use std::test::Fail;
 use std::time::Duration;
 use std::{fs, thread};
 
-/// What a client does with the daemon, each at the port of this number.
+/// The actions of a client. The number is its port.
 #[derive(Clone, Copy, PartialEq, Eq)]
 enum ClientScript {
     /// A node registers, is listed, and leaves.
     Leaves = 14_369,
     /// A node registers, and its connection is reset.
     Resets,
-    /// A connection says nothing, for longer than it may, and a node that is registered neither.
+    /// A connection is silent for longer than it may, and so is a registered node.
     Silent,
-    /// A peer asks for a list that is longer than what the system holds of it, and reads it only when another one was
-    /// answered.
+    /// A peer requests a list that is longer than the system can hold for it, and reads it only after another peer has
+    /// its reply.
     Stalls,
-    /// Eight peers ask for the list of names, one after the other, and read nothing.
+    /// Eight peers request the list of names, one after the other, and read nothing.
     Crowds,
-    /// That a node registers, is listed, and leaves is recorded.
+    /// A node registers, is listed, and leaves. That is recorded.
     Records,
-    /// It was to be recorded, and can't be.
+    /// The recording cannot be written.
     Nowhere,
 }
 
-/// Whether the request is answered so, and the connection closed behind it. A reply has at most 64 bytes.
+/// Returns true if the request has this reply, of at most 64 bytes, and the connection is closed after it.
 pub fn is_answered<R: Net<Stream = TcpStream> + Clock>(
     rt: &R,
     port: u16,
@@ -53,7 +53,7 @@ pub fn is_answered<R: Net<Stream = TcpStream> + Clock>(
     Some(is_same && behind == 0)
 }
 
-/// Whether these bytes, 64 at most, come first; none if fewer come.
+/// Returns true if these bytes, at most 64, arrive first. `None` if fewer arrive.
 fn begins(stream: &mut TcpStream, reply: &[u8]) -> Option<bool> {
     let mut whole = [0; 64];
     let got = whole.get_mut(..reply.len())?;
@@ -61,9 +61,9 @@ fn begins(stream: &mut TcpStream, reply: &[u8]) -> Option<bool> {
     Some(*got == *reply)
 }
 
-/// What comes of a request to this address of the host: whether it is answered by these bytes at first, or why it can't
-/// be asked.
-pub fn told_at(
+/// Sends a request to this address of the host. Returns true if the reply begins with these bytes, or the reason why
+/// there is no connection.
+pub fn answered_at(
     rt: &HostRuntime,
     ip: IpAddr,
     port: u16,
@@ -75,7 +75,7 @@ pub fn told_at(
     Ok(is_asked && begins(&mut stream, reply) == Some(true))
 }
 
-/// Whether the request comes to be answered so, within ten seconds.
+/// Returns true if the request has this reply within ten seconds.
 fn comes_to<R: Net<Stream = TcpStream> + Clock>(
     rt: &R,
     port: u16,
@@ -91,7 +91,7 @@ fn comes_to<R: Net<Stream = TcpStream> + Clock>(
     false
 }
 
-/// The connection of a node that is registered as `a`.
+/// Returns the connection of a node that is registered as `a`.
 pub fn registered<R: Net<Stream = TcpStream> + Clock>(rt: &R, port: u16) -> Option<TcpStream> {
     let mut stream = sent(rt, port, ALIVE_A)?;
     let mut reply = [0; 6];
@@ -99,10 +99,10 @@ pub fn registered<R: Net<Stream = TcpStream> + Clock>(rt: &R, port: u16) -> Opti
     reply.starts_with(&[0x76, 0]).then_some(stream)
 }
 
-/// The list of names of the daemon at port 14,369, which is 0x3821, with `a` in it.
+/// The list of names of the daemon at port 14,369 (0x3821), with `a` in it.
 const LISTED: &[u8] = b"\x00\x00\x38\x21name a at port 5000\n";
 
-/// The same at port 14,374, which is 0x3826.
+/// The list of names of the daemon at port 14,374 (0x3826), with `a` in it.
 const LISTED_AS_RECORDED: &[u8] = b"\x00\x00\x38\x26name a at port 5000\n";
 
 fn leaves<R: Net<Stream = TcpStream> + Clock>(rt: &R, port: u16, listed: &[u8]) -> Option<bool> {
@@ -113,7 +113,7 @@ fn leaves<R: Net<Stream = TcpStream> + Clock>(rt: &R, port: u16, listed: &[u8]) 
     Some(is_listed && is_found && comes_to(rt, port, PORT_A, NOT_FOUND))
 }
 
-/// A connection that is closed with bytes unread is reset.
+/// A connection that is closed with unread bytes is reset.
 fn resets<R: Net<Stream = TcpStream> + Clock>(rt: &R, port: u16) -> Option<bool> {
     let node = sent(rt, port, ALIVE_A)?;
     let is_found = comes_to(rt, port, PORT_A, FOUND_A);
@@ -121,7 +121,7 @@ fn resets<R: Net<Stream = TcpStream> + Clock>(rt: &R, port: u16) -> Option<bool>
     Some(is_found && comes_to(rt, port, PORT_A, NOT_FOUND))
 }
 
-/// Whether a connection that is silent is closed once its second is over, and a registered one is not.
+/// Returns true if a silent connection is closed after its second, and a registered one is not.
 fn is_silent<R: Net<Stream = TcpStream> + Clock>(rt: &R, port: u16) -> Option<bool> {
     let _node = registered(rt, port)?;
     let before = rt.monotonic().ok()?;
@@ -131,7 +131,8 @@ fn is_silent<R: Net<Stream = TcpStream> + Clock>(rt: &R, port: u16) -> Option<bo
     Some(is_closed && is_due && is_answered(rt, port, PORT_A, FOUND_A)?)
 }
 
-/// A registration of a name of 1,020 (0x03FC) bytes, which begins with these two. Its body has 1,033 (0x0409).
+/// Returns the registration of a name of 1,020 (0x03FC) bytes that begins with `first`. Its body has 1,033 (0x0409)
+/// bytes.
 fn long_registration(alloc: Global, first: [u8; 2]) -> Option<Vec<u8>> {
     let mut request = [
         0x04, 0x09, 0x78, 0x13, 0x88, 0x4D, 0x00, 0x00, 0x06, 0x00, 0x05, 0x03, 0xFC,
@@ -144,7 +145,7 @@ fn long_registration(alloc: Global, first: [u8; 2]) -> Option<Vec<u8>> {
     Some(request)
 }
 
-/// Whether a node with such a name registers. It leaves at once.
+/// Returns true if a node with such a name registers. It leaves at once.
 fn passes<R: Net<Stream = TcpStream> + Clock>(
     rt: &R,
     alloc: Global,
@@ -158,7 +159,7 @@ fn passes<R: Net<Stream = TcpStream> + Clock>(
     Some(reply.starts_with(&[0x76, 0]))
 }
 
-/// Whether 4,800 such nodes come and leave.
+/// Returns true if 4,800 such nodes register and leave.
 fn pass<R: Net<Stream = TcpStream> + Clock>(rt: &R, alloc: Global, port: u16) -> Option<bool> {
     for one in 0x30..0x60 {
         for two in 0x80..0xE4 {
@@ -170,11 +171,11 @@ fn pass<R: Net<Stream = TcpStream> + Clock>(rt: &R, alloc: Global, port: u16) ->
     Some(true)
 }
 
-/// The list of names of the daemon at port 14,372, which is 0x3824, with none in it.
+/// The list of names of the daemon at port 14,372 (0x3824), with no name.
 const NONE_LISTED: &[u8] = &[0x00, 0x00, 0x38, 0x24];
 
-/// Each of the lines `old/unused name NAME at port 5000, fd = -1` has 1,059 bytes. All have more than loopback holds of
-/// what a peer doesn't read: 4 MB, and what the peer has room for.
+/// The line `old/unused name NAME at port 5000, fd = -1` of each name has 1,059 bytes. Together they are more than
+/// loopback holds for a peer that does not read: 4 MB, and the buffer of the peer.
 const DUMP_LENGTH: usize = 5_083_204;
 
 fn stalls<R: Net<Stream = TcpStream> + Clock>(rt: &R, alloc: Global, port: u16) -> Option<bool> {
@@ -195,7 +196,7 @@ fn crowds<R: Net<Stream = TcpStream> + Clock>(rt: &R, alloc: Global, port: u16) 
     Some(peers.len() == 8)
 }
 
-/// Whether the story goes as it should. The daemon is told to end in any case.
+/// Runs the script, and ends the daemon in any case.
 fn goes_well<R: Net<Stream = TcpStream> + Clock>(
     rt: &R,
     alloc: Global,
@@ -214,7 +215,7 @@ fn goes_well<R: Net<Stream = TcpStream> + Clock>(
     actual == Some(true) && has_ended == Some(true)
 }
 
-/// What a daemon at this port is set to, which listens on the host and may be told to end with names active.
+/// Returns the settings of a daemon at this port of the host. It may be ended while names are active.
 pub fn settings_at(
     alloc: Global,
     port: u16,
@@ -245,7 +246,6 @@ pub fn settings_at(
     })
 }
 
-/// What the daemon of a story is set to.
 fn settings(alloc: Global, story: ClientScript, recording: Option<&str>) -> Result<Settings, Fail>
     ensures addresses { IfOk result (λ settings. 0 < vec_len settings.addresses) }
     ensures timeout { IfOk result (λ settings. (1 ≤ settings.timeout) × (settings.timeout ≤ TIMEOUT_SECONDS_MOST)) }
@@ -255,8 +255,7 @@ fn settings(alloc: Global, story: ClientScript, recording: Option<&str>) -> Resu
     settings_at(alloc, story as u16, timeout, 2, recording)
 }
 
-/// Whether each of two workers has told what it served, together one act at least, and whether all was recorded is told
-/// so.
+/// Returns true if each of two workers has reported its number of acts, and the daemon whether all was recorded.
 fn have_served(ended: &Result<RunEnd, RunFault>, recorded: bool) -> bool {
     ended.as_ref().is_ok_and(|end| {
         let has_one = end.served.iter().any(|served| *served > 0);
@@ -264,8 +263,8 @@ fn have_served(ended: &Result<RunEnd, RunFault>, recorded: bool) -> bool {
     })
 }
 
-/// Stories, the path that is recorded to, and whether all was.
-const TOLD: [(ClientScript, Option<&str>, bool); 5] = [
+/// Scripts, the path of the recording, and whether all is recorded.
+const SCRIPTS: [(ClientScript, Option<&str>, bool); 5] = [
     (ClientScript::Leaves, None, true),
     (ClientScript::Resets, None, true),
     (ClientScript::Silent, None, true),
@@ -276,7 +275,7 @@ const TOLD: [(ClientScript, Option<&str>, bool); 5] = [
 #[test]
 fn each_story_goes_as_it_should(rt: HostRuntime) -> Result<(), Fail> {
     let alloc = rt.alloc();
-    for (story, path, recorded) in TOLD {
+    for (story, path, recorded) in SCRIPTS {
         let settings = settings(alloc, story, path)?;
         let daemon = || run(&rt, alloc, settings);
         let (ended, actual) = thread::join(&rt, daemon, || goes_well(&rt, alloc, story));
@@ -296,7 +295,7 @@ fn a_worker_that_is_held_stops_no_other(rt: HostRuntime) -> Result<(), Fail> {
     Ok(())
 }
 
-/// How many acts the workers made together.
+/// Returns the number of acts of all workers.
 pub fn acts_of(ended: &Result<RunEnd, RunFault>) -> u64 {
     ended.as_ref().map_or(0, |end| {
         let served = end.served.iter();
@@ -304,7 +303,7 @@ pub fn acts_of(ended: &Result<RunEnd, RunFault>) -> u64 {
     })
 }
 
-/// Whether a recorded session is found to be a run of so many entries.
+/// Returns true if a recorded session is a run of this number of entries.
 fn is_run_of<F: Read + Drop>(alloc: Global, file: F, entries: u64) -> Result<bool, Fail> {
     let mut input = Reading::new(file);
     let mut output = Writing::new(Vec::new(alloc));
@@ -313,7 +312,7 @@ fn is_run_of<F: Read + Drop>(alloc: Global, file: F, entries: u64) -> Result<boo
     Ok(actual == Ok(Verdict::Run) && output.into_inner().as_slice() == verdict.as_bytes())
 }
 
-/// A file of this test alone, in the folder that tests run in.
+/// A file of this test alone, in the folder of the tests.
 const RECORDING: &str = "recording-14374";
 
 #[test]

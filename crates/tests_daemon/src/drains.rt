@@ -1,4 +1,4 @@
-//! Who takes the log out, where its poll fails.
+//! The thread that drains the log, with a poll that fails.
 ghost use Rattle.std.specs.Prelude.{◌≡◌};
 
 use portmap_book::{Desk, PARTS};
@@ -19,7 +19,7 @@ use std::thread::Threads;
 use std::time::Duration;
 use std::{io, thread};
 
-/// A system whose polls fail. It counts them.
+/// A system whose polls fail, and are counted.
 #[derive(Drop)]
 struct Deaf<'a> {
     polls: &'a AtomicU64,
@@ -35,7 +35,7 @@ impl System for Deaf<'_> {
         false
     }
 
-    fn report(&self, _place: usize) -> Option<Report> {
+    fn report(&self, _index: usize) -> Option<Report> {
         None
     }
 
@@ -57,24 +57,24 @@ impl System for Deaf<'_> {
         0
     }
 
-    fn listen(&mut self, _place: usize) -> io::Result<()> {
+    fn listen(&mut self, _index: usize) -> io::Result<()> {
         Ok(())
     }
 
-    fn leave(&mut self, _place: usize) {}
+    fn leave(&mut self, _index: usize) {}
 
-    fn accept(&mut self, _place: usize) -> io::Result<(MioStream, IpAddr)> {
+    fn accept(&mut self, _index: usize) -> io::Result<(MioStream, IpAddr)> {
         Err(io::Error::from(ErrorKind::WouldBlock))
     }
 }
 
-/// The only worker ends after a second and a half.
+/// Ends the only worker after a second and a half.
 fn end_late<R: Wait + Clock>(rt: &R, shared: &Shared<MioWaker>) {
     thread::sleep(rt, Duration::from_millis(1500));
     shared.end_worker(0, 0);
 }
 
-/// How often it polls until then, if it ends with that.
+/// Returns the number of polls until the worker ends.
 fn polls<L: Ledger + Send + Sync, R: Net + Host<File = File> + Threads + Wait + Clock + Sync>(
     rt: &R,
     alloc: Global,
@@ -100,7 +100,7 @@ fn polls<L: Ledger + Send + Sync, R: Net + Host<File = File> + Threads + Wait + 
 }
 
 #[test]
-fn who_takes_the_log_out_sleeps_where_its_poll_fails(rt: HostRuntime) -> Result<(), Fail> {
+fn the_draining_thread_sleeps_if_its_poll_fails(rt: HostRuntime) -> Result<(), Fail> {
     let polls = polls::<Brand, HostRuntime>(&rt, rt.alloc(), Blank::new(PARTS)).unwrap_or(0);
     assert!(rt; polls > 0 && polls < 10);
     Ok(())

@@ -1,4 +1,4 @@
-//! A recording that goes on in a further file once one is full.
+//! A recording that continues in another file when one is full.
 ghost use Rattle.std.specs.Prelude.{◌≡◌};
 
 use portmap_book::{Desk, PARTS};
@@ -17,7 +17,8 @@ use std::thread::Threads;
 use std::time::Duration;
 use std::{fs, thread};
 
-/// Two connections and two names at most, from place 0 and nothing known on: worker 1 has a node connect and register.
+/// At most two connections and two names, from position 0 and no known name on. A node connects and registers at worker
+/// 1.
 pub const REGISTERS: [u8; 93] = [
     0x45, 0x50, 0x4D, 0x53, 2, 0, 0x11, 0x11, 0, 0, 0, 2, 0, 0, 0, 2, //
     0, 0, 0, 0, 0, 0, 0, 0, 0, 0, 0, 0, 0, 0, 0, 0, 0, 0, 0, 0, 0, //
@@ -26,29 +27,28 @@ pub const REGISTERS: [u8; 93] = [
     0, 1, 0x61, 0, 0, 0, 0, 0, 0, 6, 0x76, 0, 0, 0, 0, 4,
 ];
 
-/// For so many milliseconds a file is waited for that is full.
+/// How long to wait for a full file, in milliseconds.
 const PATIENCE: u32 = 500;
 
-/// When the next file is begun.
+/// The time at which the next file is begun.
 #[derive(Clone, Copy, PartialEq, Eq)]
 enum Turn {
-    /// Once the one that is being written is full, if it ever is.
+    /// When the current file is full, if it ever is.
     Full,
-    /// Before any of it is written.
+    /// Before any byte of the current file is written.
     AtOnce,
-    /// Not at all, nor is a first one.
+    /// Not at all, and no first file either.
     Never,
 }
 
-/// Takes the log out and has it recorded, as the daemon does.
+/// Drains the log and queues it for the recording, as the daemon does.
 fn record_log<L: Ledger, R: Wait>(rt: &R, alloc: Global, desk: &Desk<L>, queue: &RecordQueue) {
     let mut entries = Vec::new(alloc);
-    let mut makers = Vec::new(alloc);
-    desk.advance(rt, alloc, &mut entries, &mut makers);
-    queue.put(rt, Some(RecordItem::Entries(entries, makers)));
+    let mut workers = Vec::new(alloc);
+    desk.advance(rt, alloc, &mut entries, &mut workers);
+    queue.put(rt, Some(RecordItem::Entries(entries, workers)));
 }
 
-/// Begins the next file.
 fn turn_over<L: Ledger, R: Wait + Clock>(
     rt: &R,
     alloc: Global,
@@ -68,7 +68,7 @@ fn turn_over<L: Ledger, R: Wait + Clock>(
     true
 }
 
-/// A node comes by worker 1 and registers, and leaves by worker 2. The log is recorded after either.
+/// A node connects and registers at worker 1, and closes at worker 2. The log is recorded after both.
 fn comes_and_leaves<L: Ledger, R: Wait + Clock>(
     rt: &R,
     alloc: Global,
@@ -84,12 +84,12 @@ fn comes_and_leaves<L: Ledger, R: Wait + Clock>(
     let turns = turn_over(rt, alloc, desk, queue, turn);
     desk.close(rt, alloc, &mut two, conn).ok()?;
     record_log(rt, alloc, desk, queue);
-    // There is nothing more in the log.
+    // The log has no more entries.
     record_log(rt, alloc, desk, queue);
     Some(turns)
 }
 
-/// Whether all of that is handed on to be recorded.
+/// Returns true if all of that is queued.
 fn is_handed_on<L: Ledger, R: Wait + Clock>(
     rt: &R,
     alloc: Global,
@@ -108,7 +108,6 @@ fn is_handed_on<L: Ledger, R: Wait + Clock>(
     Some(begins && turns?)
 }
 
-/// The same, at a desk of its own.
 fn hand_on<R: Wait + Clock>(
     rt: &R,
     alloc: Global,
@@ -118,13 +117,12 @@ fn hand_on<R: Wait + Clock>(
     is_handed_on::<Brand, R>(rt, alloc, Blank::new(PARTS), queue, turn)
 }
 
-/// A queue for a recording at this path.
 fn queue_at(alloc: Global, path: &str) -> Option<RecordQueue> {
     Some(RecordQueue::new(alloc, path.to_string(alloc).ok()?))
 }
 
-/// Whether all of that, which is handed on before any of it is written, is written to a file that is full once it has
-/// so many bytes, and whether the queue says then that it is full.
+/// Queues all of that before any of it is written, to files that are full at `file_most` bytes. Returns whether all is
+/// written, and whether the queue reports a full file then.
 fn written<R: Files<File = File> + Wait + Clock>(
     rt: &R,
     alloc: Global,
@@ -139,7 +137,7 @@ fn written<R: Files<File = File> + Wait + Clock>(
     Some((is_written, queue.is_full(rt)))
 }
 
-/// Whether a file has these bytes. It is removed.
+/// Returns true if the file has these bytes, and removes it.
 fn has_had(rt: &HostRuntime, path: &str, bytes: &[u8]) -> Result<bool, Fail> {
     let held = fs::read(rt, path)?;
     fs::remove_file(rt, path)?;
@@ -159,7 +157,7 @@ fn a_file_that_is_full_is_followed_by_one_that_begins_where_it_ended(
     Ok(())
 }
 
-/// Both as one record.
+/// Returns true if the file has both as one record, and removes it.
 fn is_one_record(rt: &HostRuntime, path: &str) -> Result<bool, Fail> {
     let mut all = REGISTERS.to_vec(rt.alloc())?;
     let (_, close) = CLOSES.split_at(72);
@@ -175,7 +173,7 @@ fn a_file_that_is_not_full_goes_on(rt: HostRuntime) -> Result<(), Fail> {
     Ok(())
 }
 
-/// The first one is full, of 93 bytes, and the second one, of 86, waits for it.
+/// The first file is full at 93 bytes. The second one, of 86 bytes, waits for it.
 #[test]
 fn a_file_that_waits_for_the_one_before_it_is_not_full(rt: HostRuntime) -> Result<(), Fail> {
     let written = written(&rt, rt.alloc(), Turn::AtOnce, 90, "behind");
@@ -184,14 +182,14 @@ fn a_file_that_waits_for_the_one_before_it_is_not_full(rt: HostRuntime) -> Resul
     Ok(())
 }
 
-/// Ends a recording to which nothing is put, after a moment.
+/// Ends a recording that has no items, after a moment.
 fn end_late<R: Files<File = File> + Wait + Clock>(rt: &R, alloc: Global, queue: &RecordQueue) {
     thread::sleep(rt, Duration::from_millis(100));
     write_recording(rt, alloc, queue, 93);
 }
 
 #[test]
-fn who_waits_for_the_end_of_a_recording_is_told_at_once(rt: HostRuntime) -> Result<(), Fail> {
+fn a_wait_for_the_end_of_a_recording_ends_at_once(rt: HostRuntime) -> Result<(), Fail> {
     let (alloc, patience) = (rt.alloc(), Duration::from_secs(10));
     let queue = RecordQueue::new(alloc, "none".to_string(alloc)?);
     queue.close(&rt);
@@ -203,7 +201,7 @@ fn who_waits_for_the_end_of_a_recording_is_told_at_once(rt: HostRuntime) -> Resu
     Ok(())
 }
 
-/// Whether two logs, each from its beginning on, are handed on one behind the other, and the recording ends between
+/// Returns true if two logs, each from position 0 on, are queued one after the other, and the recording ends between
 /// them.
 fn ends_between<R: Files<File = File> + Wait + Clock>(
     rt: &R,
@@ -218,7 +216,7 @@ fn ends_between<R: Files<File = File> + Wait + Clock>(
     Some(first && second && !queue.is_written(rt, Duration::ZERO))
 }
 
-/// The second file begins at place 0 again, and the first one ends at place 3.
+/// The second file begins at position 0 again, and the first one ends at position 3.
 #[test]
 fn a_file_that_does_not_follow_is_not_begun(rt: HostRuntime) -> Result<(), Fail> {
     let ends = ends_between(&rt, rt.alloc(), Turn::Full, "apart");
@@ -236,7 +234,7 @@ fn entries_that_are_no_run_are_not_recorded(rt: HostRuntime) -> Result<(), Fail>
     Ok(())
 }
 
-/// A device that takes all.
+/// A device that accepts every byte.
 #[test]
 fn what_is_no_plain_file_is_never_full(rt: HostRuntime) -> Result<(), Fail> {
     let written = written(&rt, rt.alloc(), Turn::Full, 1, "/dev/null");
@@ -244,9 +242,9 @@ fn what_is_no_plain_file_is_never_full(rt: HostRuntime) -> Result<(), Fail> {
     Ok(())
 }
 
-/// A device that takes no byte.
+/// A device that accepts no byte.
 #[test]
-fn a_file_that_takes_nothing_is_told(rt: HostRuntime) -> Result<(), Fail> {
+fn a_file_that_accepts_nothing_is_reported(rt: HostRuntime) -> Result<(), Fail> {
     let written = written(&rt, rt.alloc(), Turn::Full, 94, "/dev/full");
     assert!(rt; matches!(written, Some((false, _))));
     Ok(())

@@ -1,21 +1,20 @@
-//! Gates that hold a worker until another one has come as far, for a bounded time.
+//! Gates that hold a worker until another worker arrives, for a bounded time.
 use portmap_testing::books::is_raised;
 use portmap_worker::{Gate, Point};
 use std::rt::Clock;
 use std::sync::atomic::{AtomicU64, Ordering};
 
-/// A gate that says when a worker that is to come behind another one may begin.
+/// A gate that also holds the second worker until it may begin.
 pub trait Order: Gate {
-    /// Returns once it may.
     fn follow(&self);
 }
 
-/// A gate at which two workers meet with no lock held: the one that comes first at `Answered` is held there until one
-/// with another number has passed. After ten seconds it lets go, and notes it.
+/// A gate at which two workers meet while neither holds the lock. It holds the first worker at `Answered` until a
+/// worker with another number passes. After ten seconds it lets the worker pass, and counts that.
 #[derive(Drop)]
 pub struct Meet<'a, R: Clock> {
     rt: &'a R,
-    /// The number of the worker that came first, and 1; or 0.
+    /// The number of the first worker plus 1, or 0.
     first: AtomicU64,
     others: AtomicU64,
     noted: AtomicU64,
@@ -31,12 +30,12 @@ impl<'a, R: Clock> Meet<'a, R> {
         }
     }
 
-    /// Whether two workers have met, and it let go of none before.
+    /// Returns true if two workers have met, and no wait was too long.
     pub fn have_met(&self) -> bool {
         self.others.load(Ordering::SeqCst) > 0 && self.noted.load(Ordering::SeqCst) == 0
     }
 
-    /// Whether no worker with another number came first.
+    /// Returns true if no worker with another number was first.
     fn is_first(&self, worker: u32) -> bool {
         let own = u64::from(worker) + 1;
         match self
@@ -66,8 +65,8 @@ impl<R: Clock> Order for Meet<'_, R> {
     fn follow(&self) {}
 }
 
-/// A gate for a worker 0 and one that comes behind it: it holds worker 0 at `Sent` until the other one is there too.
-/// After ten seconds it lets go, and notes it.
+/// A gate that holds worker 0 at `Sent` until the other worker is there too. After ten seconds it lets the worker pass,
+/// and counts that.
 #[derive(Drop)]
 pub struct Relay<'a, R: Clock> {
     rt: &'a R,
@@ -86,7 +85,7 @@ impl<'a, R: Clock> Relay<'a, R> {
         }
     }
 
-    /// How often a wait took too long.
+    /// Returns the number of waits that were too long.
     pub fn noted(&self) -> u64 {
         self.noted.load(Ordering::SeqCst)
     }
@@ -112,7 +111,7 @@ impl<R: Clock> Gate for Relay<'_, R> {
 }
 
 impl<R: Clock> Order for Relay<'_, R> {
-    /// Once worker 0 is at `Sent`.
+    /// Waits until worker 0 is at `Sent`.
     fn follow(&self) {
         self.wait(&self.ahead);
     }

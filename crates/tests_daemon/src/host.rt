@@ -1,4 +1,4 @@
-//! The file of a recording as the host makes it, and what an operator reads.
+//! The file of a recording as the host creates it, and the texts that an operator reads.
 use portmap_core::Fate;
 use portmap_testing::bytes::{ALIVE_A, ALIVE_B, DUMP, FOURTH, KILL, NOT_FOUND, PORT_A, STOP_A};
 use portmap_testing::entries::{SampleEntry, entry};
@@ -13,21 +13,21 @@ use std::test::Fail;
 /// A user that is not root.
 const NOBODY: u32 = 65_534;
 
-/// Whether the file at the path has these bytes, and its owner alone may read and write it.
+/// Returns true if the file has these bytes, and only its owner may read and write it.
 fn is_private(rt: &HostRuntime, path: &str, bytes: &[u8]) -> Result<bool, Fail> {
     let mode = fs::metadata(rt, path)?.mode() % 0o1000;
     Ok(mode == 0o600 && fs::read(rt, path)?.as_slice() == bytes)
 }
 
-/// Makes a file with these bytes that everybody may read.
+/// Creates a file with these bytes that everybody may read.
 fn write_public(rt: &HostRuntime, path: &str, bytes: &[u8]) -> Result<(), Fail> {
     fs::write(rt, path, bytes)?;
     fs::set_permissions(rt, path, Permissions::from_mode(0o644))?;
     Ok(())
 }
 
-/// Makes the file at the path by the host and writes to it. Whether it has that alone, and is its owner's. It is
-/// removed then.
+/// Creates the file by the host and writes to it. Returns true if it has only these bytes and is private. The file is
+/// removed.
 fn records_to(rt: &HostRuntime, path: &str) -> Result<bool, Fail> {
     let mut file: File = rt.make(path)?;
     file.write_all(b"new")?;
@@ -49,7 +49,7 @@ fn a_file_that_is_there_is_emptied_and_is_its_owners(rt: HostRuntime) -> Result<
     Ok(())
 }
 
-/// Whether the host refuses a link to a file, and one to no file, and leaves the file as it was.
+/// Returns true if the host refuses a link to a file, and a dangling link, and leaves the file unchanged.
 fn refuses_links(rt: &HostRuntime) -> Result<bool, Fail> {
     fs::write(rt, "target", b"kept")?;
     symlink(rt, "target", "link")?;
@@ -69,11 +69,11 @@ fn a_link_is_not_followed(rt: HostRuntime) -> Result<(), Fail> {
     Ok(())
 }
 
-/// Whether a file of another user is refused and keeps what it has.
+/// Returns true if a file of another user is refused and unchanged.
 fn refuses_others(rt: &HostRuntime) -> Result<bool, Fail> {
     fs::write(rt, "others", b"kept")?;
     let user = fs::metadata(rt, "others")?.uid();
-    // Only root may give a file away, and who has the other user's number already keeps it.
+    // Only root may change the owner of a file. The test is skipped if the test's user is the other user.
     let _ = rt.chown("others", Some(NOBODY), None);
     if fs::metadata(rt, "others")?.uid() == user {
         fs::remove_file(rt, "others")?;
@@ -91,7 +91,7 @@ fn a_file_of_another_user_is_refused(rt: HostRuntime) -> Result<(), Fail> {
     Ok(())
 }
 
-/// A device is written to, stays everybody's, and is no plain file.
+/// A device is written to. Its mode does not change, and it is not a plain file.
 #[test]
 fn a_device_is_taken_as_it_is(rt: HostRuntime) -> Result<(), Fail> {
     let before = fs::metadata(&rt, "/dev/null")?.mode();
@@ -100,8 +100,7 @@ fn a_device_is_taken_as_it_is(rt: HostRuntime) -> Result<(), Fail> {
     Ok(())
 }
 
-/// Whether a file has the first bytes alone of what was written to it once it was cut, and is a plain one. It is
-/// removed.
+/// Returns true if a plain file that is truncated has only the first bytes of its text. The file is removed.
 fn is_cut(rt: &HostRuntime, path: &str) -> Result<bool, Fail> {
     let mut file: File = rt.make(path)?;
     file.write_all(b"whole half")?;
@@ -156,14 +155,14 @@ fn an_operator_reads_a_line_of_each_kind(rt: HostRuntime) -> Result<(), Fail> {
     Ok(())
 }
 
-/// A wide answer and a short one that the name is in use, and one that there is no room for it.
+/// A long and a short reply that the name is in use, and a reply that there is no room for it.
 const IN_USE: &[u8] = &[0x76, 0x01, 0x00, 0x00, 0x00, 0x00];
 
 const IN_USE_SHORT: &[u8] = &[0x79, 0x01, 0x00, 0x00];
 
 const NO_ROOM: &[u8] = &[0x76, 0x02, 0x00, 0x00, 0x00, 0x00];
 
-/// Of these none is refused since its name is in use.
+/// None of these is a name that is in use.
 const OTHERS: &[SampleEntry] = &[
     SampleEntry::Connected(true, 0),
     SampleEntry::Piece(0, PORT_A, NOT_FOUND, Fate::Close),
@@ -171,15 +170,15 @@ const OTHERS: &[SampleEntry] = &[
     SampleEntry::Piece(2, ALIVE_B, NO_ROOM, Fate::Close),
 ];
 
-/// The end of a registration, and two whole ones.
+/// The end of a registration, and two complete registrations.
 const REFUSED: &[SampleEntry] = &[
     SampleEntry::Piece(3, b"c\0\0", IN_USE, Fate::Close),
     SampleEntry::Piece(4, ALIVE_A, IN_USE_SHORT, Fate::Close),
     SampleEntry::Piece(5, ALIVE_B, IN_USE, Fate::Close),
 ];
 
-/// Whether so many of these entries count, and this line tells of them.
-fn is_told(alloc: Global, entries: &[SampleEntry], count: u64, line: &[u8]) -> Result<bool, Fail> {
+/// Returns true if `count` of these entries are counted, and the text is this line.
+fn prints(alloc: Global, entries: &[SampleEntry], count: u64, line: &[u8]) -> Result<bool, Fail> {
     let mut refused = Refused::new();
     for kept in entries {
         refused.note(alloc, &entry(alloc, kept)?);
@@ -191,22 +190,22 @@ fn is_told(alloc: Global, entries: &[SampleEntry], count: u64, line: &[u8]) -> R
 fn an_operator_reads_of_names_that_are_in_use(rt: HostRuntime) -> Result<(), Fail> {
     let alloc = rt.alloc();
     let unknown = &REFUSED[..1];
-    assert!(rt; is_told(alloc, OTHERS, 0, b"epmd: a name is in use\n")?);
-    assert!(rt; is_told(alloc, unknown, 1, b"epmd: a name is in use\n")?);
-    assert!(rt; is_told(alloc, &REFUSED[1..2], 1, b"epmd: name a is in use\n")?);
-    assert!(rt; is_told(alloc, REFUSED, 3, b"epmd: name a is in use, and 2 more\n")?);
+    assert!(rt; prints(alloc, OTHERS, 0, b"epmd: a name is in use\n")?);
+    assert!(rt; prints(alloc, unknown, 1, b"epmd: a name is in use\n")?);
+    assert!(rt; prints(alloc, &REFUSED[1..2], 1, b"epmd: name a is in use\n")?);
+    assert!(rt; prints(alloc, REFUSED, 3, b"epmd: name a is in use, and 2 more\n")?);
     Ok(())
 }
 
-/// Another host has slots 1 and 3, and this one slot 2.
+/// A remote peer has slots 1 and 3, and a local peer slot 2.
 const ROUNDS: &[SampleEntry] = &[
     SampleEntry::Connected(false, 1),
     SampleEntry::Connected(true, 2),
     SampleEntry::Connected(false, 3),
 ];
 
-/// None of these is a request of another host that was refused: of this host, answered, in parts, a look-up, or of a
-/// slot that is this host's again.
+/// No refused request of a remote peer: requests of a local peer, with a reply, in two chunks, for a lookup, or in a
+/// slot that a local peer has again.
 const UNCOUNTED: &[SampleEntry] = &[
     SampleEntry::Piece(2, DUMP, b"", Fate::Close),
     SampleEntry::Piece(1, DUMP, b"dump", Fate::Close),
@@ -219,7 +218,7 @@ const UNCOUNTED: &[SampleEntry] = &[
     SampleEntry::Piece(7, DUMP, b"", Fate::Close),
 ];
 
-/// Each of these is one.
+/// Each of these is a refused request of a remote peer.
 const COUNTED: &[SampleEntry] = &[
     SampleEntry::Piece(3, STOP_A, b"", Fate::Close),
     SampleEntry::Piece(3, KILL, b"", Fate::Close),
@@ -227,7 +226,7 @@ const COUNTED: &[SampleEntry] = &[
     SampleEntry::Piece(3, ALIVE_A, b"", Fate::Close),
 ];
 
-/// Notes these entries of a log with five slots.
+/// Applies these entries of a log with five slots.
 fn note_all(
     alloc: Global,
     refused: &mut RemoteRefused,

@@ -1,4 +1,4 @@
-//! A stream as a link: what its calls say to a source that is told of news once.
+//! A stream as a link: the results of its calls for an edge-triggered source.
 use mio::net;
 use portmap_daemon::MioStream;
 use portmap_link::{Input, Output, Pull, Put};
@@ -10,23 +10,22 @@ use std::io::ErrorKind;
 use std::net::{IpAddr, Ipv4Addr, TcpListener, TcpStream};
 use std::test::Fail;
 
-/// What is called.
 #[derive(Clone, Copy)]
 enum Call {
     Pull,
     Put,
 }
 
-/// What the stream tells at a call, whether the link says Later to it, and whether there may be more without a report.
+/// A call, the outcome of the stream, whether the link returns Later, and whether it may move without a report.
 struct Step(Call, CallOutcome, bool, bool);
 
 const CUT_SHORT: CallOutcome = CallOutcome::Error(ErrorKind::Interrupted);
 
 const WAITS: CallOutcome = CallOutcome::Error(ErrorKind::WouldBlock);
 
-/// A call that a signal cut short says nothing of the stream: only one that would have waited does, and a pull that
-/// gave less than there was room for, which a put that was taken doesn't change. While a put waits for a report nothing
-/// else is tried.
+/// A call that a signal interrupted says nothing about the stream. A call that would block does, and so does a pull
+/// that returned less than it had room for. A put that succeeds does not change that. While a put waits for a report,
+/// nothing else is tried.
 const STEPS: &[Step] = &[
     Step(Call::Pull, CUT_SHORT, true, true),
     Step(Call::Pull, CallOutcome::Count(8), false, true),
@@ -45,7 +44,7 @@ const STEPS: &[Step] = &[
 ];
 
 impl Call {
-    /// Makes the call. Whether the link says Later.
+    /// Makes the call, and returns true if the link returns Later.
     fn is_later(self, link: &mut Link<Script<'_>>) -> bool {
         match self {
             Call::Pull => link.pull(&mut [0; 8]) == Pull::Later,
@@ -68,7 +67,7 @@ fn only_a_call_that_would_have_waited_ends_the_asking(rt: HostRuntime) -> Result
     Ok(())
 }
 
-/// What comes first, whether it is from this host, and whether it is kept back as a request to register a name.
+/// The first chunk, whether its peer is local, and whether the link holds the chunk back because it registers a name.
 const FIRST: &[(&[u8], bool, bool)] = &[
     (ALIVE_A, true, true),
     (ALIVE_A, false, false),
@@ -78,15 +77,15 @@ const FIRST: &[(&[u8], bool, bool)] = &[
     (&[0x00], true, false),
 ];
 
-/// How often, and in which way, a stream fails before it gives them.
+/// How often a stream fails before its first chunk, and with which error.
 const FIRST_FAULTS: [(u32, ErrorKind); 3] = [
     (0, ErrorKind::Other),
     (1, ErrorKind::WouldBlock),
     (1, ErrorKind::Interrupted),
 ];
 
-/// Whether a link gives these bytes at once, once it has said Later to as many pulls as its stream fails so. If they
-/// are kept back, that it is asked to register `a`, it says Later to one pull before.
+/// Returns true if a link returns Later for every fault of its stream, and then this chunk. If the chunk registers `a`
+/// and is held back, one more pull returns Later.
 fn gives(
     alloc: Global,
     (failing, kind): (u32, ErrorKind),
@@ -123,10 +122,10 @@ fn a_first_piece_that_registers_a_name_is_kept_back(rt: HostRuntime) -> Result<(
     Ok(())
 }
 
-/// This host has this address too, and who connects there has another one.
+/// This host has this address too. A peer that connects there has another address.
 const SECOND: [u8; 4] = [127, 0, 0, 2];
 
-/// The own address of a connection that was accepted there.
+/// Returns the own address of an accepted connection.
 fn own_of_accepted(rt: &HostRuntime) -> Result<Option<IpAddr>, Fail> {
     let address = Ipv4Addr::from(SECOND);
     let listener = TcpListener::bind(rt, (address, 14_442))?;
@@ -136,7 +135,7 @@ fn own_of_accepted(rt: &HostRuntime) -> Result<Option<IpAddr>, Fail> {
 }
 
 #[test]
-fn a_connection_tells_its_own_address(rt: HostRuntime) -> Result<(), Fail> {
+fn a_connection_reports_its_own_address(rt: HostRuntime) -> Result<(), Fail> {
     assert_eq!(rt; own_of_accepted(&rt)?, Some(IpAddr::from(SECOND)));
     Ok(())
 }

@@ -1,5 +1,5 @@
-//! Where a daemon listens: at the IPv6 addresses beside its own, and over sockets that are handed over to it.
-use crate::daemon::{is_answered, settings_at, told_at};
+//! The sockets of a daemon: IPv6 addresses beside its own, and sockets that are handed over.
+use crate::daemon::{answered_at, is_answered, settings_at};
 use portmap_daemon::{FILE_BYTES_MOST, HandedFault, Open, beside, handed_over, run, run_over};
 use portmap_testing::bytes::{ALIVE_A, KILL, NAMES, NOT_FOUND, PORT_A};
 use std::alloc::Global;
@@ -17,7 +17,7 @@ const HANDED_PORT: u16 = 14_446;
 
 const NONE_LISTED: &[u8] = &[0x00, 0x00, 0x38, 0x6E];
 
-/// A registration that was taken.
+/// The first bytes of a reply to a registration that succeeds.
 const TAKEN: &[u8] = &[0x76, 0x00];
 
 const LOOPBACK: IpAddr = IpAddr::V4(Ipv4Addr::LOCALHOST);
@@ -32,17 +32,16 @@ fn beside_an_ipv4_address_stands_one_of_ipv6(rt: HostRuntime) -> Result<(), Fail
     Ok(())
 }
 
-/// What comes of a look-up and of a registration at the host's IPv6 address, and whether the daemon at 127.0.0.1 ends
-/// then.
+/// Looks a name up and registers one at the host's IPv6 address. Then the daemon at 127.0.0.1 ends.
 fn actual(rt: &HostRuntime) -> ([Option<bool>; 2], bool) {
     let is_up = is_answered(rt, PORT, PORT_A, NOT_FOUND) == Some(true);
-    let looked_up = told_at(rt, LOOPBACK_OF_IPV6, PORT, PORT_A, NOT_FOUND).ok();
-    let registered = told_at(rt, LOOPBACK_OF_IPV6, PORT, ALIVE_A, TAKEN).ok();
+    let looked_up = answered_at(rt, LOOPBACK_OF_IPV6, PORT, PORT_A, NOT_FOUND).ok();
+    let registered = answered_at(rt, LOOPBACK_OF_IPV6, PORT, ALIVE_A, TAKEN).ok();
     let has_ended = is_answered(rt, PORT, KILL, b"OK") == Some(true);
     ([looked_up, registered], is_up && has_ended)
 }
 
-/// Where the host has no IPv6 nobody can be asked there.
+/// If the host has no IPv6, both results are `None`.
 #[test]
 fn a_daemon_of_the_host_serves_its_ipv6_peers_too(rt: HostRuntime) -> Result<(), Fail> {
     let alloc = rt.alloc();
@@ -54,7 +53,7 @@ fn a_daemon_of_the_host_serves_its_ipv6_peers_too(rt: HostRuntime) -> Result<(),
     Ok(())
 }
 
-/// A socket that listens for peers of both families, or for those of IPv4 where the host has no IPv6.
+/// Returns a socket that listens for peers of both families, or of IPv4 if the host has no IPv6.
 fn socket(rt: &HostRuntime) -> Result<TcpListener, Fail> {
     match TcpListener::bind(rt, (Ipv6Addr::UNSPECIFIED, HANDED_PORT)) {
         Ok(socket) => Ok(socket),
@@ -62,7 +61,7 @@ fn socket(rt: &HostRuntime) -> Result<TcpListener, Fail> {
     }
 }
 
-/// A socket as it is handed over.
+/// Returns the socket as it is handed over.
 fn handed(alloc: Global, socket: &TcpListener) -> io::Result<Vec<TcpListener>> {
     match handed_over(alloc, socket.try_clone()?.into_raw_fd(), 1) {
         Ok(listening) => Ok(listening),
@@ -70,21 +69,21 @@ fn handed(alloc: Global, socket: &TcpListener) -> io::Result<Vec<TcpListener>> {
     }
 }
 
-/// Whether a daemon over the socket tells its port as its own, a peer of this host registers, and it ends.
+/// Returns true if a daemon over the socket lists its port, accepts a registration, and ends.
 fn is_served(rt: &HostRuntime) -> bool {
-    let is_listed = told_at(rt, LOOPBACK, HANDED_PORT, NAMES, NONE_LISTED);
-    let is_taken = told_at(rt, LOOPBACK, HANDED_PORT, ALIVE_A, TAKEN);
-    let has_ended = told_at(rt, LOOPBACK, HANDED_PORT, KILL, b"OK");
+    let is_listed = answered_at(rt, LOOPBACK, HANDED_PORT, NAMES, NONE_LISTED);
+    let is_taken = answered_at(rt, LOOPBACK, HANDED_PORT, ALIVE_A, TAKEN);
+    let has_ended = answered_at(rt, LOOPBACK, HANDED_PORT, KILL, b"OK");
     [is_listed, is_taken, has_ended] == [Ok(true); 3]
 }
 
-/// The first one has left the socket as it was.
+/// The first daemon leaves the socket unchanged.
 #[test]
 fn who_connects_between_two_daemons_is_served_by_the_second(rt: HostRuntime) -> Result<(), Fail> {
     let alloc = rt.alloc();
     let socket = socket(&rt)?;
     for _ in 0..2u32 {
-        // It is set to another port.
+        // The port of the settings is another port.
         let settings = settings_at(alloc, 1, 60, 2, None)?;
         let listening = handed(alloc, &socket)?;
         let daemon = || run_over(&rt, alloc, settings, &Open, listening, FILE_BYTES_MOST);
@@ -94,7 +93,7 @@ fn who_connects_between_two_daemons_is_served_by_the_second(rt: HostRuntime) -> 
     Ok(())
 }
 
-/// Which descriptors that are handed over are refused: a file, a connection, and a socket that listens.
+/// Returns which handed over descriptors are refused: a file, a connection, and a listening socket.
 fn refused(rt: &HostRuntime) -> Result<[bool; 3], Fail> {
     let listener = TcpListener::bind(rt, (LOOPBACK, 0))?;
     let peer = TcpStream::connect(rt, listener.local_addr()?)?;

@@ -1,4 +1,4 @@
-//! A daemon that is short of memory, with a clock that is pushed forward.
+//! A daemon that is short of memory, with a clock that is moved forward.
 use crate::clocks::{Pushed, Pushing};
 use crate::daemon::{is_answered, registered, settings_at};
 use portmap_daemon::{RunFault, run};
@@ -15,16 +15,16 @@ use std::time::Duration;
 /// A port of this test alone.
 const PORT: u16 = 14_460;
 
-/// The daemon looks for memory as it begins, before it takes its reserve and behind that.
+/// At its start, the daemon checks the memory before and after it allocates its reserve.
 const FIRST_LOOKS: u64 = 2;
 
-/// In so many milliseconds it has looked once more, where memory is short.
+/// Within this number of milliseconds, a daemon that is short of memory checks it again.
 const LOOK: u64 = 200;
 
-/// So many seconds are more than it serves on while nothing gets through.
+/// More seconds than the daemon serves while every request fails.
 const SECONDS: u32 = 40;
 
-/// Whether the daemon has begun, within ten seconds.
+/// Returns true if the daemon has started, within ten seconds.
 fn has_begun<R: Clock>(rt: &R, host: &Pushing) -> bool {
     for _ in 0..1000u32 {
         if host.asked.load(Ordering::SeqCst) >= FIRST_LOOKS {
@@ -35,16 +35,16 @@ fn has_begun<R: Clock>(rt: &R, host: &Pushing) -> bool {
     false
 }
 
-/// Whether a registration is answered that comes in two pieces.
+/// Returns true if a registration in two chunks has a reply.
 fn is_taken_in_two<R: Net<Stream = TcpStream> + Clock>(rt: &R) -> Option<bool> {
-    let (front, rest) = ALIVE_A.split_at(4);
-    let mut stream = sent(rt, PORT, front)?;
+    let (prefix, rest) = ALIVE_A.split_at(4);
+    let mut stream = sent(rt, PORT, prefix)?;
     thread::sleep(rt, Duration::from_millis(LOOK));
     let is_sent = stream.write_all(rest).is_ok();
     Some(is_sent && stream.read_exact(&mut [0; 6]).is_ok())
 }
 
-/// No memory can be had from now on: whether a look-up is answered then, as before, and no name registered.
+/// The host has no memory from now on. Returns true if a lookup is still answered, and no name is registered.
 fn is_spared<R: Net<Stream = TcpStream> + Clock>(rt: &R, host: &Pushing) -> Option<bool> {
     let was_answered = is_answered(rt, PORT, PORT_A, NOT_FOUND)?;
     host.is_short.store(true, Ordering::SeqCst);
@@ -52,7 +52,7 @@ fn is_spared<R: Net<Stream = TcpStream> + Clock>(rt: &R, host: &Pushing) -> Opti
     Some(is_answered(rt, PORT, PORT_A, NOT_FOUND)? && was_answered && !is_taken)
 }
 
-/// Memory can be had again: whether a name is registered soon, before the second is over.
+/// The host has memory again. Returns true if a name is registered within ten seconds, before the clock moves.
 fn is_over<R: Net<Stream = TcpStream> + Clock>(rt: &R, host: &Pushing) -> bool {
     host.is_short.store(false, Ordering::SeqCst);
     for _ in 0..50u32 {
@@ -64,7 +64,7 @@ fn is_over<R: Net<Stream = TcpStream> + Clock>(rt: &R, host: &Pushing) -> bool {
     false
 }
 
-/// No memory can be had again: in each second a name is refused, until nobody listens any more.
+/// The host has no memory from now on. Returns true if every name is refused until the daemon stops listening.
 fn starves<R: Net<Stream = TcpStream> + Clock>(rt: &R, host: &Pushing) -> Option<bool> {
     host.is_short.store(true, Ordering::SeqCst);
     for _ in 0..SECONDS {

@@ -1,4 +1,4 @@
-//! Places for connections, over sockets of this host, with a clock that is pushed forward.
+//! Permits for connections, over sockets of this host, with a clock that is moved forward.
 use crate::clocks::{Pushed, Pushing};
 use crate::daemon::{is_answered, registered, settings_at};
 use portmap_core::Config;
@@ -17,16 +17,16 @@ use std::thread;
 use std::thread::Threads;
 use std::time::Duration;
 
-/// By how many seconds the clock is pushed forward at once: by more than a connection is left alone for.
+/// How far the clock moves at once, in seconds: longer than a new connection is kept in any case.
 const PUSH: u64 = 2;
 
-/// How often. The time that a connection has for its request is longer than all these.
+/// How often the clock moves. The timeout of a request is longer than all these moves.
 const PUSHES: u32 = 20;
 
-/// For so many milliseconds a connection is looked at that is to stay.
+/// How long to watch a connection that stays open, in milliseconds.
 const PATIENCE: u64 = 1500;
 
-/// Whether a daemon at this port that has places for two connections ends well.
+/// Returns true if a daemon at this port with two permits ends well.
 fn serves<
     R: Net + Host<File = File> + Threads + Wait + Clock + Clone + Drop + Send + Sync + 'static,
 >(rt: &R, alloc: Global, port: u16) -> Result<bool, Fail> {
@@ -35,7 +35,7 @@ fn serves<
     Ok(run(rt, alloc, settings).is_ok())
 }
 
-/// Whether the name is found once the clock was pushed often enough.
+/// Returns true if the name is found after some moves of the clock.
 fn comes_to_be_found<R: Net<Stream = TcpStream> + Clock>(
     rt: &R,
     port: u16,
@@ -50,8 +50,8 @@ fn comes_to_be_found<R: Net<Stream = TcpStream> + Clock>(
     false
 }
 
-/// A node is registered, and a connection says nothing: there is no place for others. Whether one who asks for the node
-/// comes to have that of the silent one, and a silent one that comes after that keeps it.
+/// A registered node and a silent connection have all permits. Returns true if a lookup gets the permit of the silent
+/// connection, and a later silent connection keeps it.
 fn makes_room<R: Net<Stream = TcpStream> + Clock>(
     rt: &R,
     port: u16,
@@ -60,11 +60,11 @@ fn makes_room<R: Net<Stream = TcpStream> + Clock>(
     let _node = registered(rt, port)?;
     let mut silent = connect(rt, port)?;
     let is_found = comes_to_be_found(rt, port, clock);
-    let is_given_up = silent.read(&mut [0; 1]).ok()? == 0;
-    Some(is_found && is_given_up && is_kept(rt, port, clock)?)
+    let is_evicted = silent.read(&mut [0; 1]).ok()? == 0;
+    Some(is_found && is_evicted && is_kept(rt, port, clock)?)
 }
 
-/// Whether a connection that says nothing stays while nobody waits for its place.
+/// Returns true if a silent connection stays open while nobody waits for a permit.
 fn is_kept<R: Net<Stream = TcpStream> + Clock>(rt: &R, port: u16, clock: &Pushing) -> Option<bool> {
     let mut silent = connect(rt, port)?;
     clock.push(PUSH);

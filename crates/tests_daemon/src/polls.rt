@@ -1,5 +1,4 @@
-//! The system as `mio` and the kernel give it, over sockets of this host: what a poll reports, and for how long it
-//! waits.
+//! The system of `mio` and the kernel, over sockets of this host: what a poll reports, and how long it waits.
 use mio::net;
 use portmap_daemon::{MioStream, MioSystem};
 use portmap_testing::peers::connect;
@@ -11,13 +10,13 @@ use std::rt::Clock;
 use std::test::Fail;
 use std::time::Duration;
 
-/// The key of the stream that is watched.
+/// The key of the watched stream.
 const KEY: usize = 7;
 
-/// So many milliseconds are more than enough for what is to be reported.
+/// Enough milliseconds for every event that is expected.
 const PATIENCE: u64 = 5000;
 
-/// A system that listens at these ports of this host.
+/// Returns a system that listens at these ports of this host.
 fn listening(rt: &HostRuntime, ports: &[u16]) -> Option<MioSystem> {
     let mut sockets = Vec::new(rt.alloc());
     for port in ports {
@@ -31,7 +30,7 @@ fn listening(rt: &HostRuntime, ports: &[u16]) -> Option<MioSystem> {
     Some(system)
 }
 
-/// What the next poll reports, if it is one thing alone.
+/// Returns the only report of the next poll.
 fn reported(system: &mut MioSystem, timeout: u64) -> Option<Report> {
     if !system.poll(timeout) || system.report(1).is_some() {
         return None;
@@ -39,23 +38,23 @@ fn reported(system: &mut MioSystem, timeout: u64) -> Option<Report> {
     system.report(0)
 }
 
-/// Whether a connection is reported at the second of two listeners, and none once that was left.
-fn tells_where(rt: &HostRuntime) -> Option<bool> {
+/// Returns true if a connection is reported at the second of two listeners, and no other after that listener was left.
+fn reports_listener(rt: &HostRuntime) -> Option<bool> {
     let mut system = listening(rt, &[14_450, 14_451])?;
     let _first = connect(rt, 14_451)?;
-    let is_told = reported(&mut system, PATIENCE) == Some(Report::Listener(1));
+    let is_reported = reported(&mut system, PATIENCE) == Some(Report::Listener(1));
     system.leave(1);
     let _second = connect(rt, 14_451)?;
-    Some(is_told && system.poll(100) && system.report(0).is_none())
+    Some(is_reported && system.poll(100) && system.report(0).is_none())
 }
 
 #[test]
-fn the_listener_is_told_at_which_a_connection_waits(rt: HostRuntime) -> Result<(), Fail> {
-    assert_eq!(rt; tells_where(&rt), Some(true));
+fn the_listener_at_which_a_connection_waits_is_reported(rt: HostRuntime) -> Result<(), Fail> {
+    assert_eq!(rt; reports_listener(&rt), Some(true));
     Ok(())
 }
 
-/// A connection, as it was accepted there.
+/// Connects to a port, and returns both ends.
 fn accepted(rt: &HostRuntime, system: &mut MioSystem, port: u16) -> Option<(TcpStream, MioStream)> {
     let peer = connect(rt, port)?;
     reported(system, PATIENCE)?;
@@ -63,7 +62,7 @@ fn accepted(rt: &HostRuntime, system: &mut MioSystem, port: u16) -> Option<(TcpS
     Some((peer, stream))
 }
 
-/// What is reported of a connection whose peer ends it, with a byte of ours unread or not: then it is reset.
+/// Returns the report for a connection whose peer closes it. If a byte is unread then, the connection is reset.
 fn end_of(rt: &HostRuntime, port: u16, is_unread: bool) -> Option<Report> {
     let mut system = listening(rt, &[port])?;
     let (peer, mut stream) = accepted(rt, &mut system, port)?;
@@ -78,7 +77,7 @@ fn end_of(rt: &HostRuntime, port: u16, is_unread: bool) -> Option<Report> {
 }
 
 #[test]
-fn a_stream_that_was_reset_is_not_told_as_closed(rt: HostRuntime) -> Result<(), Fail> {
+fn a_stream_that_was_reset_is_not_reported_as_closed(rt: HostRuntime) -> Result<(), Fail> {
     for (port, is_unread) in [(14_452, false), (14_453, true)] {
         let ended = Report::Stream {
             key: KEY,
@@ -89,7 +88,7 @@ fn a_stream_that_was_reset_is_not_told_as_closed(rt: HostRuntime) -> Result<(), 
     Ok(())
 }
 
-/// Whether a stream that is watched already can be watched for more, and is reported for that.
+/// Returns true if a watched stream can be watched for another interest, and is reported for it.
 fn is_watched_for_more(rt: &HostRuntime, port: u16) -> Option<bool> {
     let mut system = listening(rt, &[port])?;
     let (_peer, mut stream) = accepted(rt, &mut system, port)?;
@@ -106,7 +105,7 @@ fn a_stream_that_is_watched_may_be_watched_for_more(rt: HostRuntime) -> Result<(
     Ok(())
 }
 
-/// What a peer reads where its connection is reset, or just ends.
+/// Returns what a peer reads when its connection is reset, or closed.
 fn read_at_end(rt: &HostRuntime, port: u16, is_reset: bool) -> Option<Result<usize, ErrorKind>> {
     let mut system = listening(rt, &[port])?;
     let (mut peer, mut stream) = accepted(rt, &mut system, port)?;
@@ -125,7 +124,7 @@ fn a_peer_sees_that_its_connection_was_reset(rt: HostRuntime) -> Result<(), Fail
     Ok(())
 }
 
-/// Whether the poll is full that reports the end of one connection under so many keys, and nothing else.
+/// Returns true if a poll is full that reports only the end of one connection, under `count` keys.
 fn is_full_of(rt: &HostRuntime, port: u16, count: usize) -> Option<bool> {
     let mut system = listening(rt, &[port])?;
     let (peer, stream) = accepted(rt, &mut system, port)?;
@@ -148,7 +147,7 @@ fn a_poll_that_reports_256_may_have_more(rt: HostRuntime) -> Result<(), Fail> {
     Ok(())
 }
 
-/// How long a poll takes that has nothing to report.
+/// Returns the duration of a poll that reports nothing.
 fn waited(rt: &HostRuntime, timeout: u64) -> Option<Duration> {
     let mut system = listening(rt, &[])?;
     let before = rt.monotonic().ok()?;

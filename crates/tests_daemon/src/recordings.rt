@@ -1,5 +1,5 @@
-//! Recordings of a daemon: where the file stalls it serves on, and ends when it is told to; where the file is full it
-//! goes on in a further one.
+//! Recordings of a daemon. While the file stalls, the daemon serves, and ends on request. When a file is full, the
+//! recording continues in another file.
 use crate::clocks::{Pushed, Pushing};
 use crate::daemon::{acts_of, is_answered, registered, settings_at};
 use portmap_daemon::{Open, RunEnd, RunFault, run, run_over};
@@ -24,16 +24,15 @@ const MUTE_PORT: u16 = 14_422;
 
 const UNSTARTED_PORT: u16 = 14_423;
 
-/// So many look-ups are more than a pipe takes that nobody reads: each is 41 bytes of a recording, and a pipe has room
-/// for 65,536.
+/// More lookups than fit into a pipe that nobody reads. Each is 41 bytes of a recording, and a pipe holds 65,536 bytes.
 const LOOK_UPS: u32 = 2000;
 
-/// The path by which the system opens a pipe once more.
+/// Returns a path by which the system opens the pipe again.
 pub fn path_of(alloc: Global, pipe: &PipeWriter) -> Result<String, Fail> {
     Ok(format!(in alloc; "/proc/self/fd/{}", pipe.as_raw_fd())?)
 }
 
-/// Whether so many look-ups are answered, and the daemon says that it ends.
+/// Returns true if every lookup is answered, and the daemon ends.
 fn are_answered<R: Net<Stream = TcpStream> + Clock>(rt: &R) -> bool {
     let mut answered = 0u32;
     for _ in 0..LOOK_UPS {
@@ -53,39 +52,39 @@ fn a_recording_that_stalls_holds_nobody(rt: HostRuntime) -> Result<(), Fail> {
     let host = Pushed::new(rt, alloc)?;
     let (ended, actual) = thread::join(&rt, || run(&host, alloc, settings), || are_answered(&rt));
     assert!(rt; actual && acts_of(&ended) > u64::from(LOOK_UPS));
-    assert!(rt; is_told_once(&host, &ended));
+    assert!(rt; is_notified_once(&host, &ended));
     Ok(())
 }
 
-/// Whether the daemon has told once that its recording failed, and ends so.
-fn is_told_once<R: Clock + Copy>(host: &Pushed<R>, ended: &Result<RunEnd, RunFault>) -> bool {
-    let is_told_so = ended.as_ref().is_ok_and(|end| !end.recorded);
-    is_told_so && host.pushing().actual.load(Ordering::SeqCst) == 1
+/// Returns true if the daemon has notified once that its recording failed, and ends with that.
+fn is_notified_once<R: Clock + Copy>(host: &Pushed<R>, ended: &Result<RunEnd, RunFault>) -> bool {
+    let is_failed = ended.as_ref().is_ok_and(|end| !end.recorded);
+    is_failed && host.pushing().failures.load(Ordering::SeqCst) == 1
 }
 
-/// Whether the operator is told while the daemon serves.
-fn is_told_at_once<R: Net<Stream = TcpStream> + Clock + Copy>(
+/// Returns true if the operator is notified while the daemon serves.
+fn is_notified_at_once<R: Net<Stream = TcpStream> + Clock + Copy>(
     rt: &R,
     host: &Pushed<R>,
     port: u16,
 ) -> Option<bool> {
-    let is_told = is_raised(rt, &host.pushing().actual);
+    let is_notified = is_raised(rt, &host.pushing().failures);
     let serves = is_answered(rt, port, PORT_A, NOT_FOUND)?;
-    Some(is_answered(rt, port, KILL, b"OK")? && is_told && serves)
+    Some(is_answered(rt, port, KILL, b"OK")? && is_notified && serves)
 }
 
 #[test]
-fn a_recording_that_fails_is_told_at_once_and_once(rt: HostRuntime) -> Result<(), Fail> {
+fn a_recording_that_fails_is_reported_at_once_and_once(rt: HostRuntime) -> Result<(), Fail> {
     let alloc = rt.alloc();
     let settings = settings_at(alloc, MUTE_PORT, 60, 1, Some("nowhere/recording"))?;
     let host = Pushed::new(rt, alloc)?;
-    let client = || is_told_at_once(&rt, &host, MUTE_PORT);
+    let client = || is_notified_at_once(&rt, &host, MUTE_PORT);
     let (ended, actual) = thread::join(&rt, || run(&host, alloc, settings), client);
-    assert!(rt; actual == Some(true) && is_told_once(&host, &ended));
+    assert!(rt; actual == Some(true) && is_notified_once(&host, &ended));
     Ok(())
 }
 
-/// A port of the next test alone, and a folder that is not there at first.
+/// A port of the next test alone, and a folder that does not exist at first.
 const AGAIN_PORT: u16 = 14_424;
 
 const AGAIN_FOLDER: &str = "recording-14424";
@@ -94,18 +93,18 @@ const AGAIN: &str = "recording-14424/session";
 
 const AGAIN_TIMES: &str = "recording-14424/session.times";
 
-/// So many seconds are more than pass until a recording is begun anew.
+/// More seconds than a failed recording waits before it starts again.
 const AGAIN_SECONDS: u32 = 30;
 
-/// Whether the operator reads that the recording failed, and that it goes on again once its folder is there: a node
-/// that has registered before is found in it.
+/// Returns true if the operator reads that the recording failed, and works again once its folder exists. The new file
+/// begins with a node that was registered before.
 fn goes_on_again(rt: &HostRuntime, host: &Pushing) -> Option<bool> {
-    let has_failed = is_raised(rt, &host.actual);
+    let has_failed = is_raised(rt, &host.failures);
     let _node = registered(rt, AGAIN_PORT)?;
     fs::create_dir(rt, AGAIN_FOLDER).ok()?;
     for _ in 0..AGAIN_SECONDS {
         host.push(1);
-        // Who leaves unanswered has the log looked at.
+        // A peer that leaves without a request makes the daemon drain the log.
         drop(TcpStream::connect(rt, (Ipv4Addr::LOCALHOST, AGAIN_PORT)).ok()?);
         thread::sleep(rt, Duration::from_millis(100));
     }
@@ -114,7 +113,7 @@ fn goes_on_again(rt: &HostRuntime, host: &Pushing) -> Option<bool> {
     Some(is_answered(rt, AGAIN_PORT, KILL, b"OK")? && has_failed && is_again && is_found)
 }
 
-/// Where a file of a recording that is a run begins, and how many entries it has. It is removed.
+/// Returns the first position and the number of entries of a file that is a run. The file is removed.
 fn held(rt: &HostRuntime, path: &str) -> Result<Option<(u64, u64)>, Fail> {
     let bytes = fs::read(rt, path)?;
     fs::remove_file(rt, path)?;
@@ -129,34 +128,36 @@ fn held(rt: &HostRuntime, path: &str) -> Result<Option<(u64, u64)>, Fail> {
 }
 
 #[test]
-fn a_recording_that_failed_begins_anew_once_it_can(rt: HostRuntime) -> Result<(), Fail> {
+fn a_recording_that_failed_begins_again_once_it_can(rt: HostRuntime) -> Result<(), Fail> {
     let alloc = rt.alloc();
     let settings = settings_at(alloc, AGAIN_PORT, 60, 1, Some(AGAIN))?;
     let host = Pushed::new(rt, alloc)?;
     let client = || goes_on_again(&rt, host.pushing());
     let (ended, actual) = thread::join(&rt, || run(&host, alloc, settings), client);
     assert_eq!(rt; actual, Some(true));
-    assert!(rt; is_told_once(&host, &ended));
+    assert!(rt; is_notified_once(&host, &ended));
     assert!(rt; held(&rt, AGAIN)?.is_some_and(|(first, count)| first > 0 && count > 3));
     fs::remove_file(&rt, AGAIN_TIMES)?;
     fs::remove_dir(&rt, AGAIN_FOLDER)?;
     Ok(())
 }
 
-/// Its thread needs a host of its own, which can't be had.
+/// The recording thread needs its own host, and no copy can be made.
 #[test]
-fn a_recording_that_can_not_start_is_told_at_once_and_once(rt: HostRuntime) -> Result<(), Fail> {
+fn a_recording_that_can_not_start_is_reported_at_once_and_once(
+    rt: HostRuntime,
+) -> Result<(), Fail> {
     let alloc = rt.alloc();
     let settings = settings_at(alloc, UNSTARTED_PORT, 60, 1, Some("unstarted"))?;
     let host = Pushed::new(rt, alloc)?;
     host.pushing().is_alone.store(true, Ordering::SeqCst);
-    let client = || is_told_at_once(&rt, &host, UNSTARTED_PORT);
+    let client = || is_notified_at_once(&rt, &host, UNSTARTED_PORT);
     let (ended, actual) = thread::join(&rt, || run(&host, alloc, settings), client);
-    assert!(rt; actual == Some(true) && is_told_once(&host, &ended));
+    assert!(rt; actual == Some(true) && is_notified_once(&host, &ended));
     Ok(())
 }
 
-/// A port of the next test alone, and files in the folder that tests run in.
+/// A port of the next test alone, and files in the folder of the tests.
 const NEXT_PORT: u16 = 14_421;
 
 const FIRST: &str = "recording-14421";
@@ -165,7 +166,7 @@ const SECOND: &str = "recording-14421.1";
 
 const THIRD: &str = "recording-14421.2";
 
-/// Whether a node is looked up and found until a file is there, which is within ten seconds.
+/// Returns true if a node is found until a file exists, within ten seconds.
 fn is_found_until<R: Net<Stream = TcpStream> + Clock + Files<File = File>>(
     rt: &R,
     path: &str,
@@ -182,14 +183,13 @@ fn is_found_until<R: Net<Stream = TcpStream> + Clock + Files<File = File>>(
     Some(false)
 }
 
-/// Whether a node registers and is looked up until there is a third file, and the daemon says that it ends.
+/// Returns true if a node is found until a third file exists, and the daemon ends.
 fn goes_on<R: Net<Stream = TcpStream> + Clock + Files<File = File>>(rt: &R) -> Option<bool> {
     let _node = registered(rt, NEXT_PORT)?;
     let goes_on = is_found_until(rt, SECOND)? && is_found_until(rt, THIRD)?;
     Some(is_answered(rt, NEXT_PORT, KILL, b"OK")? && goes_on)
 }
 
-/// The path of a file of that recording.
 fn numbered(alloc: Global, number: u32) -> Result<String, AllocError> {
     if number == 0 {
         String::from_str(alloc, FIRST)
@@ -198,7 +198,7 @@ fn numbered(alloc: Global, number: u32) -> Result<String, AllocError> {
     }
 }
 
-/// How many entries the files have together, where each one begins at the place at which the one before it ended.
+/// Returns the number of entries of all files, or `None` if a file does not begin where the file before it ended.
 fn recorded(rt: &HostRuntime) -> Result<Option<u64>, Fail> {
     let mut index = 0u64;
     for number in 0..1000 {
@@ -221,7 +221,7 @@ fn a_recording_goes_on_in_files_that_follow_one_another(rt: HostRuntime) -> Resu
     let socket = TcpListener::bind(&rt, (Ipv4Addr::LOCALHOST, NEXT_PORT))?;
     socket.set_nonblocking(true)?;
     let listening = vec![in alloc; socket]?;
-    // So many bytes a header has with which nothing is known: each file is full at once.
+    // A header without known names has 37 bytes, so each file is full at once.
     let daemon = || run_over(&rt, alloc, settings, &Open, listening, 37);
     let (ended, actual) = thread::join(&rt, daemon, || goes_on(&rt));
     let acts = acts_of(&ended);

@@ -1,5 +1,7 @@
-//! What is told of a recording where memory is refused to who takes the log out. Here memory is ample; `make faults`
-//! starts this test once for each request that it makes between two marks, and has that one refused.
+//! A recording while memory is refused to the thread that drains the log.
+//!
+//! Here memory suffices. `make faults` runs this test once for each allocation between two marks, and refuses that
+//! allocation.
 ghost use Rattle.std.specs.Prelude.{◌≡◌};
 
 use crate::clocks::Pushed;
@@ -22,7 +24,7 @@ use std::sync::ledger::{Blank, Ledger};
 use std::test::Fail;
 use std::time::Duration;
 
-/// Nobody waits.
+/// Wakes no thread.
 #[derive(Drop)]
 struct Nobody;
 
@@ -30,7 +32,7 @@ impl Wake for Nobody {
     fn wake(&self) {}
 }
 
-/// A node comes by worker 1 and registers.
+/// A node connects and registers at worker 1.
 fn registers<L: Ledger, R: Wait>(rt: &R, alloc: Global, desk: &Desk<L>) -> Option<()> {
     let mut seat = desk.seat(rt, 1)?;
     let (_, conn) = desk.connect(rt, alloc, &mut seat, true).ok()?;
@@ -38,7 +40,7 @@ fn registers<L: Ledger, R: Wait>(rt: &R, alloc: Global, desk: &Desk<L>) -> Optio
     Some(())
 }
 
-/// Whether the last turn says that the log is out, while memory may be refused. No worker serves.
+/// Returns true if the last turn drains the log. Memory may be refused, and no worker serves.
 fn is_out<L: Ledger, R: Host + Wait + Clock>(
     rt: &R,
     alloc: Global,
@@ -49,8 +51,8 @@ fn is_out<L: Ledger, R: Host + Wait + Clock>(
     marked!(alloc, drain.turn(rt, alloc, desk, &shared)) == Drained::Done(true)
 }
 
-/// Whether it is told that all was recorded at this path.
-fn is_told_whole<L: Ledger, R: Host + Wait + Clock>(
+/// Returns true if the queue reports that all was recorded.
+fn is_recorded_whole<L: Ledger, R: Host + Wait + Clock>(
     rt: &R,
     alloc: Global,
     blank: Blank,
@@ -70,7 +72,7 @@ fn is_told_whole<L: Ledger, R: Host + Wait + Clock>(
     Some(is_out && queue.is_written(rt, Duration::ZERO))
 }
 
-/// Whether what was written to a pipe is all of the log.
+/// Returns true if the pipe has all of the log.
 fn has_all(alloc: Global, mut pipe: PipeReader) -> Result<bool, Fail> {
     let mut bytes = Vec::new(alloc);
     pipe.read_to_end(&mut bytes)?;
@@ -78,13 +80,13 @@ fn has_all(alloc: Global, mut pipe: PipeReader) -> Result<bool, Fail> {
 }
 
 #[test]
-fn a_recording_that_lacks_entries_is_told_to_have_failed(rt: HostRuntime) -> Result<(), Fail> {
+fn a_recording_that_lacks_entries_is_reported_as_failed(rt: HostRuntime) -> Result<(), Fail> {
     let alloc = rt.alloc();
     let (reader, writer) = pipe(&rt)?;
     let path = path_of(alloc, &writer)?;
     let host = Pushed::new(rt, alloc)?;
     let blank = Blank::new(PARTS);
-    let actual = is_told_whole::<Brand, Pushed<HostRuntime>>(&host, alloc, blank, path);
+    let actual = is_recorded_whole::<Brand, Pushed<HostRuntime>>(&host, alloc, blank, path);
     drop(writer);
     let has_all = has_all(alloc, reader)?;
     assert_eq!(rt; actual, Some(has_all));

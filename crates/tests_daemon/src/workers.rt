@@ -1,5 +1,5 @@
-//! Workers at one desk, over memory: what is written where a worker passes its gate, and two that meet there or follow
-//! one another.
+//! Workers at one desk, over memory: what is written when a worker passes its gate, and two workers that meet there or
+//! follow one another.
 ghost use Rattle.std.specs.Prelude.{◌≡◌};
 
 use crate::gates::{Meet, Order, Relay};
@@ -17,7 +17,7 @@ use std::test::Fail;
 use std::thread;
 use std::thread::Threads;
 
-/// A source of one link, which was asked so often: its connection comes, and has something.
+/// A source of one link, and its number of turns. The connection is accepted, and is ready.
 #[derive(Drop)]
 struct One<'a>(&'a mut Tape<'static>, u32);
 
@@ -43,7 +43,7 @@ impl<'a> Source for One<'a> {
     fn end(&mut self, _key: u64) {}
 }
 
-/// A gate that notes how many bytes of an answer are written at each point.
+/// A gate that records how many bytes of a reply are written at each point.
 #[derive(Drop)]
 struct Looks<'a> {
     written: &'a AtomicU64,
@@ -61,7 +61,7 @@ impl Gate for Looks<'_> {
     }
 }
 
-/// How many bytes of the reply to a registration are written when the gate is passed, at each of its points.
+/// Returns how many bytes of the reply to a registration are written when the gate is passed, at each point.
 fn written_at<L: Ledger, R: Wait>(rt: &R, alloc: Global, blank: Blank) -> Option<[u64; 2]>
     requires name { blank.name ≡ L.name }
     requires parts { blank.parts ≡ L.parts }
@@ -103,7 +103,7 @@ fn a_gate_is_passed_before_an_answer_is_written_and_after(rt: HostRuntime) -> Re
     Ok(())
 }
 
-/// A worker's seat when it is done with one request, how many acts it made, and whether it wrote this reply.
+/// Serves one request. Returns true if this reply was written.
 fn worked<L: Ledger, G: Gate, R: Wait>(
     rt: &R,
     alloc: Global,
@@ -118,7 +118,7 @@ fn worked<L: Ledger, G: Gate, R: Wait>(
     (outcome, link.sink.as_slice() == reply)
 }
 
-/// How many acts two workers made, and how many are in the book, if both seats make it up.
+/// Returns the number of acts of both workers and of the book, or `None` if a seat is missing.
 fn ending_of<L: Ledger>(
     alloc: Global,
     desk: Desk<L>,
@@ -133,8 +133,8 @@ fn ending_of<L: Ledger>(
     Some([served[0], served[1], book.count()])
 }
 
-/// The same of two workers that pass the same gate, if each writes the reply to its request. The second one comes when
-/// the gate says so.
+/// Runs two workers that pass the same gate. The second one starts when the gate permits it. Returns `None` unless each
+/// writes the reply to its request.
 fn two_workers<L: Ledger + Send + Sync, G: Order + Sync, R: Threads + Wait + Sync>(
     rt: &R,
     alloc: Global,

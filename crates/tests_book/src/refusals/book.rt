@@ -1,4 +1,4 @@
-//! What is gathered of a log in segments.
+//! Gathering the segments of a log.
 use crate::segments::{ALL, segments_of, tickets_of, two_nodes};
 use portmap_book::{GatherFault, gather};
 use portmap_testing::cases::is_so;
@@ -6,7 +6,7 @@ use portmap_testing::marks::{begin, end, was_refused};
 use std::alloc::Global;
 use std::test::Fail;
 
-/// Whether two segments and a book are found to be what was told, unless memory was refused to that.
+/// Returns true if two segments and a book are gathered, or memory was refused to that.
 fn is_gathered(alloc: Global) -> Result<bool, Fail> {
     let tickets = tickets_of(alloc, ALL)?;
     let (Some(segments), Some(book)) = (segments_of(alloc, false, &[0, 1]), two_nodes(alloc)) else {

@@ -1,4 +1,4 @@
-//! A piece at a desk whose port mapper has ended: that is told, also where there is no memory for a copy of the piece.
+//! A chunk for a port mapper that has halted. The refusal says so even if there is no memory for a copy of the chunk.
 ghost use Rattle.std.specs.Prelude.{◌≡◌};
 
 use portmap_book::{ActFault, Conn, Desk, PARTS, Seat};
@@ -12,8 +12,8 @@ use std::sync::Wait;
 use std::sync::ledger::{Blank, Ledger};
 use std::test::Fail;
 
-/// Whether a piece is told that the port mapper has ended, while memory may be refused.
-fn is_told_the_end<L: Ledger, R: Wait>(
+/// Returns true if a chunk is refused because the port mapper has halted. Memory may be refused.
+fn is_refused_as_halted<L: Ledger, R: Wait>(
     rt: &R,
     alloc: Global,
     desk: &Desk<L>,
@@ -26,7 +26,7 @@ fn is_told_the_end<L: Ledger, R: Wait>(
     matches!(actual, Err(ActFault::Refused(Refusal::Halted)))
 }
 
-fn ends_and_tells<L: Ledger, R: Wait>(rt: &R, alloc: Global, blank: Blank) -> Option<bool>
+fn ends_and_refuses<L: Ledger, R: Wait>(rt: &R, alloc: Global, blank: Blank) -> Option<bool>
     requires name { blank.name ≡ L.name }
     requires parts { blank.parts ≡ L.parts }
     requires enough { blank.parts ≡ PARTS }
@@ -35,15 +35,13 @@ fn ends_and_tells<L: Ledger, R: Wait>(rt: &R, alloc: Global, blank: Blank) -> Op
     let mut seat = desk.seat(rt, 1)?;
     let (_, conn) = desk.connect(rt, alloc, &mut seat, true).ok()?;
     let is_killed = is_killed(rt, alloc, &desk, &mut seat)?;
-    Some(is_killed && is_told_the_end(rt, alloc, &desk, &mut seat, &conn))
+    Some(is_killed && is_refused_as_halted(rt, alloc, &desk, &mut seat, &conn))
 }
 
 #[test]
-fn a_piece_that_is_refused_once_the_port_mapper_has_ended_is_told_so(
-    rt: HostRuntime,
-) -> Result<(), Fail> {
+fn a_chunk_for_a_halted_port_mapper_is_refused_as_halted(rt: HostRuntime) -> Result<(), Fail> {
     assert_eq!(rt;
-        ends_and_tells::<Brand, HostRuntime>(&rt, rt.alloc(), Blank::new(PARTS)),
+        ends_and_refuses::<Brand, HostRuntime>(&rt, rt.alloc(), Blank::new(PARTS)),
         Some(true)
     );
     Ok(())

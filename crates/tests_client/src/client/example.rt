@@ -1,12 +1,12 @@
-//! The client as a library: what the README shows.
+//! The client as a library: the example of the README.
 use portmap_client::{ClientFault, Registration, lookup, names};
 use portmap_link::Both;
 use portmap_wire::{Line, Reg};
 use std::alloc::Global;
 use std::net::TcpStream;
 
-/// Registers a node over one connection, and asks who has its name and who is there over two others. The node stays
-/// registered until the registration is dropped.
+/// Registers a node over one connection. Looks its name up over the second, and lists all names over the third. The
+/// node stays registered until the registration is dropped.
 pub fn register(
     alloc: Global,
     [own, second, third]: [TcpStream; 3],

@@ -1,4 +1,4 @@
-//! The calls over sockets, against a listener of the test.
+//! Calls over sockets, against a listener of the test.
 use crate::client::example::register;
 use portmap_client::ClientFault;
 use portmap_testing::bytes::{A_LISTED, ALIVE_A, FOUND_A, FOURTH, NAMES, PORT_A};
@@ -12,28 +12,28 @@ use std::thread::Threads;
 use std::time::Duration;
 use std::{io, thread};
 
-/// How many milliseconds a read of the listener's side may take.
+/// The timeout of a read by the listener, in milliseconds.
 const PATIENCE: u64 = 5000;
 
-/// And one of a client's. A read that takes longer is a Later, of which a call bears 999.
+/// The timeout of a read by a client, in milliseconds. A call allows 999 reads that time out.
 const TURN: u64 = 20;
 
-/// Takes a request of so many bytes, and answers it.
+/// Reads a request of this length, and replies.
 fn serve(stream: &mut TcpStream, request: &mut [u8], reply: &[u8]) -> io::Result<()> {
     stream.set_read_timeout(Some(Duration::from_millis(PATIENCE)))?;
     stream.read_exact(request)?;
     stream.write_all(reply)
 }
 
-/// Takes a connection, and a request that is answered so.
+/// Accepts a connection, reads a request, and replies.
 fn answer(listener: &TcpListener, request: &mut [u8], reply: &[u8]) -> io::Result<TcpStream> {
     let (mut stream, _) = listener.accept()?;
     serve(&mut stream, request, reply)?;
     Ok(stream)
 }
 
-/// Answers a registration, a look-up and a question for all names, and says whether these came, and nothing behind the
-/// registration before its connection was closed.
+/// Replies to a registration, a lookup and a request for all names. Returns true if these arrived, and nothing after
+/// the registration before its connection was closed.
 fn answer_three(listener: &TcpListener) -> io::Result<bool> {
     let (mut first, mut second, mut third) = ([0; 16], [0; 4], [0; 3]);
     let mut registered = answer(listener, &mut first, FOURTH)?;
@@ -44,8 +44,8 @@ fn answer_three(listener: &TcpListener) -> io::Result<bool> {
     Ok(are_asked && third.as_slice() == NAMES && behind == 0)
 }
 
-/// Registers the node, and says whether it and all else were told as answered.
-fn is_told(alloc: Global, streams: [TcpStream; 3], node: &Reg) -> Result<bool, ClientFault> {
+/// Returns true if the registration, the lookup and the list return what the listener replied.
+fn is_received(alloc: Global, streams: [TcpStream; 3], node: &Reg) -> Result<bool, ClientFault> {
     let (registration, found, lines) = register(alloc, streams, node)?;
     let creation = registration.creation();
     drop(registration);
@@ -53,7 +53,7 @@ fn is_told(alloc: Global, streams: [TcpStream; 3], node: &Reg) -> Result<bool, C
     Ok(is_found && creation == 4 && is_a_listed(&lines))
 }
 
-/// Whether this is the list of the name `a` and port 5000 alone.
+/// Returns true if the list has only the name `a` with port 5000.
 fn is_a_listed(lines: &[Line]) -> bool {
     match lines {
         [line] => line.port == 5000 && line.name.bytes() == b"a".as_slice(),
@@ -67,14 +67,14 @@ fn connect(rt: &HostRuntime, address: SocketAddr) -> io::Result<TcpStream> {
     Ok(stream)
 }
 
-/// The listener's queue holds all three, so it waits for none.
+/// The listener's queue holds all three connections, so none has to wait.
 fn connect_three(rt: &HostRuntime, address: SocketAddr) -> io::Result<[TcpStream; 3]> {
     let first = connect(rt, address)?;
     let second = connect(rt, address)?;
     Ok([first, second, connect(rt, address)?])
 }
 
-/// Whether the listener was asked, and the node told, all that they should.
+/// Returns true if the listener received every request, and the client every reply.
 fn both_agree(
     rt: &impl Threads,
     alloc: Global,
@@ -82,12 +82,12 @@ fn both_agree(
     streams: [TcpStream; 3],
     node: &Reg,
 ) -> Result<bool, Fail> {
-    let (are_asked, is_told) = thread::join(
+    let (are_asked, is_received) = thread::join(
         rt,
         move || answer_three(listener),
-        move || is_told(alloc, streams, node),
+        move || is_received(alloc, streams, node),
     );
-    Ok(are_asked? && is_told?)
+    Ok(are_asked? && is_received?)
 }
 
 #[test]

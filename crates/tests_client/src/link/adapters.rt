@@ -1,4 +1,4 @@
-//! What the adapters make of readers and writers.
+//! The adapters of readers and writers.
 use portmap_link::{Both, Input, Output, Pull, Put, Reading, Writing};
 use portmap_testing::cases::is_so;
 use portmap_testing::streams::{Broken, CallOutcome, Script, scripted};
@@ -7,7 +7,7 @@ use std::alloc::Global;
 use std::io::ErrorKind;
 use std::test::Fail;
 
-/// Whether each pull answers as wanted, and the input is failed behind a fault and only there.
+/// Returns true if the pulls have these results, and the input is failed after a fault only.
 fn pulls<R: Input>(input: &mut R, wants: &[Pull]) -> bool {
     let mut buffer = [0; 8];
     for want in wants {
@@ -18,7 +18,7 @@ fn pulls<R: Input>(input: &mut R, wants: &[Pull]) -> bool {
     true
 }
 
-/// The same of puts of four bytes.
+/// Returns true if puts of four bytes have these results, and the output is failed after a fault only.
 fn puts<W: Output>(output: &mut W, wants: &[Put]) -> bool {
     for want in wants {
         if output.put(b"name") != *want || output.failed() != (*want == Put::Fault) {
@@ -50,7 +50,7 @@ fn what_has_failed_stays_failed(rt: HostRuntime) {
     assert!(rt; pulls(&mut tape, PULLS_OF_FAILING));
 }
 
-/// Whether the bytes of one pull are these; none where it gave no piece.
+/// Returns true if one pull gives these bytes, or the end if there are none.
 fn gives(reading: &mut Reading<&[u8]>, want: &[u8]) -> bool {
     let mut buffer = [0; 4];
     match reading.pull(&mut buffer) {
@@ -74,7 +74,7 @@ fn a_slice_is_read_in_pieces_to_its_end(rt: HostRuntime) -> Result<(), Fail> {
     is_so(&rt, Ok(is_read_to_its_end()))
 }
 
-// Two errors that pass, one that doesn't, and what is never asked for.
+// Two errors that pass, one that does not, and an outcome that is never reached.
 const ERRORS: &[CallOutcome] = &[
     CallOutcome::Error(ErrorKind::Interrupted),
     CallOutcome::Error(ErrorKind::WouldBlock),
@@ -107,7 +107,7 @@ fn errors_that_pass_are_later_and_others_faults(rt: HostRuntime) {
     assert!(rt; puts(&mut writing, PUTS_OF_ERRORS) && writing.into_inner().asked == 4);
 }
 
-/// Whether a stream answers the puts and then a pull with a fault.
+/// Returns true if the puts have these results, and a pull after them is a fault.
 fn fails_both_ways(both: &mut Both<Script<'_>>, wants: &[Put]) -> bool {
     puts(both, wants) && pulls(both, &[Pull::Fault])
 }

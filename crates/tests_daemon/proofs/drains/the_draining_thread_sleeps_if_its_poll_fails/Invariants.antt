@@ -1,4 +1,4 @@
-use Rattle.tests_daemon.proofs.drains.who_takes_the_log_out_sleeps_where_its_poll_fails.Given as goal
+use Rattle.tests_daemon.proofs.drains.the_draining_thread_sleeps_if_its_poll_fails.Given as goal
 
 abbrev pub ghosts-polls : goal.ghosts-polls
 ghosts-polls g a = record { name = a.blank.name; parts = a.blank.parts }

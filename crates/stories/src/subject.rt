@@ -1,9 +1,9 @@
-//! The parts of the port mapper that stories are about.
+//! The items of the port mapper that stories are about.
 use crate::call::Calls;
 use crate::feed::Pieces;
 use crate::machine::Machine;
 use crate::session::Session;
-use crate::states::Parts;
+use crate::states::StateItems;
 use crate::words::wrong;
 use crate::worker::WorkerSetup;
 use crate::{table, wire};
@@ -12,7 +12,6 @@ use portmap_table::Table;
 use std::alloc::Global;
 use std::sync::Wait;
 
-/// What a story is about, as it stands.
 #[derive(Drop)]
 pub enum Subject {
     None,
@@ -21,14 +20,14 @@ pub enum Subject {
     Feed(Pieces),
     Table(Box<Table>),
     Machine(Box<Machine>),
-    State(Parts),
+    State(StateItems),
     Session(Session),
     Calls(Box<Calls>),
     Worker(WorkerSetup),
 }
 
 impl Subject {
-    /// The part that a word stands for, as a story begins, if it stands for one.
+    /// Returns the subject of a story that begins with this word.
     pub fn begun(alloc: Global, word: &str) -> Result<Option<Subject>> {
         Ok(match word {
             "wire" => Some(Subject::Wire),
@@ -37,28 +36,28 @@ impl Subject {
             "story" => Some(Subject::Machine(Machine::new(alloc)?)),
             "call" => Some(Subject::Calls(Box::new(alloc, Calls::new(alloc))?)),
             "session" => Some(Subject::Session(Session::new(alloc))),
-            "state" => Some(Subject::State(Parts::new(alloc))),
+            "state" => Some(Subject::State(StateItems::new(alloc))),
             "worker" => Some(Subject::Worker(WorkerSetup::new(alloc))),
             _ => None,
         })
     }
 
-    /// What comes of an act.
-    pub fn came<R: Wait>(&mut self, host: &R, alloc: Global, words: &[&str]) -> Result<String> {
+    /// Performs an operation and returns its result as text.
+    pub fn perform<R: Wait>(&mut self, host: &R, alloc: Global, words: &[&str]) -> Result<String> {
         match self {
             Subject::None => wrong("no story has begun"),
-            Subject::Wire => wire::came(alloc, words),
-            Subject::Feed(pieces) => pieces.came(alloc, words),
-            Subject::Table(table) => table::came(alloc, &mut **table, words),
-            Subject::Machine(machine) => machine.came(alloc, words),
-            Subject::State(parts) => parts.came(alloc, words),
-            Subject::Session(session) => session.came(alloc, words),
-            Subject::Calls(calls) => calls.came(alloc, words),
-            Subject::Worker(scene) => scene.came(host, alloc, words),
+            Subject::Wire => wire::perform(alloc, words),
+            Subject::Feed(pieces) => pieces.perform(alloc, words),
+            Subject::Table(table) => table::perform(alloc, &mut **table, words),
+            Subject::Machine(machine) => machine.perform(alloc, words),
+            Subject::State(items) => items.perform(alloc, words),
+            Subject::Session(session) => session.perform(alloc, words),
+            Subject::Calls(calls) => calls.perform(alloc, words),
+            Subject::Worker(setup) => setup.perform(host, alloc, words),
         }
     }
 
-    /// Whether it stands as it did before an act to which memory was refused.
+    /// Returns true if an operation to which memory was refused has changed nothing.
     pub fn stands(&self, alloc: Global) -> Result<bool> {
         match self {
             Subject::Machine(machine) => machine.stands(alloc),
@@ -67,7 +66,7 @@ impl Subject {
         }
     }
 
-    /// What is wrong at the end of a story, if anything is.
+    /// Fails if a check at the end of the story fails.
     pub fn ended(self, alloc: Global) -> Result<()> {
         match self {
             Subject::Machine(mut machine) => machine.ended(alloc),
