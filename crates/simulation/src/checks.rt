@@ -166,14 +166,18 @@ impl<'a> Scene<'a> {
         let is_old = !is_early || world.is_old(late)?;
         let is_first = !is_early || world.goes_first(late, has_news)?;
         let is_anew = world.note_late(late, timeout)? || world.network.wanting > 0 || is_unread;
+        let is_spared = !is_early || world.spares_local(late)?;
+        let is_called_for = !is_early || world.network.wanting > 0 || world.is_local(late)?;
         drop(world);
         self.given_up = given_up;
+        self.check(is_called_for, "one of another host was given up for no one");
         if self.scenario.is_strict {
             let is_idle = is_early || is_unread || !has_news;
             self.check(is_idle, "one was told late of whom there was news");
             self.check(is_wanted, "a connection was given up for no one");
             self.check(is_old, "one was given up that is young");
             self.check(is_first, "one was given up before who goes first");
+            self.check(is_spared, "one of this host was given up before others");
             self.check(is_anew, "one was told late twice within its time");
         }
         Some(())
@@ -218,6 +222,8 @@ impl<'a> Scene<'a> {
             Some("the log is not taken out")
         } else if world.memory.is_overdrawn {
             Some("a connection is held without memory")
+        } else if world.memory.is_ignored {
+            Some("a registration is served though memory is short")
         } else if is_busy {
             Some("a worker does not poll")
         } else if world.unsent() > unsent_most.saturating_add(unsent_most / 2) {

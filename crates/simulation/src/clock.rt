@@ -23,8 +23,12 @@ pub struct Clock {
 pub struct Memory {
     /// No request for memory succeeds before this time.
     pub starved_until: u64,
+    /// When the last shortage began.
+    pub starved_since: u64,
     /// A worker held its first connection, for which it has no memory, while memory was short.
     pub is_overdrawn: bool,
+    /// A worker served a registration that it had kept back, while memory was short.
+    pub is_ignored: bool,
     /// The world itself ran out of memory, so the case shows nothing.
     pub is_lost: bool,
 }
@@ -84,6 +88,7 @@ impl World {
 
     /// Returns whether a request for memory succeeds.
     pub fn has_memory(&mut self) -> bool {
+        let was_starved = self.is_starved();
         let until = self.lasts(Fault::Starved, 2_000_000);
         self.memory.starved_until = until.unwrap_or(self.memory.starved_until);
         if self.now > FAMINE_US && self.happens(Fault::Famine) {
@@ -93,6 +98,21 @@ impl World {
         if is_starved {
             self.notices.refused_at = self.now;
         }
+        if is_starved && !was_starved {
+            self.memory.starved_since = self.now;
+        }
         !is_starved
+    }
+
+    /// Notes that a worker serves a registration that was kept back. A worker looks at its memory before each poll, and
+    /// refuses such a registration while memory is short, unless its peer has ended meanwhile.
+    pub fn note_registration(&mut self, worker: usize, number: usize) {
+        let thread = self.threads.get(worker);
+        let since = self.memory.starved_since;
+        let was_short = thread.is_some_and(|thread| since < thread.polled_at);
+        let wire = self.network.wires.get(number);
+        let is_there = wire.is_some_and(|wire| !wire.is_up_ended);
+        let is_ignored = self.is_starved() && was_short && is_there;
+        self.memory.is_ignored = self.memory.is_ignored || is_ignored;
     }
 }

@@ -13,6 +13,12 @@ const HELD_US: u64 = 500_000;
 
 const HUNG_US: u64 = 30_000_000;
 
+/// The longest time for which `Fault::Drowsy` holds a worker.
+const DROWSY_US: u64 = 200_000;
+
+/// The least time between two such times.
+const AWAKE_US: u64 = 500_000;
+
 pub(crate) const EVENTS_MOST: usize = 256;
 
 /// The faults that stop all accepts, with their errors.
@@ -82,11 +88,23 @@ impl Thread {
         }
     }
 
+    /// Takes a wake, and returns whether the poll reports it. A sparing poll does not report a wake that ended a wait.
+    fn take_wake(&mut self, now: u64, is_sparing: bool) -> bool {
+        let has_waited = self.until.is_some_and(|until| now < until);
+        mem::replace(&mut self.is_woken, false) && !(is_sparing && has_waited)
+    }
+
     /// Reports a wake, the listeners, and the streams with an event, or all streams if `is_spurious`. Returns `None` if
     /// memory runs out.
-    fn report(&mut self, wires: &mut [Wire], now: u64, is_spurious: bool) -> Option<()> {
+    fn report(
+        &mut self,
+        wires: &mut [Wire],
+        now: u64,
+        is_woken: bool,
+        is_spurious: bool,
+    ) -> Option<()> {
         self.reports.clear();
-        if mem::replace(&mut self.is_woken, false) {
+        if is_woken {
             self.reports.push(Report::Woken).ok()?;
         }
         for (place, listener) in self.listeners.iter_mut().enumerate() {
@@ -181,8 +199,26 @@ impl World {
         }
     }
 
+    /// Returns whether more streams of a worker have an event than its poll can report, and it was not held lately.
+    fn is_flooded(&self, worker: usize) -> bool {
+        let Some(thread) = self.threads.get(worker) else {
+            return false;
+        };
+        let is_due = |number: &&usize| {
+            let wire = self.network.wires.get(**number);
+            wire.and_then(|wire| wire.news_at)
+                .is_some_and(|at| at <= self.now)
+        };
+        let was_held = self.now < thread.held_until.saturating_add(AWAKE_US);
+        !was_held && thread.watched.iter().filter(is_due).count() > EVENTS_MOST
+    }
+
     /// Returns until when a fault holds a worker, if a fault happens.
     fn held(&mut self, worker: usize, workers: usize) -> Option<u64> {
+        let is_drowsy = self.scenario.has(Fault::Drowsy) && self.is_flooded(worker);
+        if is_drowsy && self.happens(Fault::Drowsy) {
+            return Some(self.after(DROWSY_US));
+        }
         let is_first = worker == 0 && self.happens_first(Fault::Delayed) && workers > 1;
         if is_first || self.happens_first(Fault::Hung) {
             return Some(self.now.saturating_add(HUNG_US));
@@ -245,7 +281,8 @@ impl World {
         if is_reversed {
             thread.watched.reverse();
         }
-        let reported = thread.report(&mut self.network.wires, now, is_spurious);
+        let is_woken = thread.take_wake(now, self.scenario.is_sparing);
+        let reported = thread.report(&mut self.network.wires, now, is_woken, is_spurious);
         self.memory.note(reported.is_some());
         thread.until = thread.reports.is_empty().then_some(until);
         thread.shuffle(&mut self.weather.random);

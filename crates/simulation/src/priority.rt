@@ -5,6 +5,9 @@ use crate::world::World;
 /// A younger connection is not evicted.
 const YOUNG_US: u64 = 1_000_000;
 
+/// A remote connection of this age is evicted by its worker before any worker evicts a local one.
+const SPARED_US: u64 = 1_200_000;
+
 /// Writes of a worker within this time count as simultaneous.
 const TOGETHER_US: u64 = 100_000;
 
@@ -48,6 +51,23 @@ impl World {
             since.saturating_add(TICK_US) < until
         };
         Some(!self.network.wires.iter().any(goes_before))
+    }
+
+    pub fn is_local(&self, number: usize) -> Option<bool> {
+        Some(self.network.wires.get(number)?.is_local)
+    }
+
+    /// Returns whether an evicted connection is remote, or no worker had a remote one to evict in its place. Such a
+    /// worker is not held, and its connection was old enough for some time.
+    pub fn spares_local(&self, number: usize) -> Option<bool> {
+        let is_local = self.is_local(number)?;
+        let could_go = |wire: &Wire| {
+            let worker = wire.worker().unwrap_or(usize::MAX);
+            let held_until = self.held_until(Some(worker));
+            let since = wire.waits_since(worker).unwrap_or(u64::MAX).max(held_until);
+            !wire.is_local && since.saturating_add(SPARED_US) < self.now
+        };
+        Some(!is_local || !self.network.wires.iter().any(could_go))
     }
 
     /// Returns the number of unread bytes of all connections.

@@ -1,7 +1,7 @@
 //! The type of a scenario: who connects, in which conditions, with which limits.
 use crate::roles::{BABBLER, DUMPER, LISTER, NODE, Naming, Role, SEEKER, SILENT, SLOW};
 use crate::scenario::Crowd::{Local, Remote};
-use crate::weather::Chances;
+use crate::weather::{Chances, Fault};
 
 /// A number of peers of a role, on this host or on another host. Remote peers connect to the first listener only.
 #[derive(Clone, Copy)]
@@ -43,7 +43,7 @@ pub struct Scenario {
     pub file_bytes_most: u64,
     /// The recording is a plain file, and not a pipe.
     pub is_plain: bool,
-    /// Polls report only the edges that they must report.
+    /// Polls report only the edges that they must report, and no wake that ended a wait.
     pub is_sparing: bool,
     pub full_us: u64,
     /// The storm ends the daemon once the log has this weight.
@@ -77,6 +77,11 @@ impl Scenario {
         } else {
             self.people
         }
+    }
+
+    /// Returns whether a fault may happen.
+    pub fn has(&self, fault: Fault) -> bool {
+        self.chances.iter().any(|chance| chance.0 == fault)
     }
 
     /// Returns the most connections that can be open at once.

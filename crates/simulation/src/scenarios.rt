@@ -46,6 +46,7 @@ pub const PEOPLE: &[Scenario] = scenarios! {
     "pipes" (131, 91, 2403, 0) [] [] file_bytes_most: 4000, is_plain: false;
     "restarts" (994, 861, 2752, 0) [Local NODE 20, Local SEEKER 2] [Late 200, Reset 100];
     "rivals" (1287, 146, 1989, 552) [Local NODE 3, Local RIVAL 4] [];
+    "terse" (810, 128, 1222, 412) [Local NODE 3, Local RIVAL 4] [] is_sparing: true;
     "strangers" (48, 22, 544, 0) [Remote SILENT 30, Remote DRIPPER 12, Remote BABBLER 12, Remote LISTER 6,
         Local NODE 4, Local SEEKER 3]
         [] conn_max: 56;
@@ -77,6 +78,8 @@ pub const TIMES: &[Scenario] = scenarios! {
         [] conn_max: 8, hold_us: 60_000_000, limit_ms: 250, is_strict: false;
     "encamped" (84, 64, 1117, 0) [Remote SILENT 4, Local NODE 3, Local SEEKER 2]
         [] conn_max: 7, burst_us: 2_000_000, hold_us: 60_000_000, limit_ms: 210;
+    "hosted" (0, 0, 1366, 0) [Remote SILENT 3, Local SILENT 3, Local SEEKER 4]
+        [] conn_max: 6, burst_us: 2_000_000, hold_us: 60_000_000, limit_ms: 210;
     "placed" (20, 7, 1439, 0) [Remote SILENT 5, Local NODE 2, Local SEEKER 1]
         [Delayed 1000, Taken 1000]
         timeout_us: 3_600_000_000, conn_max: 7, burst_us: 4_000_000, hold_us: 3_600_000_000, limit_ms: 1500;
@@ -95,6 +98,7 @@ pub const TIMES: &[Scenario] = scenarios! {
 /// Short memory, full disks, floods, and ends.
 pub const ENDS: &[Scenario] = scenarios! {
     "unread" (134, 94, 2337, 0) [] [Unread 2] limit_ms: 3000;
+    "clockless" (164, 124, 2212, 0) [Local NODE 6, Local SEEKER 6] [Unread 100, Unwatched 50];
     "starved" (15, 1000, 400, 0) [] [Starved 100] is_strict: false, may_end: true;
     "famine" (123, 13372, 123, 0) [Local NODE 12] [Famine 100] is_strict: false, limit_ms: 10_000, may_end: true;
     "scarce" (74, 25211, 14576, 0) [] [Famine 100] is_strict: false, limit_ms: 3000;
@@ -106,6 +110,8 @@ pub const ENDS: &[Scenario] = scenarios! {
         Local SEEKER 3]
         [] conn_max: 32, file_bytes_most: 4000;
     "short" (500, 800, 3000, 0) [Local NODE 12, Local SEEKER 4] [Starved 10] is_strict: false, limit_ms: 3000;
+    "lacking" (104, 728, 149, 44) [Local NODE 12, Local RIVAL 4]
+        [Starved 20, Late 300] is_strict: false, limit_ms: 3000;
     "kills" (50, 40, 80, 0) [Local NODE 4, Local SEEKER 4, Local STOPPER 2, Local KILLER 1]
         [] hold_us: 5_000, is_relaxed: true, is_strict: false, may_end: true;
     "stops" (646, 606, 5827, 0) [Local NODE 6, Local STOPPER 3, Local SEEKER 2]
@@ -122,6 +128,8 @@ pub const ENDS: &[Scenario] = scenarios! {
         [Stopped 20, Late 300] conn_max: 1024, burst_us: 1_000_000, hold_us: 300_000, limit_ms: 200_000;
     "swells" (700, 546, 15852, 0) [Local TARDY 750, Local NODE 30]
         [Held 1, Reversed 500] conn_max: 1024, burst_us: 1_000_000, hold_us: 300_000, limit_ms: 200_000;
+    "sleepers" (364, 164, 5364, 0) [Local TARDY 750, Local NODE 30]
+        [Drowsy 900, Reversed 500] conn_max: 1024, burst_us: 1_000_000, hold_us: 300_000, limit_ms: 200_000;
     "deaf" (55, 20, 700, 0) [] [Deaf 2] is_strict: false, may_end: true;
     "storm" (154, 116, 1854, 0) []
         [Interrupted 30, Short 50, Aborted 15, Exhausted 15, Unwatched 15, Late 100, Spurious 10, Held 5, Dripped 100,

@@ -31,6 +31,13 @@ impl<L: Ledger, R: Wait + Drop> Stepped<'_, L, R> {
         let wire = world.network.wires.get(number)?;
         Some((number, wire.is_reported && !wire.up.is_empty()))
     }
+
+    /// Returns the connection of a link if it keeps a registration back.
+    fn registration(&self, key: u64) -> Option<usize> {
+        let link = self.source.held(key)?;
+        link.asked_name()?;
+        Some(link.stream().number)
+    }
 }
 
 impl<L: Ledger, R: Wait + Drop> LinkSource for Stepped<'_, L, R> {
@@ -43,8 +50,15 @@ impl<L: Ledger, R: Wait + Drop> LinkSource for Stepped<'_, L, R> {
             Turn::Fresh { key, local: _ } | Turn::Late(key) => self.connection(key),
             Turn::Ready(_) | Turn::Idle | Turn::Stop => None,
         };
+        let kept = match turn {
+            Turn::Ready(key) => self.registration(key),
+            _ => None,
+        };
         if let Ok(mut world) = self.world.try_borrow_mut() {
             world.note_turn(self.thread, delivered, met);
+            if let Some(number) = kept {
+                world.note_registration(self.thread, number);
+            }
         }
         turn
     }

@@ -68,18 +68,20 @@ pub enum Fault {
     Reversed,
     /// A write of times fails.
     Timeless,
+    /// A worker is held for up to a fifth of a second before a poll that can't report all events.
+    Drowsy,
 }
 
 /// The names of the faults, in the order of their declaration.
 pub const FAULTS: &str = "\
     interrupted short aborted exhausted unable unwatched unleft late lost stopped spurious held \
     stuck hung delayed behind slow jumps unread starved famine stalled full reset broken shut dripped \
-    deaf unreported taken reversed timeless";
+    deaf unreported taken reversed timeless drowsy";
 
 /// The chances of faults, per mille.
 pub type Chances = &'static [(Fault, u32)];
 
-pub type FaultCounts = [u32; 32];
+pub type FaultCounts = [u32; 33];
 
 /// The faults of a case, by the choices of its seed.
 #[derive(Drop)]
@@ -94,7 +96,7 @@ impl Weather {
         Weather {
             random: Random::new(seed),
             chances,
-            happened: [0; 32],
+            happened: [0; 33],
         }
     }
 
