@@ -81,7 +81,8 @@ impl World {
     /// clock was unreadable.
     pub fn note_late(&mut self, number: usize, age: u64) -> Option<bool> {
         let now = self.shown();
-        let before = self.network.wires.get_mut(number)?.late_at.replace(now);
+        let wire = self.network.wires.get_mut(number)?;
+        let before = wire.daemon.late_at.replace(now);
         let is_anew = before.is_none_or(|at| now.saturating_sub(at) >= age);
         Some(is_anew || self.weather.has_happened(Fault::Unread))
     }
@@ -111,7 +112,7 @@ impl World {
         let since = self.memory.starved_since;
         let was_short = thread.is_some_and(|thread| since < thread.polled_at);
         let wire = self.network.wires.get(number);
-        let is_there = wire.is_some_and(|wire| !wire.is_up_ended);
+        let is_there = wire.is_some_and(|wire| wire.peer.ended.is_none());
         let is_ignored = self.is_starved() && was_short && is_there;
         self.memory.is_ignored = self.memory.is_ignored || is_ignored;
     }

@@ -3,7 +3,9 @@ use crate::run::Case;
 use crate::scene::Scene;
 use crate::system::{SimFile, SimHost, SimThread};
 use portmap_book::{Desk, Seat};
-use portmap_worker::{Drain, Drained, LinkSource, Open, RecordQueue, RecordWriter, Shared, Worker};
+use portmap_worker::{
+    Drain, Drained, LinkSource, Open, RecordQueue, RecordWriter, Shared, Turn, Worker,
+};
 use std::alloc::Global;
 use std::sync::Wait;
 use std::sync::ledger::Ledger;
@@ -19,10 +21,8 @@ pub struct Around<'a, L: Ledger, R: Wait + Drop> {
     pub(crate) queue: &'a RecordQueue,
 }
 
-pub type SimWorker<'a, L, S, R> = Worker<'a, L, S, Open, SimHost<R>>;
-
 /// The workers of the daemon. An ended worker is `None`.
-pub type SimWorkers<'a, L, S, R> = Vec<Option<SimWorker<'a, L, S, R>>>;
+pub type SimWorkers<'a, L, S, R> = Vec<Option<Worker<'a, L, S, Open, SimHost<R>>>>;
 
 #[derive(Drop)]
 pub struct Daemon<'a, L: Ledger, S: LinkSource + Drop, R: Wait + Drop> {
@@ -31,7 +31,10 @@ pub struct Daemon<'a, L: Ledger, S: LinkSource + Drop, R: Wait + Drop> {
     pub(crate) workers: SimWorkers<'a, L, S, R>,
     /// The seats of ended workers. Once a worker ends, all must end.
     pub(crate) seats: Vec<Seat<L>>,
+    /// The connections in the order in which the desk opened them.
+    pub(crate) opened: Vec<usize>,
     pub(crate) drain: Drain<'a>,
+    pub(crate) is_drained: bool,
     pub(crate) writer: RecordWriter<SimFile>,
     /// The recording thread has not ended.
     pub(crate) is_writing: bool,
@@ -56,30 +59,41 @@ impl<'a, L: Ledger, S: LinkSource + Drop, R: Wait + Drop> Daemon<'a, L, S, R> {
             None => self.work(actor),
             Some(0) => self.take_out(),
             Some(1) => self.write(),
-            Some(place) => self.scene.act(place.saturating_sub(2)),
+            Some(place) => {
+                let mut world = self.scene.world()?;
+                let person = self.scene.people.get_mut(place.saturating_sub(2))?;
+                let wrong = person.act(&mut world);
+                self.scene.note(wrong);
+                Some(())
+            }
         }
     }
 
+    /// Runs a turn of a worker.
     fn work(&mut self, number: usize) -> Option<()> {
         let shared = self.around.shared;
         let was_unanswered = shared.noted.is_unanswered();
         let worker = self.workers.get_mut(number)?.as_mut()?;
         let acts = worker.acts();
         let (goes_on, has_acted) = (worker.turn(), worker.acts() > acts);
+        // A connection ended unanswered, for the first time since the drain last looked.
         let is_unanswered = !was_unanswered && shared.noted.is_unanswered();
+        let mut world = self.scene.world()?;
+        let is_heeded = !is_unanswered || world.is_due(self.scene.workers);
+        let met = world.met(number, goes_on);
+        drop(world);
         self.scene
-            .note_turn(number, goes_on, has_acted, is_unanswered)?;
+            .check(is_heeded, "an end without an answer is not looked into");
+        match met {
+            Some((Turn::Fresh { .. }, (fresh, _))) if has_acted => self.opened.push(fresh).ok()?,
+            Some((Turn::Late(_), (late, has_news))) => self.scene.judge_late(late, has_news)?,
+            _ => {}
+        }
         if goes_on {
             return Some(());
         }
-        self.end_worker(number)
-    }
-
-    fn end_worker(&mut self, number: usize) -> Option<()> {
         let seat = self.workers.get_mut(number)?.take()?.leave();
-        let acts = seat.count();
-        self.scene.acts = self.scene.acts.saturating_add(acts);
-        self.around.shared.end_worker(number, acts);
+        shared.end_worker(number, seat.count());
         self.seats.push(seat).ok()
     }
 
@@ -94,7 +108,8 @@ impl<'a, L: Ledger, S: LinkSource + Drop, R: Wait + Drop> Daemon<'a, L, S, R> {
             let is_out = self.weight() == 0;
             return self.scene.judge_wait(timeout, is_owed, is_out);
         }
-        self.scene.is_drained = true;
+        self.is_drained = true;
+        self.scene.world()?.met(self.scene.workers, false);
         around.queue.close(around.host);
         Some(())
     }
@@ -102,8 +117,7 @@ impl<'a, L: Ledger, S: LinkSource + Drop, R: Wait + Drop> Daemon<'a, L, S, R> {
     /// Runs a turn of the recording thread.
     fn write(&mut self) -> Option<()> {
         let around = self.around;
-        let alloc = self.scene.alloc;
-        self.is_writing = self.writer.turn(around.host, alloc, around.queue);
+        self.is_writing = self.writer.turn(around.host, around.alloc, around.queue);
         let has_failed = around.queue.has_failed(around.host);
         self.scene.world()?.note_written(has_failed);
         Some(())

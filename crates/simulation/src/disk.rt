@@ -52,12 +52,6 @@ impl Disk {
             stalled_until: 0,
         }
     }
-
-    /// Keeps the files as a kill at this moment would leave them.
-    pub fn kill(&mut self) -> Option<()> {
-        self.killed = self.files.clone().ok()?;
-        Some(())
-    }
 }
 
 impl World {
@@ -132,9 +126,7 @@ impl World {
     pub fn store(&mut self, number: usize, bytes: &[u8]) -> Result<usize, ErrorKind>
         ensures { IfOk result (λ n. n ≤ length bytes.now) }
     {
-        if self.happens(Fault::Interrupted) {
-            return Err(ErrorKind::Interrupted);
-        }
+        self.fail_by(Fault::Interrupted, ErrorKind::Interrupted)?;
         if self.is_disk_full() {
             self.notices.note_write_failed(self.now);
             return Err(ErrorKind::StorageFull);

@@ -8,14 +8,23 @@ use std::io;
 /// A scenario with fewer cases is not checked.
 const CASES: u32 = 10;
 
+/// The cases of a scenario, and their deeds.
 #[derive(Clone, Copy)]
-struct Total {
-    scenario: &'static Scenario,
+pub struct Total {
+    pub scenario: &'static Scenario,
     cases: u32,
     deeds: Deeds,
 }
 
 impl Total {
+    /// Adds a case.
+    pub fn note(&mut self, tally: &Counts) {
+        self.cases = self.cases.saturating_add(1);
+        for (sum, count) in self.deeds.iter_mut().zip(tally.deeds()) {
+            *sum = sum.saturating_add(count);
+        }
+    }
+
     /// Prints the deeds if one of them is below the least of the scenario.
     fn print_lack(&self, rt: &HostRuntime) -> io::Result<()> {
         let [registrations, restarts, answers, refused] = self.deeds;
@@ -49,20 +58,11 @@ impl Totals {
         Ok(Totals(totals))
     }
 
-    /// Finds the scenario that one of these words names. Returns its index too.
-    pub fn find(&self, words: &[&str]) -> Option<(usize, &'static Scenario)> {
-        let mut totals = self.0.iter().enumerate();
-        let (place, total) = totals.find(|each| words.contains(&each.1.scenario.name))?;
-        Some((place, total.scenario))
-    }
-
-    pub fn note(&mut self, place: usize, tally: &Counts) {
-        if let Some(total) = self.0.get_mut(place) {
-            total.cases = total.cases.saturating_add(1);
-            for (sum, count) in total.deeds.iter_mut().zip(tally.deeds()) {
-                *sum = sum.saturating_add(count);
-            }
-        }
+    /// Finds the scenario that one of these words names.
+    pub fn find(&mut self, words: &[&str]) -> Option<&mut Total> {
+        let mut totals = self.0.iter();
+        let place = totals.position(|total| words.contains(&total.scenario.name))?;
+        self.0.get_mut(place)
     }
 
     /// Prints the scenarios that did too little, and the number of scenarios with enough cases.

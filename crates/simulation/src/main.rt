@@ -47,30 +47,22 @@ fn number_after(words: &[&str], word: &str) -> Option<u64> {
 }
 
 fn main(rt: HostRuntime) -> io::Result<()> {
+    let mut totals = Totals::new(rt.alloc())?;
     let words: Vec<String> = env::args(&rt)?.collect(rt.alloc())?;
     if words.len() > 1 {
-        return run_words(&rt, &rt, &words);
+        // The case is in the arguments, whose names begin with a hyphen.
+        let mut line = String::new(rt.alloc());
+        for word in words.iter().skip(1) {
+            line.push_str(word.as_str().trim_start_matches('-'))?;
+            line.push_str(" ")?;
+        }
+        return run_line(&rt, &rt, line.as_str(), &mut totals);
     }
-    let mut totals = Totals::new(rt.alloc())?;
     let input = io::BufReader::new(rt.alloc(), rt.stdin())?;
     for line in input.lines(rt.alloc()) {
         run_line(&rt, &rt, line?.as_str(), &mut totals)?;
     }
     totals.print(&rt)
-}
-
-/// Runs the case of the program's arguments, whose names begin with a hyphen.
-fn run_words<R: Wait + Clone + Drop>(
-    rt: &HostRuntime,
-    host: &R,
-    words: &[String],
-) -> io::Result<()> {
-    let mut line = String::new(rt.alloc());
-    for word in words.iter().skip(1) {
-        line.push_str(word.as_str().trim_start_matches('-'))?;
-        line.push_str(" ")?;
-    }
-    run_line(rt, host, line.as_str(), &mut Totals::new(rt.alloc())?)
 }
 
 /// Runs the case of a line, prints its result, and adds its deeds to the totals.
@@ -81,14 +73,14 @@ fn run_line<R: Wait + Clone + Drop>(
     totals: &mut Totals,
 ) -> io::Result<()> {
     let words: Vec<&str> = line.split_whitespace().collect(rt.alloc())?;
-    let Some((place, scenario)) = totals.find(&words) else {
+    let Some(total) = totals.find(&words) else {
         return println!(rt; "no scenario: {line}");
     };
     let steps = number_after(&words, "steps").unwrap_or(4000);
     let case = Case {
         seed: number_after(&words, "seed").unwrap_or(1),
         workers: number_after(&words, "workers").unwrap_or(2).clamp(1, 8) as u32,
-        scenario,
+        scenario: total.scenario,
         steps: steps.min(100_000_000) as u32,
         is_traced: words.contains(&"trace"),
     };
@@ -96,30 +88,27 @@ fn run_line<R: Wait + Clone + Drop>(
     let Some(outcome) = run_case::<Brand, R>(own, rt.alloc(), Blank::new(PARTS), &case) else {
         return println!(rt; "WRONG {line}: no memory");
     };
-    totals.note(place, &outcome.tally);
-    for Step { now, actor, turn } in &outcome.trace {
+    total.note(&outcome.tally);
+    for Step { now, actor, turn } in outcome.trace.iter().flatten() {
         println!(rt; "{now} {actor} {turn:?}")?;
     }
+    let is_brief = outcome.wrong.is_none() && !words.contains(&"counts");
     match outcome.wrong {
         Some(wrong) => print!(rt; "WRONG {line}: {wrong}:")?,
-        None if words.contains(&"counts") => print!(rt; "ok {line}:")?,
-        None => return print_in_brief(rt, line, &outcome),
+        None => print!(rt; "ok {line}:")?,
     }
-    print_counts(rt, &outcome)
+    print_counts(rt, &outcome, is_brief)
 }
 
-/// Prints the line of a case that went well.
-fn print_in_brief(rt: &HostRuntime, line: &str, outcome: &Outcome) -> io::Result<()> {
-    let (tally, others) = (&outcome.tally, outcome.checksum());
-    print!(rt; "ok {line}: {} connections,", tally.connections)?;
-    print!(rt; " {} registrations,", tally.registrations)?;
-    println!(rt; " {} restarts, {others:016x}", tally.restarts)
-}
-
-fn print_counts(rt: &HostRuntime, outcome: &Outcome) -> io::Result<()> {
+/// Prints all counts of a case, or some counts and a checksum of the others.
+fn print_counts(rt: &HostRuntime, outcome: &Outcome, is_brief: bool) -> io::Result<()> {
     let (tally, longest) = (&outcome.tally, outcome.tally.longest / 1000);
     print!(rt; " {} connections,", tally.connections)?;
     print!(rt; " {} registrations,", tally.registrations)?;
+    if is_brief {
+        let others = outcome.checksum();
+        return println!(rt; " {} restarts, {others:016x}", tally.restarts);
+    }
     print!(rt; " {} refused, {} restarts,", tally.refused, tally.restarts)?;
     print!(rt; " {} answers within {longest} ms,", tally.answers)?;
     print!(rt; " {} without,", tally.unanswered)?;

@@ -2,6 +2,7 @@
 ghost use Rattle.std.specs.Prelude.{◌≤◌, IfOk, length};
 
 use crate::notices::Subject;
+use crate::people::Counts;
 use crate::weather::Fault;
 use crate::wire::Wire;
 use crate::world::{LISTENERS, World};
@@ -40,17 +41,17 @@ pub struct Network {
     flights: VecDeque<Flight>,
     /// The connections that wait at each listener.
     pub(crate) backlogs: [VecDeque<usize>; LISTENERS],
-    /// No connection can be accepted before this time, with this error.
-    pub(crate) exhausted: (u64, ErrorKind),
-    /// The number of open connections of other hosts, and of this host.
+    /// The number of open connections, and of those of other hosts.
+    pub connected: u32,
     pub remote: u32,
-    pub local: u32,
     /// The number of connections that arrived while no permit was free.
     pub wanting: u32,
     /// The bytes that the daemon has read since the last drain.
     pub read_bytes: u64,
     /// For each node, when the last stop was requested, and when the reply to it arrived.
-    stopped: [(u64, u64); NODES_MOST],
+    pub(crate) stopped: [(u64, u64); NODES_MOST],
+    /// What the peers did.
+    pub tally: Counts,
 }
 
 impl Network {
@@ -60,12 +61,12 @@ impl Network {
             wires: Vec::new(alloc),
             flights: VecDeque::new(alloc),
             backlogs: [VecDeque::new(alloc), VecDeque::new(alloc)],
-            exhausted: (0, ErrorKind::Other),
+            connected: 0,
             remote: 0,
-            local: 0,
             wanting: 0,
             read_bytes: 0,
             stopped: [(0, 0); NODES_MOST],
+            tally: Counts::default(),
         }
     }
 
@@ -73,21 +74,6 @@ impl Network {
     pub fn lands_at(&self) -> u64 {
         let flights = self.flights.iter();
         flights.fold(u64::MAX, |least: u64, flight| least.min(flight.at))
-    }
-
-    /// Returns the number of open connections of this host, or of other hosts.
-    pub fn count(&mut self, is_local: bool) -> &mut u32 {
-        if is_local {
-            &mut self.local
-        } else {
-            &mut self.remote
-        }
-    }
-
-    pub fn note_stopped(&mut self, node: u8, asked: u64, now: u64) {
-        if let Some(stopped) = self.stopped.get_mut(node as usize) {
-            *stopped = (asked, now);
-        }
     }
 
     /// Returns when the reply to a stop arrived, if the stop was requested after `time`.
@@ -139,13 +125,10 @@ impl World {
     }
 
     fn fly(&mut self, number: usize, bytes: &[u8], end: Option<Ending>) {
-        let lands_at = if self.happens(Fault::Late) {
-            self.after(20_000)
-        } else if end.is_none() && self.happens(Fault::Lost) {
-            self.after(3_000_000)
-        } else {
-            self.now
-        };
+        let mut lands_at = self.lasts(Fault::Late, 20_000);
+        if lands_at.is_none() && end.is_none() {
+            lands_at = self.lasts(Fault::Lost, 3_000_000);
+        }
         let Ok(bytes) = Vec::from_slice(self.network.alloc, bytes) else {
             self.memory.is_lost = true;
             return;
@@ -153,7 +136,8 @@ impl World {
         // The daemon sees the acts of a peer in their order.
         let flights = &mut self.network.flights;
         let own = flights.iter().filter(|flight| flight.number == number);
-        let at = own.fold(lands_at, |at: u64, flight| at.max(flight.at));
+        let least = lands_at.unwrap_or(self.now);
+        let at = own.fold(least, |at: u64, flight| at.max(flight.at));
         let flight = Flight {
             at,
             number,
@@ -184,7 +168,7 @@ impl World {
             self.memory.note(is_kept);
             // A reset may discard bytes that the daemon has not read.
             if flight.end == Some(Ending::Reset) && self.weather.random.happens(500) {
-                wire.up.clear();
+                wire.peer.up.clear();
             }
         }
     }
@@ -201,10 +185,7 @@ impl World {
     fn begin_call(&mut self) -> Result<(), ErrorKind> {
         self.now = self.after(3);
         self.land();
-        if self.happens(Fault::Interrupted) {
-            return Err(ErrorKind::Interrupted);
-        }
-        Ok(())
+        self.fail_by(Fault::Interrupted, ErrorKind::Interrupted)
     }
 
     fn reset_error(&mut self) -> ErrorKind {
@@ -220,12 +201,13 @@ impl World {
     {
         self.begin_call()?;
         let wire = self.network.wires.get_mut(number).ok_or(ErrorKind::Other)?;
-        wire.is_reported = false;
-        wire.is_read_due = !wire.is_readable();
-        if wire.is_reset && wire.up.is_empty() {
+        let is_read_due = !wire.is_readable();
+        wire.readiness.is_reported = false;
+        wire.readiness.is_read_due = is_read_due;
+        if wire.is_reset && wire.peer.up.is_empty() {
             return Err(self.reset_error());
         }
-        if wire.is_read_due {
+        if is_read_due {
             return Err(ErrorKind::WouldBlock);
         }
         let count = wire.take(buffer);
@@ -242,14 +224,21 @@ impl World {
         if wire.is_reset {
             return Err(self.reset_error());
         }
-        let room = wire.room.saturating_sub(wire.down.len());
+        let room = wire.peer.room.saturating_sub(wire.down.len());
         let count = bytes.len().min(if is_short { room.min(1) } else { room });
-        wire.note_unsent(self.now, bytes.len(), count);
-        wire.is_room_due = room == 0;
+        let unsent = bytes.len().saturating_sub(count);
+        if wire.daemon.unsent == 0 || unsent < wire.daemon.unsent {
+            wire.daemon.unread_since = self.now;
+        }
+        wire.daemon.unsent = unsent;
+        wire.readiness.is_room_due = room == 0;
         if room == 0 {
             return Err(ErrorKind::WouldBlock);
         }
-        self.memory.note(wire.put(&bytes[..count]));
+        wire.peer.has_news = true;
+        wire.is_reset = wire.peer.ended == Some(Ending::Gone);
+        let sent = wire.down.extend(bytes[..count].iter().copied());
+        self.memory.note(sent.is_ok());
         Ok(count)
     }
 
@@ -257,7 +246,7 @@ impl World {
     pub fn reset(&mut self, number: usize) {
         if let Some(wire) = self.network.wires.get_mut(number) {
             wire.is_reset = true;
-            wire.has_peer_news = true;
+            wire.peer.has_news = true;
         }
     }
 
@@ -268,23 +257,23 @@ impl World {
         // The shortage lasts long enough for the drain to see it.
         let is_starved_on = self.now.saturating_add(100_000) < self.memory.starved_until;
         if let Some(wire) = self.network.wires.get_mut(number) {
-            if is_starved && !wire.is_held {
+            if is_starved && wire.daemon.came_at.is_none() {
                 self.notices.on_unaccepted(self.now);
             }
             if is_starved_on && wire.down.is_empty() && wire.received.is_empty() {
                 self.notices.note(Subject::Short, self.now);
             }
             wire.is_down_ended = true;
-            wire.is_ended_well = !wire.is_up_ended && !wire.is_reset;
-            wire.has_peer_news = true;
-            if let Some(watch) = wire.watch.take() {
+            wire.is_ended_well = wire.peer.ended.is_none() && !wire.is_reset;
+            wire.peer.has_news = true;
+            if let Some(watch) = wire.readiness.watch.take() {
                 if let Some(thread) = self.threads.get_mut(watch.thread) {
                     thread.watched.retain(|watched| *watched != number);
                 }
             }
-            let is_local = wire.is_local;
-            let count = self.network.count(is_local);
-            *count = count.saturating_sub(1);
+            let remote = u32::from(!wire.is_local);
+            self.network.connected = self.network.connected.saturating_sub(1);
+            self.network.remote = self.network.remote.saturating_sub(remote);
         }
     }
 }

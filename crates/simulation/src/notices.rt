@@ -215,9 +215,7 @@ impl Notices {
     pub fn judge(&self, now: u64) -> Result<(), Wrong> {
         let mut topics = self.topics.iter().zip(LATE);
         let late = topics.find(|each| each.0.is_late(now));
-        match late.map(|each| each.1).or(self.wrong) {
-            Some(wrong) => Err(wrong),
-            None => Ok(()),
-        }
+        let wrong = late.map(|each| each.1).or(self.wrong);
+        wrong.map_or(Ok(()), Err)
     }
 }

@@ -1,9 +1,8 @@
 //! The polls of the threads: listeners, streams, and wakes by other threads.
-use crate::random::Random;
 use crate::weather::Fault;
 use crate::wire::{Watch, Wire};
 use crate::world::{LISTENERS, World};
-use portmap_worker::{Interest, Report, Turn};
+use portmap_worker::{Report, Turn};
 use std::alloc::Global;
 use std::io::ErrorKind;
 use std::mem;
@@ -45,16 +44,22 @@ pub struct Thread {
     /// Until when the thread waits in its poll.
     pub(crate) until: Option<u64>,
     pub(crate) held_until: u64,
-    has_ended: bool,
-    /// The worker has held a connection. It has memory for the next connection then.
-    has_held: bool,
-    /// The last turn of the worker's source. `met` is the connection of that turn, and whether it had unread input.
-    turn: Option<Turn>,
-    met: Option<(usize, bool)>,
+    work: Work,
     /// The time of the last poll, the number of polls, and the steps of the source since the last poll.
     pub polled_at: u64,
     pub polls: u64,
     pub steps: u32,
+}
+
+/// What a worker has done. The connection of a turn is `None` if the turn had no connection.
+#[derive(Clone, Copy, Default)]
+struct Work {
+    has_ended: bool,
+    /// The worker has held a connection. It has memory for the next connection then.
+    has_held: bool,
+    /// The last turn of the worker's source, and the connection of that turn with whether it had unread input.
+    turn: Option<Turn>,
+    met: Option<(usize, bool)>,
 }
 
 impl Thread {
@@ -66,10 +71,7 @@ impl Thread {
             reports: Vec::new(alloc),
             until: None,
             held_until: 0,
-            has_ended: false,
-            has_held: false,
-            turn: None,
-            met: None,
+            work: Work::default(),
             polled_at: 0,
             polls: 0,
             steps: 0,
@@ -123,14 +125,6 @@ impl Thread {
         }
         Some(())
     }
-
-    fn shuffle(&mut self, random: &mut Random) {
-        let count = self.reports.len();
-        for place in 0..count {
-            let other = random.below(count as u64) as usize;
-            self.reports.swap(place, other);
-        }
-    }
 }
 
 impl World {
@@ -144,39 +138,39 @@ impl World {
         }
         for number in &thread.watched {
             if let Some(wire) = self.network.wires.get(*number) {
-                at = at.min(wire.news_at.unwrap_or(at));
+                at = at.min(wire.readiness.news_at.unwrap_or(at));
             }
         }
-        (!thread.has_ended).then_some(at.max(thread.held_until))
+        (!thread.work.has_ended).then_some(at.max(thread.held_until))
     }
 
     pub fn note_turn(&mut self, number: usize, turn: Option<Turn>, met: Option<(usize, bool)>) {
         let is_starved = self.is_starved();
         if let Some(thread) = self.threads.get_mut(number) {
-            thread.turn = turn;
-            thread.met = met;
+            thread.work.turn = turn;
+            thread.work.met = met;
             thread.steps = thread.steps.saturating_add(1);
             if let (Some(Turn::Fresh { .. }), Some((fresh, _))) = (turn, met) {
-                self.memory.is_overdrawn |= is_starved && !thread.has_held;
-                thread.has_held = true;
+                self.memory.is_overdrawn |= is_starved && !thread.work.has_held;
+                thread.work.has_held = true;
                 if let Some(wire) = self.network.wires.get_mut(fresh) {
-                    wire.is_held = true;
-                    wire.came_at = self.now;
+                    wire.daemon.came_at = Some(self.now);
                 }
             }
         }
     }
 
     pub fn last_turn(&self, number: usize) -> Option<Turn> {
-        let thread = self.threads.get(number)?;
-        thread.turn.filter(|_| !thread.has_ended)
+        let work = self.threads.get(number)?.work;
+        work.turn.filter(|_| !work.has_ended)
     }
 
-    /// Notes whether a worker continues after a turn. Returns the last turn of its source with its connection.
+    /// Notes whether a worker or the drain continues after a turn. Returns the last turn of a worker's source with its
+    /// connection.
     pub fn met(&mut self, number: usize, goes_on: bool) -> Option<(Turn, (usize, bool))> {
-        let thread = self.threads.get_mut(number)?;
-        thread.has_ended = !goes_on;
-        thread.turn.zip(thread.met)
+        let work = &mut self.threads.get_mut(number)?.work;
+        work.has_ended = !goes_on;
+        work.turn.zip(work.met)
     }
 
     pub fn is_due(&self, number: usize) -> bool {
@@ -206,11 +200,17 @@ impl World {
         };
         let is_due = |number: &&usize| {
             let wire = self.network.wires.get(**number);
-            wire.and_then(|wire| wire.news_at)
+            wire.and_then(|wire| wire.readiness.news_at)
                 .is_some_and(|at| at <= self.now)
         };
         let was_held = self.now < thread.held_until.saturating_add(AWAKE_US);
         !was_held && thread.watched.iter().filter(is_due).count() > EVENTS_MOST
+    }
+
+    pub fn wake(&mut self, number: usize) {
+        if let Some(thread) = self.threads.get_mut(number) {
+            thread.is_woken = true;
+        }
     }
 
     /// Returns until when a fault holds a worker, if a fault happens.
@@ -223,10 +223,8 @@ impl World {
         if is_first || self.happens_first(Fault::Hung) {
             return Some(self.now.saturating_add(HUNG_US));
         }
-        match self.lasts(Fault::Held, HELD_US) {
-            None => self.lasts(Fault::Stuck, 30_000_000),
-            until => until,
-        }
+        let until = self.lasts(Fault::Held, HELD_US);
+        until.or_else(|| self.lasts(Fault::Stuck, HUNG_US))
     }
 
     /// Holds an actor if a fault happens: a worker, the drain, or the recording thread.
@@ -234,15 +232,15 @@ impl World {
         let until = match actor.checked_sub(workers) {
             None => self.held(actor, workers),
             Some(0) if self.happens(Fault::Behind) => Some(self.now.saturating_add(HUNG_US)),
-            Some(1) => {
-                let until = self.lasts(Fault::Stalled, 3_000_000);
-                self.disk.stalled_until = until.unwrap_or(self.disk.stalled_until);
-                until
-            }
+            Some(1) => self.lasts(Fault::Stalled, 3_000_000),
             Some(_) => None,
         };
-        if let (Some(until), Some(thread)) = (until, self.threads.get_mut(actor)) {
-            thread.held_until = until;
+        if let Some(until) = until {
+            match self.threads.get_mut(actor) {
+                Some(thread) => thread.held_until = until,
+                // The recording thread has no poll.
+                None => self.disk.stalled_until = until,
+            }
         }
         until.is_some()
     }
@@ -255,9 +253,8 @@ impl World {
 
     /// Returns until when this worker is held. Without a worker, returns until when all workers are held.
     pub fn held_until(&self, worker: Option<usize>) -> u64 {
-        if let Some(worker) = worker {
-            let thread = self.threads.get(worker);
-            return thread.map_or(0, |thread| thread.held_until);
+        if let Some(thread) = worker.and_then(|worker| self.threads.get(worker)) {
+            return thread.held_until;
         }
         let workers = self.workers().iter();
         workers.fold(u64::MAX, |least: u64, thread| least.min(thread.held_until))
@@ -285,27 +282,22 @@ impl World {
         let reported = thread.report(&mut self.network.wires, now, is_woken, is_spurious);
         self.memory.note(reported.is_some());
         thread.until = thread.reports.is_empty().then_some(until);
-        thread.shuffle(&mut self.weather.random);
+        let count = thread.reports.len();
+        for place in 0..count {
+            let other = self.weather.random.below(count as u64) as usize;
+            thread.reports.swap(place, other);
+        }
         true
     }
 
-    pub fn watch(
-        &mut self,
-        thread: usize,
-        number: usize,
-        key: usize,
-        interest: Interest,
-    ) -> Result<(), ErrorKind> {
-        if self.happens(Fault::Unwatched) || self.happens(Fault::Unreported) {
-            return Err(ErrorKind::OutOfMemory);
-        }
+    pub fn watch(&mut self, number: usize, watch: Watch) -> Result<(), ErrorKind> {
+        self.fail_by(Fault::Unwatched, ErrorKind::OutOfMemory)?;
+        self.fail_by(Fault::Unreported, ErrorKind::OutOfMemory)?;
         let wire = self.network.wires.get_mut(number).ok_or(ErrorKind::Other)?;
-        let both = interest == Interest::Both;
-        let watch = Watch { thread, key, both };
         let is_new = wire.begin_watch(watch, self.now);
-        let thread = self.threads.get_mut(thread).ok_or(ErrorKind::Other)?;
-        self.memory
-            .note(!is_new || thread.watched.push(number).is_ok());
+        let thread = self.threads.get_mut(watch.thread);
+        let watched = &mut thread.ok_or(ErrorKind::Other)?.watched;
+        self.memory.note(!is_new || watched.push(number).is_ok());
         Ok(())
     }
 
@@ -343,11 +335,14 @@ impl World {
     fn exhaustion(&mut self) -> Option<ErrorKind> {
         for (fault, kind) in EXHAUSTIONS {
             if let Some(until) = self.lasts(fault, 200_000) {
-                self.network.exhausted = (until, kind);
+                self.weather.exhausted = (until, kind);
             }
         }
-        let (until, kind) = self.network.exhausted;
-        if self.now >= until && !self.has_no_descriptor() {
+        let (until, kind) = self.weather.exhausted;
+        let is_full = self.network.connected >= self.scenario.descriptors;
+        let mut backlogs = self.network.backlogs.iter();
+        let has_comer = backlogs.any(|waiting| !waiting.is_empty());
+        if self.now >= until && !(is_full && has_comer) {
             return None;
         }
         self.notices.on_unaccepted(self.now);
@@ -356,34 +351,25 @@ impl World {
         Some(kind)
     }
 
-    /// Returns whether connections wait while all descriptors are in use.
-    fn has_no_descriptor(&self) -> bool {
-        let network = &self.network;
-        let taken = network.local.saturating_add(network.remote);
-        let mut backlogs = network.backlogs.iter();
-        taken >= self.scenario.descriptors && backlogs.any(|waiting| !waiting.is_empty())
-    }
-
     /// Counts a connection that was accepted and needs a permit.
     fn count_comer(&mut self, is_local: bool) {
         let network = &mut self.network;
         // Local peers have an eighth of all permits for themselves, but at most half of the permits that they leave.
         let places = self.scenario.conn_max;
-        let left = places.saturating_sub(network.local);
+        let local = network.connected.saturating_sub(network.remote);
+        let left = places.saturating_sub(local);
         let share = (places / 8).min(left / 2);
         let kept = if is_local { 0 } else { share };
         if network.remote >= left.saturating_sub(kept) {
             network.wanting = network.wanting.saturating_add(1);
         }
-        let count = network.count(is_local);
-        *count = count.saturating_add(1);
+        network.connected = network.connected.saturating_add(1);
+        network.remote = network.remote.saturating_add(u32::from(!is_local));
     }
 
     /// Accepts the next connection of a listener. Returns whether it is of this host.
     pub fn accept(&mut self, thread: usize, place: usize) -> Result<(usize, bool), ErrorKind> {
-        if self.happens(Fault::Interrupted) {
-            return Err(ErrorKind::Interrupted);
-        }
+        self.fail_by(Fault::Interrupted, ErrorKind::Interrupted)?;
         if let Some(kind) = self.exhaustion() {
             return Err(kind);
         }

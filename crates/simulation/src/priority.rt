@@ -29,19 +29,19 @@ impl World {
     /// Returns whether an evicted connection was old enough by the clock of its worker.
     pub fn is_old(&self, number: usize) -> Option<bool> {
         let given_up = self.network.wires.get(number)?;
-        let age = self.polled_at(given_up)?.saturating_sub(given_up.came_at);
-        Some(age >= YOUNG_US)
+        let came = given_up.daemon.came_at?;
+        Some(self.polled_at(given_up)?.saturating_sub(came) >= YOUNG_US)
     }
 
     /// Returns whether no other unanswered connection of the worker goes before an evicted connection. The order is: 1.
     /// remote before local, 2. without unread input before with it, 3. oldest first.
     pub fn goes_first(&self, number: usize, has_news: bool) -> Option<bool> {
         let given_up = self.network.wires.get(number)?;
-        let (worker, came) = (given_up.worker()?, given_up.came_at);
+        let (worker, came) = (given_up.worker()?, given_up.daemon.came_at?);
         let young = self.polled_at(given_up)?.saturating_sub(YOUNG_US);
         let goes_before = |wire: &Wire| {
             let is_alike = wire.is_local == given_up.is_local;
-            let until = match (is_alike, wire.is_reported == has_news) {
+            let until = match (is_alike, wire.readiness.is_reported == has_news) {
                 (true, true) => came,
                 (true, false) if has_news => young,
                 (false, _) if given_up.is_local => young,
@@ -74,7 +74,8 @@ impl World {
     pub fn unsent(&self) -> u64 {
         let wires = self.network.wires.iter();
         let open = wires.filter(|wire| wire.unread_at(0).is_some());
-        open.fold(0, |sum: u64, wire| sum.saturating_add(wire.unsent as u64))
+        let unsent = open.map(|wire| wire.daemon.unsent as u64);
+        unsent.fold(0, u64::saturating_add)
     }
 
     /// Returns whether a connection was reset rightly for its unread replies. It had many unread bytes, and no other
@@ -83,15 +84,15 @@ impl World {
         let given_up = self.network.wires.get(number)?;
         let worker = given_up.worker()?;
         let most = self.scenario.unsent_bytes_most;
-        let (many, own) = (most / MANY_SHARE, given_up.unsent as u64);
+        let (many, own) = (most / MANY_SHARE, given_up.daemon.unsent as u64);
         let unsent = self.unsent().saturating_add(own);
         let spares = given_up.is_local && unsent <= most.saturating_add(most / SPARED_SHARE);
         let goes_before = |wire: &Wire| {
-            let since = wire.unread_since.saturating_add(TOGETHER_US);
+            let since = wire.daemon.unread_since.saturating_add(TOGETHER_US);
             match wire.unread_at(many) {
                 Some(_) if !wire.is_local && given_up.is_local => spares && since < self.now,
                 Some(at) if at == worker && wire.is_local == given_up.is_local => since
-                    < given_up.unread_since,
+                    < given_up.daemon.unread_since,
                 _ => false,
             }
         };

@@ -15,22 +15,6 @@ pub enum Naming {
     Tries,
 }
 
-/// The size of the chunks that a peer sends.
-#[derive(Clone, Copy)]
-pub enum Pieces {
-    Any,
-    UpTo(usize),
-}
-
-/// When a peer sends the next part of its request.
-#[derive(Clone, Copy)]
-pub enum Pauses {
-    /// Within this many microseconds, and at most twenty milliseconds before their end.
-    UpTo(u64),
-    /// About when the timeout comes, or with the next burst.
-    UntilLate,
-}
-
 /// What a peer does after its request.
 #[derive(Clone, Copy)]
 pub enum RoleStep {
@@ -83,8 +67,11 @@ pub struct Role {
     /// The request ends with fewer than this many random bytes.
     pub noise: u64,
     pub naming: Naming,
-    pub pieces: Pieces,
-    pub pauses: Pauses,
+    /// The most bytes of a chunk, if the peer does not choose the size of each chunk.
+    pub piece: Option<usize>,
+    /// The peer sends the next part of its request within this many microseconds, and at most twenty milliseconds
+    /// before their end. Without them, it sends that part about when the timeout comes, or with the next burst.
+    pub pause_us: Option<u64>,
     pub next: RoleStep,
     pub reading: ReadHabit,
     pub comes: Comes,
@@ -116,8 +103,8 @@ const USUAL: Role = Role {
     asks: &[0, 1, 0x6E],
     noise: 0,
     naming: Naming::Nameless,
-    pieces: Pieces::Any,
-    pauses: Pauses::UpTo(3000),
+    piece: None,
+    pause_us: Some(3000),
     next: RoleStep::Waits,
     reading: ReadHabit::AtOnce,
     comes: Comes::Together,
@@ -136,12 +123,11 @@ macro_rules! role {
 
 /// Registers a name of its own at once, holds it for a while, leaves and returns at once.
 pub const NODE: Role =
-    role!(USUAL, asks: REGISTRATION, naming: Naming::Holds, pieces: Pieces::UpTo(usize::MAX),
-    comes: Comes::Alone, away_us: 200);
+    role!(USUAL, asks: REGISTRATION, naming: Naming::Holds, piece: Some(usize::MAX), comes: Comes::Alone, away_us: 200);
 
-pub const RIVAL: Role = role!(NODE, naming: Naming::Tries, pieces: Pieces::Any, away_us: 500_000);
+pub const RIVAL: Role = role!(NODE, naming: Naming::Tries, piece: None, away_us: 500_000);
 
-pub const TALKER: Role = role!(NODE, naming: Naming::Talks, pieces: Pieces::Any, away_us: 1000);
+pub const TALKER: Role = role!(NODE, naming: Naming::Talks, piece: None, away_us: 1000);
 
 pub const SEEKER: Role = role!(USUAL, asks: &[0, 3, 0x7A], naming: Naming::Asks, asks_once: true);
 
@@ -154,7 +140,7 @@ pub const SLOW: Role = role!(USUAL, reading: ReadHabit::Slowly);
 
 /// Asks for the list of names, with three and a half seconds between two bytes.
 pub const PLODDER: Role =
-    role!(USUAL, pieces: Pieces::UpTo(1), pauses: Pauses::UpTo(3_500_000), owed: Owed::Always);
+    role!(USUAL, piece: Some(1), pause_us: Some(3_500_000), owed: Owed::Always);
 
 pub const UNREADING: Role =
     role!(USUAL, reading: ReadHabit::Nothing, owed: Owed::Never, given_up: GivenUp::Anybody);
@@ -165,18 +151,15 @@ pub const STOPPER: Role =
     role!(USUAL, asks: &[0, 3, 0x73], naming: Naming::Asks, owed: Owed::Never);
 
 pub const SILENT: Role =
-    role!(USUAL, asks: &[], next: RoleStep::Stays, comes: Comes::Apart, owed: Owed::Never,
-    given_up: GivenUp::Anybody);
+    role!(USUAL, asks: &[], next: RoleStep::Stays, comes: Comes::Apart, owed: Owed::Never, given_up: GivenUp::Anybody);
 
 /// Sends a byte of a request now and then, and never completes it.
 pub const DRIPPER: Role =
-    role!(USUAL, asks: &[0, 200], pieces: Pieces::UpTo(1), next: RoleStep::Drips, owed: Owed::Never,
-    given_up: GivenUp::Remote);
+    role!(USUAL, asks: &[0, 200], piece: Some(1), next: RoleStep::Drips, owed: Owed::Never, given_up: GivenUp::Remote);
 
 pub const BABBLER: Role =
     role!(USUAL, asks: &[], noise: 40, next: RoleStep::Stays, owed: Owed::Never);
 
 /// Asks for the list of names, and sends the last byte about when the timeout comes, or with a burst.
 pub const TARDY: Role =
-    role!(USUAL, pieces: Pieces::UpTo(2), pauses: Pauses::UntilLate, comes: Comes::Alone,
-    owed: Owed::Never);
+    role!(USUAL, piece: Some(2), pause_us: None, comes: Comes::Alone, owed: Owed::Never);

@@ -9,7 +9,7 @@ use crate::people::{Counts, people_of};
 use crate::scenario::Scenario;
 use crate::scene::Scene;
 use crate::steps::{Step, Stepped};
-use crate::system::{SharedWorld, SimFile, SimHost, SimThread};
+use crate::system::{SimFile, SimHost, SimThread};
 use crate::weather::{Fault, FaultCounts};
 use crate::world::World;
 use portmap_book::{Book, Desk, PARTS, Seat};
@@ -48,7 +48,7 @@ pub struct Outcome {
     pub acts: u64,
     /// By the clock of the world.
     pub seconds: u64,
-    pub trace: Vec<Step>,
+    pub trace: Option<Vec<Step>>,
 }
 
 /// The checksum covers this many faults in any case, and each later fault only if it happened. So a new fault changes
@@ -93,7 +93,8 @@ impl<'a, L: Ledger, S: LinkSource + Drop, R: Wait + Drop> Daemon<'a, L, S, R> {
         let killed_at = self.scene.world()?.weather.random.below(steps);
         for step in 0..steps {
             if step == killed_at {
-                self.scene.world()?.disk.kill()?;
+                let disk = &mut self.scene.world()?.disk;
+                disk.killed = disk.files.clone().ok()?;
             }
             self.step(u64::MAX)?;
             let weight = self.weight();
@@ -130,90 +131,56 @@ impl<'a, L: Ledger, S: LinkSource + Drop, R: Wait + Drop> Daemon<'a, L, S, R> {
     fn serve(mut self, case: &Case) -> Option<(Outcome, Vec<Seat<L>>)> {
         self.run(case)?;
         self.end()?;
-        let outcome = self.scene.outcome()?;
-        let none = Vec::new(self.scene.alloc);
-        Some((outcome, mem::replace(&mut self.seats, none)))
+        let seats = self.seats.iter();
+        let acts = seats.fold(0, |sum: u64, seat| sum.saturating_add(seat.count()));
+        let alloc = self.scene.alloc;
+        let opened = mem::replace(&mut self.opened, Vec::new(alloc));
+        let outcome = self.scene.outcome(&opened, acts)?;
+        Some((outcome, mem::replace(&mut self.seats, Vec::new(alloc))))
     }
 }
 
 impl<'a> Scene<'a> {
-    fn new(alloc: Global, world: &'a SharedWorld, case: &Case) -> Option<Scene<'a>> {
-        let people = people_of(alloc, &mut *world.try_borrow_mut().ok()?)?;
-        Some(Scene {
-            alloc,
-            world,
-            scenario: case.scenario,
-            workers: case.workers as usize,
-            due: Vec::new(alloc),
-            people,
-            tally: Counts::default(),
-            opened: Vec::new(alloc),
-            acts: 0,
-            drains: 0,
-            is_drained: false,
-            given_up: 0,
-            wrong: None,
-            is_ending: false,
-            is_traced: case.is_traced,
-            trace: Vec::new(alloc),
-        })
-    }
-
-    /// Checks the ended daemon, and returns the result of the case.
-    fn outcome(&mut self) -> Option<Outcome> {
+    /// Checks the ended daemon with these opened connections and acts, and returns the result of the case.
+    fn outcome(&mut self, opened: &[usize], acts: u64) -> Option<Outcome> {
         let mut world = self.world()?;
-        let most = self.scenario.file_bytes_most;
-        let is_seen = world.weather.has_all_happened(self.scenario.chances);
+        let mut chances = self.scenario.chances.iter();
+        let is_seen = chances.all(|chance| world.weather.has_happened(chance.0));
         let unseen = (!is_seen).then_some("not all weather was seen");
         if world.memory.is_lost {
             return None;
         }
-        let found = judge(self.alloc, &mut world, &self.opened, self.acts, most).err();
+        let most = self.scenario.file_bytes_most;
+        let found = judge(self.alloc, &mut world, opened, acts, most).err();
         Some(Outcome {
             wrong: self.wrong.or(found).or(unseen),
-            tally: self.tally,
+            tally: world.network.tally,
             happened: world.weather.happened,
-            acts: self.acts,
+            acts,
             seconds: world.now / 1_000_000,
-            trace: mem::replace(&mut self.trace, Vec::new(self.alloc)),
+            trace: self.trace.take(),
         })
     }
 }
 
 impl<'a, L: Ledger, R: Wait + Drop> Around<'a, L, R> {
-    fn source(&self, thread: usize) -> Option<Stepped<'a, L, R>> {
-        let system = SimThread::of(&self.host.world, thread)?;
-        let timeout = self.case.scenario.timeout_us / 1000;
-        let sockets = Sockets::new(self.alloc, thread, system, timeout).ok()?;
-        let (desk, shared) = (self.desk, self.shared);
-        let source = SocketSource::new(self.host, self.alloc, desk, shared, sockets)?;
-        let world = self.host.world.clone().ok()?;
-        Some(Stepped {
-            source,
-            world,
-            thread,
-        })
-    }
-
     fn sources(&self) -> Option<Vec<Stepped<'a, L, R>>> {
-        let mut sources = Vec::new(self.alloc);
+        let (host, alloc) = (self.host, self.alloc);
+        let mut sources = Vec::new(alloc);
         for thread in 0..self.case.workers as usize {
-            sources.push(self.source(thread)?).ok()?;
+            let system = SimThread::of(&host.world, thread)?;
+            let timeout = self.case.scenario.timeout_us / 1000;
+            let sockets = Sockets::new(alloc, thread, system, timeout).ok()?;
+            let source = SocketSource::new(host, alloc, self.desk, self.shared, sockets)?;
+            let world = host.world.clone().ok()?;
+            let stepped = Stepped {
+                source,
+                world,
+                thread,
+            };
+            sources.push(stepped).ok()?;
         }
         Some(sources)
-    }
-
-    fn workers<S: LinkSource + Drop>(&self, sources: Vec<S>) -> Option<SimWorkers<'a, L, S, R>> {
-        let mut workers = Vec::new(self.alloc);
-        let mut number = 0u32;
-        for source in sources {
-            number = number.saturating_add(1);
-            let seat = self.desk.seat(self.host, number)?;
-            self.shared.ending.begin_one();
-            let worker = Worker::new(self.host, self.alloc, self.desk, seat, source, &Open);
-            workers.push(Some(worker)).ok()?;
-        }
-        Some(workers)
     }
 
     /// Serves the peers of the case by a worker for each source.
@@ -222,8 +189,25 @@ impl<'a, L: Ledger, R: Wait + Drop> Around<'a, L, R> {
         sources: Vec<S>,
     ) -> Option<(Outcome, Vec<Seat<L>>)> {
         let (host, alloc, case) = (self.host, self.alloc, self.case);
-        let workers = self.workers(sources)?;
-        let scene = Scene::new(alloc, &host.world, case)?;
+        let mut workers: SimWorkers<'a, L, S, R> = Vec::new(alloc);
+        for (number, source) in (1..u32::MAX).zip(sources) {
+            let seat = self.desk.seat(host, number)?;
+            self.shared.ending.begin_one();
+            let worker = Worker::new(host, alloc, self.desk, seat, source, &Open);
+            workers.push(Some(worker)).ok()?;
+        }
+        let scene = Scene {
+            alloc,
+            world: &host.world,
+            scenario: case.scenario,
+            workers: case.workers as usize,
+            people: people_of(alloc, &mut *host.world.try_borrow_mut().ok()?)?,
+            drains: 0,
+            given_up: 0,
+            wrong: None,
+            is_ending: false,
+            trace: case.is_traced.then_some(Vec::new(alloc)),
+        };
         let places = case.scenario.conn_max;
         let drain = Drain::begin(host, alloc, self.desk, Some(self.queue), places, None).ok()?;
         let writer: RecordWriter<SimFile> = RecordWriter::new(case.scenario.file_bytes_most);
@@ -232,63 +216,14 @@ impl<'a, L: Ledger, R: Wait + Drop> Around<'a, L, R> {
             scene,
             workers,
             seats: Vec::new(alloc),
+            opened: Vec::new(alloc),
             drain,
+            is_drained: false,
             writer,
             is_writing: true,
         };
         daemon.serve(case)
     }
-}
-
-fn shared_of<R: Wait + Drop>(
-    host: &SimHost<R>,
-    alloc: Global,
-    case: &Case,
-) -> Option<Shared<SimThread>> {
-    let mut states = Vec::new(alloc);
-    for thread in 0..case.workers as usize {
-        let waker = SimThread::of(&host.world, thread)?;
-        states.push(WorkerState::new(waker)).ok()?;
-    }
-    let drain = SimThread::of(&host.world, case.workers as usize)?;
-    let (places, unsent) = (case.scenario.conn_max, case.scenario.unsent_bytes_most);
-    Some(Shared::new(host, states, drain, places, unsent))
-}
-
-fn book_of(alloc: Global, scenario: &Scenario) -> Option<Book> {
-    let config = Config::new(4369, scenario.is_relaxed, scenario.conn_max, KNOWN_MAX).ok()?;
-    Book::new(alloc, config, 4).ok()
-}
-
-/// Runs a case at a new desk.
-fn at_desk<L: Ledger, R: Wait + Drop>(
-    host: &SimHost<R>,
-    alloc: Global,
-    blank: Blank,
-    case: &Case,
-) -> Option<Outcome>
-    requires name { blank.name ≡ L.name }
-    requires parts { blank.parts ≡ L.parts }
-    requires enough { blank.parts ≡ PARTS }
-{
-    let desk: Desk<L> = Desk::new(blank, book_of(alloc, case.scenario)?);
-    let queue = RecordQueue::new(alloc, PATH.to_string(alloc).ok()?);
-    let shared = shared_of(host, alloc, case)?;
-    let around = Around {
-        alloc,
-        case,
-        host,
-        desk: &desk,
-        shared: &shared,
-        queue: &queue,
-    };
-    let (mut outcome, seats) = around.simulate(around.sources()?)?;
-    let odd = desk
-        .finish(seats)
-        .is_err()
-        .then_some("the seats don't add up");
-    outcome.wrong = outcome.wrong.or(odd);
-    Some(outcome)
 }
 
 /// Runs a case. Returns `None` if memory runs out.
@@ -302,7 +237,30 @@ pub fn run_case<L: Ledger, R: Wait + Drop>(
     requires parts { blank.parts ≡ L.parts }
     requires enough { blank.parts ≡ PARTS }
 {
+    let (scenario, places) = (case.scenario, case.scenario.conn_max);
     let world = Rc::new(alloc, RefCell::new(World::of(alloc, case)?)).ok()?;
     let host = SimHost { rt, world };
-    at_desk::<L, R>(&host, alloc, blank, case)
+    let config = Config::new(4369, scenario.is_relaxed, places, KNOWN_MAX).ok()?;
+    let desk: Desk<L> = Desk::new(blank, Book::new(alloc, config, 4).ok()?);
+    let queue = RecordQueue::new(alloc, PATH.to_string(alloc).ok()?);
+    let mut states = Vec::new(alloc);
+    for thread in 0..case.workers as usize {
+        let waker = SimThread::of(&host.world, thread)?;
+        states.push(WorkerState::new(waker)).ok()?;
+    }
+    let drain = SimThread::of(&host.world, case.workers as usize)?;
+    let shared = Shared::new(&host, states, drain, places, scenario.unsent_bytes_most);
+    let around = Around {
+        alloc,
+        case,
+        host: &host,
+        desk: &desk,
+        shared: &shared,
+        queue: &queue,
+    };
+    let (mut outcome, seats) = around.simulate(around.sources()?)?;
+    let finished = desk.finish(seats);
+    let odd = finished.is_err().then_some("the seats don't add up");
+    outcome.wrong = outcome.wrong.or(odd);
+    Some(outcome)
 }

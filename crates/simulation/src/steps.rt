@@ -29,7 +29,8 @@ impl<L: Ledger, R: Wait + Drop> Stepped<'_, L, R> {
         let number = self.source.held(key)?.stream().number;
         let world = self.world.try_borrow().ok()?;
         let wire = world.network.wires.get(number)?;
-        Some((number, wire.is_reported && !wire.up.is_empty()))
+        let is_unread = wire.readiness.is_reported && !wire.peer.up.is_empty();
+        Some((number, is_unread))
     }
 
     /// Returns the connection of a link if it keeps a registration back.

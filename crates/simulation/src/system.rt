@@ -1,5 +1,6 @@
 //! The world as the system of a daemon: streams, polls, clock and disk.
 use crate::polls::EVENTS_MOST;
+use crate::wire::Watch;
 use crate::world::{LISTENERS, World};
 use portmap_worker::{Host, Interest, Notice, RecordFile, Report, Stream, System, Wake};
 use std::alloc::Global;
@@ -45,9 +46,7 @@ pub struct SimStream {
 
 impl Drop for SimStream {
     fn drop(self) {
-        if let Ok(mut world) = self.world.try_borrow_mut() {
-            world.close(self.number);
-        }
+        borrow(&self.world).map_or((), |mut world| world.close(self.number));
         let SimStream {
             world: _world,
             number: _,
@@ -77,9 +76,7 @@ impl Stream for SimStream {
     }
 
     fn reset(&mut self) {
-        if let Ok(mut world) = self.world.try_borrow_mut() {
-            world.reset(self.number);
-        }
+        borrow(&self.world).map_or((), |mut world| world.reset(self.number));
     }
 }
 
@@ -99,11 +96,7 @@ impl SimThread {
 
 impl Wake for SimThread {
     fn wake(&self) {
-        if let Ok(mut world) = self.world.try_borrow_mut() {
-            if let Some(thread) = world.threads.get_mut(self.thread) {
-                thread.is_woken = true;
-            }
-        }
+        borrow(&self.world).map_or((), |mut world| world.wake(self.thread));
     }
 }
 
@@ -132,7 +125,9 @@ impl System for SimThread {
         interest: Interest,
         _was_watched: bool,
     ) -> io::Result<()> {
-        Ok(borrow(&self.world)?.watch(self.thread, stream.number, key, interest)?)
+        let (thread, both) = (self.thread, interest == Interest::Both);
+        let watch = Watch { thread, key, both };
+        Ok(borrow(&self.world)?.watch(stream.number, watch)?)
     }
 
     fn listeners(&self) -> usize {
@@ -144,9 +139,7 @@ impl System for SimThread {
     }
 
     fn leave(&mut self, place: usize) {
-        if let Ok(mut world) = self.world.try_borrow_mut() {
-            world.leave(self.thread, place);
-        }
+        borrow(&self.world).map_or((), |mut world| world.leave(self.thread, place));
     }
 
     fn accept(&mut self, place: usize) -> io::Result<(SimStream, IpAddr)> {
@@ -183,9 +176,8 @@ impl Write for SimFile {
 
 impl RecordFile for SimFile {
     fn cut(&mut self, size: u64) {
-        if let Ok(mut world) = self.world.try_borrow_mut() {
-            world.cut(self.number, size as usize, self.is_of_times);
-        }
+        let (number, size) = (self.number, size as usize);
+        borrow(&self.world).map_or((), |mut world| world.cut(number, size, self.is_of_times));
     }
 
     fn is_plain(&self) -> bool {
@@ -234,9 +226,7 @@ impl<R: Wait + Drop> Host for SimHost<R> {
     }
 
     fn notify(&self, _alloc: Global, notice: &Notice<'_>) {
-        if let Ok(mut world) = self.world.try_borrow_mut() {
-            world.notify(notice);
-        }
+        borrow(&self.world).map_or((), |mut world| world.notify(notice));
     }
 
     fn has_memory(&self, _alloc: Global) -> bool {

@@ -33,8 +33,7 @@ impl Times {
 
     /// Begins the times of a file.
     pub fn make(&mut self, alloc: Global, number: usize) -> Result<(), ErrorKind> {
-        let lacking = number.saturating_add(1).saturating_sub(self.files.len());
-        for _ in 0..lacking {
+        for _ in self.files.len()..number.saturating_add(1) {
             let made = self.files.push(Vec::new(alloc));
             made.map_err(|_| ErrorKind::OutOfMemory)?;
         }

@@ -1,5 +1,6 @@
 //! Faults, and how often they happen.
 use crate::random::Random;
+use std::io::ErrorKind;
 
 /// What the system does to a daemon, and peers to each other.
 #[derive(Clone, Copy, PartialEq, Eq)]
@@ -87,40 +88,28 @@ pub type FaultCounts = [u32; 33];
 #[derive(Drop)]
 pub struct Weather {
     pub random: Random,
-    chances: Chances,
+    pub(crate) chances: Chances,
     pub happened: FaultCounts,
+    /// No connection can be accepted before this time in microseconds, with this error.
+    pub(crate) exhausted: (u64, ErrorKind),
+}
+
+/// Adds one to a count.
+pub fn count(number: &mut u32) {
+    *number = number.saturating_add(1);
 }
 
 impl Weather {
-    pub fn new(seed: u64, chances: Chances) -> Weather {
-        Weather {
-            random: Random::new(seed),
-            chances,
-            happened: [0; 33],
-        }
-    }
-
-    /// Ends all faults.
-    pub fn calm(&mut self) {
-        self.chances = &[];
-    }
-
     pub fn happens(&mut self, fault: Fault) -> bool {
-        for (each, per_mille) in self.chances {
-            if *each == fault && self.random.happens(*per_mille) {
-                let count = &mut self.happened[fault as usize];
-                *count = count.saturating_add(1);
-                return true;
-            }
+        let chance = self.chances.iter().find(|chance| chance.0 == fault);
+        let happens = chance.is_some_and(|chance| self.random.happens(chance.1));
+        if happens {
+            count(&mut self.happened[fault as usize]);
         }
-        false
+        happens
     }
 
     pub fn has_happened(&self, fault: Fault) -> bool {
         self.happened[fault as usize] > 0
-    }
-
-    pub fn has_all_happened(&self, chances: Chances) -> bool {
-        chances.iter().all(|chance| self.has_happened(chance.0))
     }
 }

@@ -22,38 +22,34 @@ pub struct Received {
     pub is_reset: bool,
 }
 
-/// A connection. Times are in microseconds.
+/// The peer's end of a connection.
 #[derive(Drop)]
-pub struct Wire {
-    pub is_local: bool,
+pub struct PeerEnd {
     /// Bytes of the peer that the daemon has not read.
     pub up: VecDeque<u8>,
-    /// The peer sends no more.
-    pub is_up_ended: bool,
-    /// The peer has closed the connection, so bytes to it are answered by a reset.
-    pub is_gone: bool,
-    /// Bytes of the daemon that the peer has not read.
-    pub down: VecDeque<u8>,
     /// The most bytes in flight to the peer.
     pub room: usize,
+    /// How the peer ended the connection last. Bytes to a peer that has closed it are answered by a reset.
+    pub ended: Option<Ending>,
+    /// The peer has something to read.
+    pub has_news: bool,
+}
+
+/// The daemon's end of a connection. Times are in microseconds.
+#[derive(Clone, Copy, Default)]
+pub struct DaemonEnd {
+    /// When a worker first held the connection: it had a permit and memory then.
+    pub came_at: Option<u64>,
+    /// The time of the last timeout event.
+    pub late_at: Option<u64>,
     /// The bytes that the last write left unsent, and since when the peer has read none of them.
     pub unsent: usize,
     pub unread_since: u64,
-    /// The daemon has closed the connection.
-    pub is_down_ended: bool,
-    /// The daemon closed the connection in order, while the peer was connected.
-    pub is_ended_well: bool,
-    /// The peer or the daemon has reset the connection.
-    pub is_reset: bool,
-    pub received: Vec<u8>,
-    /// The thread that accepted the connection, and the time.
-    pub accepted: Option<(usize, u64)>,
-    /// A worker holds the connection: it has a permit and memory.
-    pub is_held: bool,
-    /// When a worker first held the connection.
-    pub came_at: u64,
-    /// The time of the last timeout event.
-    pub late_at: Option<u64>,
+}
+
+/// What the poll reports of a connection.
+#[derive(Clone, Copy, Default)]
+pub struct Readiness {
     pub watch: Option<Watch>,
     /// From when on the poll reports an unreported event.
     pub news_at: Option<u64>,
@@ -65,80 +61,93 @@ pub struct Wire {
     pub is_room_due: bool,
     /// The poll has reported the stream, and the daemon has not read it since.
     pub is_reported: bool,
-    /// The peer has something to read.
-    pub has_peer_news: bool,
+}
+
+/// A connection.
+#[derive(Drop)]
+pub struct Wire {
+    pub is_local: bool,
+    pub peer: PeerEnd,
+    /// Bytes of the daemon that the peer has not read, and those that it has read.
+    pub down: VecDeque<u8>,
+    pub received: Vec<u8>,
+    /// The peer or the daemon has reset the connection.
+    pub is_reset: bool,
+    /// The daemon has closed the connection.
+    pub is_down_ended: bool,
+    /// The daemon closed the connection in order, while the peer was connected.
+    pub is_ended_well: bool,
+    /// The thread that accepted the connection, and the time.
+    pub accepted: Option<(usize, u64)>,
+    pub daemon: DaemonEnd,
+    pub readiness: Readiness,
 }
 
 impl Wire {
     /// Returns a new connection with room for this many bytes to the peer.
     pub fn new(alloc: Global, is_local: bool, room: usize, is_sparing: bool) -> Wire {
+        let mut readiness = Readiness::default();
+        readiness.is_sparing = is_sparing;
         Wire {
             is_local,
-            up: VecDeque::new(alloc),
-            is_up_ended: false,
-            is_gone: false,
+            peer: PeerEnd {
+                up: VecDeque::new(alloc),
+                room,
+                ended: None,
+                has_news: false,
+            },
             down: VecDeque::new(alloc),
-            room,
-            unsent: 0,
-            unread_since: 0,
+            received: Vec::new(alloc),
+            is_reset: false,
             is_down_ended: false,
             is_ended_well: false,
-            is_reset: false,
-            received: Vec::new(alloc),
             accepted: None,
-            is_held: false,
-            came_at: 0,
-            late_at: None,
-            watch: None,
-            news_at: None,
-            is_sparing,
-            is_read_due: false,
-            is_room_due: false,
-            is_reported: false,
-            has_peer_news: false,
+            daemon: DaemonEnd::default(),
+            readiness,
         }
     }
 
     pub fn is_readable(&self) -> bool {
-        !self.up.is_empty() || self.is_up_ended || self.is_reset
+        !self.peer.up.is_empty() || self.peer.ended.is_some() || self.is_reset
     }
 
     pub fn is_writable(&self) -> bool {
-        self.down.len() < self.room || self.is_reset
+        self.down.len() < self.peer.room || self.is_reset
     }
 
     pub fn is_ready(&self) -> bool {
-        let is_both = self.watch.is_some_and(|watch| watch.both);
+        let is_both = self.readiness.watch.is_some_and(|watch| watch.both);
         self.is_readable() || (is_both && self.is_writable())
     }
 
     /// Returns the report of a poll that has room for it. A spurious report needs no event.
     pub fn report(&mut self, now: u64, has_room: bool, is_spurious: bool) -> Option<Report> {
-        let key = self.watch?.key;
-        let is_due = self.news_at.is_some_and(|at| at <= now);
+        let key = self.readiness.watch?.key;
+        let is_due = self.readiness.news_at.is_some_and(|at| at <= now);
         if is_due && !self.is_ready() {
             // The event is over before the poll reports it.
-            self.news_at = None;
+            self.readiness.news_at = None;
             return None;
         }
         if !has_room || !(is_due || is_spurious) {
             return None;
         }
-        self.news_at = None;
-        self.is_read_due = false;
-        self.is_room_due = false;
-        self.is_reported = true;
-        let is_closed = self.is_up_ended && !self.is_reset;
+        let ready = &mut self.readiness;
+        ready.news_at = None;
+        ready.is_read_due = false;
+        ready.is_room_due = false;
+        ready.is_reported = true;
+        let is_closed = self.peer.ended.is_some() && !self.is_reset;
         Some(Report::Stream { key, is_closed })
     }
 
     /// Returns when a worker first held the connection, if that worker still holds it, the peer has not closed it, and
     /// it was never answered.
     pub fn waits_since(&self, worker: usize) -> Option<u64> {
-        let is_there = self.is_held && self.worker()? == worker;
+        let is_over = self.is_down_ended || self.peer.ended.is_some();
         let is_answered = !self.received.is_empty() || !self.down.is_empty();
-        let waits = is_there && !self.is_down_ended && !self.is_up_ended && !is_answered;
-        waits.then_some(self.came_at)
+        let waits = self.worker()? == worker && !is_over && !is_answered;
+        self.daemon.came_at.filter(|_| waits)
     }
 
     pub fn worker(&self) -> Option<usize> {
@@ -155,22 +164,22 @@ impl Wire {
 
     /// Notes an event for the poll. A sparing poll reports it only if it is due.
     fn on_event(&mut self, now: u64, is_due: bool) {
-        let is_told = is_due || !self.is_sparing;
-        if is_told && self.watch.is_some() && self.news_at.is_none() {
-            self.news_at = Some(now);
+        let ready = &mut self.readiness;
+        let is_reported = is_due || !ready.is_sparing;
+        if is_reported && ready.watch.is_some() && ready.news_at.is_none() {
+            ready.news_at = Some(now);
         }
     }
 
     /// Delivers bytes of the peer, or its end. Returns false if memory runs out.
     pub fn arrive(&mut self, now: u64, bytes: &[u8], end: Option<Ending>) -> bool {
-        let is_kept = self.up.extend(bytes.iter().copied()).is_ok();
-        self.is_up_ended = self.is_up_ended || end.is_some();
-        self.is_gone = self.is_gone || end == Some(Ending::Gone);
-        let mut is_due = self.is_read_due;
+        let is_kept = self.peer.up.extend(bytes.iter().copied()).is_ok();
+        self.peer.ended = end.or(self.peer.ended);
+        let mut is_due = self.readiness.is_read_due;
         if end == Some(Ending::Reset) {
             self.is_reset = true;
             self.down.clear();
-            is_due = is_due || self.is_room_due;
+            is_due = is_due || self.readiness.is_room_due;
         }
         self.on_event(now, is_due);
         is_kept
@@ -180,45 +189,28 @@ impl Wire {
     pub fn take(&mut self, buffer: &mut [u8]) -> usize
         ensures { result ≤ length buffer.new }
     {
-        let count = buffer.len().min(self.up.len());
+        let count = buffer.len().min(self.peer.up.len());
         for place in buffer.iter_mut().take(count) {
-            if let Some(byte) = self.up.pop_front() {
+            if let Some(byte) = self.peer.up.pop_front() {
                 *place = byte;
             }
         }
         count
     }
 
-    pub fn note_unsent(&mut self, now: u64, offered: usize, count: usize) {
-        let unsent = offered.saturating_sub(count);
-        if self.unsent == 0 || unsent < self.unsent {
-            self.unread_since = now;
-        }
-        self.unsent = unsent;
-    }
-
     /// Returns the worker of the connection if more than `bytes` bytes are unsent.
     pub fn unread_at(&self, bytes: u64) -> Option<usize> {
-        let is_unread = self.unsent as u64 > bytes && !self.is_down_ended;
+        let is_unread = self.daemon.unsent as u64 > bytes && !self.is_down_ended;
         if is_unread { self.worker() } else { None }
-    }
-
-    /// Sends bytes to the peer. Returns false if memory runs out.
-    pub fn put(&mut self, bytes: &[u8]) -> bool {
-        self.has_peer_news = true;
-        // A closed peer answers by a reset.
-        self.is_reset = self.is_gone;
-        self.down.extend(bytes.iter().copied()).is_ok()
     }
 
     /// Begins or changes the watch. Returns whether there was no watch.
     pub fn begin_watch(&mut self, watch: Watch, now: u64) -> bool {
-        let is_new = self.watch.is_none();
-        self.watch = Some(watch);
-        self.is_read_due = true;
-        self.is_room_due = true;
+        let is_new = self.readiness.watch.replace(watch).is_none();
+        self.readiness.is_read_due = true;
+        self.readiness.is_room_due = true;
         if self.is_ready() {
-            self.news_at = Some(now);
+            self.readiness.news_at = Some(now);
         }
         is_new
     }
@@ -228,9 +220,9 @@ impl Wire {
         let was_full = most > 0 && !self.is_writable();
         let count = most.min(self.down.len());
         let is_kept = self.received.extend(self.down.drain(..count)).is_ok();
-        self.has_peer_news = false;
+        self.peer.has_news = false;
         if was_full {
-            self.on_event(now, self.is_room_due);
+            self.on_event(now, self.readiness.is_room_due);
         }
         is_kept
     }

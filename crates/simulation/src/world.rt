@@ -4,11 +4,13 @@ use crate::disk::Disk;
 use crate::network::Network;
 use crate::notices::{Notices, Refusals};
 use crate::polls::Thread;
+use crate::random::Random;
 use crate::run::Case;
 use crate::scenario::Scenario;
 use crate::weather::{Fault, Weather};
 use portmap_worker::Notice;
 use std::alloc::Global;
+use std::io::ErrorKind;
 
 pub const LISTENERS: usize = 2;
 
@@ -36,7 +38,12 @@ impl World {
         let threads = threads.collect(alloc).ok()?;
         Some(World {
             scenario,
-            weather: Weather::new(case.seed, scenario.chances),
+            weather: Weather {
+                random: Random::new(case.seed),
+                chances: scenario.chances,
+                happened: [0; 33],
+                exhausted: (0, ErrorKind::Other),
+            },
             now: 1_000_000,
             network: Network::new(alloc),
             threads,
@@ -57,6 +64,11 @@ impl World {
         self.weather.happens(fault)
     }
 
+    /// Fails with this error if a fault happens now.
+    pub fn fail_by(&mut self, fault: Fault, kind: ErrorKind) -> Result<(), ErrorKind> {
+        (!self.happens(fault)).then_some(()).ok_or(kind)
+    }
+
     /// Returns whether a fault happens now for the first time.
     pub fn happens_first(&mut self, fault: Fault) -> bool {
         !self.weather.has_happened(fault) && self.happens(fault)
@@ -64,17 +76,13 @@ impl World {
 
     /// If a fault happens now, returns until when it lasts.
     pub fn lasts(&mut self, fault: Fault, most: u64) -> Option<u64> {
-        if self.happens(fault) {
-            Some(self.after(most))
-        } else {
-            None
-        }
+        self.happens(fault).then(|| self.after(most))
     }
 
     /// Ends all faults.
     pub fn calm(&mut self) {
-        self.weather.calm();
-        self.network.exhausted.0 = 0;
+        self.weather.chances = &[];
+        self.weather.exhausted.0 = 0;
         self.clock.unread_until = 0;
         self.memory.starved_until = 0;
         self.disk.stalled_until = 0;
