@@ -1,4 +1,4 @@
--- How a check goes on behind each of its steps.
+-- A check after each of its steps.
 use Rattle.std.specs.Bool.{beq}
 use Rattle.std.proofs.Common.{◌≡◌, ℕ, zero, suc, ◌<◌, ◌≤◌, ◌++◌, ◌⊎◌, inl, inr, List, [], ◌∷◌, Result, Ok, Err, Bool, true, false, not}
 use Rattle.std.proofs.Common.{◌+◌, ◌-◌, arith, refl, sym, ap, ◌∙◌, append_assoc}
@@ -8,7 +8,7 @@ use Rattle.epmd.specs.declared.health.Step.{Step, TheVariants.{Pause}}
 
 -- ---- one step
 
--- it is tried once more
+-- One more try.
 missed_more : (step : Step) (is : Bool) (n : ℕ) → missed step is (suc n) ≡ missed step is n ++ (step, Ok is) ∷ (Pause, Ok true) ∷ []
 missed_more step is zero = refl
 missed_more step is (suc n) = ap (λ (more : List Made). (step, Ok is) ∷ (Pause, Ok true) ∷ more) (missed_more step is n)
@@ -27,11 +27,11 @@ unwanted false false other = absurd (cc other)
 
 -- ---- all steps
 
-pub goes_on : (step : Step × Bool × ℕ) (steps : List (Step × Bool × ℕ)) (now result : Result Unit Made) (old mid new : List Made)
+pub continues : (step : Step × Bool × ℕ) (steps : List (Step × Bool × ℕ)) (now result : Result Unit Made) (old mid new : List Made)
     → now ≡ Ok tt → Grows (Makes step now) old mid → Grows (Ends steps result) mid new → Grows (Ends (step ∷ steps) result) old new
-goes_on step steps (Ok passed) result old mid new was (first, e, made) (rest, f, ended) =
+continues step steps (Ok passed) result old mid new was (first, e, made) (rest, f, ended) =
     (first ++ rest, f ∙ ap (λ (l : List Made). l ++ rest) e ∙ append_assoc old first rest, inr (first, rest, made, ended, refl))
-goes_on step steps (Err last) result old mid new was makes ends = absurd (cc was)
+continues step steps (Err last) result old mid new was makes ends = absurd (cc was)
 
 pub fails : (step : Step × Bool × ℕ) (steps : List (Step × Bool × ℕ)) (now result : Result Unit Made) (last : Made) (old new : List Made)
     → now ≡ Err last → result ≡ Err last → Grows (Makes step now) old new → Grows (Ends (step ∷ steps) result) old new
@@ -40,5 +40,5 @@ fails step steps (Ok passed) result last old new was is makes = absurd (cc was)
 
 pub ends : (step : Step × Bool × ℕ) (result : Result Unit Made) (old new : List Made) → Grows (Makes step result) old new
     → Grows (Ends (step ∷ []) result) old new
-ends step (Ok passed) old new makes = goes_on step [] (Ok tt) (Ok passed) old new new refl makes ([], sym (append-nil new), (refl, refl))
+ends step (Ok passed) old new makes = continues step [] (Ok tt) (Ok passed) old new new refl makes ([], sym (append-nil new), (refl, refl))
 ends step (Err last) old new makes = fails step [] (Err last) (Err last) last old new refl refl makes

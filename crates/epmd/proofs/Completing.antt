@@ -1,4 +1,4 @@
--- The ranges of what a command holds, by the words that say it.
+-- The ranges of a command's values, by the words that give them.
 use Rattle.std.specs.{Option.option_or, Prelude.{option_map, string_bytes, unwrap_or, IfSome}}
 use Rattle.std.proofs.Common.{ℕ, List, [], ◌∷◌, Option, Some, None, refl, sym, subst, inl, arith}
 use Rattle.std.specs.{declared.alloc.Global.Global, declared.vec.Vec.Vec}
@@ -34,7 +34,6 @@ begins_workers : (item : Word) (words rest : List (List ℕ)) → Begins item wo
 begins_workers (Workers number) words rest b = b.2.1
 begins_workers item words rest b = tt
 
--- the addresses of a word are listened on
 abbrev Listens : Vec (List ℕ) Global → Type 0
 Listens addresses = AreListening addresses.items
 

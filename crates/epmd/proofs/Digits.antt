@@ -1,4 +1,4 @@
--- One digit more.
+-- One more digit.
 use Rattle.std.specs.{Int.IsInRange, Str.Parse.{AllDigits, digits_value}}
 use Rattle.std.proofs.Common.{◌≡◌, ℕ, ◌+◌, ◌-◌, ◌*◌, ◌<◌, ◌≤◌, List, length, get_or, take, arith}
 use Rattle.std.proofs.{lemmas.Int.Digits.{digits_value_more, digits_more}, lemmas.List.length-take}

@@ -1,7 +1,7 @@
 pub mod Digits
 pub mod Lists
 pub mod Listening
-pub mod Sayings
+pub mod PlanLemmas
 pub mod Completing
 pub mod Pieces
 pub mod Recordings

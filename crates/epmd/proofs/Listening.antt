@@ -1,4 +1,4 @@
--- What a daemon listens on is everywhere alone, or holds the host itself and nothing twice.
+-- A daemon listens on everywhere alone, or on distinct addresses with the host itself.
 use Rattle.std.specs.{List.{list_any, Contains, IsDistinct}, Str.bytes_eq}
 use Rattle.std.proofs.Common.{◌≡◌, ℕ, Bool, true, false, cond, List, [], ◌∷◌, ◌++◌, refl, sym, ap, subst, ◌∙◌, inl, inr}
 use Rattle.std.proofs.{Common.{◌||◌, ◌<◌, length, arith}, lemmas.Cmp.nat_list_eq_equiv}

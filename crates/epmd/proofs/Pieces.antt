@@ -1,4 +1,4 @@
--- A text that is said in pieces.
+-- A text that is written in pieces.
 use Rattle.std.specs.Io.KnownBytes.{Appends}
 use Rattle.std.proofs.Common.{◌≡◌, ℕ, ◌+◌, ◌<◌, List, [], ◌++◌, length, take, Bool, true, false, Option, Some, None}
 use Rattle.std.proofs.{Common.{sym, ap, subst, ◌∙◌, append_assoc, arith}, Math.Seq.take-append-add}
@@ -19,39 +19,39 @@ appends_more (Some xs) (Some ys) (Some zs) first more e f = f ∙ ap (λ (l : Li
 
 -- ---- two pieces
 
-taken_more : (whole : Bool) (a b c : Option (List ℕ)) (first more : List ℕ) → IsWritten first true a b → IsWritten more whole b c
+written_more : (whole : Bool) (a b c : Option (List ℕ)) (first more : List ℕ) → IsWritten first true a b → IsWritten more whole b c
     → IsWritten (first ++ more) whole a c
-taken_more true a b c first more e f = appends_more a b c first more e f
-taken_more false a b c first more e f =
+written_more true a b c first more e f = appends_more a b c first more e f
+written_more false a b c first more e f =
     let lt : length first + f.0 < length (first ++ more) = omega (arith, length-append first more, f.1) in
     (length first + f.0, lt, subst (Appends a c) (sym (take-append-add first more f.0)) (appends_more a b c first (take f.0 more) e f.2))
 
-taken_in_part : (a b : Option (List ℕ)) (first more : List ℕ) → IsWritten first false a b → IsWritten (first ++ more) false a b
-taken_in_part a b first more e =
+prefix_written : (a b : Option (List ℕ)) (first more : List ℕ) → IsWritten first false a b → IsWritten (first ++ more) false a b
+prefix_written a b first more e =
     let lt : e.0 < length (first ++ more) = omega (arith, length-append first more, e.1) in
     (e.0, lt, subst (Appends a b) (sym (take-append-le e.0 first more (omega (arith, e.1)))) e.2)
 
 -- ---- any number of them
 
--- of this text all was taken but this rest
+-- All of the text was written except the rest.
 pub record IsLeft (text rest : List ℕ) (old now : Option (List ℕ)) : Type 0 where
   pub with_rest : (whole : Bool) (new : Option (List ℕ)) → IsWritten rest whole now new → IsWritten text whole old new
 
 pub left_at_first : (text : List ℕ) (old : Option (List ℕ)) → IsLeft text text old old
-left_at_first text old = record { with_rest = λ whole new taken. taken }
+left_at_first text old = record { with_rest = λ whole new written. written }
 
 pub left_more : (text rest first more : List ℕ) (old now next : Option (List ℕ)) → rest ≡ first ++ more → IsLeft text rest old now
     → IsWritten first true now next → IsLeft text more old next
-left_more text rest first more old now next e left taken = record {
-  with_rest = λ whole new rest_taken.
+left_more text rest first more old now next e left written = record {
+  with_rest = λ whole new rest_written.
       left.with_rest whole new (subst (λ (t : List ℕ). IsWritten t whole now new) (sym e)
-      (taken_more whole now next new first more taken rest_taken));
+      (written_more whole now next new first more written rest_written));
 }
 
-pub left_for_good : (text rest first more : List ℕ) (old now next : Option (List ℕ)) → rest ≡ first ++ more → IsLeft text rest old now
+pub left_at_failure : (text rest first more : List ℕ) (old now next : Option (List ℕ)) → rest ≡ first ++ more → IsLeft text rest old now
     → IsWritten first false now next → IsWritten text false old next
-left_for_good text rest first more old now next e left taken =
-    left.with_rest false next (subst (λ (t : List ℕ). IsWritten t false now next) (sym e) (taken_in_part now next first more taken))
+left_at_failure text rest first more old now next e left written =
+    left.with_rest false next (subst (λ (t : List ℕ). IsWritten t false now next) (sym e) (prefix_written now next first more written))
 
 pub none_left : (text rest : List ℕ) (old now : Option (List ℕ)) → rest ≡ [] → IsLeft text rest old now → IsWritten text true old now
 none_left text rest old now e left =

@@ -1,5 +1,5 @@
--- What the command does as a client of the port mapper that runs: epmd(1) for `-names`, `-kill` and `-stop` and for what they
--- print. `-dump`, what is told of answers that are not allowed or strange, and each status: profile.
+-- What the command does as a client of the running port mapper: epmd(1) for `-names`, `-kill`, `-stop` and what they print. Profile:
+-- `-dump`, lines for refusals and strange answers, and each status.
 use Rattle.std.specs.{Fmt.decimal, List.flat_map}
 use Rattle.std.specs.Prelude.{◌≡◌, ◌≢◌, ℕ, List, [], ◌∷◌, ◌++◌, codes, Bool, true, false, Option, Result, Ok, Err, ◌⊎◌}
 use Rattle.std.specs.{declared.alloc.Global.Global, declared.io.ErrorKind.ErrorKind}
@@ -19,20 +19,20 @@ use Rattle.portmap_client.specs.declared.outcome.Stop.TheVariants as stop
 use Rattle.epmd.specs.{Actions.{status_of, EndsWith, failure_of_once}, declared.actions.Failure.Failure}
 use Rattle.epmd.specs.declared.actions.Failure.TheVariants.{KillRefused, Memory, NoConnection, StopRefused}
 use Rattle.epmd.specs.declared.actions.Failure.TheVariants.{StrangeAnswer}
-use Rattle.epmd.specs.{declared.commands.Answer.Answer, declared.commands.Page.Page, declared.words.Ask.Ask}
+use Rattle.epmd.specs.{declared.commands.ClientAnswer.ClientAnswer, declared.commands.Page.Page, declared.words.Ask.Ask}
 use Rattle.epmd.specs.declared.words.Ask.TheVariants.{Dump, Kill as AskKill, Names, Stop as AskStop}
 use Rattle.epmd.specs.declared.actions.TheConstants as the
-use Rattle.epmd.specs.declared.commands.Answer.TheVariants as answer
+use Rattle.epmd.specs.declared.commands.ClientAnswer.TheVariants as answer
 
 -- ---- what is asked
 
--- the result of a call, as that of an action
-abbrev pub answered : {X : Type 0} → (X → Answer) → Result X ClientFault → Result Answer ClientFault
+-- The result of a call as the result of an action.
+abbrev pub answered : {X : Type 0} → (X → ClientAnswer) → Result X ClientFault → Result ClientAnswer ClientFault
 answered make (Ok x) = Ok (make x)
 answered make (Err fault) = Err fault
 
--- the action's request out and its answer in, by the stream before and after
-abbrev pub Asks : Ask → StreamView → StreamView → Result Answer ClientFault → Type 0
+-- The stream carries the request of the action and its answer.
+abbrev pub Asks : Ask → StreamView → StreamView → Result ClientAnswer ClientFault → Type 0
 Asks Names old new ended = (called : Result (ℕ × Vec Line Global) ClientFault) × Calls request.Names SaysNames old new called
     × (ended ≡ answered answer.Names called)
 Asks AskKill old new ended = (called : Result Kill ClientFault) × Calls request.Kill SaysKill old new called
@@ -42,9 +42,8 @@ Asks (AskStop name) old new ended = (called : Result Stop ClientFault) × Calls 
 Asks Dump old new ended = (called : Result (ℕ × Vec ℕ Global) ClientFault) × Calls request.Dump SaysDump old new called
     × (ended ≡ answered answer.Dump called)
 
--- ---- what is told
+-- ---- what is printed
 
--- the first line of both lists
 abbrev pub head_line : ℕ → List ℕ
 head_line port = codes "epmd: up and running on port " ++ decimal port ++ codes " with data:" ++ 10 ∷ []
 
@@ -54,32 +53,25 @@ names_text port lines = head_line port ++ flat_map names_line lines
 abbrev pub dump_text : ℕ → List ℕ → List ℕ
 dump_text port text = head_line port ++ text
 
-abbrev pub kill_text : Kill → Result (List ℕ × ℕ) Failure
-kill_text kill.Killed = Ok (codes "Killed" ++ 10 ∷ [], the.DONE)
-kill_text kill.NotAllowed = Err KillRefused
-
-abbrev pub stop_text : Stop → Result (List ℕ × ℕ) Failure
-stop_text stop.Stopped = Ok (codes "STOPPED" ++ 10 ∷ [], the.DONE)
-stop_text stop.NoExist = Ok (codes "NOEXIST" ++ 10 ∷ [], the.NOT_DONE)
-stop_text stop.NotAllowed = Err StopRefused
-
--- a text for standard output and the status, or a failure; names stand in it so that no terminal obeys them
-abbrev pub answer_text : Answer → Result (List ℕ × ℕ) Failure
+-- The text for standard output and the status, or a failure. Names are shown so that no terminal obeys them.
+abbrev pub answer_text : ClientAnswer → Result (List ℕ × ℕ) Failure
 answer_text (answer.Names list) = Ok (shown (names_text list.0 list.1.items), the.DONE)
 answer_text (answer.Dump dump) = Ok (shown (dump_text dump.0 dump.1.items), the.DONE)
-answer_text (answer.Kill said) = kill_text said
-answer_text (answer.Stop said) = stop_text said
+answer_text (answer.Kill kill.Killed) = Ok (codes "Killed\n", the.DONE)
+answer_text (answer.Kill kill.NotAllowed) = Err KillRefused
+answer_text (answer.Stop stop.Stopped) = Ok (codes "STOPPED\n", the.DONE)
+answer_text (answer.Stop stop.NoExist) = Ok (codes "NOEXIST\n", the.NOT_DONE)
+answer_text (answer.Stop stop.NotAllowed) = Err StopRefused
 
 abbrev pub failure_of_client : ClientFault → Failure
 failure_of_client client.NoMemory = Memory
 failure_of_client fault = StrangeAnswer
 
--- why no connection to the port mapper can be had
 abbrev pub failure_of_connect : ErrorKind → Failure
 failure_of_connect OutOfMemory = Memory
 failure_of_connect kind = NoConnection
 
--- the port mapper is looked for at ::1 too, by why it is not found at 127.0.0.1: that is refused, or can't be reached
+-- With this error at 127.0.0.1, the port mapper is tried at ::1: the connection is refused, or there is no route.
 abbrev pub tries_ipv6 : ErrorKind → Bool
 tries_ipv6 ConnectionRefused = true
 tries_ipv6 HostUnreachable = true
@@ -88,27 +80,26 @@ tries_ipv6 NetworkDown = true
 tries_ipv6 AddrNotAvailable = true
 tries_ipv6 kind = false
 
--- the page of a text and a status, or the failure, or there was no memory for the page
+-- The page has this text and status, or the failure is this one, or memory ran out for the page.
 abbrev pub IsPage : Result (List ℕ × ℕ) Failure → Result Page Failure → Type 0
 IsPage printed (Ok page) = printed ≡ Ok (page.text.items, page.status)
 IsPage printed (Err failure) = (printed ≡ Err failure) ⊎ (failure ≡ Memory)
 
--- what is told of a call
-abbrev pub IsPageOf : Result Answer ClientFault → Result Page Failure → Type 0
+-- The page, or the failure, of the result of a call.
+abbrev pub IsPageOf : Result ClientAnswer ClientFault → Result Page Failure → Type 0
 IsPageOf (Ok a) printed = IsPage (answer_text a) printed
 IsPageOf (Err fault) printed = printed ≡ Err (failure_of_client fault)
 
 -- ---- how it ends
 
--- a text was written whole and passed on, or a front of it, as the output failed, of which errors are told
+-- The text was written and flushed. Or the output failed: it got a prefix of the text, and errors get that failure.
 pub record Prints (text : List ℕ) (printed status : ℕ) (old new : Option (List ℕ)) (broken : Bool) (silent : Type 0)
     (fails : Failure → Type 0) : Type 0 where
   pub written : Result Unit OnceFault
-  pub telling : WritesReply text old new written
+  pub writes : WritesReply text old new written
   pub ends : EndsWith (λ _. printed) failure_of_once status written broken (λ _. silent) fails
 
--- by what is to be told: a page is printed, and then errors get a line only where the output failed; or they are told a failure,
--- and the output is left alone
+-- The page is printed, and errors get a line only if the output failed. Or errors get the failure, and the output is `untouched`.
 abbrev pub PrintsPage : Result Page Failure → ℕ → Option (List ℕ) → Option (List ℕ) → Bool → Type 0 → Type 0 → (Failure → Type 0) → Type 0
 PrintsPage (Ok page) status old new broken untouched silent fails = Prints page.text.items page.status status old new broken silent fails
     × (status ≢ the.FAILED → silent)

@@ -1,6 +1,6 @@
--- What the daemon of a command is set to, and how its end is told. Profile.
+-- The settings of a daemon, and what is printed when it ends: profile.
 use Rattle.std.specs.{Duration.as_nanos, Fmt.decimal, List.concat, Prelude.{◌≡◌, ℕ, ◌+◌, ◌==◌, List, [], ◌∷◌, ◌++◌}}
-use Rattle.std.specs.Prelude.{codes, slice_get, slice_index, if◌then◌else◌, ◌%◌, ◌^◌, Bool, true, false}
+use Rattle.std.specs.Prelude.{codes, slice_get, slice_index, if◌then◌else◌, ◌%◌, ◌^◌}
 use Rattle.std.specs.Prelude.{string_bytes, Option, Some, None, option_map, Result, Ok, Err}
 use Rattle.std.specs.declared.time.Duration.{Duration}
 use Rattle.portmap_core.specs.Config.{Configuration}
@@ -12,12 +12,11 @@ use Rattle.epmd.specs.declared.words.Command.{Command}
 use Rattle.epmd.specs.declared.actions.TheConstants as actions
 use Rattle.epmd.specs.declared.daemon.TheConstants as the
 
--- where creations start: at the nanoseconds since 1970, as far as 32 bits hold them
+-- Where creations start: the nanoseconds since 1970, modulo 2^32.
 abbrev pub first_by : Option Duration → ℕ
 first_by None = 0
 first_by (Some now) = as_nanos now % 2 ^ 32
 
--- the port mapper of a command
 abbrev pub config_of : Command → Configuration
 config_of command = record {
   port = command.port;
@@ -26,7 +25,7 @@ config_of command = record {
   known_max = actions.NAMES_MOST;
 }
 
--- these are the settings of the command at this time
+-- The settings are those of the command at this time since 1970.
 pub record SetsAs (command : Command) (now : Option Duration) (settings : Settings) : Type 0 where
   pub config : settings.config ≡ config_of command
   pub first : settings.first ≡ first_by now
@@ -36,49 +35,42 @@ pub record SetsAs (command : Command) (now : Option Duration) (settings : Settin
   pub recording : option_map string_bytes settings.recording ≡ option_map string_bytes command.recording
   pub figures : option_map string_bytes settings.figures ≡ option_map string_bytes command.figures
 
--- the status that tells whether the recording is whole, where there was to be one
-abbrev pub status_of_recorded : Bool → ℕ
-status_of_recorded false = actions.FAILED
-status_of_recorded true = actions.DONE
-
--- the status that tells the end
 abbrev pub status_of_end : Result RunEnd RunFault → ℕ
-status_of_end (Ok end) = status_of_recorded end.recorded
+status_of_end (Ok end) = if end.recorded then actions.DONE else actions.FAILED
 status_of_end (Err (Listen index)) = actions.NOT_DONE
 status_of_end (Err (ListenBeside index)) = actions.NOT_DONE
 status_of_end (Err Poll) = actions.FAILED
 status_of_end (Err NoMemory) = actions.FAILED
 
--- ---- what errors are told
+-- ---- what is printed
 
 abbrev pub served_line : ℕ → ℕ → List ℕ
 served_line worker count = concat (the.WORKER.now ∷ decimal worker ∷ the.SERVED.now ∷ decimal count ∷ (10 ∷ []) ∷ [])
 
--- a line for each worker, which are numbered from this one on
+-- The lines of the workers, numbered from `worker` on.
 abbrev pub served_lines : ℕ → List ℕ → List ℕ
 served_lines worker [] = []
 served_lines worker (count ∷ counts) = served_line worker count ++ served_lines (worker + 1) counts
 
--- four numbers with dots between, and the port
-abbrev pub unheard_line : List ℕ → ℕ → List ℕ
-unheard_line address port =
+abbrev pub cannot_listen_line : List ℕ → ℕ → List ℕ
+cannot_listen_line address port =
     let number = λ (index : ℕ). decimal (slice_index address index) in
-    concat (the.UNHEARD.now ∷ number 0 ∷ codes "." ∷ number 1 ∷ codes "." ∷ number 2 ∷ codes "." ∷ number 3 ∷ codes ":" ∷ decimal port ∷
+    concat (the.CANNOT_LISTEN.now ∷ number 0 ∷ codes "." ∷ number 1 ∷ codes "." ∷ number 2 ∷ codes "." ∷ number 3 ∷ codes ":" ∷ decimal port ∷
     (10 ∷ []) ∷ [])
 
--- the IPv6 address that goes with this one: that of every address of the host, else that of the host itself
+-- The IPv6 address that goes with an IPv4 address: every address of the host, or the host itself.
 abbrev pub beside : List ℕ → List ℕ
 beside address = if slice_index address 0 == 0 then the.EVERYWHERE.now else the.ITSELF.now
 
-abbrev pub unheard_beside : List ℕ → ℕ → List ℕ
-unheard_beside address port = concat (the.UNHEARD.now ∷ beside address ∷ decimal port ∷ (10 ∷ []) ∷ [])
+abbrev pub without_ipv6_line : List ℕ → ℕ → List ℕ
+without_ipv6_line address port = concat (the.CANNOT_LISTEN.now ∷ beside address ∷ decimal port ∷ (10 ∷ []) ∷ [])
 
--- with debug output what each worker served; else why it did not serve
+-- With debug output, what each worker served. For a daemon that did not serve, the reason.
 abbrev pub text_of_end : Command → Result RunEnd RunFault → Option (List ℕ)
 text_of_end command (Ok end) = if command.debug then Some (served_lines 1 end.served.items) else None
 text_of_end command (Err (Listen index)) =
-    option_map (λ address. unheard_line address command.port) (slice_get command.addresses.items index)
+    option_map (λ address. cannot_listen_line address command.port) (slice_get command.addresses.items index)
 text_of_end command (Err (ListenBeside index)) =
-    option_map (λ address. unheard_beside address command.port) (slice_get command.addresses.items index)
+    option_map (λ address. without_ipv6_line address command.port) (slice_get command.addresses.items index)
 text_of_end command (Err Poll) = Some (line_of Polling)
 text_of_end command (Err NoMemory) = Some (line_of Memory)

@@ -1,16 +1,14 @@
--- What is told of sockets that are handed over. Profile.
+-- What is printed of passed sockets: profile.
 use Rattle.std.specs.{Fmt.signed_decimal, List.concat, Prelude.{ℕ, List, [], ◌∷◌}}
 use Rattle.portmap_daemon.specs.declared.listening.HandedFault.{HandedFault, TheVariants.{NoMemory, NotListening}}
 use Rattle.epmd.specs.{Actions.line_of, declared.actions.Failure.TheVariants.Memory}
 use Rattle.epmd.specs.declared.actions.TheConstants as actions
 use Rattle.epmd.specs.declared.handing.TheConstants as the
 
--- the status that tells why they are not served
 abbrev pub status_of_handed : HandedFault → ℕ
 status_of_handed (NotListening number) = actions.NOT_DONE
 status_of_handed NoMemory = actions.FAILED
 
--- the line that tells it
 abbrev pub line_of_handed : HandedFault → List ℕ
 line_of_handed (NotListening number) = concat (the.DESCRIPTOR.now ∷ signed_decimal number ∷ the.NOT_LISTENING.now ∷ [])
 line_of_handed NoMemory = line_of Memory

@@ -1,4 +1,4 @@
--- The command that items and the environment make. Profile; epmd(1) has the environment's variables.
+-- The command that items and the environment make: profile, with the environment's variables of epmd(1).
 use Rattle.std.specs.{Fmt.decimal, List.list_any, Option.option_or, Prelude.{◌≡◌, ℕ, ◌+◌, Bool, true, ◌<◌, List}}
 use Rattle.std.specs.Prelude.{[], ◌∷◌, ◌++◌, if◌then◌else◌, ◌||◌, string_bytes, Option, Some, None, option_map, is_some}
 use Rattle.std.specs.{Prelude.{count_by, unwrap_or}, declared.io.ErrorKind.{ErrorKind, TheVariants.OutOfMemory}}
@@ -12,9 +12,9 @@ use Rattle.epmd.specs.declared.words.WordFault.TheVariants.{Unknown}
 use Rattle.epmd.specs.declared.actions.TheConstants as actions
 use Rattle.epmd.specs.declared.words.TheConstants as words
 
--- ---- what words have said so far
+-- ---- plans
 
--- these items have said all this: of each kind the last one counts, and one asks for an action at most
+-- The plan has what these items say: the last value of each kind, and at most one action.
 pub record Holds (items : List Word) (plan : Plan) : Type 0 where
   pub action : plan.action ≡ last_by action_of items
   pub actions : count_by is_action items ≡ (if is_some plan.action then 1 else 0)
@@ -27,7 +27,7 @@ pub record Holds (items : List Word) (plan : Plan) : Type 0 where
   pub recording : plan.recording ≡ last_by recording_of items
   pub figures : plan.figures ≡ last_by figures_of items
 
--- one item more says this
+-- One more item turns the plan `old` into `new`.
 pub record Adds (item : Word) (old new : Plan) : Type 0 where
   pub action : new.action ≡ option_or (action_of item) old.action
   pub port : new.port ≡ option_or (port_of item) old.port
@@ -41,13 +41,13 @@ pub record Adds (item : Word) (old new : Plan) : Type 0 where
 
 -- ---- the command
 
--- the port: of an item, else of the environment, else the usual one
+-- The port of an item, else of the environment, else the usual port.
 abbrev pub IsPort : Option ℕ → Option (List ℕ) → ℕ → Type 0
 IsPort (Some number) text port = port ≡ number
 IsPort None (Some text) port = WritesWithin 1 65535 text port
 IsPort None None port = port ≡ actions.PORT
 
--- the command of what words have said, in this environment
+-- The command of a plan in this environment.
 pub record Completes (plan : Plan) (env : Env) (command : Command) : Type 0 where
   pub action : command.action ≡ unwrap_or plan.action Serve
   pub port : IsPort plan.port (option_map string_bytes env.port) command.port
@@ -60,18 +60,17 @@ pub record Completes (plan : Plan) (env : Env) (command : Command) : Type 0 wher
   pub recording : command.recording ≡ plan.recording
   pub figures : command.figures ≡ plan.figures
 
--- words say this command in this environment: it is that of the plan that holds what their items have said
+-- The words spell items whose plan makes this command in this environment.
 abbrev pub SaysCommand : List (List ℕ) → Env → Command → Type 0
 SaysCommand words env command = (items : List Word) × (plan : Plan) × Spells words items × Holds items plan × Completes plan env command
 
--- a daemon can serve by this command
+-- A daemon can serve by this command.
 pub record CanServe (command : Command) : Type 0 where
   pub addresses : AreListening command.addresses.items
   pub timeout : IsWithin 1 86400 command.timeout
   pub workers : IsWithin 1 64 command.workers
 
--- why the word at this place, with so many behind it, says nothing: one of the word, or of the value behind it; and two actions were
--- asked for only where one was before
+-- The fault is of the word `index`, with `behind` words after it, or of its value. A second action needs an action before it.
 abbrev pub IsFaultAt : ℕ → ℕ → Bool → WordFault → Type 0
 IsFaultAt index behind has_action (Unknown at) = at ≡ index
 IsFaultAt index behind has_action (MissingValue at) = (at ≡ index) × (behind ≡ 0)
@@ -80,7 +79,7 @@ IsFaultAt index behind has_action (TwoCommands at) = (at ≡ index) × (has_acti
 IsFaultAt index behind has_action BadEnvPort = ⊥
 IsFaultAt index behind has_action NoMemory = Unit {0}
 
--- the word that a fault names is there, of so many
+-- The fault names one of `count` words.
 abbrev pub NamesWord : ℕ → WordFault → Type 0
 NamesWord count (Unknown at) = at < count
 NamesWord count (MissingValue at) = at + 1 ≡ count
@@ -89,7 +88,6 @@ NamesWord count (TwoCommands at) = at < count
 NamesWord count BadEnvPort = Unit {0}
 NamesWord count NoMemory = Unit {0}
 
--- the status that tells a fault
 abbrev pub status_of_fault : WordFault → ℕ
 status_of_fault NoMemory = actions.FAILED
 status_of_fault fault = actions.REFUSED
@@ -97,7 +95,6 @@ status_of_fault fault = actions.REFUSED
 abbrev bad_word : ℕ → List ℕ
 bad_word index = words.BAD_WORD.now ++ decimal index ++ 10 ∷ []
 
--- the line that tells it
 abbrev pub line_of_fault : WordFault → List ℕ
 line_of_fault (Unknown index) = bad_word index
 line_of_fault (MissingValue index) = bad_word index
@@ -106,7 +103,7 @@ line_of_fault (TwoCommands index) = bad_word index
 line_of_fault BadEnvPort = words.BAD_PORT.now
 line_of_fault NoMemory = actions.MEMORY_RAN_OUT.now
 
--- why the system's words can't be had: where it is no want of memory, one is not UTF-8, which is called word 0
+-- The fault of an error in reading the system's words: memory ran out, or a word is not UTF-8.
 abbrev pub fault_of_words : ErrorKind → WordFault
 fault_of_words OutOfMemory = NoMemory
 fault_of_words kind = Unknown 0

@@ -1,5 +1,5 @@
--- The words of the command: the options of epmd(1) and, as profile, -workers, -record, -figures, -dump, -health, -once, -check, -play,
--- -local and -audit.
+-- The words of the command: the options of epmd(1). Profile: -workers, -record, -figures, -dump, -health, -once, -check, -play, -local and
+-- -audit.
 use Rattle.std.specs.Option.{option_or}
 use Rattle.std.specs.Prelude.{◌≡◌, ℕ, List, [], ◌∷◌, Bool, true, false, codes, string_bytes, Option, Some, None, ◌⊎◌}
 use Rattle.std.specs.{Prelude.String, declared.alloc.Global.Global, declared.vec.Vec.Vec}
@@ -12,7 +12,7 @@ use Rattle.epmd.specs.declared.words.Ask.TheVariants as ask
 
 -- ---- how an item is spelled
 
--- the first word, or the first two, spell this item; behind them is the rest
+-- The words are those of the item, one or two, and then the rest.
 abbrev pub Begins : Word → List (List ℕ) → List (List ℕ) → Type 0
 Begins (Port number) words rest = (value : List ℕ) × (words ≡ codes "-port" ∷ value ∷ rest) × WritesWithin 1 65535 value number
 Begins (Addresses addresses) words rest = (value : List ℕ) × (words ≡ codes "-address" ∷ value ∷ rest) × ListensOn value addresses.items
@@ -36,7 +36,7 @@ Begins (Act (action.Inspect text.Transcript path)) words rest = words ≡ codes 
 Begins (Act (action.Inspect text.LocalRecord path)) words rest = words ≡ codes "-local" ∷ string_bytes path ∷ rest
 Begins (Act (action.Audit path)) words rest = words ≡ codes "-audit" ∷ string_bytes path ∷ rest
 
--- words are these items, one behind the other
+-- The words are those of the items, in order.
 abbrev pub Spells : List (List ℕ) → List Word → Type 0
 Spells words [] = words ≡ []
 Spells words (item ∷ items) = (rest : List (List ℕ)) × Begins item words rest × Spells rest items
@@ -83,7 +83,7 @@ abbrev pub is_action : Word → Bool
 is_action (Act action) = true
 is_action item = false
 
--- what the last item sets that sets it
+-- What the last of the items that set it sets.
 abbrev pub last_by : {X : Type 0} → (Word → Option X) → List Word → Option X
 last_by sets [] = None
 last_by sets (item ∷ items) = option_or (last_by sets items) (sets item)

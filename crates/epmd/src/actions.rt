@@ -1,4 +1,4 @@
-//! What the command does, with what it writes and the status that it ends with.
+//! Statuses, failures, and the actions on standard input and on a recorded session.
 ghost use Rattle.std.specs.Prelude.{◌≡◌, false, Result, Err};
 ghost use Rattle.std.specs.Io.KnownBytes.{Keeps};
 ghost use Rattle.portmap_core.specs.declared.event.Fate.{Fate};
@@ -22,32 +22,32 @@ use std::io::{Read, Write};
 /// All went well.
 pub const DONE: u8 = 0;
 
-/// It did not come to what was asked for: a recorded session is no run of the machine, a port mapper that runs did not
-/// do what it was asked to, or can't be asked, or the daemon can't listen.
+/// The outcome is not what was asked for: a recorded session is not a run of the machine, the running port mapper
+/// refuses or cannot be asked, or the daemon cannot listen.
 pub const NOT_DONE: u8 = 1;
 
-/// The words of the command are none that it knows, or a record is none.
+/// The words are not a command, or the bytes are not a record.
 pub const REFUSED: u8 = 2;
 
 /// A device failed, or memory ran out.
 pub const FAILED: u8 = 3;
 
-/// The port that the port mapper tells of itself.
+/// The port of the port mapper, unless a word or the environment gives another one.
 pub const PORT: u16 = 4369;
 
-/// How many connections may be open at once.
+/// The limit of open connections.
 pub const CONNECTIONS_MOST: u32 = 1024;
 
-/// How many names may be known at once.
+/// The limit of known names.
 pub const NAMES_MOST: u32 = 4096;
 
-/// Where creations start.
+/// The first creation of `do_once`.
 const FIRST_CREATION: u32 = 4;
 
-/// How many pulls and puts one connection gets.
+/// The limit on pulls and puts of one connection.
 const TURNS: u64 = 1_000_000;
 
-/// How many pulls and puts a recorded session gets.
+/// The limit on pulls and puts of a recorded session.
 pub const FILE_TURNS: u64 = 1_000_000_000;
 
 pub const BROKEN_AT: &[u8] = b"broken at entry ";
@@ -58,7 +58,7 @@ const DEVICE_FAILED: &[u8] = b"epmd: input or output failed\n";
 
 const POLLING_FAILED: &[u8] = b"epmd: polling failed\n";
 
-pub const MEMORY_RAN_OUT: &[u8] = b"epmd: out of memory\n";
+const MEMORY_RAN_OUT: &[u8] = b"epmd: out of memory\n";
 
 const NO_CONNECTION: &[u8] = b"epmd: Cannot connect to local epmd\n";
 
@@ -68,24 +68,23 @@ const KILL_REFUSED: &[u8] = b"epmd: kill not allowed\n";
 
 const STOP_REFUSED: &[u8] = b"epmd: stop not allowed\n";
 
-/// Why an action is not done.
+/// The reason for which an action is not done.
 #[derive(Clone, Copy, Debug, PartialEq, Eq)]
 pub enum Failure {
-    /// The bytes of a recorded session are no record.
+    /// The bytes are not a record, or begin with an open remote connection that `-local` cannot leave out.
     BadRecord,
-    /// The input or the output failed, or took too many turns, or the input has too many bytes.
+    /// The input or the output failed, took too many turns, or has too many bytes.
     Device,
-    /// Readiness of sockets can't be had.
+    /// The system cannot report the readiness of sockets.
     Polling,
-    /// Memory ran out.
     Memory,
-    /// The port mapper of this host can't be reached.
+    /// The port mapper of this host cannot be reached.
     NoConnection,
-    /// It can't be asked to the end, or its answer is none.
+    /// The exchange with the port mapper failed, or its answer is malformed.
     StrangeAnswer,
-    /// It may not be ended.
+    /// The port mapper refused to halt.
     KillRefused,
-    /// It may not be told to forget that a name is active.
+    /// The port mapper refused to release a name.
     StopRefused,
 }
 
@@ -122,7 +121,6 @@ impl From<PlayFault> for Failure {
     }
 }
 
-/// The status that tells a failure.
 pub fn status_of(failure: Failure) -> u8
     ensures { result ≡ status_of failure }
 {
@@ -136,7 +134,6 @@ pub fn status_of(failure: Failure) -> u8
     }
 }
 
-/// What is printed of a failure.
 fn line_of(failure: Failure) -> &'static [u8]
     ensures { result.now ≡ line_of failure }
 {
@@ -152,7 +149,7 @@ fn line_of(failure: Failure) -> &'static [u8]
     }
 }
 
-/// Writes the line that tells a failure, and gives the status that does. A failure of `errors` changes nothing else.
+/// Writes the line of a failure. Returns its status. A failure of `errors` changes nothing else.
 pub fn fail<E: Write>(errors: &mut Writing<E>, failure: Failure) -> u8
     ensures status { result ≡ status_of failure }
     ensures line { Fails E.contents errors.old errors.new failure }
@@ -161,7 +158,7 @@ pub fn fail<E: Write>(errors: &mut Writing<E>, failure: Failure) -> u8
     status_of(failure)
 }
 
-/// Has the output pass on all that it took, and gives the status that was reached, or that of a device that failed.
+/// Flushes the output. Returns `status`, or that of a failed device.
 pub fn end<W: Write, E: Write>(output: &mut Writing<W>, errors: &mut Writing<E>, status: u8) -> u8
     ensures passes { Passes status result (writing_broken output.new) (errors.new ≡ errors.old)
         (Fails E.contents errors.old errors.new) }
@@ -175,7 +172,6 @@ pub fn end<W: Write, E: Write>(output: &mut Writing<W>, errors: &mut Writing<E>,
     fail(errors, Failure::Device)
 }
 
-/// Serves one connection to its end, or to a fault.
 fn serve_once<R: Read, W: Write>(
     alloc: Global,
     input: &mut Reading<R>,
@@ -193,14 +189,15 @@ fn serve_once<R: Read, W: Write>(
     once(alloc, config, FIRST_CREATION, input, output, TURNS)
 }
 
-/// Reads one request from `input` as from a local connection, and writes the reply to `output`: the request's length in
-/// two bytes and its body, in any pieces. The port mapper that answers has port `PORT`, is not relaxed, knows no name,
-/// starts creations at `FIRST_CREATION`, and takes `CONNECTIONS_MOST` connections and `NAMES_MOST` names. Status 0,
-/// also where the input ends before the request is whole or the request is malformed: then nothing is written. Status 3
-/// where a device failed, `TURNS` pulls and puts were made and one more was due, or memory ran out: `errors` then gets
-/// one line.
+/// Reads one request from `input` as from a local connection, and writes the reply to `output`. A request is its length
+/// in two bytes and its body, in any pieces. The port mapper that serves it has port `PORT`, is not relaxed, knows no
+/// name, starts creations at `FIRST_CREATION`, and allows `CONNECTIONS_MOST` connections and `NAMES_MOST` names.
+/// Returns:
+/// - 0 if no fault occurred. For an incomplete or malformed request nothing is written.
+/// - 3 if a device failed, more than `TURNS` pulls and puts were needed, or memory ran out. `errors` then gets one
+///   line.
 ///
-/// The output is flushed at the end. That a flushed writer has passed on what it took no clause can say: tests show it.
+/// The output is flushed at the end. No clause can say that a flushed writer has passed on its bytes: that is tested.
 pub fn do_once<R: Read, W: Write, E: Write>(
     alloc: Global,
     input: &mut Reading<R>,
@@ -208,8 +205,8 @@ pub fn do_once<R: Read, W: Write, E: Write>(
     errors: &mut Writing<E>,
 ) -> u8
     ensures silent { result ≡ DONE → errors.new ≡ errors.old }
-    // What was read and written, in how many turns, and why the status is so: one that is not 0 comes of a fault, or of
-    // an output that failed to pass on what it took.
+    // What was read and written, in how many turns, and the cause of the status: a fault, or an output that failed to
+    // flush.
     ensures served { (ended : Result Fate OnceFault)
         × (let seen = streams R.remaining W.contents in
         Did once_config (seen input.old output.old) (seen input.new output.new) ended
@@ -225,8 +222,8 @@ pub fn do_once<R: Read, W: Write, E: Write>(
     }
 }
 
-/// Ends with what is found of a session, of which this text was written. If the session is no run and the text does not
-/// say so, `errors` gets the entry at which it is broken.
+/// Flushes the output after `text` of a session was written. Returns the status of what was found. If the text cannot
+/// say that the session is not a run, `errors` gets the first broken entry.
 fn end_found<W: Write, E: Write>(
     output: &mut Writing<W>,
     errors: &mut Writing<E>,
@@ -252,13 +249,14 @@ fn end_found<W: Write, E: Write>(
     }
 }
 
-/// Reads a recorded session from `input` to its end, judges it, and writes this text of it to `output`. If the session
-/// is no run and the text does not say so, `errors` gets the line that does. Status 0 for a run, 1 for none. Status 2
-/// if the bytes are no record, or begin with an open connection of a remote peer that the text would have to leave
-/// out. Status 3 if a device failed, `FILE_TURNS` pulls and puts were made and one more was due, the input has more
-/// bytes than a session may have, or memory ran out: `errors` then gets one line.
+/// Reads a recorded session from `input` to its end, checks it, and writes `text` of it to `output`. If the session is
+/// not a run and the text does not say that, `errors` gets a line that does. Returns:
+/// - 0 for a run, and 1 for any other session.
+/// - 2 if the bytes are not a record, or begin with an open remote connection that the text has to leave out.
+/// - 3 if a device failed, more than `FILE_TURNS` pulls and puts were needed, the input has more bytes than a session
+///   may have, or memory ran out.
 ///
-/// The output is flushed at the end, as by `do_once`.
+/// With status 2 or 3, `errors` gets one line. The output is flushed at the end, as in `do_once`.
 pub fn do_file<R: Read, W: Write, E: Write>(
     alloc: Global,
     text: Text,
@@ -267,7 +265,7 @@ pub fn do_file<R: Read, W: Write, E: Write>(
     errors: &mut Writing<E>,
 ) -> u8
     ensures silent { IsSilent text result → errors.new ≡ errors.old }
-    // What was read and written, in how many turns, why the status is so, and what errors are told.
+    // What was read and written, in how many turns, the cause of the status, and what errors get.
     ensures shown { (ended : Result Verdict PlayFault)
         × (let seen = streams R.remaining W.contents in
         PrintsFound (text_of text) (IsRefused text) (seen input.old output.old) (seen input.new output.new) ended

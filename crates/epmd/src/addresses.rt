@@ -1,4 +1,4 @@
-//! The addresses that a daemon listens on.
+//! The addresses on which a daemon listens, as text.
 ghost use Rattle.std.specs.Prelude.{◌≡◌, ◌++◌, [], ◌∷◌, IfSome, IfOk, OnOk};
 ghost use Rattle.epmd.specs.Addresses.{WritesAddress, WritesAddresses, ListensOn, listening, with, anywhere};
 
@@ -9,26 +9,24 @@ use std::alloc::Global;
 /// Every address of the host.
 pub const ANYWHERE: [u8; 4] = [0, 0, 0, 0];
 
-/// The host itself.
 pub const LOOPBACK: [u8; 4] = [127, 0, 0, 1];
 
-/// What stands in front of the first such byte, and what behind it.
-fn cut(text: &[u8], separator: u8) -> Option<(&[u8], &[u8])>
-    ensures { IfSome result (λ parts. text.now ≡ parts.0.now ++ separator ∷ parts.1.now) }
+/// Returns the bytes before and after the first separator.
+fn split_at_first(text: &[u8], separator: u8) -> Option<(&[u8], &[u8])>
+    ensures { IfSome result (λ halves. text.now ≡ halves.0.now ++ separator ∷ halves.1.now) }
 {
     let end = text.iter().position(|byte| *byte == separator)?;
-    let (front, back) = text.split_at(end);
+    let (prefix, back) = text.split_at(end);
     let (_, after) = back.split_at(1);
-    Some((front, after))
+    Some((prefix, after))
 }
 
-/// The address that this text is.
 fn read_address(text: &[u8]) -> Option<[u8; 4]>
     ensures { IfSome result (λ address. WritesAddress text.now address) }
 {
-    let (first, behind) = cut(text, b'.')?;
-    let (second, behind) = cut(behind, b'.')?;
-    let (third, fourth) = cut(behind, b'.')?;
+    let (first, behind) = split_at_first(text, b'.')?;
+    let (second, behind) = split_at_first(behind, b'.')?;
+    let (third, fourth) = split_at_first(behind, b'.')?;
     Some([
         read_byte(first)?,
         read_byte(second)?,
@@ -37,14 +35,14 @@ fn read_address(text: &[u8]) -> Option<[u8; 4]>
     ])
 }
 
-/// The addresses of this list as it is written; none where it is no list of them.
+/// Returns the addresses of a list with commas, or `None` if the text is not such a list.
 fn read_addresses(alloc: Global, text: &[u8]) -> Result<Option<Vec<[u8; 4]>>, NoMemory>
     ensures { IfOk result (λ read. IfSome read (λ addresses. WritesAddresses text.now addresses.items)) }
 {
     let mut addresses = Vec::new(alloc);
     let mut rest = text;
-    while let Some((front, after)) = cut(rest, b',') {
-        let Some(address) = read_address(front) else {
+    while let Some((prefix, after)) = split_at_first(rest, b',') {
+        let Some(address) = read_address(prefix) else {
             return Ok(None);
         };
         addresses.push(address)?;
@@ -57,7 +55,7 @@ fn read_addresses(alloc: Global, text: &[u8]) -> Result<Option<Vec<[u8; 4]>>, No
     Ok(Some(addresses))
 }
 
-/// Puts an address at the end, unless it is there.
+/// Appends an address, unless it is there.
 fn add(addresses: &mut Vec<[u8; 4]>, address: [u8; 4]) -> Result<(), NoMemory>
     ensures { OnOk result (addresses.new.items ≡ with addresses.old.items address) }
 {
@@ -67,7 +65,6 @@ fn add(addresses: &mut Vec<[u8; 4]>, address: [u8; 4]) -> Result<(), NoMemory>
     Ok(())
 }
 
-/// Every address of the host, alone.
 pub fn everywhere(alloc: Global) -> Result<Vec<[u8; 4]>, NoMemory>
     ensures { IfOk result (λ addresses. addresses.items ≡ anywhere ∷ []) }
 {
@@ -76,7 +73,6 @@ pub fn everywhere(alloc: Global) -> Result<Vec<[u8; 4]>, NoMemory>
     Ok(addresses)
 }
 
-/// What a daemon listens on for these addresses.
 fn listening(alloc: Global, listed: &[[u8; 4]]) -> Result<Vec<[u8; 4]>, NoMemory>
     ensures { IfOk result (λ addresses. addresses.items ≡ listening listed.now) }
 {
@@ -91,9 +87,9 @@ fn listening(alloc: Global, listed: &[[u8; 4]]) -> Result<Vec<[u8; 4]>, NoMemory
     Ok(addresses)
 }
 
-/// What a daemon listens on for this text, addresses with commas between: each once, in the order of the text;
-/// `LOOPBACK` at the end, if it isn't among them; but where `ANYWHERE` is, that alone. None where the text is no list
-/// of addresses.
+/// Returns the addresses on which a daemon listens for a list with commas: each listed address once, in order, and then
+/// `LOOPBACK`, unless it is listed. A list with `ANYWHERE` gives that address alone. Returns `None` if the text is not
+/// a list of addresses.
 pub fn read_listening(alloc: Global, text: &[u8]) -> Result<Option<Vec<[u8; 4]>>, NoMemory>
     ensures { IfOk result (λ read. IfSome read (λ addresses. ListensOn text.now addresses.items)) }
 {

@@ -1,13 +1,13 @@
-//! The actions of a client: what the port mapper that runs is asked, and how its answer is told.
+//! The actions of a client: what the running port mapper is asked, and how its answer is printed.
 ghost use Rattle.std.specs.Prelude.{◌≡◌, ◌≢◌, ◌++◌, Result, Ok, IfOk};
 ghost use Rattle.portmap_link.specs.Adapters.{writing_inner, writing_broken};
 ghost use Rattle.portmap_client.specs.Exchange.{view};
 ghost use Rattle.portmap_client.specs.declared.fault.ClientFault.{ClientFault};
 ghost use Rattle.epmd.specs.Actions.{Fails};
-ghost use Rattle.epmd.specs.Commands.{Asks, head_line, names_text, dump_text, kill_text, stop_text};
+ghost use Rattle.epmd.specs.Commands.{Asks, head_line, names_text, dump_text};
 ghost use Rattle.epmd.specs.Commands.{answer_text, IsPage, IsPageOf, Prints, PrintsPage};
 ghost use Rattle.epmd.specs.declared.actions.Failure.{Failure};
-ghost use Rattle.epmd.specs.declared.commands.Answer.{Answer};
+ghost use Rattle.epmd.specs.declared.commands.ClientAnswer.{ClientAnswer};
 ghost use Rattle.epmd.specs.declared.commands.Page.{Page};
 
 use crate::actions::{DONE, FAILED, Failure, NOT_DONE, end, fail};
@@ -20,22 +20,22 @@ use portmap_wire::{Line, put_names_line};
 use std::alloc::Global;
 use std::io::Write;
 
-/// How many puts the text gets. The longest has less than 17,000,000 bytes, and each put that is not put off takes one
-/// at least.
+/// The limit on puts of a text. The longest text has less than 17,000,000 bytes. Each put that does not block takes at
+/// least one byte.
 const TURNS: u64 = 1_000_000_000;
 
-/// What the port mapper answered to an action.
+/// The answer of the port mapper to an action.
 #[derive(Drop)]
-enum Answer {
-    /// Its port, and the registered names with theirs.
+enum ClientAnswer {
+    /// Its port, and the registered names with their ports.
     Names((u32, Vec<Line>)),
-    /// Its port, and the text of all that it knows.
+    /// Its port, and the text of all known names.
     Dump((u32, Vec<u8>)),
     Kill(Kill),
     Stop(Stop),
 }
 
-/// What is printed, and the status that is reached then.
+/// A text for standard output, and the status once it is printed.
 #[derive(Drop)]
 struct Page {
     text: Vec<u8>,
@@ -51,14 +51,7 @@ impl From<ClientFault> for Failure {
     fn from(fault: ClientFault) -> Failure {
         match fault {
             ClientFault::NoMemory => Failure::Memory,
-            ClientFault::Write
-            | ClientFault::Read
-            | ClientFault::TooManyTurns
-            | ClientFault::Short
-            | ClientFault::BadTag(_)
-            | ClientFault::Refused(_)
-            | ClientFault::Strange
-            | ClientFault::TooLong => Failure::StrangeAnswer,
+            _ => Failure::StrangeAnswer,
         }
     }
 }
@@ -74,20 +67,24 @@ impl From<NoMemory> for Failure {
     }
 }
 
-/// Asks the port mapper for this.
-fn ask<S: Input + Output>(alloc: Global, asked: &Ask, stream: &mut S) -> Result<Answer, ClientFault>
+/// Sends the request of an action and reads the answer.
+fn ask<S: Input + Output>(
+    alloc: Global,
+    asked: &Ask,
+    stream: &mut S,
+) -> Result<ClientAnswer, ClientFault>
     ensures { let seen = view S.left S.held S.pulls S.puts S.broken in
         Asks asked.now (seen stream.old) (seen stream.new) result }
 {
     match asked {
-        Ask::Names => Ok(Answer::Names(names(alloc, stream)?)),
-        Ask::Kill => Ok(Answer::Kill(kill(alloc, stream)?)),
-        Ask::Stop(name) => Ok(Answer::Stop(stop(alloc, stream, name)?)),
-        Ask::Dump => Ok(Answer::Dump(dump(alloc, stream)?)),
+        Ask::Names => Ok(ClientAnswer::Names(names(alloc, stream)?)),
+        Ask::Kill => Ok(ClientAnswer::Kill(kill(alloc, stream)?)),
+        Ask::Stop(name) => Ok(ClientAnswer::Stop(stop(alloc, stream, name)?)),
+        Ask::Dump => Ok(ClientAnswer::Dump(dump(alloc, stream)?)),
     }
 }
 
-/// The first line of a list, of the port mapper on this port.
+/// Returns the first line of both lists.
 fn head_line(alloc: Global, port: u32) -> Result<Vec<u8>, NoMemory>
     ensures { IfOk result (λ v. v.items ≡ head_line port) }
 {
@@ -97,7 +94,6 @@ fn head_line(alloc: Global, port: u32) -> Result<Vec<u8>, NoMemory>
     Ok(text)
 }
 
-/// The text that tells of the registered names.
 fn names_text(alloc: Global, port: u32, lines: &[Line]) -> Result<Vec<u8>, NoMemory>
     ensures { IfOk result (λ v. v.items ≡ names_text port lines.now) }
 {
@@ -108,7 +104,6 @@ fn names_text(alloc: Global, port: u32, lines: &[Line]) -> Result<Vec<u8>, NoMem
     Ok(text)
 }
 
-/// The text that tells of all that the port mapper knows.
 fn dump_text(alloc: Global, port: u32, lines: &[u8]) -> Result<Vec<u8>, NoMemory>
     ensures { IfOk result (λ v. v.items ≡ dump_text port lines.now) }
 {
@@ -117,7 +112,6 @@ fn dump_text(alloc: Global, port: u32, lines: &[u8]) -> Result<Vec<u8>, NoMemory
     Ok(text)
 }
 
-/// The page of this text.
 fn made_page(alloc: Global, text: &[u8], status: u8) -> Result<Page, Failure>
     ensures { IsPage (Ok (text.now, status)) result }
 {
@@ -125,46 +119,30 @@ fn made_page(alloc: Global, text: &[u8], status: u8) -> Result<Page, Failure>
     Ok(Page { text, status })
 }
 
-fn kill_page(alloc: Global, said: Kill) -> Result<Page, Failure>
-    ensures { IsPage (kill_text said) result }
-{
-    match said {
-        Kill::Killed => made_page(alloc, b"Killed\n", DONE),
-        Kill::NotAllowed => Err(Failure::KillRefused),
-    }
-}
-
-fn stop_page(alloc: Global, said: Stop) -> Result<Page, Failure>
-    ensures { IsPage (stop_text said) result }
-{
-    match said {
-        Stop::Stopped => made_page(alloc, b"STOPPED\n", DONE),
-        Stop::NoExist => made_page(alloc, b"NOEXIST\n", NOT_DONE),
-        Stop::NotAllowed => Err(Failure::StopRefused),
-    }
-}
-
-/// What is printed of an answer, made whole.
-fn page_of(alloc: Global, answer: &Answer) -> Result<Page, Failure>
+/// Returns the complete page of an answer.
+fn page_of(alloc: Global, answer: &ClientAnswer) -> Result<Page, Failure>
     ensures { IsPage (answer_text answer.now) result }
 {
     match answer {
-        Answer::Names((port, lines)) => Ok(Page {
+        ClientAnswer::Names((port, lines)) => Ok(Page {
             text: shown(alloc, &names_text(alloc, *port, lines)?)?,
             status: DONE,
         }),
-        Answer::Dump((port, lines)) => Ok(Page {
+        ClientAnswer::Dump((port, lines)) => Ok(Page {
             text: shown(alloc, &dump_text(alloc, *port, lines)?)?,
             status: DONE,
         }),
-        Answer::Kill(said) => kill_page(alloc, *said),
-        Answer::Stop(said) => stop_page(alloc, *said),
+        ClientAnswer::Kill(Kill::Killed) => made_page(alloc, b"Killed\n", DONE),
+        ClientAnswer::Kill(Kill::NotAllowed) => Err(Failure::KillRefused),
+        ClientAnswer::Stop(Stop::Stopped) => made_page(alloc, b"STOPPED\n", DONE),
+        ClientAnswer::Stop(Stop::NoExist) => made_page(alloc, b"NOEXIST\n", NOT_DONE),
+        ClientAnswer::Stop(Stop::NotAllowed) => Err(Failure::StopRefused),
     }
 }
 
-/// Asks the port mapper for this, and makes what is printed of the answer.
+/// Sends the request of an action and returns the page of its answer.
 fn learn<S: Input + Output>(alloc: Global, asked: &Ask, stream: &mut S) -> Result<Page, Failure>
-    ensures { (ended : Result Answer ClientFault)
+    ensures { (ended : Result ClientAnswer ClientFault)
         × (let seen = view S.left S.held S.pulls S.puts S.broken in
         Asks asked.now (seen stream.old) (seen stream.new) ended)
         × IsPageOf ended result }
@@ -173,7 +151,7 @@ fn learn<S: Input + Output>(alloc: Global, asked: &Ask, stream: &mut S) -> Resul
     page_of(alloc, &answer)
 }
 
-/// Prints a text, and gives the status that was reached, or that of a device that failed.
+/// Prints a text. Returns `status`, or that of a failed device.
 pub fn print<W: Write, E: Write>(
     output: &mut Writing<W>,
     errors: &mut Writing<E>,
@@ -191,13 +169,15 @@ pub fn print<W: Write, E: Write>(
     }
 }
 
-/// Asks the port mapper at the other end of `stream` for this, and writes to `output` what it answered: the registered
-/// names for `Names`, all that it knows for `Dump`, a word for `Kill` and `Stop`. The text is made whole before its
-/// first byte is written. Status 0 where the port mapper did as it was asked. Status 1 where it did not: `output` gets
-/// `NOEXIST` where a name to be forgotten was not active, else `errors` gets one line, that it is not allowed, or that
-/// the answer can't be had or is none. Status 3 where the output failed or memory ran out: `errors` then gets one line.
+/// Sends `asked` to the port mapper at the other end of `stream`, and writes its answer to `output`: the registered
+/// names for `Names`, all known names for `Dump`, a word for `Kill` and `Stop`. The text is complete before its first
+/// byte is written. Returns:
+/// - 0 if the port mapper did what was asked.
+/// - 1 if it did not. `output` gets `NOEXIST` if the name to stop is not active. Otherwise `errors` gets one line: the
+///   request is not allowed, or there is no valid answer.
+/// - 3 if the output failed or memory ran out. `errors` then gets one line.
 ///
-/// The output is flushed at the end, as by `do_once`.
+/// The output is flushed at the end, as in `do_once`.
 pub fn do_client<S: Input + Output, W: Write, E: Write>(
     alloc: Global,
     asked: &Ask,
@@ -206,8 +186,8 @@ pub fn do_client<S: Input + Output, W: Write, E: Write>(
     errors: &mut Writing<E>,
 ) -> u8
     ensures silent { result ≡ DONE → errors.new ≡ errors.old }
-    // What was asked and answered, what is to be told of it, and that it is told so.
-    ensures printed { (ended : Result Answer ClientFault) × (printed : Result Page Failure)
+    // The request with its answer, the page of the answer, and how that page is printed.
+    ensures printed { (ended : Result ClientAnswer ClientFault) × (printed : Result Page Failure)
         × (let seen = view S.left S.held S.pulls S.puts S.broken in
         Asks asked.now (seen stream.old) (seen stream.new) ended)
         × IsPageOf ended printed

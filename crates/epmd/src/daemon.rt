@@ -1,9 +1,9 @@
-//! The daemon: what it is set to, and how its end is told.
+//! The daemon: its settings, and what is printed when it ends.
 ghost use Rattle.std.specs.Prelude.{◌≡◌, false, IfOk, IfSome, None};
 ghost use Rattle.portmap_link.specs.Adapters.{writing_inner};
-ghost use Rattle.epmd.specs.Daemon.{SetsAs, beside, first_by, status_of_end, served_line, served_lines, unheard_beside};
-ghost use Rattle.epmd.specs.Daemon.{unheard_line, text_of_end};
-ghost use Rattle.epmd.specs.Errors.{IsWritten, IsSpent, IsSaid};
+ghost use Rattle.epmd.specs.Daemon.{SetsAs, beside, first_by, status_of_end, served_line, served_lines, without_ipv6_line};
+ghost use Rattle.epmd.specs.Daemon.{cannot_listen_line, text_of_end};
+ghost use Rattle.epmd.specs.Errors.{IsWritten, IsSpent, IsPrinted};
 
 use crate::actions::{CONNECTIONS_MOST, DONE, FAILED, Failure, NAMES_MOST, NOT_DONE, fail};
 use crate::errors::say_all;
@@ -20,15 +20,15 @@ const WORKER: &[u8] = b"epmd: worker ";
 
 const SERVED: &[u8] = b" served ";
 
-const UNHEARD: &[u8] = b"epmd: cannot listen on ";
+const CANNOT_LISTEN: &[u8] = b"epmd: cannot listen on ";
 
-/// Every IPv6 address of the host, and the host itself, in front of a port.
+/// Every IPv6 address of the host, as it is printed before a port.
 const EVERYWHERE: &[u8] = b"[::]:";
 
 const ITSELF: &[u8] = b"[::1]:";
 
-/// Where creations start, by the time since 1970: its nanoseconds modulo 2^32, which two starts most likely don't
-/// share. 0 where the time is not known.
+/// Returns where creations start: the nanoseconds since 1970 modulo 2^32, which two starts are unlikely to share.
+/// Returns 0 if the time is unknown.
 fn first_by(now: Option<Duration>) -> u32
     ensures { result ≡ first_by now }
 {
@@ -38,7 +38,7 @@ fn first_by(now: Option<Duration>) -> u32
     }
 }
 
-/// What the daemon of this command is set to, at this time since 1970.
+/// Returns the settings of a command at this time since 1970.
 pub fn settings(
     alloc: Global,
     command: &Command,
@@ -60,9 +60,9 @@ pub fn settings(
     })
 }
 
-/// Tells how many acts of the port mapper this worker made.
+/// Prints the number of acts of one worker.
 fn report_worker<E: Write>(errors: &mut Writing<E>, worker: usize, count: u64) -> bool
-    ensures taken { IsWritten (served_line worker count) result (E.contents (writing_inner errors.old))
+    ensures written { IsWritten (served_line worker count) result (E.contents (writing_inner errors.old))
         (E.contents (writing_inner errors.new)) }
     ensures spent { result ≡ false → IsSpent errors.new }
 {
@@ -78,9 +78,8 @@ fn report_worker<E: Write>(errors: &mut Writing<E>, worker: usize, count: u64) -
     )
 }
 
-/// Tells how many acts of the port mapper each worker made.
 fn report_served<E: Write>(errors: &mut Writing<E>, served: &[u64])
-    ensures { IsSaid E.contents (served_lines 1 served.now) errors.old errors.new }
+    ensures { IsPrinted E.contents (served_lines 1 served.now) errors.old errors.new }
 {
     for (index, count) in served.iter().enumerate() {
         if !report_worker(errors, index + 1, *count) {
@@ -89,15 +88,14 @@ fn report_served<E: Write>(errors: &mut Writing<E>, served: &[u64])
     }
 }
 
-/// Tells that the daemon can't listen at this address.
-fn report_unheard<E: Write>(errors: &mut Writing<E>, address: [u8; 4], port: u16)
-    ensures { IsSaid E.contents (unheard_line address port) errors.old errors.new }
+fn report_cannot_listen<E: Write>(errors: &mut Writing<E>, address: [u8; 4], port: u16)
+    ensures { IsPrinted E.contents (cannot_listen_line address port) errors.old errors.new }
 {
     let [a, b, c, d] = address;
     let _ = say_all(
         errors,
         &[
-            UNHEARD,
+            CANNOT_LISTEN,
             Buffer::new().format(a).as_bytes(),
             b".",
             Buffer::new().format(b).as_bytes(),
@@ -112,26 +110,30 @@ fn report_unheard<E: Write>(errors: &mut Writing<E>, address: [u8; 4], port: u16
     );
 }
 
-/// The IPv6 address beside this one, in front of a port.
+/// Returns the IPv6 address that goes with an IPv4 address, as it is printed before a port.
 fn beside(address: [u8; 4]) -> &'static [u8]
     ensures { result.now ≡ beside address }
 {
     if address[0] == 0 { EVERYWHERE } else { ITSELF }
 }
 
-/// Tells that the daemon can't listen at the IPv6 address beside this one.
+/// Prints that the daemon cannot listen at the IPv6 address that goes with `address`.
 fn print_without_ipv6<E: Write>(errors: &mut Writing<E>, address: [u8; 4], port: u16)
-    ensures { IsSaid E.contents (unheard_beside address port) errors.old errors.new }
+    ensures { IsPrinted E.contents (without_ipv6_line address port) errors.old errors.new }
 {
     let mut digits = Buffer::new();
     let port = digits.format(port).as_bytes();
-    let _ = say_all(errors, &[UNHEARD, beside(address), port, b"\n"]);
+    let _ = say_all(errors, &[CANNOT_LISTEN, beside(address), port, b"\n"]);
 }
 
-/// Tells how the daemon of this command has ended, and gives the status that does: `DONE` where the port mapper was
-/// told to end, `NOT_DONE` where it can't listen, `FAILED` where readiness of sockets can't be had or memory ran out,
-/// or where it was told to end and its recording failed, which the daemon has told itself. With debug output a daemon
-/// that was told to end tells how many acts each worker made, by rising number from 1.
+/// Prints how the daemon ended. Returns:
+/// - `DONE` if it was stopped and its recording, if any, is complete.
+/// - `NOT_DONE` if it cannot listen.
+/// - `FAILED` if it was stopped and its recording failed, if the system cannot report the readiness of sockets, or if
+///   memory ran out. The daemon itself reports a failed recording.
+///
+/// With debug output, a daemon that was stopped prints the number of acts of each worker, in the order of their
+/// numbers.
 pub fn end_daemon<E: Write>(
     errors: &mut Writing<E>,
     command: &Command,
@@ -139,7 +141,7 @@ pub fn end_daemon<E: Write>(
 ) -> u8
     ensures status { result ≡ status_of_end ended.now }
     ensures silent { IfOk ended.now (λ _. command.now.debug ≡ false → errors.new ≡ errors.old) }
-    ensures line { IfSome (text_of_end command.now ended.now) (λ text. IsSaid E.contents text errors.old errors.new) }
+    ensures line { IfSome (text_of_end command.now ended.now) (λ text. IsPrinted E.contents text errors.old errors.new) }
     ensures none { text_of_end command.now ended.now ≡ None → errors.new ≡ errors.old }
 {
     match ended {
@@ -151,7 +153,7 @@ pub fn end_daemon<E: Write>(
         }
         Err(RunFault::Listen(index)) => {
             if let Some(address) = command.addresses.get(*index) {
-                report_unheard(errors, *address, command.port);
+                report_cannot_listen(errors, *address, command.port);
             }
             NOT_DONE
         }

@@ -1,6 +1,6 @@
-//! Sockets that a service manager hands over, as sd_listen_fds(3) has them, and what is told of them.
+//! Sockets that a service manager passes, as described in sd_listen_fds(3), and what is printed of them.
 ghost use Rattle.std.specs.Prelude.{◌≡◌, ◌≢◌, ◌⊎◌, [], true, false};
-ghost use Rattle.epmd.specs.Errors.{IsSaid};
+ghost use Rattle.epmd.specs.Errors.{IsPrinted};
 ghost use Rattle.epmd.specs.Handing.{line_of_handed, status_of_handed};
 ghost use Rattle.epmd.specs.declared.handing.TheConstants.{WITHOUT_EFFECT};
 
@@ -12,7 +12,7 @@ use portmap_daemon::HandedFault;
 use portmap_link::Writing;
 use std::io::Write;
 
-/// The first descriptor that is handed over.
+/// The first passed descriptor.
 pub const FIRST: i32 = 3;
 
 const DESCRIPTOR: &[u8] = b"epmd: descriptor ";
@@ -21,8 +21,8 @@ const NOT_LISTENING: &[u8] = b" is no listening socket\n";
 
 const WITHOUT_EFFECT: &[u8] = b"epmd: sockets were handed over, so port and addresses are theirs\n";
 
-/// How many sockets are handed over to the process of this id, by what the environment says: for which process, and how
-/// many.
+/// Returns how many sockets are passed to the process with the id `own`. The environment gives the id of a process and
+/// a count.
 pub fn handed_count(process: Option<&str>, count: Option<&str>, own: u32) -> u32 {
     let is_own = process.is_some_and(|process| process.parse::<u32>() == Ok(own));
     match count {
@@ -31,10 +31,10 @@ pub fn handed_count(process: Option<&str>, count: Option<&str>, own: u32) -> u32
     }
 }
 
-/// Tells that what was handed over can't be served, and gives the status that does.
+/// Reports why passed sockets cannot be served. Returns the status.
 pub fn refuse_handed<E: Write>(errors: &mut Writing<E>, fault: HandedFault) -> u8
     ensures status { result ≡ status_of_handed fault }
-    ensures line { IsSaid E.contents (line_of_handed fault) errors.old errors.new }
+    ensures line { IsPrinted E.contents (line_of_handed fault) errors.old errors.new }
 {
     match fault {
         HandedFault::NotListening(number) => {
@@ -47,10 +47,10 @@ pub fn refuse_handed<E: Write>(errors: &mut Writing<E>, fault: HandedFault) -> u
     }
 }
 
-/// Tells that port and addresses are without effect, where this command has one and there are sockets in their place.
+/// Reports that port and addresses have no effect, if the command has any and sockets were passed.
 pub fn report_without_effect<T, E: Write>(errors: &mut Writing<E>, command: &Command, sockets: &[T])
-    ensures said { command.now.says_where ≡ true → sockets.now ≢ []
-        → IsSaid E.contents WITHOUT_EFFECT.now errors.old errors.new }
+    ensures printed { command.now.says_where ≡ true → sockets.now ≢ []
+        → IsPrinted E.contents WITHOUT_EFFECT.now errors.old errors.new }
     ensures silent { (command.now.says_where ≡ false) ⊎ (sockets.now ≡ []) → errors.new ≡ errors.old }
 {
     if command.says_where && !sockets.is_empty() {

@@ -5,9 +5,9 @@ ghost use Rattle.portmap_wire.specs.declared.request.Request.TheVariants as requ
 ghost use Rattle.portmap_client.specs.Answer.{SaysCreation, SaysFound};
 ghost use Rattle.portmap_client.specs.Exchange.{Calls, StreamView, view};
 ghost use Rattle.portmap_client.specs.declared.fault.ClientFault.{ClientFault};
-ghost use Rattle.epmd.specs.Errors.{IsSaid};
-ghost use Rattle.epmd.specs.Health.{Ends, Grows, Made, Makes, TellsHealth, failing, health_node, is_granted};
-ghost use Rattle.epmd.specs.Health.{line_of_health, look_up_told, plan, registration_told, status_of_health, text_of};
+ghost use Rattle.epmd.specs.Errors.{IsPrinted};
+ghost use Rattle.epmd.specs.Health.{Ends, Grows, Made, Makes, PrintsHealth, failing, health_node, is_granted};
+ghost use Rattle.epmd.specs.Health.{line_of_health, look_up_outcome, plan, registration_outcome, status_of_health, text_of};
 ghost use Rattle.epmd.specs.declared.health.Step.{Step};
 
 use crate::actions::{DONE, Failure, NOT_DONE, fail};
@@ -19,7 +19,7 @@ use portmap_wire::{Name, Reg};
 use std::alloc::Global;
 use std::io::Write;
 
-/// How often a registration is made, and a closed name looked up, at most.
+/// The limit on tries of a registration, and of a look-up of a closed name.
 const TRIES: u32 = 20;
 
 /// Milliseconds between two tries.
@@ -33,7 +33,7 @@ pub enum Step {
     Pause,
 }
 
-/// What came of a step: whether the node is registered, or found, or why there is no answer.
+/// The outcome of a step: whether the node is registered or found, or why there is no answer.
 pub type Outcome = Result<bool, Failure>;
 
 pub type Made = (Step, Outcome);
@@ -55,7 +55,7 @@ pub fn register<S: Input + Output + Drop>(
     ensures { (after : StreamView) × (ended : Result ℕ ClientFault)
         × (let seen = view S.left S.held S.pulls S.puts S.broken in
         Calls (request.Alive node.now) SaysCreation (seen stream) after ended)
-        × (is_granted result ≡ registration_told ended) }
+        × (is_granted result ≡ registration_outcome ended) }
 {
     match Registration::make(alloc, stream, node) {
         Ok(registration) => Ok(Some(registration)),
@@ -64,12 +64,12 @@ pub fn register<S: Input + Output + Drop>(
     }
 }
 
-/// Returns whether the port mapper finds the node, as it was registered.
+/// Returns whether the port mapper finds this node with all its data.
 pub fn look_up<S: Input + Output>(alloc: Global, stream: &mut S, node: &Reg) -> Outcome
     ensures { (ended : Result (Option Node) ClientFault)
         × (let seen = view S.left S.held S.pulls S.puts S.broken in
         Calls (request.Port node.now.name) SaysFound (seen stream.old) (seen stream.new) ended)
-        × (result ≡ look_up_told node.now ended) }
+        × (result ≡ look_up_outcome node.now ended) }
 {
     match lookup(alloc, stream, &node.name)? {
         Some(found) => Ok(found == *node),
@@ -77,16 +77,16 @@ pub fn look_up<S: Input + Output>(alloc: Global, stream: &mut S, node: &Reg) -> 
     }
 }
 
-/// A port mapper at one address. Each request has a connection of its own; `Close` is that of the registration.
+/// A port mapper at one address. Each request uses a new connection. `Close` closes that of the registration.
 pub trait Checked {
     ghost steps: { Self → List Made };
 
     fn make(&mut self, step: Step) -> Outcome
-        ensures noted { Self.steps self.new ≡ Self.steps self.old ++ (step, result) ∷ [] }
+        ensures recorded { Self.steps self.new ≡ Self.steps self.old ++ (step, result) ∷ [] }
         ensures alone { (step ≡ Step.Close) ⊎ (step ≡ Step.Pause) → result ≡ Ok true };
 }
 
-/// Makes a step until it has the wanted answer, at most so often, with a pause between two tries.
+/// Makes a step until it has the wanted answer, at most `most` times, with a pause between two tries.
 fn pass<P: Checked>(peer: &mut P, step: Step, wanted: bool, most: u32) -> Result<(), Made>
     requires { 0 < most }
     ensures { Grows (Makes (step, wanted, most) result) (P.steps peer.old) (P.steps peer.new) }
@@ -115,7 +115,7 @@ fn check<P: Checked>(peer: &mut P) -> Result<(), Made>
     pass(peer, Step::LookUp, false, TRIES)
 }
 
-/// Returns the front of the line of a check whose last step this is.
+/// Returns the first part of the line of a check that ends with this step.
 fn text_of(step: Step, outcome: Outcome) -> &'static [u8]
     ensures { result.now ≡ text_of step outcome }
 {
@@ -128,10 +128,10 @@ fn text_of(step: Step, outcome: Outcome) -> &'static [u8]
     }
 }
 
-/// Prints why the port mapper at an address fails the check, by its last step. Returns the status.
+/// Prints why the check of an address fails, by its last step. Returns the status.
 fn report<E: Write>(errors: &mut Writing<E>, last: Made, address: &'static [u8], port: u16) -> u8
     ensures status { result ≡ status_of_health last.1 }
-    ensures line { IsSaid E.contents (line_of_health last address.now port) errors.old errors.new }
+    ensures line { IsPrinted E.contents (line_of_health last address.now port) errors.old errors.new }
 {
     let (step, outcome) = last;
     if let Err(Failure::Memory) = outcome {
@@ -143,9 +143,8 @@ fn report<E: Write>(errors: &mut Writing<E>, last: Made, address: &'static [u8],
     NOT_DONE
 }
 
-/// Checks the port mapper of this host at one port: `four` is that at 127.0.0.1, and `six` that at ::1, if the host has
-/// that address. Returns status 0 if they pass. At the first fault it prints one line to `errors`, and returns status
-/// 1, or 3 if memory ran out.
+/// Checks the port mapper of this host at one port: `four` at 127.0.0.1 and, if the host has ::1, `six` at ::1. Returns
+/// 0 if they pass. At the first fault it prints one line to `errors`, and returns 1, or 3 if memory ran out.
 pub fn do_health<P: Checked, E: Write>(
     four: &mut P,
     six: &mut P,
@@ -157,7 +156,7 @@ pub fn do_health<P: Checked, E: Write>(
     ensures printed { (first second : Result Unit Made)
         × Grows (Ends plan first) (P.steps four.old) (P.steps four.new)
         × IfOk first (λ _. has_ipv6 ≡ true → Grows (Ends plan second) (P.steps six.old) (P.steps six.new))
-        × TellsHealth (failing first has_ipv6 second) port result E.contents errors.old errors.new }
+        × PrintsHealth (failing first has_ipv6 second) port result E.contents errors.old errors.new }
 {
     if let Err(last) = check(four) {
         return report(errors, last, b"127.0.0.1:", port);

@@ -1,4 +1,4 @@
-//! What one word of the command says, with its value.
+//! Reads one word of the command, with its value.
 ghost use Rattle.std.specs.Prelude.{◌≡◌, ◌∷◌, ◌<◌, ◌≤◌, ◌^◌, ℕ, List, true, false, length, map, string_bytes, IfOk};
 ghost use Rattle.std.specs.Prelude.{IfErr, IfSome};
 ghost use Rattle.portmap_wire.specs.Name.{IsName};
@@ -15,11 +15,10 @@ use portmap_record::Text;
 use portmap_wire::{Name, NameFault};
 use std::alloc::Global;
 
-/// What one word says, with the value behind it if it has one.
+/// An item: one word, with its value if it takes one.
 #[derive(Drop)]
 pub enum Word {
     Port(u16),
-    /// What to listen on.
     Addresses(Vec<[u8; 4]>),
     /// In seconds.
     Timeout(u32),
@@ -34,18 +33,18 @@ pub enum Word {
     Act(Action),
 }
 
-/// What a word that a value follows is for.
+/// The kind of a word that takes a value.
 #[derive(Clone, Copy)]
 enum Use {
     Setting,
     Action,
 }
 
-/// What this word says by itself.
+/// Returns the item of a word that takes no value.
 fn read_plain(word: &str) -> Option<Word>
-    ensures { IfSome result (λ said. (rest : List (List ℕ)) → Begins said (word.now ∷ rest) rest) }
+    ensures { IfSome result (λ item. (rest : List (List ℕ)) → Begins item (word.now ∷ rest) rest) }
 {
-    let said = match word {
+    let item = match word {
         "-relaxed_command_check" => Word::Relaxed,
         "-d" | "-debug" => Word::Debug,
         "-daemon" => Word::Daemon,
@@ -56,10 +55,10 @@ fn read_plain(word: &str) -> Option<Word>
         "-once" => Word::Act(Action::Once),
         _ => return None,
     };
-    Some(said)
+    Some(item)
 }
 
-/// What this word is for, if a value follows it.
+/// Returns the kind of a word, or `None` if it takes no value.
 fn use_of(word: &str) -> Option<Use> {
     match word {
         "-port" | "-address" | "-packet_timeout" | "-workers" | "-record" | "-figures" => {
@@ -70,7 +69,7 @@ fn use_of(word: &str) -> Option<Use> {
     }
 }
 
-/// The name that this value is.
+/// Returns the value as a name, or `None` if it is not a name.
 fn read_name(alloc: Global, value: &str) -> Result<Option<Name>, NoMemory>
     ensures { IfOk result (λ read. IfSome read (λ name. (name ≡ value.now) × IsName value.now)) }
 {
@@ -81,11 +80,11 @@ fn read_name(alloc: Global, value: &str) -> Result<Option<Name>, NoMemory>
     }
 }
 
-/// What this word sets with this value; none where it takes no such value.
+/// Returns the item of a setting, or `None` if the word does not take this value.
 fn read_setting(alloc: Global, word: &str, value: &str) -> Result<Option<Word>, NoMemory>
     ensures spelled { IfOk result (λ read. IfSome read
-        (λ said. (rest : List (List ℕ)) → Begins said (word.now ∷ value.now ∷ rest) rest)) }
-    ensures setting { IfOk result (λ read. IfSome read (λ said. is_action said ≡ false)) }
+        (λ item. (rest : List (List ℕ)) → Begins item (word.now ∷ value.now ∷ rest) rest)) }
+    ensures setting { IfOk result (λ read. IfSome read (λ item. is_action item ≡ false)) }
 {
     let text = value.as_bytes();
     Ok(match word {
@@ -101,7 +100,7 @@ fn read_setting(alloc: Global, word: &str, value: &str) -> Result<Option<Word>, 
     })
 }
 
-/// What this word asks for with this value; none where it takes no such value.
+/// Returns the action of a word, or `None` if the word does not take this value.
 fn read_action(alloc: Global, word: &str, value: &str) -> Result<Option<Action>, NoMemory>
     ensures { IfOk result (λ read. IfSome read
         (λ action. (rest : List (List ℕ)) → Begins (Word.Act action) (word.now ∷ value.now ∷ rest) rest)) }
@@ -117,8 +116,8 @@ fn read_action(alloc: Global, word: &str, value: &str) -> Result<Option<Action>,
     Ok(Some(Action::Inspect(text, String::from_str(alloc, value)?)))
 }
 
-/// What is said by this word and, where it takes a value, by the one behind it; and the words that are left. `index` is
-/// the first word's number, and a second action is refused.
+/// Reads one item. Returns it with the words that follow it. The number of the first word is `index`. A second action
+/// is refused.
 pub fn read_word<'a>(
     alloc: Global,
     first: &String,
@@ -134,11 +133,11 @@ pub fn read_word<'a>(
     ensures one { IfOk result (λ read. is_action read.0 ≡ true → has_action ≡ false) }
     ensures fault { IfErr result (λ fault. IsFaultAt index (length behind.now) has_action fault) }
 {
-    if let Some(said) = read_plain(first.as_str()) {
-        if has_action && matches!(said, Word::Act(_)) {
+    if let Some(item) = read_plain(first.as_str()) {
+        if has_action && matches!(item, Word::Act(_)) {
             return Err(WordFault::TwoCommands(index));
         }
-        return Ok((said, behind));
+        return Ok((item, behind));
     }
     let Some(for_what) = use_of(first.as_str()) else {
         return Err(WordFault::Unknown(index));
@@ -149,14 +148,14 @@ pub fn read_word<'a>(
     let [value, rest @ ..] = behind else {
         return Err(WordFault::MissingValue(index));
     };
-    let said = match for_what {
+    let item = match for_what {
         Use::Setting => read_setting(alloc, first.as_str(), value.as_str())?,
         Use::Action => read_action(alloc, first.as_str(), value.as_str())?.map(|action| Word::Act(
             action,
         )),
     };
-    match said {
-        Some(said) => Ok((said, rest)),
+    match item {
+        Some(item) => Ok((item, rest)),
         None => Err(WordFault::BadValue(index + 1)),
     }
 }

@@ -2,7 +2,7 @@
 ghost use Rattle.std.specs.Prelude.{◌≡◌, ◌≤◌, ◌<◌, ◌^◌, ℕ, IfSome, None};
 ghost use Rattle.epmd.specs.Numbers.{WritesNumber, WritesWithin, IsWithin};
 
-/// The number that this text writes in one to `most` digits, of which zeros may lead.
+/// Returns the number that a text writes in 1 to `most` digits. Zeros may lead.
 pub fn read_digits(text: &[u8], most: usize) -> Option<u32>
     requires { most ≤ 9 }
     ensures found { IfSome result (λ number. WritesNumber most text.now number) }
@@ -21,7 +21,7 @@ pub fn read_digits(text: &[u8], most: usize) -> Option<u32>
     Some(value)
 }
 
-/// The number that this text writes in one to nine digits, if it is within these bounds.
+/// Returns the number that a text writes in 1 to 9 digits, if it is within these bounds.
 pub fn read_within(text: &[u8], least: u32, greatest: u32) -> Option<u32>
     ensures found { IfSome result (λ number. WritesWithin least greatest text.now number) }
     ensures none { result ≡ None → (number : ℕ) → WritesWithin least greatest text.now number → ⊥ }
@@ -30,7 +30,7 @@ pub fn read_within(text: &[u8], least: u32, greatest: u32) -> Option<u32>
     (number >= least && number <= greatest).then_some(number)
 }
 
-/// The number that this text writes in one to three digits, if it fits a byte.
+/// Returns the number that a text writes in 1 to 3 digits, if it fits a byte.
 pub fn read_byte(text: &[u8]) -> Option<u8>
     ensures found { IfSome result (λ number. WritesNumber 3 text.now number × (number < 2 ^ 8)) }
     ensures none { result ≡ None → (number : ℕ) → WritesNumber 3 text.now number → number < 2 ^ 8 → ⊥ }

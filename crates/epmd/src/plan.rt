@@ -1,4 +1,4 @@
-//! What words have said so far, and the command that comes of it.
+//! The values that words have given so far, and the command that they make.
 ghost use Rattle.std.specs.Prelude.{◌≡◌, [], ◌∷◌, None, is_some, option_map, unwrap_or, string_bytes, ℕ, IfOk, IfErr};
 ghost use Rattle.epmd.specs.Addresses.{anywhere};
 ghost use Rattle.epmd.specs.Meaning.{Holds, Adds, Completes, NamesWord, IsPort};
@@ -11,13 +11,13 @@ use crate::words::{Action, Command, Env, WordFault};
 use portmap_link::NoMemory;
 use std::alloc::Global;
 
-/// For how many seconds a connection may move no byte, where no word says so.
+/// The timeout in seconds, unless a word gives another one.
 const TIMEOUT: u32 = 60;
 
-/// How many workers serve, where no word says so.
+/// The number of workers, unless a word gives another one.
 const WORKERS: u32 = 4;
 
-/// What words have said so far.
+/// The values that words have given so far.
 #[derive(Drop)]
 pub struct Plan {
     pub action: Option<Action>,
@@ -31,7 +31,7 @@ pub struct Plan {
     pub figures: Option<String>,
 }
 
-/// The port that this text of the environment says, else the usual one.
+/// Returns the port of the environment, or `PORT` if the variable is not set.
 fn usual_port(text: &Option<String>) -> Result<u16, WordFault>
     ensures found { IfOk result (λ port. IsPort None (option_map string_bytes text.now) port) }
     ensures none { IfErr result (λ fault. (fault ≡ WordFault.BadEnvPort)
@@ -46,7 +46,6 @@ fn usual_port(text: &Option<String>) -> Result<u16, WordFault>
     }
 }
 
-/// These addresses, else the usual ones.
 fn usual_addresses(alloc: Global, addresses: Option<Vec<[u8; 4]>>) -> Result<Vec<[u8; 4]>, NoMemory>
     ensures { IfOk result (λ found. found.items
         ≡ unwrap_or (option_map (λ those. those.items) addresses) (anywhere ∷ [])) }
@@ -58,7 +57,6 @@ fn usual_addresses(alloc: Global, addresses: Option<Vec<[u8; 4]>>) -> Result<Vec
 }
 
 impl Plan {
-    /// Nothing was said.
     pub fn new() -> Plan
         ensures { Holds [] result }
     {
@@ -75,18 +73,17 @@ impl Plan {
         }
     }
 
-    /// Whether an action was asked for.
     pub fn has_action(&self) -> bool
         ensures { result ≡ is_some self.now.action }
     {
         self.action.is_some()
     }
 
-    /// One word more. What it sets is set anew.
-    pub fn add(&mut self, said: Word)
-        ensures { Adds said self.old self.new }
+    /// Adds an item. A later item replaces an earlier item of its kind.
+    pub fn add(&mut self, item: Word)
+        ensures { Adds item self.old self.new }
     {
-        match said {
+        match item {
             Word::Port(number) => self.port = Some(number),
             Word::Addresses(addresses) => self.addresses = Some(addresses),
             Word::Timeout(seconds) => self.timeout = Some(seconds),
@@ -100,7 +97,7 @@ impl Plan {
         }
     }
 
-    /// The command, with what is usual where nothing was said.
+    /// Returns the command. A value that no word gave has its default.
     pub fn complete(self, alloc: Global, env: &Env) -> Result<Command, WordFault>
         ensures made { IfOk result (λ command. Completes self env.now command) }
         ensures fault { (count : ℕ) → IfErr result (λ fault. NamesWord count fault) }

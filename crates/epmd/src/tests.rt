@@ -1,5 +1,5 @@
 //! What no clause says of the program: its words, settings, texts and statuses, and what it takes from the system. The
-//! tests of the crates below stand in crates of their own.
+//! tests of the libraries are crates of their own.
 mod actions;
 mod auditing;
 mod commands;
@@ -12,8 +12,8 @@ mod words;
 
 use std::alloc::{AllocError, Global};
 
-/// The byte that one of a table stands for: `~` for a blank, `|` for an end of line, and `?` for 0xFF, which is in no
-/// UTF-8.
+/// Returns the byte that a byte of a table means: `~` is a blank, `|` is an end of line, and `?` is 0xFF, which is in
+/// no UTF-8.
 fn meant(byte: u8) -> u8 {
     match byte {
         b'~' => b' ',
@@ -23,7 +23,6 @@ fn meant(byte: u8) -> u8 {
     }
 }
 
-/// The bytes that a text of a table stands for.
 fn bytes_of(alloc: Global, text: &str) -> Result<Vec<u8>, AllocError> {
     let mut bytes = Vec::new(alloc);
     for byte in text.bytes() {
@@ -32,8 +31,8 @@ fn bytes_of(alloc: Global, text: &str) -> Result<Vec<u8>, AllocError> {
     Ok(bytes)
 }
 
-/// How an action ends: the status, behind `out` what is written and behind `err` what is told of errors, where there is
-/// any. `|` is an end of line, and `\u{a6}` a `|`.
+/// Returns how an action ends: the status, then `out` with the output and `err` with the errors, unless they are empty.
+/// In it `|` is an end of line, and `\u{a6}` is a `|`.
 fn ending(alloc: Global, status: u8, output: &[u8], errors: &[u8]) -> Result<String, AllocError> {
     let mut printed = format!(in alloc; "{status}")?;
     for (word, bytes) in [("out", output), ("err", errors)] {

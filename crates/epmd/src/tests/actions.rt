@@ -1,4 +1,4 @@
-//! Whole actions of the program, over memory.
+//! Complete actions of the program, over memory.
 
 use super::{bytes_of, ending};
 use crate::actions::{Failure, do_file, do_once, fail};
@@ -43,7 +43,6 @@ fn each_failure_has_a_status_and_a_line(rt: HostRuntime) -> Result<(), Fail> {
     all_hold(&rt, FAILURES)
 }
 
-/// Bytes that have a name.
 const NAMED: &[(&str, Bytes)] = &[
     ("NAMES", NAMES),
     ("KILL", KILL),
@@ -65,7 +64,7 @@ const NAMED: &[(&str, Bytes)] = &[
     ("WRONG_LOOK_UP_LINES", WRONG_LOOK_UP_LINES),
 ];
 
-/// The name of these bytes, if they have one, else themselves.
+/// Returns the name of these bytes, or the bytes if they have no name.
 fn name_of(bytes: &[u8]) -> &[u8] {
     for (name, named) in NAMED {
         if *named == bytes {
@@ -75,8 +74,8 @@ fn name_of(bytes: &[u8]) -> &[u8] {
     bytes
 }
 
-/// The bytes that a word names, `WRONG` being those of a session that ends in a wrong reply, or that it stands for;
-/// behind a `:` how many of them.
+/// Returns the bytes that a word names or means. `WRONG` is a session that ends in a wrong reply. After a `:` is the
+/// number of bytes that are left.
 fn input_of(alloc: Global, word: &str) -> Result<Vec<u8>, Fail> {
     let (word, count) = word.split_once(':').unwrap_or((word, "1000"));
     let mut bytes = match NAMED.iter().find(|named| named.0 == word) {
@@ -96,7 +95,6 @@ fn text_of(word: &str) -> Text {
     }
 }
 
-/// The status that an action ends with.
 fn status_of<R: Read + Drop, W: Write>(
     alloc: Global,
     word: &str,
@@ -111,8 +109,8 @@ fn status_of<R: Read + Drop, W: Write>(
     do_file(alloc, text_of(word), &mut input, output, errors)
 }
 
-/// The status that an action on an input ends with, and what is told of errors. `broken` is an input that fails, and
-/// `interrupted:2` one that is interrupted twice and then asks for the names.
+/// Returns the status of an action on an input, and its errors. `broken` is an input that fails. `interrupted:2` is
+/// interrupted twice and then asks for the names.
 fn acted<W: Write>(
     alloc: Global,
     given: &str,
@@ -136,14 +134,14 @@ fn acted<W: Write>(
     Ok((status, errors.into_inner()))
 }
 
-/// How an action ends with an output that is not shown.
+/// Returns how an action ends, without its output.
 fn unshown<W: Write + Drop>(alloc: Global, given: &str, output: W) -> Result<String, Fail> {
     let (status, errors) = acted(alloc, given, &mut Writing::new(output))?;
     Ok(ending(alloc, status, b"", &errors)?)
 }
 
-/// An action, its input, and behind `to` its output where that is no memory: `full:2` has room for two bytes, and
-/// `broken` takes all and passes nothing on.
+/// An action, its input, and after `to` its output, unless that is memory. `full:2` has room for two bytes, and
+/// `broken` accepts all bytes and fails to flush.
 struct Acts;
 
 impl Trial for Acts {
@@ -193,7 +191,7 @@ fn a_million_turns_are_made(rt: HostRuntime) -> Result<(), Fail> {
 
 #[test]
 fn a_recorded_session_is_judged_and_shown(rt: HostRuntime) -> Result<(), Fail> {
-    // All peers of SESSION are local, so all of it is left.
+    // All peers of SESSION are local.
     let table = "
         play SESSION -> 0 out LOOK_UP_LINES
         play WRONG -> 1 out WRONG_LOOK_UP_LINES
@@ -213,7 +211,7 @@ fn a_recorded_session_is_judged_and_shown(rt: HostRuntime) -> Result<(), Fail> {
 
 #[test]
 fn a_session_is_written_without_its_remote_peers(rt: HostRuntime) -> Result<(), Fail> {
-    // One that begins with a remote peer is no such session.
+    // A session that begins with an open remote peer is refused.
     let table = "
         local REMOTE_NAMES -> 0 out HEADER
         local CLOSES -> 0 out CLOSES
@@ -224,7 +222,7 @@ fn a_session_is_written_without_its_remote_peers(rt: HostRuntime) -> Result<(), 
 }
 
 #[test]
-fn a_device_that_fails_is_told(rt: HostRuntime) -> Result<(), Fail> {
+fn a_device_that_fails_is_reported(rt: HostRuntime) -> Result<(), Fail> {
     let table = "
         once broken -> 3 err epmd: input or output failed|
         once NAMES to with full:2 broken -> 3 err epmd: input or output failed|

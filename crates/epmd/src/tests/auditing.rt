@@ -1,6 +1,6 @@
 //! Recordings in several files, over memory.
 use super::ending;
-use crate::auditing::{do_audit, files_of, first_place, number_of};
+use crate::auditing::{do_audit, files_of, first_position, number_of};
 use portmap_core::{Config, Core, Entry, Event, State};
 use portmap_link::{Reading, Writing};
 use portmap_record::{Record, Version, write_record};
@@ -10,7 +10,7 @@ use std::alloc::{AllocError, Global};
 use std::collections::VecDeque;
 use std::test::Fail;
 
-/// The number of a name, of a recording that begins with `session`.
+/// A name: its number in a recording whose first file is `session`.
 struct Numbers;
 
 impl Trial for Numbers {
@@ -47,7 +47,8 @@ fn a_file_is_known_by_its_name(rt: HostRuntime) -> Result<(), Fail> {
     all_come(&rt, &Numbers, table)
 }
 
-/// What comes to a port mapper: a node registers, another peer asks for the names and leaves, and the node leaves.
+/// Returns the events of a port mapper: a node registers, another peer asks for the names and leaves, and the node
+/// leaves.
 fn events(alloc: Global, node: &[u8]) -> Result<Vec<Event>, AllocError> {
     let mut events = Vec::new(alloc);
     for (slot, bytes) in [(0, node), (1, NAMES)] {
@@ -60,8 +61,7 @@ fn events(alloc: Global, node: &[u8]) -> Result<Vec<Event>, AllocError> {
     Ok(events)
 }
 
-/// That port mapper with so many connections at most, from an entry on up to another one: as it begins, and the
-/// entries.
+/// Returns the state before the event `first`, and the entries from `first` up to `behind`.
 fn session(
     alloc: Global,
     node: &[u8],
@@ -83,14 +83,13 @@ fn session(
     }
     Ok((start, entries))
 }
-/// The bytes of a file: `a2..5` has the entries 2, 3 and 4 where the node's name is `a`. Behind a `/` stands how many
-/// connections there may be, and behind a `:` how many bytes are there; in one that ends in `!` the last entry stands
-/// twice.
+/// Returns the bytes of a file: `a2..5` has the entries 2, 3 and 4 of a node with the name `a`. After a `/` is the
+/// limit of connections, and after a `:` the number of bytes that are left. A `!` repeats the last entry.
 pub fn file_of(alloc: Global, word: &str) -> Result<Vec<u8>, Fail> {
     let (word, count) = word.split_once(':').unwrap_or((word, "1000"));
     let (word, most) = word.split_once('/').unwrap_or((word, "8"));
-    let places = word.trim_matches(|letter| matches!(letter, 'a' | 'b' | '!'));
-    let (first, behind) = places.split_once("..").unwrap_or((places, places));
+    let range = word.trim_matches(|letter| matches!(letter, 'a' | 'b' | '!'));
+    let (first, behind) = range.split_once("..").unwrap_or((range, range));
     let first = first.parse::<usize>()?;
     let behind = behind.parse::<usize>()?;
     let node = if word.starts_with('b') {
@@ -119,7 +118,6 @@ pub fn file_of(alloc: Global, word: &str) -> Result<Vec<u8>, Fail> {
     Ok(bytes)
 }
 
-/// The files of a recording, each with its number.
 struct Files;
 
 impl Trial for Files {
@@ -131,15 +129,17 @@ impl Trial for Files {
             numbers.push(number.parse::<u64>()?)?;
             files.push(file_of(alloc, word)?)?;
         }
-        let parts = files_of(alloc, "session", numbers)?;
-        let first = files.first().map_or(0, |file| first_place(file.as_slice()));
+        let recording = files_of(alloc, "session", numbers)?;
+        let first = files
+            .first()
+            .map_or(0, |file| first_position(file.as_slice()));
         let mut inputs = VecDeque::new(alloc);
         for file in &files {
             inputs.push_back(Reading::new(file.as_slice()))?;
         }
         let mut output = Writing::new(Vec::new(alloc));
         let mut errors = Writing::new(Vec::new(alloc));
-        let status = do_audit(alloc, &parts, first, inputs, &mut output, &mut errors);
+        let status = do_audit(alloc, &recording, first, inputs, &mut output, &mut errors);
         Ok(ending(alloc, status, &output.into_inner(), &errors.into_inner())?)
     }
 }
@@ -169,7 +169,7 @@ fn files_that_do_not_lead_on_are_none(rt: HostRuntime) -> Result<(), Fail> {
 }
 
 #[test]
-fn an_entry_that_cannot_follow_is_told(rt: HostRuntime) -> Result<(), Fail> {
+fn an_entry_that_cannot_follow_is_reported(rt: HostRuntime) -> Result<(), Fail> {
     let table = "
         0=a0..2 1=a2..5! 2=a5..6 -> 1 err broken at entry 3 of session.1|
         0=a0..5! -> 1 err broken at entry 5 of session|

@@ -13,7 +13,7 @@ use std::alloc::Global;
 use std::io::{ErrorKind, Write};
 use std::test::Fail;
 
-/// What a word asks for, and its request; the name to be forgotten is `a`.
+/// Returns the action of a word, with its request. The name to stop is `a`.
 fn asked(alloc: Global, word: &str) -> Result<(Ask, Bytes), Fail> {
     Ok(match word {
         "names" => (Ask::Names, NAMES),
@@ -23,8 +23,8 @@ fn asked(alloc: Global, word: &str) -> Result<(Ask, Bytes), Fail> {
     })
 }
 
-/// How a stream answers its calls, the first one being the put of the request: `fails:1` fails at its second call, and
-/// `later:999` is not ready for so many from that one on.
+/// Returns how a stream answers its calls. The first call is the put of the request. `fails:1` fails at the second
+/// call, and `later:999` blocks 999 times from that call on.
 fn plan(word: &str) -> DevicePlan {
     let fault = word
         .strip_prefix("fails:")
@@ -39,13 +39,13 @@ fn plan(word: &str) -> DevicePlan {
     DevicePlan { most, later, fault }
 }
 
-/// The first line of a list. In a table `4369:` stands for it, as it does for the first bytes of the answer.
+/// The first line of a list. In a table it is `4369:`, which in an answer is the first four bytes.
 const HEAD: &str = "epmd: up and running on port 4369 with data:|";
 
-/// A line of a list. In a table `MANY` stands for three hundred of them.
+/// A line of a list. In a table `MANY` is 300 of them.
 const LINE: &str = "name a at port 5000|";
 
-/// The status that ends an action over this stream, and whether its request was written whole.
+/// Returns the status of an action, and whether its request was written completely.
 fn ended<W: Write>(
     alloc: Global,
     word: &str,
@@ -58,7 +58,7 @@ fn ended<W: Write>(
     Ok((status, tape.sink.as_slice() == request))
 }
 
-/// How an action ends over this stream, behind `unasked` where its request was not written whole.
+/// Returns how an action ends, after `unasked` if its request was not written completely.
 fn printed(alloc: Global, word: &str, tape: &mut Tape<'_>) -> Result<String, Fail> {
     let mut output = Writing::new(Vec::new(alloc));
     let mut errors = Writing::new(Vec::new(alloc));
@@ -68,7 +68,7 @@ fn printed(alloc: Global, word: &str, tape: &mut Tape<'_>) -> Result<String, Fai
     Ok(format!(in alloc; "{asked}{ending}")?)
 }
 
-/// What is asked for, behind a `/` how the stream answers, and the port mapper's answer.
+/// An action, after a `/` how the stream answers, and the answer of the port mapper.
 struct Asks;
 
 impl Trial for Asks {
@@ -86,8 +86,8 @@ impl Trial for Asks {
 }
 
 #[test]
-fn what_is_asked_for_is_done_and_told(rt: HostRuntime) -> Result<(), Fail> {
-    // The text of a dump is not looked at.
+fn what_is_asked_for_is_done_and_printed(rt: HostRuntime) -> Result<(), Fail> {
+    // The text of a dump is not checked.
     let table = "
         names 4369:name a at port 5000| -> 0 out 4369:name a at port 5000|
         names/single 4369:name a at port 5000| -> 0 out 4369:name a at port 5000|
@@ -125,7 +125,7 @@ fn no_terminal_obeys_what_is_printed(rt: HostRuntime) -> Result<(), Fail> {
 }
 
 #[test]
-fn what_is_not_allowed_is_told(rt: HostRuntime) -> Result<(), Fail> {
+fn what_is_not_allowed_is_reported(rt: HostRuntime) -> Result<(), Fail> {
     let table = "
         kill NO -> 1 err epmd: kill not allowed|
         kill -> 1 err epmd: kill not allowed|
@@ -136,7 +136,7 @@ fn what_is_not_allowed_is_told(rt: HostRuntime) -> Result<(), Fail> {
 
 #[test]
 fn an_answer_that_is_none_is_strange(rt: HostRuntime) -> Result<(), Fail> {
-    // A port mapper that hangs up in the middle of its answer, or says what is none.
+    // A port mapper that hangs up inside its answer, or whose answer is malformed.
     let table = "
         names \0\0\x11 -> 1 err epmd: strange answer|
         names 4369:name a at po -> 1 err epmd: strange answer|
@@ -173,7 +173,7 @@ fn a_silent_port_mapper_is_strange_at_the_thousandth_later(rt: HostRuntime) -> R
 
 const FAILED: &[u8] = b"epmd: input or output failed\n";
 
-/// Whether a list to this output ends with this status, and this is told of errors.
+/// Returns whether a list to this output ends with this status and this line on errors.
 fn is_printed<W: Write>(
     alloc: Global,
     output: &mut Writing<W>,
@@ -187,7 +187,7 @@ fn is_printed<W: Write>(
 }
 
 #[test]
-fn an_output_that_fails_is_told(rt: HostRuntime) -> Result<(), Fail> {
+fn an_output_that_fails_is_reported(rt: HostRuntime) -> Result<(), Fail> {
     let mut room = [0u8; 50];
     let mut full = Writing::new(room.as_mut_slice());
     assert!(rt; is_printed(rt.alloc(), &mut full, 3, FAILED)?);
@@ -196,7 +196,7 @@ fn an_output_that_fails_is_told(rt: HostRuntime) -> Result<(), Fail> {
     Ok(())
 }
 
-/// An output that takes the front of a list, is interrupted, and takes the rest.
+/// An output that takes a prefix of a list, is interrupted, and takes the rest.
 const IN_PARTS: &[CallOutcome] = &[
     CallOutcome::Count(10),
     CallOutcome::Error(ErrorKind::Interrupted),
@@ -204,7 +204,7 @@ const IN_PARTS: &[CallOutcome] = &[
 ];
 
 #[test]
-fn a_list_is_told_in_as_many_parts_as_it_takes(rt: HostRuntime) -> Result<(), Fail> {
+fn a_list_is_written_in_several_parts(rt: HostRuntime) -> Result<(), Fail> {
     let mut output = Writing::new(scripted(IN_PARTS));
     assert!(rt; is_printed(rt.alloc(), &mut output, 0, b"")?);
     assert_eq!(rt; output.into_inner().asked, 3);

@@ -1,4 +1,4 @@
-//! Sockets that a service manager hands over: how many are this process's, and what is told of them.
+//! Sockets that a service manager passes: how many are for this process, and what is printed of them.
 use super::ending;
 use super::typed::command;
 use crate::handing::{handed_count, refuse_handed, report_without_effect};
@@ -9,7 +9,7 @@ use portmap_testing::cases::{Trial, all_come};
 use std::alloc::Global;
 use std::test::Fail;
 
-/// For which process, how many, and how many of these are handed over to process 77.
+/// A process, a count, and how many sockets are passed to process 77.
 const HANDED: [(Option<&str>, Option<&str>, u32); 10] = [
     (Some("77"), Some("1"), 1),
     (Some("77"), Some("3"), 3),
@@ -31,7 +31,6 @@ fn sockets_of_another_process_are_left_alone(rt: HostRuntime) -> Result<(), Fail
     Ok(())
 }
 
-/// How the program ends where this is wrong with what was handed over.
 fn ended(alloc: Global, fault: HandedFault) -> Result<String, Fail> {
     let mut errors = Writing::new(Vec::new(alloc));
     let status = refuse_handed(&mut errors, fault);
@@ -39,7 +38,7 @@ fn ended(alloc: Global, fault: HandedFault) -> Result<String, Fail> {
 }
 
 #[test]
-fn what_is_handed_over_and_does_not_listen_is_told(rt: HostRuntime) -> Result<(), Fail> {
+fn a_descriptor_that_does_not_listen_is_reported(rt: HostRuntime) -> Result<(), Fail> {
     let printed = ended(rt.alloc(), HandedFault::NotListening(4))?;
     assert_eq!(rt;
         printed.as_str(),
@@ -50,7 +49,7 @@ fn what_is_handed_over_and_does_not_listen_is_told(rt: HostRuntime) -> Result<()
     Ok(())
 }
 
-/// What is told of port and addresses, where so many sockets are handed over to the daemon of this command.
+/// Returns what is printed of port and addresses if this number of sockets is passed.
 fn printed(alloc: Global, command: &Command, sockets: usize) -> Result<String, Fail> {
     let mut errors = Writing::new(Vec::new(alloc));
     let sockets = [(); 9].get(..sockets).unwrap_or(&[]);
@@ -65,7 +64,7 @@ fn printed(alloc: Global, command: &Command, sockets: usize) -> Result<String, F
     })
 }
 
-/// How many sockets are handed over, 9 at most, and a line as it is typed.
+/// The number of passed sockets, at most 9, and a typed line.
 struct Over;
 
 impl Trial for Over {
@@ -79,7 +78,7 @@ impl Trial for Over {
 }
 
 #[test]
-fn port_and_addresses_that_are_without_effect_are_told(rt: HostRuntime) -> Result<(), Fail> {
+fn port_and_addresses_without_effect_are_reported(rt: HostRuntime) -> Result<(), Fail> {
     let table = "
         1 epmd -port with 4369 4370 -> the line
         1 epmd -address with 0.0.0.0 10.0.0.1 -> the line
@@ -94,8 +93,8 @@ fn port_and_addresses_that_are_without_effect_are_told(rt: HostRuntime) -> Resul
 }
 
 #[test]
-fn of_no_port_and_no_addresses_nothing_is_told(rt: HostRuntime) -> Result<(), Fail> {
-    // The value of another word is no port and no address, whatever it is called. The wrapper reads ERL_EPMD_ADDRESS.
+fn without_port_and_addresses_nothing_is_reported(rt: HostRuntime) -> Result<(), Fail> {
+    // The value of another word is neither a port nor an address. Only the wrapper reads ERL_EPMD_ADDRESS.
     let table = "
         1 epmd -> nothing
         9 epmd -d -daemon -workers 2 -packet_timeout 30 -relaxed_command_check -> nothing

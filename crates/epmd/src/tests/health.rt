@@ -1,4 +1,4 @@
-//! The health check, of port mappers that reply as they are told.
+//! The health check of scripted port mappers.
 ghost use Rattle.std.specs.Prelude.{◌≡◌};
 
 use super::{bytes_of, ending};
@@ -11,7 +11,7 @@ use portmap_testing::tape::{STEADY, Tape};
 use std::alloc::Global;
 use std::test::Fail;
 
-/// A port mapper that replies to each request by the next of these words. It counts what it was asked.
+/// A port mapper that replies to each request by the next of these words. It counts the steps.
 #[derive(Drop)]
 struct Scripted<'a> {
     words: Vec<&'a str>,
@@ -45,7 +45,7 @@ impl<'a> Scripted<'a> {
         }
     }
 
-    /// What comes of the request of this number.
+    /// Returns the outcome of the latest request.
     fn reply(&self) -> Outcome {
         let index = self.registrations.saturating_add(self.look_ups);
         match self.words.get(index.saturating_sub(1)) {
@@ -55,7 +55,6 @@ impl<'a> Scripted<'a> {
     }
 }
 
-/// What comes of a request that is answered so.
 fn meant(word: &str) -> Outcome {
     match word {
         "granted" | "found" => Ok(true),
@@ -80,7 +79,7 @@ impl Checked for Scripted<'_> {
     }
 }
 
-/// The words of a line, of which `19*refused` is nineteen.
+/// Returns the words of a line, in which `19*refused` is 19 words.
 fn words_of<'a>(alloc: Global, line: &'a str) -> Result<Vec<&'a str>, Fail> {
     let mut words = Vec::new(alloc);
     for word in line.split_whitespace() {
@@ -92,7 +91,7 @@ fn words_of<'a>(alloc: Global, line: &'a str) -> Result<Vec<&'a str>, Fail> {
     Ok(words)
 }
 
-/// Appends how many registrations, look-ups, closes and pauses a port mapper saw.
+/// Appends the numbers of registrations, look-ups, closes and pauses.
 fn put_counts(printed: &mut String, peer: &Scripted<'_>) -> Result<(), Fail> {
     let (first, second) = (peer.registrations, peer.look_ups);
     let (closed, pauses) = (peer.closed, peer.pauses);
@@ -100,7 +99,7 @@ fn put_counts(printed: &mut String, peer: &Scripted<'_>) -> Result<(), Fail> {
     Ok(())
 }
 
-/// What two port mappers reply, around a `/`: how a check of both ends, and what each one saw.
+/// The replies of two port mappers, with a `/` between them: how a check of both ends, and what each of them counts.
 struct Checks;
 
 impl Trial for Checks {
@@ -129,7 +128,7 @@ fn a_port_mapper_that_works_passes(rt: HostRuntime) -> Result<(), Fail> {
 }
 
 #[test]
-fn what_fails_is_told_with_its_address(rt: HostRuntime) -> Result<(), Fail> {
+fn what_fails_is_printed_with_its_address(rt: HostRuntime) -> Result<(), Fail> {
     let table = "
         nobody -> 1 err epmd: cannot connect to 127.0.0.1:4369| saw 1 0 0 0 saw 0 0 0 0
         nobody / granted found missing -> 1 err epmd: cannot connect to 127.0.0.1:4369| saw 1 0 0 0 saw 0 0 0 0
@@ -148,12 +147,12 @@ fn what_fails_is_told_with_its_address(rt: HostRuntime) -> Result<(), Fail> {
     all_come(&rt, &Checks, table)
 }
 
-/// ALIVE2_REQ of a hidden node on port 1 that speaks versions 5 to 6, and PORT_PLEASE2_REQ of its name.
+/// An ALIVE2_REQ of a hidden node on port 1 that speaks versions 5 to 6, and a PORT_PLEASE2_REQ of its name.
 const ALIVE: Bytes = b"\x00\x18x\x00\x01H\x00\x00\x06\x00\x05\x00\x0Bepmd-health\x00\x00";
 
 const PORT: Bytes = b"\x00\x0Czepmd-health";
 
-/// What comes of a registration over this stream, and the request.
+/// Returns the outcome of a registration over this stream, and the request.
 fn registered(alloc: Global, tape: Tape<'_>) -> Result<(Outcome, Vec<u8>), Fail> {
     Ok(match register(alloc, tape, &health_node(alloc)?) {
         Ok(Some(held)) => (Ok(true), held.leave().sink),
@@ -162,14 +161,14 @@ fn registered(alloc: Global, tape: Tape<'_>) -> Result<(Outcome, Vec<u8>), Fail>
     })
 }
 
-/// What comes of a look-up over this stream, and the request.
+/// Returns the outcome of a look-up over this stream, and the request.
 fn looked_up(alloc: Global, tape: Tape<'_>) -> Result<(Outcome, Vec<u8>), Fail> {
     let mut tape = tape;
     let outcome = look_up(alloc, &mut tape, &health_node(alloc)?);
     Ok((outcome, tape.sink))
 }
 
-/// A request and its answer: what comes of it, behind `unasked` if another request was written.
+/// A request and its answer: the outcome, after `unasked` if another request was written.
 struct Requests;
 
 impl Trial for Requests {

@@ -19,7 +19,6 @@ use std::thread::Threads;
 use std::time::Duration;
 use std::{fs, io, thread};
 
-/// A clock that shows one time, or none.
 struct Stopped(Option<u64>);
 
 impl Clock for Stopped {
@@ -45,12 +44,12 @@ fn the_time_is_that_of_the_clock(rt: HostRuntime) -> Result<(), Fail> {
     Ok(())
 }
 
-/// Whether it is a hundredth of a second, which the system may round up to ticks of its clock, or twice that at most.
+/// Returns whether a timeout is 10 to 20 milliseconds: the system may round it up to ticks of its clock.
 fn is_short(turn: Option<Duration>) -> bool {
     turn.is_some_and(|turn| 10 <= turn.as_millis() && turn.as_millis() <= 20)
 }
 
-/// Whether each read and each write of a connection of the client's gives up so soon.
+/// Returns whether each read and each write of a client's connection has a short timeout.
 fn is_impatient(rt: &HostRuntime, port: u16) -> Option<bool> {
     let stream = connect(rt, port).ok()?;
     Some(is_short(stream.read_timeout().ok()?) && is_short(stream.write_timeout().ok()?))
@@ -65,7 +64,7 @@ fn a_port_mapper_that_is_silent_holds_nobody(rt: HostRuntime) -> Result<(), Fail
 
 #[test]
 fn a_port_mapper_of_ipv6_alone_is_found(rt: HostRuntime) -> Result<(), Fail> {
-    // A system without IPv6 has none.
+    // A system without IPv6 has no such address.
     if let Ok(_listener) = TcpListener::bind(&rt, (Ipv6Addr::LOCALHOST, 14_473)) {
         assert_eq!(rt; is_impatient(&rt, 14_473), Some(true));
     }
@@ -75,7 +74,7 @@ fn a_port_mapper_of_ipv6_alone_is_found(rt: HostRuntime) -> Result<(), Fail> {
 /// An ALIVE2_REQ of the name `a` by a node of version 6.
 const ALIVE: &[u8] = b"\x00\x0E\x78\x13\x88\x4D\x00\x00\x06\x00\x05\x00\x01\x61\x00\x00";
 
-/// A node that registers at this port, and the creation that it is given.
+/// Registers a node at this port. Returns its connection and its creation.
 fn node<R: Net<Stream = TcpStream> + Clock>(rt: &R, port: u16) -> Option<(TcpStream, u64)> {
     let mut stream = sent(rt, port, ALIVE)?;
     let mut reply = [0; 6];
@@ -86,7 +85,7 @@ fn node<R: Net<Stream = TcpStream> + Clock>(rt: &R, port: u16) -> Option<(TcpStr
     Some((stream, u64::from(u32::from_be_bytes([a, b, c, d]))))
 }
 
-/// Whether the first creation is a nanosecond between these times, all modulo 2^32.
+/// Returns whether the creation is a nanosecond between these times, all modulo 2^32.
 fn is_between(
     node: &Option<(TcpStream, u64)>,
     before: Option<Duration>,
@@ -102,45 +101,49 @@ fn is_between(
     }
 }
 
-/// Whether a command of this line ends so, as a daemon with this host and with an input that fails.
-fn ends_so<
+/// Returns whether the command of each line of a table ends as expected, with an input that fails.
+fn end_so<
     R: Net + Host<File = File> + Threads + Wait + Clock + Clone + Drop + Send + Sync + 'static,
->(rt: &HostRuntime, host: &R, line: &str, wanted: &str) -> bool {
-    let Ok(command) = command(rt.alloc(), line) else {
-        return false;
-    };
-    let mut input = Reading::new(Broken);
-    let mut output = Writing::new(Vec::new(rt.alloc()));
-    let mut errors = Writing::new(Vec::new(rt.alloc()));
-    let status = perform(rt, host, &command, &mut input, &mut output, &mut errors);
-    match ending(
-        rt.alloc(),
-        status,
-        &output.into_inner(),
-        &errors.into_inner(),
-    ) {
-        Ok(printed) => printed.as_str() == wanted,
-        Err(_) => false,
+>(rt: &HostRuntime, host: &R, table: &str) -> bool {
+    for line in table.lines().filter(|line| !line.trim().is_empty()) {
+        let (line, wanted) = line.split_once("->").unwrap_or((line, ""));
+        let Ok(command) = command(rt.alloc(), line) else {
+            return false;
+        };
+        let mut input = Reading::new(Broken);
+        let mut output = Writing::new(Vec::new(rt.alloc()));
+        let mut errors = Writing::new(Vec::new(rt.alloc()));
+        let status = perform(rt, host, &command, &mut input, &mut output, &mut errors);
+        let (output, errors) = (output.into_inner(), errors.into_inner());
+        match ending(rt.alloc(), status, &output, &errors) {
+            Ok(printed) if printed.as_str() == wanted.trim() => {}
+            _ => return false,
+        }
     }
+    true
 }
 
-const SERVES: &str = "epmd -relaxed_command_check -port 14471 -address 127.0.0.1";
+const SERVES: &str = "epmd -relaxed_command_check -port 14471 -address 127.0.0.1 -> 0";
 
-const LISTED: &str = "0 out epmd: up and running on port 14471 with data:|name a at port 5000|";
+const ASKS: &str = "
+    epmd -port 14471 -names -> 0 out epmd: up and running on port 14471 with data:|name a at port 5000|
+    epmd -port 14471 -health -> 0
+";
+
+const KILLS: &str = "epmd -kill -port 14471 -> 0 out Killed|";
 
 #[test]
 fn a_daemon_and_its_commands_meet_at_the_port_of_their_words(rt: HostRuntime) -> Result<(), Fail> {
     let before = since_1970(&rt);
     let (is_ended, (is_given, is_listed, is_killed)) = thread::join(
         &rt,
-        || ends_so(&rt, &rt, SERVES, "0"),
+        || end_so(&rt, &rt, SERVES),
         || {
             let node = node(&rt, 14_471);
             (
                 is_between(&node, before, since_1970(&rt)),
-                ends_so(&rt, &rt, "epmd -port 14471 -names", LISTED)
-                    && ends_so(&rt, &rt, "epmd -port 14471 -health", "0"),
-                ends_so(&rt, &rt, "epmd -kill -port 14471", "0 out Killed|"),
+                end_so(&rt, &rt, ASKS),
+                end_so(&rt, &rt, KILLS),
             )
         },
     );
@@ -149,51 +152,43 @@ fn a_daemon_and_its_commands_meet_at_the_port_of_their_words(rt: HostRuntime) ->
     Ok(())
 }
 
-const FAILED: &str = "3 err epmd: input or output failed|";
-
-const GONE: &str = "3 err epmd: input or output failed|epmd: judged: No such file or directory|";
-
 #[test]
 fn a_file_is_judged_at_its_path(rt: HostRuntime) -> Result<(), Fail> {
     let wrong = wrong_session();
-    for (bytes, line, wanted) in [
+    let of_wrong = "
+        epmd -check judged -> 1 out broken at entry 3|
+        epmd -local judged -> 1 err broken at entry 3|
+    ";
+    for (bytes, table) in [
         (
             SESSION.as_slice(),
-            "epmd -check judged",
-            "0 out run of 4 entries|",
+            "epmd -check judged -> 0 out run of 4 entries|",
         ),
-        (
-            wrong.as_slice(),
-            "epmd -check judged",
-            "1 out broken at entry 3|",
-        ),
-        (
-            wrong.as_slice(),
-            "epmd -local judged",
-            "1 err broken at entry 3|",
-        ),
+        (wrong.as_slice(), of_wrong),
         (
             b"EPMX".as_slice(),
-            "epmd -play judged",
-            "2 err epmd: bad record|epmd: in judged|",
+            "epmd -play judged -> 2 err epmd: bad record|epmd: in judged|",
         ),
     ] {
         fs::write(&rt, "judged", bytes)?;
-        assert!(rt; ends_so(&rt, &rt, line, wanted), "{wanted}");
+        assert!(rt; end_so(&rt, &rt, table));
     }
     fs::remove_file(&rt, "judged")?;
-    assert!(rt; ends_so(&rt, &rt, "epmd -check judged", GONE));
+    let table = "
+        epmd -check judged -> 3 err epmd: input or output failed|epmd: judged: No such file or directory|
+    ";
+    assert!(rt; end_so(&rt, &rt, table));
     Ok(())
 }
 
 #[test]
 fn a_folder_is_no_record(rt: HostRuntime) -> Result<(), Fail> {
-    let printed = "3 err epmd: input or output failed|epmd: in .|";
-    assert!(rt; ends_so(&rt, &rt, "epmd -check .", printed));
+    let table = "epmd -check . -> 3 err epmd: input or output failed|epmd: in .|";
+    assert!(rt; end_so(&rt, &rt, table));
     Ok(())
 }
 
-/// Files of a recording, and others beside them.
+/// Files of a recording, and other files beside them.
 const RECORDED: &[(&str, &str)] = &[
     ("recorded", "a0..2"),
     ("recorded.2", "a2..5"),
@@ -207,25 +202,18 @@ fn the_files_of_a_recording_are_found_beside_its_first(rt: HostRuntime) -> Resul
     for (path, word) in RECORDED {
         fs::write(&rt, *path, &file_of(rt.alloc(), word)?)?;
     }
-    for (line, wanted) in [
-        ("epmd -audit recorded", "0 out run of 6 entries in 3 files|"),
-        (
-            "epmd -audit ./recorded.2",
-            "0 out run of 3 entries in 1 files| err epmd: the files before ./recorded.2 are gone|",
-        ),
-        (
-            "epmd -audit ./recorded.1",
-            "3 err epmd: input or output failed|epmd: in ./recorded.1|",
-        ),
-    ] {
-        assert!(rt; ends_so(&rt, &rt, line, wanted), "{line}");
-    }
+    let table = "
+        epmd -audit recorded -> 0 out run of 6 entries in 3 files|
+        epmd -audit ./recorded.2 -> 0 out run of 3 entries in 1 files| err epmd: the files before ./recorded.2 are gone|
+        epmd -audit ./recorded.1 -> 3 err epmd: input or output failed|epmd: in ./recorded.1|
+    ";
+    assert!(rt; end_so(&rt, &rt, table));
     fs::remove_file(&rt, "recorded")?;
-    let printed =
-        "0 out run of 4 entries in 2 files| err epmd: the files before ./recorded.2 are gone|";
-    assert!(rt; ends_so(&rt, &rt, "epmd -audit ./recorded", printed));
-    let printed = "3 err epmd: input or output failed|epmd: gone: No such file or directory|";
-    assert!(rt; ends_so(&rt, &rt, "epmd -audit gone/recorded", printed));
+    let table = "
+        epmd -audit ./recorded -> 0 out run of 4 entries in 2 files| err epmd: the files before ./recorded.2 are gone|
+        epmd -audit gone/recorded -> 3 err epmd: input or output failed|epmd: gone: No such file or directory|
+    ";
+    assert!(rt; end_so(&rt, &rt, table));
     for (path, _) in RECORDED.iter().skip(1) {
         fs::remove_file(&rt, *path)?;
     }
@@ -236,26 +224,28 @@ fn the_files_of_a_recording_are_found_beside_its_first(rt: HostRuntime) -> Resul
 fn a_file_that_is_no_plain_one_is_not_opened(rt: HostRuntime) -> Result<(), Fail> {
     fs::write(&rt, "plain", &file_of(rt.alloc(), "a0..2")?)?;
     fs::create_dir(&rt, "plain.1")?;
-    let printed = "3 err epmd: plain.1: input or output failed|";
-    assert!(rt; ends_so(&rt, &rt, "epmd -audit plain", printed));
+    let table = "epmd -audit plain -> 3 err epmd: plain.1: input or output failed|";
+    assert!(rt; end_so(&rt, &rt, table));
     fs::remove_file(&rt, "plain")?;
-    assert!(rt; ends_so(&rt, &rt, "epmd -audit plain", printed));
+    assert!(rt; end_so(&rt, &rt, table));
     fs::remove_dir(&rt, "plain.1")?;
     Ok(())
 }
 
 #[test]
-fn an_input_that_fails_is_told(rt: HostRuntime) -> Result<(), Fail> {
-    assert!(rt; ends_so(&rt, &rt, "epmd -once", FAILED));
+fn an_input_that_fails_is_reported(rt: HostRuntime) -> Result<(), Fail> {
+    let table = "epmd -once -> 3 err epmd: input or output failed|";
+    assert!(rt; end_so(&rt, &rt, table));
     Ok(())
 }
 
 #[test]
-fn a_port_mapper_that_is_not_there_is_told(rt: HostRuntime) -> Result<(), Fail> {
-    let printed = "1 err epmd: Cannot connect to local epmd|";
-    assert!(rt; ends_so(&rt, &rt, "epmd -port 14472 -names", printed));
-    let printed = "1 err epmd: cannot connect to 127.0.0.1:14472|";
-    assert!(rt; ends_so(&rt, &rt, "epmd -port 14472 -health", printed));
+fn a_port_mapper_that_is_not_there_is_reported(rt: HostRuntime) -> Result<(), Fail> {
+    let table = "
+        epmd -port 14472 -names -> 1 err epmd: Cannot connect to local epmd|
+        epmd -port 14472 -health -> 1 err epmd: cannot connect to 127.0.0.1:14472|
+    ";
+    assert!(rt; end_so(&rt, &rt, table));
     Ok(())
 }
 
@@ -265,7 +255,7 @@ fn what_is_open_needs_no_stand_in(rt: HostRuntime) -> Result<(), Fail> {
     Ok(())
 }
 
-/// Whether a file stands in that can't be read.
+/// Returns whether a stand-in fails to be read.
 fn is_mute(stand_in: Option<File>) -> bool {
     let Some(mut file) = stand_in else {
         return false;
@@ -273,7 +263,7 @@ fn is_mute(stand_in: Option<File>) -> bool {
     file.read(&mut [0; 1]).is_err()
 }
 
-/// Whether a file stands in that can't be written.
+/// Returns whether a stand-in fails to be written.
 fn is_deaf(stand_in: Option<File>) -> bool {
     let Some(mut file) = stand_in else {
         return false;

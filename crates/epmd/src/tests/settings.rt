@@ -1,4 +1,4 @@
-//! What the daemon of a command is set to, and what is told when it has ended.
+//! The settings of a daemon, and what is printed when it ends.
 use super::ending;
 use super::typed::command;
 use crate::daemon::{end_daemon, settings};
@@ -10,14 +10,13 @@ use std::alloc::Global;
 use std::test::Fail;
 use std::time::Duration;
 
-/// A command to serve on two addresses, with more words behind.
+/// Returns a command to serve on two addresses, with more words at its end.
 fn serving(alloc: Global, more: &str) -> Result<Command, WordFault> {
     let words = "-relaxed_command_check -address 10.0.0.1 -packet_timeout 7 -workers 2";
     let line = format!(in alloc; "epmd -port 4370 {words} {more}")?;
     command(alloc, line.as_str())
 }
 
-/// Whether a daemon is set to what these words and the limits say.
 fn is_set(set: &Settings) -> bool {
     set.config.port == 4370
         && set.config.relaxed
@@ -28,7 +27,7 @@ fn is_set(set: &Settings) -> bool {
         && set.workers == 2
 }
 
-/// Where creations start at this time since 1970, and what is recorded to.
+/// Returns where creations start at this time since 1970, and the path of the recording.
 fn set_by(alloc: Global, command: &Command, now: Option<Duration>) -> Result<String, Fail> {
     let set = settings(alloc, command, now)?;
     let first = set.first;
@@ -77,7 +76,7 @@ fn a_daemon_records_where_its_command_says(rt: HostRuntime) -> Result<(), Fail> 
     all_come(&rt, &Sets, table)
 }
 
-/// How a daemon ended: how many acts each worker made, and whether all was recorded; or why.
+/// Returns the end of a daemon: the acts of each worker and whether all was recorded, or the fault.
 fn end_of(alloc: Global, words: &str) -> Result<Result<RunEnd, RunFault>, Fail> {
     let (end, rest) = words.split_once(' ').unwrap_or((words, ""));
     Ok(match end {
@@ -96,14 +95,13 @@ fn end_of(alloc: Global, words: &str) -> Result<Result<RunEnd, RunFault>, Fail> 
     })
 }
 
-/// How the daemon of this command ends the program.
 fn ended(alloc: Global, command: &Command, end: &str) -> Result<String, Fail> {
     let mut errors = Writing::new(Vec::new(alloc));
     let status = end_daemon(&mut errors, command, &end_of(alloc, end)?);
     Ok(ending(alloc, status, b"", &errors.into_inner())?)
 }
 
-/// More words of the command, and behind `ends` how its daemon ended.
+/// More words of the command, and after `ends` the end of its daemon.
 struct Ends;
 
 impl Trial for Ends {
@@ -117,7 +115,7 @@ impl Trial for Ends {
 }
 
 #[test]
-fn a_daemon_with_debug_output_tells_what_was_served(rt: HostRuntime) -> Result<(), Fail> {
+fn a_daemon_with_debug_output_prints_what_was_served(rt: HostRuntime) -> Result<(), Fail> {
     let table = "
         ends served 5 0 7 -> 0
         -d ends served 5 0 7 -> 0 err epmd: worker 1 served 5|epmd: worker 2 served 0|epmd: worker 3 served 7|
@@ -127,7 +125,7 @@ fn a_daemon_with_debug_output_tells_what_was_served(rt: HostRuntime) -> Result<(
 }
 
 #[test]
-fn a_daemon_whose_recording_failed_has_told_so(rt: HostRuntime) -> Result<(), Fail> {
+fn a_daemon_whose_recording_failed_has_status_3(rt: HostRuntime) -> Result<(), Fail> {
     let table = "
         ends unrecorded 5 0 7 -> 3
         -d ends unrecorded 5 0 7 -> 3 err epmd: worker 1 served 5|epmd: worker 2 served 0|epmd: worker 3 served 7|
@@ -136,7 +134,7 @@ fn a_daemon_whose_recording_failed_has_told_so(rt: HostRuntime) -> Result<(), Fa
 }
 
 #[test]
-fn a_daemon_that_fails_tells_why(rt: HostRuntime) -> Result<(), Fail> {
+fn a_daemon_that_fails_prints_why(rt: HostRuntime) -> Result<(), Fail> {
     let table = "
         -d -record x ends listen 0 -> 1 err epmd: cannot listen on 10.0.0.1:4370|
         -d -record x ends listen 1 -> 1 err epmd: cannot listen on 127.0.0.1:4370|

@@ -1,4 +1,4 @@
-//! Lines as they are typed.
+//! Typed lines.
 ghost use Rattle.std.specs.Prelude.{◌≡◌, ◌≤◌, IfOk, length};
 ghost use Rattle.epmd.specs.Meaning.{CanServe};
 
@@ -8,12 +8,11 @@ use crate::words::{Command, WordFault};
 use std::alloc::Global;
 use std::env::{Env, FillError};
 
-/// A line as it is typed: variables, the program's own name and its words, with blanks between. A blank in one of them
-/// is written `~`, an end of line `|`, a byte that is not UTF-8 `?`, and the empty word `''`.
+/// A typed line: variables, the program's own name and its words, with blanks between them. `''` is the empty word.
+/// Other bytes are those of `meant`.
 #[derive(Clone, Copy)]
 struct Typed<'a>(&'a str);
 
-/// Puts the bytes in the place of those that stand for them.
 fn mean(bytes: &mut [u8])
     ensures { length bytes.new ≡ length bytes.old }
 {
@@ -22,7 +21,7 @@ fn mean(bytes: &mut [u8])
     }
 }
 
-/// Copies what is asked for, if it is there.
+/// Copies the text, if there is one.
 fn give(text: Option<&str>, buffer: &mut [u8]) -> Result<usize, FillError>
     ensures { IfOk result (λ n. n ≤ length buffer.new) }
 {
@@ -31,9 +30,9 @@ fn give(text: Option<&str>, buffer: &mut [u8]) -> Result<usize, FillError>
         Some("''") => b"".as_slice(),
         Some(text) => text.as_bytes(),
     };
-    let front = buffer.get_mut(..bytes.len()).ok_or(FillError::TooLong)?;
-    front.copy_from_slice(bytes);
-    mean(front);
+    let prefix = buffer.get_mut(..bytes.len()).ok_or(FillError::TooLong)?;
+    prefix.copy_from_slice(bytes);
+    mean(prefix);
     Ok(bytes.len())
 }
 
@@ -59,7 +58,6 @@ impl Env for Typed<'_> {
     }
 }
 
-/// The command that a line asks for.
 pub fn command(alloc: Global, line: &str) -> Result<Command, WordFault>
     ensures { IfOk result (λ command. CanServe command) }
 {

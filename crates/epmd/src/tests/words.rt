@@ -1,4 +1,4 @@
-//! The words of the command: each word, and what it takes.
+//! The words of the command, and their values.
 mod faults;
 
 use super::typed::command;
@@ -9,7 +9,7 @@ use std::alloc::Global;
 use std::fmt;
 use std::test::Fail;
 
-/// A command as a line wants it: the action with its value, and what is not as usual.
+/// A command as text: the action with its value, and what differs from the default.
 #[derive(Drop)]
 struct Shown<'a>(&'a Command);
 
@@ -32,7 +32,7 @@ fn show_action<W: fmt::Write>(action: &Action, f: &mut fmt::Formatter<W>) -> fmt
     }
 }
 
-/// What is listened on, unless that is every address.
+/// Writes the addresses, unless they are everywhere.
 fn show_addresses<W: fmt::Write>(all: &[[u8; 4]], f: &mut fmt::Formatter<W>) -> fmt::Result {
     if all == [[0, 0, 0, 0]].as_slice() {
         return Ok(());
@@ -73,7 +73,7 @@ impl fmt::Display for Shown<'_> {
     }
 }
 
-/// A line as it is typed: what it asks for, or its fault.
+/// A typed line: its command, or its fault.
 struct Asks;
 
 impl Trial for Asks {
@@ -167,8 +167,7 @@ fn a_daemon_listens_on_the_host_too(rt: HostRuntime) -> Result<(), Fail> {
 
 #[test]
 fn a_daemon_records_to_the_last_path(rt: HostRuntime) -> Result<(), Fail> {
-    // The last path counts, the word behind `-record` is one whatever it begins with, and it is taken with every
-    // action.
+    // The last path counts. Any word after `-record` is a path. Every action accepts the option.
     let table = "
         epmd -record x -> serve record <x>
         epmd -d -record x -> serve debug record <x>

@@ -1,7 +1,7 @@
 use Rattle.std.proofs.Common.{[], ◌∷◌, false, rules, true}
 use Rattle.epmd.specs.declared.health.Step.{TheVariants.{Close, LookUp, Register}}
 use Rattle.epmd.specs.declared.health.TheConstants.{TRIES}
-use Rattle.epmd.proofs.Checking.{goes_on, fails, ends}
+use Rattle.epmd.proofs.Checking.{continues, fails, ends}
 use Rattle.epmd.proofs.health.check.Goals as goal
 
 pub returns-in_err-pass-3 : goal.returns-in_err-pass-3
@@ -9,9 +9,9 @@ returns-in_err-pass-3 g c =
     let steps = g.P.Checked.steps in
     let now = steps c.pass-3.new.peer in
     let result = c.from_residual-in_err-pass-3.result in
-    goes_on (Register, true, TRIES) ((LookUp, true, 1) ∷ (Close, true, 1) ∷ (LookUp, false, TRIES) ∷ []) c.pass.result result
+    continues (Register, true, TRIES) ((LookUp, true, 1) ∷ (Close, true, 1) ∷ (LookUp, false, TRIES) ∷ []) c.pass.result result
     (steps c.args.peer.now) (steps c.pass.new.peer) now c.in_ok-pass.was c.pass.ensures
-    (goes_on (LookUp, true, 1) ((Close, true, 1) ∷ (LookUp, false, TRIES) ∷ []) c.pass-2.result result
+    (continues (LookUp, true, 1) ((Close, true, 1) ∷ (LookUp, false, TRIES) ∷ []) c.pass-2.result result
     (steps c.pass.new.peer) (steps c.pass-2.new.peer) now c.in_ok-pass-2.was c.pass-2.ensures
     (fails (Close, true, 1) ((LookUp, false, TRIES) ∷ []) c.pass-3.result result c.in_err-pass-3.field-0.0
     (steps c.pass-2.new.peer) now c.in_err-pass-3.was (search rules) c.pass-3.ensures))
@@ -21,10 +21,10 @@ returns g c =
     let steps = g.P.Checked.steps in
     let now = steps c.pass-4.new.peer in
     let result = c.pass-4.result in
-    goes_on (Register, true, TRIES) ((LookUp, true, 1) ∷ (Close, true, 1) ∷ (LookUp, false, TRIES) ∷ []) c.pass.result result
+    continues (Register, true, TRIES) ((LookUp, true, 1) ∷ (Close, true, 1) ∷ (LookUp, false, TRIES) ∷ []) c.pass.result result
     (steps c.args.peer.now) (steps c.pass.new.peer) now c.in_ok-pass.was c.pass.ensures
-    (goes_on (LookUp, true, 1) ((Close, true, 1) ∷ (LookUp, false, TRIES) ∷ []) c.pass-2.result result
+    (continues (LookUp, true, 1) ((Close, true, 1) ∷ (LookUp, false, TRIES) ∷ []) c.pass-2.result result
     (steps c.pass.new.peer) (steps c.pass-2.new.peer) now c.in_ok-pass-2.was c.pass-2.ensures
-    (goes_on (Close, true, 1) ((LookUp, false, TRIES) ∷ []) c.pass-3.result result
+    (continues (Close, true, 1) ((LookUp, false, TRIES) ∷ []) c.pass-3.result result
     (steps c.pass-2.new.peer) (steps c.pass-3.new.peer) now c.in_ok-pass-3.was c.pass-3.ensures
     (ends (LookUp, false, TRIES) result (steps c.pass-3.new.peer) now c.pass-4.ensures)))

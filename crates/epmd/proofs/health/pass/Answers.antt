@@ -8,6 +8,6 @@ loop-preserved g c =
     let answer = unwanted c.in-Ok.answer c.args.wanted c.if-answer-wanted.false in
     let pause = c.make-in-loop.ensures.alone (inr refl) in
     record {
-      tried = rw (more, c.make-in-loop.ensures.noted, c.make.ensures.noted, c.loop.invariant.tried, c.in-Ok.is, answer, pause)
+      tried = rw (more, c.make-in-loop.ensures.recorded, c.make.ensures.recorded, c.loop.invariant.tried, c.in-Ok.is, answer, pause)
           (simp append_assoc refl);
     }

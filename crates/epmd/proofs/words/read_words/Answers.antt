@@ -10,12 +10,12 @@ returns-in_err-command-clause-fault c =
 
 pub returns-clause-port : goal.returns-clause-port
 returns-clause-port c =
-    let (items, spells, holds) = c.in_ok-plan.ensures.said in
+    let (items, spells, holds) = c.in_ok-plan.ensures.spelled in
     port_within (map string_bytes c.args.words.now) c.args.env.now c.in_ok-command.command
     (items, c.in_ok-plan.plan, spells, holds, c.in_ok-command.ensures.made)
 
 pub returns-clause-ranges : goal.returns-clause-ranges
 returns-clause-ranges c =
-    let (items, spells, holds) = c.in_ok-plan.ensures.said in
+    let (items, spells, holds) = c.in_ok-plan.ensures.spelled in
     can_serve (map string_bytes c.args.words.now) c.args.env.now c.in_ok-command.command
     (items, c.in_ok-plan.plan, spells, holds, c.in_ok-command.ensures.made)

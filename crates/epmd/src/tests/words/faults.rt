@@ -1,4 +1,4 @@
-//! Words that are no command: which fault they have, and how it is told.
+//! Words that are not a command: their faults, and what is printed of them.
 use super::Asks;
 use crate::tests::ending;
 use crate::words::{WordFault, refuse};
@@ -8,7 +8,7 @@ use std::alloc::Global;
 use std::test::Fail;
 
 #[test]
-fn a_word_that_is_not_known_is_told(rt: HostRuntime) -> Result<(), Fail> {
+fn a_word_that_is_not_known_is_reported(rt: HostRuntime) -> Result<(), Fail> {
     let table = "
         epmd with -foo - names -name -namess -Names --names ~-names '' ? -port=4370 -record=x -> fault Unknown(0)
         epmd -Record x -> fault Unknown(0)
@@ -28,7 +28,7 @@ fn a_word_that_is_not_known_is_told(rt: HostRuntime) -> Result<(), Fail> {
 }
 
 #[test]
-fn a_value_that_is_missing_is_told(rt: HostRuntime) -> Result<(), Fail> {
+fn a_value_that_is_missing_is_reported(rt: HostRuntime) -> Result<(), Fail> {
     let table = "
         epmd with -port -address -packet_timeout -workers -record -stop -check -play -local -audit -> fault MissingValue(0)
         epmd -d -names -port -> fault MissingValue(2)
@@ -73,8 +73,8 @@ fn a_name_to_stop_is_a_name(rt: HostRuntime) -> Result<(), Fail> {
 }
 
 #[test]
-fn the_first_fault_is_told(rt: HostRuntime) -> Result<(), Fail> {
-    // Unknown words come before a second action, that before a value that is missing, and that before a bad one.
+fn the_first_fault_is_reported(rt: HostRuntime) -> Result<(), Fail> {
+    // The order at one word: unknown, second action, missing value, bad value.
     let table = "
         epmd -names -foo -> fault Unknown(1)
         epmd -names -stop -> fault TwoCommands(1)
@@ -106,7 +106,7 @@ fn words_are_read_before_the_environment(rt: HostRuntime) -> Result<(), Fail> {
     all_come(&rt, &Asks, table)
 }
 
-/// The words of each action, and how many.
+/// The words of each action, and their number.
 const ACTIONS: &[(&str, usize)] = &[
     ("-names", 1),
     ("-kill", 1),
@@ -120,7 +120,7 @@ const ACTIONS: &[(&str, usize)] = &[
     ("-audit a", 2),
 ];
 
-/// A failure, unless each action behind this one is refused at its first word.
+/// Fails unless each action after this one is refused at its first word.
 fn stands_last(alloc: Global, first: &str, count: usize) -> Result<(), Fail> {
     for (second, _) in ACTIONS {
         let line = format!(in alloc; "epmd {first} {second} -> fault TwoCommands({count})")?;

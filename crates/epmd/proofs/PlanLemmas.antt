@@ -1,4 +1,4 @@
--- What words have said so far, one item more at a time.
+-- Plans and words, one item more at a time.
 use Rattle.std.specs.{List.list_any, Option.option_or, Prelude.is_some}
 use Rattle.std.proofs.Common.{◌≡◌, ℕ, ◌+◌, ◌<◌, ◌≤◌, Bool, true, false, cond, List, [], ◌∷◌, ◌++◌, Option, Some, None}
 use Rattle.std.proofs.Common.{refl, sym, ap, subst, ◌∙◌, ◌||◌, append_assoc, arith, length, map, take, drop, get_or}
@@ -31,7 +31,7 @@ or_false false = refl
 any_push : (test : Word → Bool) (items : List Word) (item : Word) → list_any test (items ++ item ∷ []) ≡ (list_any test items || test item)
 any_push test items item = list_any-append test items (item ∷ []) ∙ ap (λ (b : Bool). list_any test items || b) (or_false (test item))
 
--- an action comes where none was, and stays
+-- A new action needs a plan without one, and stays.
 counted : (item : Word) (old new : Option Action) → new ≡ option_or (action_of item) old → (is_action item ≡ true → is_some old ≡ false)
     → cond (is_some new) 1 0 ≡ cond (is_some old) 1 0 + cond (is_action item) 1 0
 counted (Act action) old new e first =
@@ -42,47 +42,47 @@ counted item old new e first =
     let same : ◌≡◌ {A = ℕ} (cond (is_some new) 1 0) (cond (is_some old) 1 0) = ap (λ (o : Option Action). cond (is_some o) 1 0) e in
     omega (arith, same)
 
--- what an item sets is set anew
-set_anew : {X : Type 0} (sets : Word → Option X) (items : List Word) (item : Word) (old new : Option X)
+-- The new value is that of the last item that sets it.
+set_last : {X : Type 0} (sets : Word → Option X) (items : List Word) (item : Word) (old new : Option X)
     → new ≡ option_or (sets item) old → old ≡ last_by sets items → new ≡ last_by sets (items ++ item ∷ [])
-set_anew sets items item old new a h = a ∙ ap (option_or (sets item)) h ∙ sym (last_by_push sets items item)
+set_last sets items item old new a h = a ∙ ap (option_or (sets item)) h ∙ sym (last_by_push sets items item)
 
 pub holds_more : (items : List Word) (item : Word) (old new : Plan) → Holds items old → Adds item old new
     → (is_action item ≡ true → is_some old.action ≡ false) → Holds (items ++ item ∷ []) new
 holds_more items item old new h a first = record {
-  action = set_anew action_of items item old.action new.action a.action h.action;
+  action = set_last action_of items item old.action new.action a.action h.action;
   actions =
       let k = counted item old.action new.action a.action first in
       omega (arith, sum_by_push (λ (x : Word). cond (is_action x) 1 0) items item, h.actions, k);
-  port = set_anew port_of items item old.port new.port a.port h.port;
-  addresses = set_anew addresses_of items item old.addresses new.addresses a.addresses h.addresses;
-  timeout = set_anew timeout_of items item old.timeout new.timeout a.timeout h.timeout;
-  workers = set_anew workers_of items item old.workers new.workers a.workers h.workers;
+  port = set_last port_of items item old.port new.port a.port h.port;
+  addresses = set_last addresses_of items item old.addresses new.addresses a.addresses h.addresses;
+  timeout = set_last timeout_of items item old.timeout new.timeout a.timeout h.timeout;
+  workers = set_last workers_of items item old.workers new.workers a.workers h.workers;
   relaxed = a.relaxed ∙ ap (λ (b : Bool). b || is_relaxed item) h.relaxed ∙ sym (any_push is_relaxed items item);
   debug = a.debug ∙ ap (λ (b : Bool). b || is_debug item) h.debug ∙ sym (any_push is_debug items item);
-  recording = set_anew recording_of items item old.recording new.recording a.recording h.recording;
-  figures = set_anew figures_of items item old.figures new.figures a.figures h.figures;
+  recording = set_last recording_of items item old.recording new.recording a.recording h.recording;
+  figures = set_last figures_of items item old.figures new.figures a.figures h.figures;
 }
 
--- these words are said, and this rest is left
-pub record Says (words rest : List (List ℕ)) (plan : Plan) : Type 0 where
+-- The items of these words up to the rest are in the plan.
+pub record HasRead (words rest : List (List ℕ)) (plan : Plan) : Type 0 where
   pub items : List Word
   pub with_more : (more : List Word) → Spells rest more → Spells words (items ++ more)
   pub holds : Holds items plan
 
-pub says_more : (words rest after : List (List ℕ)) (item : Word) (old new : Plan) → Says words rest old → Begins item rest after
-    → Adds item old new → (is_action item ≡ true → is_some old.action ≡ false) → Says words after new
-says_more words rest after item old new s begins a first = record {
+pub has_read_more : (words rest after : List (List ℕ)) (item : Word) (old new : Plan) → HasRead words rest old → Begins item rest after
+    → Adds item old new → (is_action item ≡ true → is_some old.action ≡ false) → HasRead words after new
+has_read_more words rest after item old new s begins a first = record {
   items = s.items ++ item ∷ [];
   with_more = λ more spells. subst (Spells words) (sym (append_assoc s.items (item ∷ []) more))
       (s.with_more (item ∷ more) (after, begins, spells));
   holds = holds_more s.items item old new s.holds a first;
 }
 
-pub says_all : {X : Type 0} (f : X → List ℕ) (words : List (List ℕ)) (rest : List X) (plan : Plan) → length rest < 1
-    → Says words (map f rest) plan → (items : List Word) × Spells words items × Holds items plan
-says_all f words [] plan none s = (s.items, subst (Spells words) (append-nil s.items) (s.with_more [] refl), s.holds)
-says_all f words (x ∷ xs) plan none s = absurd (omega arith)
+pub has_read_all : {X : Type 0} (f : X → List ℕ) (words : List (List ℕ)) (rest : List X) (plan : Plan) → length rest < 1
+    → HasRead words (map f rest) plan → (items : List Word) × Spells words items × Holds items plan
+has_read_all f words [] plan none s = (s.items, subst (Spells words) (append-nil s.items) (s.with_more [] refl), s.holds)
+has_read_all f words (x ∷ xs) plan none s = absurd (omega arith)
 
 -- ---- the words that are left
 
