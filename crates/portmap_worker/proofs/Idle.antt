@@ -9,16 +9,16 @@ use Rattle.portmap_ready.specs.Links.{state_at, put_at, removed, reported, after
 use Rattle.std.proofs.{Math.Seq.{drop-nil, take_all}, lemmas.List.{drop-drop, Sums.fold_more}}
 use Rattle.std.proofs.lemmas.{Option.{get_or_from_slice_get, slice_get_cases, slice_get_within}}
 use Rattle.portmap_ready.{specs.Links.{is_queued, is_quiet as is_quiet_place, pushed}}
-use Rattle.portmap_ready.{specs.Runs.{Queue, PutBack, Remove}, proofs.Turns.wait_is_bounded}
-use Rattle.portmap_ready.specs.declared.LinkState.{LinkState, TheVariants.{Idle, Pending, Queued, Paused, Current}}
+use Rattle.portmap_ready.{specs.Runs.{Queue, PutBack, Remove}, proofs.{Tables.some_map, Turns.wait_is_bounded}}
+use Rattle.portmap_ready.specs.declared.LinkState.{LinkState, TheVariants.{Idle, Queued, Paused, Current}}
 use Rattle.portmap_worker.specs.IdleLinks.{Ahead, AllQuiet, AreNoted, Changes, Fact, Has, Holds, IsReported, Keeps, KeepsLinks}
-use Rattle.portmap_worker.specs.IdleLinks.{Safe, Spares, Returns, ReturnsLinks, There}
+use Rattle.portmap_worker.specs.IdleLinks.{Safe, Spares, Returned, Returns, ReturnsLinks, There}
 use Rattle.portmap_worker.specs.IdleLinks.{hears, is_calm, is_safe, noted_at, notes_of, place_reported}
 use Rattle.portmap_worker.specs.Keys.{Comes, Ends, come}
 use Rattle.portmap_worker.specs.Link.{IsOf}
-use Rattle.portmap_worker.specs.declared.source.Turn.{Turn, TheVariants.{Fresh, Idle as Quiet, Late, Ready, Stop}}
+use Rattle.portmap_worker.specs.declared.source.Turn.{Turn, TheVariants.{Fresh}}
 use Rattle.portmap_worker.specs.declared.system.Report.{Report, TheVariants.{Stream}}
-use Rattle.portmap_worker.specs.{Quiet.is_quiet, declared.open_link.OpenLink.OpenLink, declared.readiness.Note.TheVariants.{Reported}}
+use Rattle.portmap_worker.specs.{Quiet.is_quiet, declared.{open_link.OpenLink.OpenLink, readiness.Note.{Note, TheVariants.{Reported}}}}
 
 absent_stays : (k : ℕ) (xs : List ℕ) → times k xs ≡ 0 → without k xs ≡ xs
 absent_stays k [] e = refl
@@ -37,10 +37,6 @@ awake : (a b : Bool) → not a && b ≡ true → a ≡ false
 awake true b e = absurd (cc)
 awake false b e = refl
 
-there_still : {A B : Type 0} (f : A → B) (o : Option A) → is_some (option_map f o) ≡ is_some o
-there_still f None = refl
-there_still f (Some a) = refl
-
 module _ {S : Type 0} where
   -- The link gets another state, gets another value, or is reported.
   abbrev to : LinkState → OpenLink S × LinkState → OpenLink S × LinkState
@@ -51,6 +47,12 @@ module _ {S : Type 0} where
 
   abbrev waked : OpenLink S × LinkState → OpenLink S × LinkState
   waked l = (l.0, place_reported true l.1)
+
+  abbrev value : Option (OpenLink S × LinkState) → Option (OpenLink S)
+  value = option_map (λ l. l.0)
+
+  abbrev noted : Option (OpenLink S × LinkState) → Option (List Note)
+  noted = option_map (λ l. notes_of l.0)
 
   -- ---- the link under a key, and the links under other keys
 
@@ -88,12 +90,8 @@ module _ {S : Type 0} where
 
   reported_at : (o : Option (OpenLink S × LinkState)) (k : ℕ) (r : Links (OpenLink S)) → link_at r k ≡ o
       → link_at (reported k r) k ≡ option_map waked o
-  reported_at None k r h = search rules
   reported_at (Some (v, Idle)) k r h = search (rules, put_here)
-  reported_at (Some (v, Paused)) k r h = search (rules, put_here)
-  reported_at (Some (v, Queued)) k r h = search rules
-  reported_at (Some (v, Pending)) k r h = search rules
-  reported_at (Some (v, Current)) k r h = search rules
+  reported_at o k r h = search (rules, put_here)
 
   pub reported_here : (k : ℕ) (r : Links (OpenLink S)) → link_at (reported k r) k ≡ option_map waked (link_at r k)
   reported_here k r = reported_at (link_at r k) k r refl
@@ -109,23 +107,30 @@ module _ {S : Type 0} where
   pub then_written : (k : ℕ) (v : OpenLink S) (old r : Links (OpenLink S)) → Alike k old r → Alike k old (written k r v)
   then_written k v old r a = record {
     others = λ q d. write_there k v (link_at r k) r.links q d ∙ a.others q d;
-    there = ap is_some (written_here k v r) ∙ there_still (with v) (link_at r k) ∙ a.there;
+    there = ap is_some (written_here k v r) ∙ some_map (with v) (link_at r k) ∙ a.there;
   }
 
   pub then_moved : (state : LinkState) (k : ℕ) (old r : Links (OpenLink S)) → Alike k old r → Alike k old (moved state k r)
   then_moved state k old r a = record {
     others = λ q d. put_there state k (link_at r k) r.links q d ∙ a.others q d;
-    there = ap is_some (moved_here state k r) ∙ there_still (to state) (link_at r k) ∙ a.there;
+    there = ap is_some (moved_here state k r) ∙ some_map (to state) (link_at r k) ∙ a.there;
   }
 
   pub then_reported : (k : ℕ) (old r : Links (OpenLink S)) → Alike k old r → Alike k old (reported k r)
   then_reported k old r a = record {
     others = λ q d. here k r q d ∙ a.others q d;
-    there = ap is_some (reported_here k r) ∙ there_still waked (link_at r k) ∙ a.there;
+    there = ap is_some (reported_here k r) ∙ some_map waked (link_at r k) ∙ a.there;
   }
     where
       here : (k : ℕ) (r : Links (OpenLink S)) (q : ℕ) → q ≢ k → link_at (reported k r) q ≡ link_at r q
       here k r q d = search (rules, put_there)
+
+  -- Only the links count, and not the lists.
+  alike : (k : ℕ) (old r new : Links (OpenLink S)) → new.links ≡ r.links → Alike k old r → Alike k old new
+  alike k old r new e a = record {
+    others = λ q d. ap (λ m. map.get m q) e ∙ a.others q d;
+    there = ap (λ m. is_some (map.get m k)) e ∙ a.there;
+  }
 
   -- ---- queued links
 
@@ -186,22 +191,15 @@ module _ {S : Type 0} where
   all_safe f (Some l) h = h l refl
 
   waked_safe : (o : Option (OpenLink S × LinkState)) → is_safe (option_map waked o) ≡ true
-  waked_safe None = refl
   waked_safe (Some (v, Idle)) = refl
-  waked_safe (Some (v, Paused)) = refl
-  waked_safe (Some (v, Queued)) = refl
-  waked_safe (Some (v, Pending)) = refl
-  waked_safe (Some (v, Current)) = refl
+  waked_safe o = refl
 
   both : (v : OpenLink S) → v.link.is_paused ≡ false → is_quiet (notes_of v) ≡ true → is_calm v ≡ true
   both v r q = rw (r, q) refl
 
   quiet_safe : (v : OpenLink S) (state : LinkState) → is_calm v ≡ true → is_safe (Some (v, state)) ≡ true
   quiet_safe v Idle q = q
-  quiet_safe v Queued q = refl
-  quiet_safe v Pending q = refl
-  quiet_safe v Paused q = refl
-  quiet_safe v Current q = refl
+  quiet_safe v state q = refl
 
   -- ---- changes
 
@@ -212,12 +210,9 @@ module _ {S : Type 0} where
   module _ (state : LinkState) (k : ℕ) (old r new : Links (OpenLink S)) where
     goes : Alike k old r → Stays old r → IsMoved state k r new → ((v : OpenLink S) → is_safe (Some (v, state)) ≡ true) → Keeps old new
     goes others queue e safe =
-        let gone = then_moved state k old r others in
         let links = ap (λ p. p.0) e in
-        keep k old new (record {
-          others = λ q d. ap (λ m. map.get m q) links ∙ gone.others q d;
-          there = ap (λ m. is_some (map.get m k)) links ∙ gone.there;
-        }) (λ q most h. joins (is_queued state) k r new (ap (λ p. p.1) e) q most (queue q most h))
+        keep k old new (alike k old (moved state k r) new links (then_moved state k old r others))
+        (λ q most h. joins (is_queued state) k r new (ap (λ p. p.1) e) q most (queue q most h))
         (ap is_safe (ap (λ m. map.get m k) links ∙ moved_here state k r) ∙ all_safe (to state) (link_at r k) (λ l _. safe l.0))
 
   -- The link also gets another value.
@@ -258,33 +253,26 @@ module _ {S : Type 0} where
         (ap is_safe (reported_here k (written k r v)) ∙ waked_safe (link_at (written k r v) k)))
 
   -- The link gets another value, which is calm if the old value was.
-  pub kept_so : (k : ℕ) (r : Links (OpenLink S)) (h v : OpenLink S) → Some h
-      ≡ option_map (λ (l : OpenLink S × LinkState). l.0) (link_at r k)
+  pub kept_so : (k : ℕ) (r : Links (OpenLink S)) (h v : OpenLink S) → Some h ≡ value (link_at r k)
       → (is_calm h ≡ true → is_calm v ≡ true) → Keeps r (written k r v)
-  kept_so k r h v value same =
+  kept_so k r h v is same =
       keeps_both r (written k r v) (keep_so k r (written k r v) (then_written k v r r (itself k r)) (λ safe.
-      ap is_safe (written_here k v r) ∙ at (link_at r k) value safe)) (λ q most h. h)
+      ap is_safe (written_here k v r) ∙ at (link_at r k) is safe)) (λ q most h. h)
     where
-      at : (o : Option (OpenLink S × LinkState)) → Some h ≡ option_map (λ (l : OpenLink S × LinkState). l.0) o → is_safe o ≡ true
-          → is_safe (option_map (with v) o) ≡ true
-      at None e s = refl
+      at : (o : Option (OpenLink S × LinkState)) → Some h ≡ value o → is_safe o ≡ true → is_safe (option_map (with v) o) ≡ true
       at (Some (t, Idle)) e s = same (ap (λ o. is_calm (unwrap_or o h)) e ∙ s)
-      at (Some (t, Queued)) e s = refl
-      at (Some (t, Pending)) e s = refl
-      at (Some (t, Paused)) e s = refl
-      at (Some (t, Current)) e s = refl
+      at o e s = refl
 
-  pub as_calm : (k : ℕ) (r : Links (OpenLink S)) (h v : OpenLink S) → Some h
-      ≡ option_map (λ (l : OpenLink S × LinkState). l.0) (link_at r k)
+  pub as_calm : (k : ℕ) (r : Links (OpenLink S)) (h v : OpenLink S) → Some h ≡ value (link_at r k)
       → v.link.is_paused ≡ h.link.is_paused → notes_of v ≡ notes_of h → Keeps r (written k r v)
-  as_calm k r h v value rests notes =
-      kept_so k r h v value (λ calm. ap (λ b. not b && is_quiet (notes_of v)) rests
+  as_calm k r h v is rests notes =
+      kept_so k r h v is (λ calm. ap (λ b. not b && is_quiet (notes_of v)) rests
       ∙ ap (λ n. not h.link.is_paused && is_quiet n) notes ∙ calm)
 
   -- The link was scanned, and is not to be served.
-  pub looked : (k : ℕ) (r : Links (OpenLink S)) (h v : OpenLink S) → Some h ≡ option_map (λ (l : OpenLink S × LinkState). l.0) (link_at r k)
+  pub looked : (k : ℕ) (r : Links (OpenLink S)) (h v : OpenLink S) → Some h ≡ value (link_at r k)
       → v.link.is_paused ≡ h.link.is_paused → (h.link.is_paused ≡ false → is_quiet (notes_of v) ≡ true) → Keeps r (written k r v)
-  looked k r h v value rests quiet = kept_so k r h v value (λ calm.
+  looked k r h v is rests quiet = kept_so k r h v is (λ calm.
       let up : h.link.is_paused ≡ false = awake h.link.is_paused (is_quiet (notes_of h)) calm in
       both v (rests ∙ up) (quiet up))
 
@@ -296,14 +284,10 @@ module _ {S : Type 0} where
     where
       at : (o : Option (OpenLink S × LinkState)) → option_map (λ (l : OpenLink S × LinkState). l.1) o ≡ Some Paused
           → is_safe (option_map (with v) o) ≡ true
-      at None e = refl
       at (Some (t, Idle)) e = absurd (cc)
-      at (Some (t, Queued)) e = refl
-      at (Some (t, Pending)) e = refl
-      at (Some (t, Paused)) e = refl
-      at (Some (t, Current)) e = refl
+      at o e = refl
 
-  pub no_link : (o : Option (OpenLink S × LinkState)) → None ≡ option_map (λ (l : OpenLink S × LinkState). l.0) o → o ≡ None
+  pub no_link : (o : Option (OpenLink S × LinkState)) → None ≡ value o → o ≡ None
   no_link None e = refl
   no_link (Some l) e = absurd (cc)
 
@@ -320,18 +304,14 @@ module _ {S : Type 0} where
       (ap is_safe (written_here k v r ∙ ap (option_map (with v)) (ap (λ r. link_at r k) e ∙ reported_here k old)) ∙ at (link_at old k))
     where
       at : (o : Option (OpenLink S × LinkState)) → is_safe (option_map (with v) (option_map waked o)) ≡ true
-      at None = refl
       at (Some (t, Idle)) = refl
-      at (Some (t, Queued)) = refl
-      at (Some (t, Pending)) = refl
-      at (Some (t, Paused)) = refl
-      at (Some (t, Current)) = refl
+      at o = refl
 
   -- The link is there if and only if it was there before.
-  pub there_before : (k : ℕ) (old r : Links (OpenLink S)) (o : Option (OpenLink S)) → r ≡ reported k old
-      → o ≡ option_map (λ (l : OpenLink S × LinkState). l.0) (link_at r k) → Has old k (is_some o)
-  there_before k old r o e value =
-      sym (ap is_some value ∙ there_still (λ (l : OpenLink S × LinkState). l.0) (link_at r k) ∙ ap (λ r. is_some (link_at r k)) e
+  pub there_before : (k : ℕ) (old r : Links (OpenLink S)) (o : Option (OpenLink S)) → r ≡ reported k old → o ≡ value (link_at r k)
+      → Has old k (is_some o)
+  there_before k old r o e is =
+      sym (ap is_some is ∙ some_map (λ (l : OpenLink S × LinkState). l.0) (link_at r k) ∙ ap (λ r. is_some (link_at r k)) e
       ∙ (then_reported k old old (itself k old)).there)
 
   pub reports : (k : ℕ) (old r : Links (OpenLink S)) → r ≡ reported k old → Keeps old r
@@ -349,11 +329,8 @@ module _ {S : Type 0} where
       → ((v : OpenLink S) → is_safe (Some (v, state)) ≡ true) → KeepsLinks old new
   first_goes state None old new e safe = same_links old new e
   first_goes state (Some k) old new e safe =
-      let gone = then_moved state k old old (itself k old) in
-      keep_so k old new (record {
-        others = λ q d. ap (λ m. map.get m q) e ∙ gone.others q d;
-        there = ap (λ m. is_some (map.get m k)) e ∙ gone.there;
-      }) (λ _. ap is_safe (ap (λ m. map.get m k) e ∙ moved_here state k old) ∙ all_safe (to state) (link_at old k) (λ l _. safe l.0))
+      keep_so k old new (alike k old (moved state k old) new e (then_moved state k old old (itself k old)))
+      (λ _. ap is_safe (ap (λ m. map.get m k) e ∙ moved_here state k old) ∙ all_safe (to state) (link_at old k) (λ l _. safe l.0))
 
   pub refused : (old new : Links (OpenLink S)) → IsButForRoom new old → Keeps old new
   refused old new e =
@@ -370,12 +347,7 @@ module _ {S : Type 0} where
       → new.links ≡ first_at state o old.links → Alike k old new
   first_others state k None old new s e = absurd (cc)
   first_others state k (Some j) old new s e =
-      let links = e ∙ ap (λ o. first_at state o old.links) s in
-      let gone = then_moved state k old old (itself k old) in
-      record {
-        others = λ q d. ap (λ m. map.get m q) links ∙ gone.others q d;
-        there = ap (λ m. is_some (map.get m k)) links ∙ gone.there;
-      }
+      alike k old (moved state k old) new (e ∙ ap (λ o. first_at state o old.links) s) (then_moved state k old old (itself k old))
 
   -- The first queued link becomes the current link, and gets another value.
   pub current_written : (k : ℕ) (old r : Links (OpenLink S)) (v : OpenLink S) → slice_get old.queue 0 ≡ Some k
@@ -405,51 +377,36 @@ module _ {S : Type 0} where
   -- ---- the effect of a report on a link
 
   module _ (closed : Bool) (k : ℕ) (r new : Links (OpenLink S)) (h v : OpenLink S) where
-    pub reported_so : Some h ≡ option_map (λ (l : OpenLink S × LinkState). l.0) (link_at r k) → notes_of v ≡ notes_of h ++ Reported ∷ []
+    pub reported_so : Some h ≡ value (link_at r k) → notes_of v ≡ notes_of h ++ Reported ∷ []
         → (closed ≡ true) ⊎ (state_at r k ≡ Some Paused → ⊥) → new ≡ reported k (written k r v)
         → IsReported closed (link_at r k) (link_at new k)
-    reported_so value noted unless e =
-        at (link_at r k) (link_at new k) value unless
+    reported_so is noted unless e =
+        at (link_at r k) (link_at new k) is unless
         (ap (λ r. link_at r k) e ∙ reported_here k (written k r v) ∙ ap (option_map waked) (written_here k v r))
       where
         same : (closed : Bool) (state : LinkState) → (closed ≡ true) ⊎ (Some state ≡ Some Paused → ⊥)
             → place_reported true state ≡ place_reported closed state
-        same true state unless = refl
         same false Paused unless = absurd (elim unless [ inl e ↦ absurd (cc) | inr n ↦ n refl ])
-        same false Idle unless = refl
-        same false Queued unless = refl
-        same false Pending unless = refl
-        same false Current unless = refl
+        same closed state unless = refl
 
-        at : (o n : Option (OpenLink S × LinkState)) → Some h ≡ option_map (λ (l : OpenLink S × LinkState). l.0) o
+        at : (o n : Option (OpenLink S × LinkState)) → Some h ≡ value o
             → (closed ≡ true) ⊎ (option_map (λ (l : OpenLink S × LinkState). l.1) o ≡ Some Paused → ⊥)
             → n ≡ option_map waked (option_map (with v) o) → IsReported closed o n
-        at None n value unless e = e
-        at (Some (t, state)) n value unless e =
-            rw e (same closed state unless, noted ∙ ap (λ o. notes_of (unwrap_or o h) ++ Reported ∷ []) value)
+        at None n is unless e = e
+        at (Some (t, state)) n is unless e =
+            rw e (same closed state unless, noted ∙ ap (λ o. notes_of (unwrap_or o h) ++ Reported ∷ []) is)
 
-  pub rests_so : (k : ℕ) (r : Links (OpenLink S)) (h v : OpenLink S)
-      → Some h ≡ option_map (λ (l : OpenLink S × LinkState). l.0) (link_at r k) → notes_of v ≡ notes_of h ++ Reported ∷ []
-      → state_at r k ≡ Some Paused → IsReported false (link_at r k) (link_at (written k r v) k)
-  rests_so k r h v value noted paused = at (link_at r k) _ value paused (written_here k v r)
+  pub rests_so : (k : ℕ) (r : Links (OpenLink S)) (h v : OpenLink S) → Some h ≡ value (link_at r k)
+      → notes_of v ≡ notes_of h ++ Reported ∷ [] → state_at r k ≡ Some Paused → IsReported false (link_at r k) (link_at (written k r v) k)
+  rests_so k r h v is noted paused = at (link_at r k) _ is paused (written_here k v r)
     where
-      at : (o n : Option (OpenLink S × LinkState)) → Some h ≡ option_map (λ (l : OpenLink S × LinkState). l.0) o
+      at : (o n : Option (OpenLink S × LinkState)) → Some h ≡ value o
           → option_map (λ (l : OpenLink S × LinkState). l.1) o ≡ Some Paused → n ≡ option_map (with v) o → IsReported false o n
-      at None n value paused e = e
-      at (Some (t, Paused)) n value paused e = rw e (refl, noted ∙ ap (λ o. notes_of (unwrap_or o h) ++ Reported ∷ []) value)
-      at (Some (t, Idle)) n value paused e = absurd (cc)
-      at (Some (t, Queued)) n value paused e = absurd (cc)
-      at (Some (t, Pending)) n value paused e = absurd (cc)
-      at (Some (t, Current)) n value paused e = absurd (cc)
+      at None n is paused e = e
+      at (Some (t, Paused)) n is paused e = rw e (refl, noted ∙ ap (λ o. notes_of (unwrap_or o h) ++ Reported ∷ []) is)
+      at o n is paused e = absurd (cc)
 
   -- ---- links that arrive and end
-
-  is_there : (k : ℕ) (l : OpenLink S × LinkState) (m : map.FinMap nat_cmp (OpenLink S × LinkState)) → map.get (map.insert m k l) k ≡ Some l
-  is_there k l m = grind (arith, nat_tests, map.gets)
-
-  others_there : (k : ℕ) (l : OpenLink S × LinkState) (m : map.FinMap nat_cmp (OpenLink S × LinkState)) (q : ℕ) → q ≢ k
-      → map.get (map.insert m k l) q ≡ map.get m q
-  others_there k l m q d = grind (arith, nat_tests, map.gets, d)
 
   module _ (k : ℕ) (comes : Bool) (old new : Links (OpenLink S)) where
     but : ((q : ℕ) → q ≢ k → link_at new q ≡ link_at old q)
@@ -462,19 +419,13 @@ module _ {S : Type 0} where
     ]
     but others queue safe (Ahead q most) d h = queue q most d h
 
-  is_gone : (k : ℕ) (m : map.FinMap nat_cmp (OpenLink S × LinkState)) → map.get (map.remove m k) k ≡ None
-  is_gone k m = grind (arith, nat_tests, map.gets)
-
-  others_stay : (k : ℕ) (m : map.FinMap nat_cmp (OpenLink S × LinkState)) (q : ℕ) → q ≢ k → map.get (map.remove m k) q ≡ map.get m q
-  others_stay k m q d = grind (arith, nat_tests, map.gets, d)
-
   -- A link arrived under a free key.
   pub after_insert : (k : ℕ) (old new : Links (OpenLink S)) (v : OpenLink S) → link_at old k ≡ None
       → IsButForRoom new (inserted k v old) → Has old k false × Changes k true old new
   after_insert k old new v free e =
-      let links = ap (λ (r : Links (OpenLink S)). r.links) e in
-      let here = ap (λ m. map.get m k) links ∙ is_there k (v, Queued) old.links in
-      let others = λ (q : ℕ) (d : q ≢ k). ap (λ m. map.get m q) links ∙ others_there k (v, Queued) old.links q d in (
+      let links : new.links ≡ map.insert old.links k (v, Queued) = ap (λ (r : Links (OpenLink S)). r.links) e in
+      let here : link_at new k ≡ Some (v, Queued) = rw links (grind (arith, nat_tests, map.gets)) in
+      let others : (q : ℕ) → q ≢ k → link_at new q ≡ link_at old q = λ q d. rw links (grind (arith, nat_tests, map.gets, d)) in (
         ap is_some free,
         record {
           now = ap is_some here;
@@ -486,9 +437,9 @@ module _ {S : Type 0} where
   -- The link has ended.
   pub after_remove : (k : ℕ) (old new : Links (OpenLink S)) → IsButForRoom new (removed k old) → Changes k false old new
   after_remove k old new e =
-      let links = ap (λ (r : Links (OpenLink S)). r.links) e in
-      let here = ap (λ m. map.get m k) links ∙ is_gone k old.links in
-      let others = λ (q : ℕ) (d : q ≢ k). ap (λ m. map.get m q) links ∙ others_stay k old.links q d in
+      let links : new.links ≡ map.remove old.links k = ap (λ (r : Links (OpenLink S)). r.links) e in
+      let here : link_at new k ≡ None = rw links (grind (arith, nat_tests, map.gets)) in
+      let others : (q : ℕ) → q ≢ k → link_at new q ≡ link_at old q = λ q d. rw links (grind (arith, nat_tests, map.gets, d)) in
       record { now = ap is_some here; others = but k false old new others queue (ap is_safe here) }
     where
       queue : (q most : ℕ) → q ≢ k → Holds (Ahead q most) old → Holds (Ahead q most) new
@@ -521,69 +472,38 @@ module _ {S : Type 0} where
       at false h = h
       at true h = let both : true ≡ false = sym (k (There key true) h) ∙ none in absurd (cc)
 
-  pub returned_none : (old new : Links (OpenLink S)) (turn : Option Turn) → is_some turn ≡ false → Returns old new turn → Keeps old new
+  pub returned_none : (old new : Links (OpenLink S)) (turn : Option Turn) → is_some turn ≡ false → ReturnsLinks old new turn → Keeps old new
   returned_none old new None e t = t
   returned_none old new (Some turn) e t = absurd (cc)
 
-  pub returned_none_links : (old new : Links (OpenLink S)) (turn : Option Turn) → is_some turn ≡ false → ReturnsLinks old new turn
-      → Keeps old new
-  returned_none_links old new None e t = t
-  returned_none_links old new (Some turn) e t = absurd (cc)
-
-  -- `Keeps` before a turn and `Returns` of the turn are together `Returns`.
-  pub then_returns : (old r new : Links (OpenLink S)) (turn : Option Turn) → Keeps old r → Returns r new turn → Returns old new turn
-  then_returns old r new None k t = λ fact h. t fact (k fact h)
-  then_returns old r new (Some (Fresh key local)) k t =
+  -- `Keeps` before a turn and the effect of the turn are together such an effect.
+  then_returned : (kept more : Type 0) (old r new : Links (OpenLink S)) (turn : Option Turn) → (kept → more) → Keeps old r
+      → Returned kept r new turn → Returned more old new turn
+  then_returned kept more old r new None f k t = λ fact h. t fact (k fact h)
+  then_returned kept more old r new (Some (Fresh key local)) f k t =
       (none_before key old r k t.0, record { now = t.1.now; others = λ fact s h. t.1.others fact s (k fact h) })
-  then_returns old r new (Some (Ready key)) k t = λ fact h. t fact (k fact h)
-  then_returns old r new (Some (Late key)) k t = λ fact h. t fact (k fact h)
-  then_returns old r new (Some Quiet) k t = λ fact h. t fact (k fact h)
-  then_returns old r new (Some Stop) k t = λ fact h. t fact (k fact h)
+  then_returned kept more old r new turn f k t = f t
 
-  -- `Returns` implies `ReturnsLinks`.
-  pub weaker : (old new : Links (OpenLink S)) (turn : Option Turn) → Returns old new turn → ReturnsLinks old new turn
-  weaker old new None t = t
-  weaker old new (Some (Fresh key local)) t = t
-  weaker old new (Some (Ready key)) t = λ fact _. t fact
-  weaker old new (Some (Late key)) t = λ fact _. t fact
-  weaker old new (Some Quiet) t = λ fact _. t fact
-  weaker old new (Some Stop) t = λ fact _. t fact
+  pub then_returns : (old r new : Links (OpenLink S)) (turn : Option Turn) → Keeps old r → Returns r new turn → Returns old new turn
+  then_returns old r new turn k = then_returned (Keeps r new) (Keeps old new) old r new turn (λ t fact h. t fact (k fact h)) k
 
   pub then_returns_links : (old r new : Links (OpenLink S)) (turn : Option Turn) → Keeps old r → ReturnsLinks r new turn
       → ReturnsLinks old new turn
-  then_returns_links old r new None k t = λ fact h. t fact (k fact h)
-  then_returns_links old r new (Some (Fresh key local)) k t =
-      (none_before key old r k t.0, record { now = t.1.now; others = λ fact s h. t.1.others fact s (k fact h) })
-  then_returns_links old r new (Some (Ready key)) k t = λ fact l h. t fact l (k fact h)
-  then_returns_links old r new (Some (Late key)) k t = λ fact l h. t fact l (k fact h)
-  then_returns_links old r new (Some Quiet) k t = λ fact l h. t fact l (k fact h)
-  then_returns_links old r new (Some Stop) k t = λ fact l h. t fact l (k fact h)
+  then_returns_links old r new turn k =
+      then_returned (KeepsLinks r new) (KeepsLinks old new) old r new turn (λ t fact l h. t fact l (k fact h)) k
+
+  pub weaker : (old new : Links (OpenLink S)) (turn : Option Turn) → Returns old new turn → ReturnsLinks old new turn
+  weaker old new turn = then_returned (Keeps old new) (KeepsLinks old new) old old new turn (λ t fact _. t fact) (λ fact h. h)
 
   -- No queued link falls back by a turn.
   pub returned_stays : (old new : Links (OpenLink S)) (turn : Option Turn) → Returns old new turn → Stays old new
-  returned_stays old new None t q most h = t (Ahead q most) h
   returned_stays old new (Some (Fresh key local)) t q most h = t.1.others (Ahead q most) tt h
-  returned_stays old new (Some (Ready key)) t q most h = t (Ahead q most) h
-  returned_stays old new (Some (Late key)) t q most h = t (Ahead q most) h
-  returned_stays old new (Some Quiet) t q most h = t (Ahead q most) h
-  returned_stays old new (Some Stop) t q most h = t (Ahead q most) h
-
-  -- If all facts stay true, `Returns` holds of a turn of a known link.
-  pub late_returns : (key : Option ℕ) (turn : Turn) (old new : Links (OpenLink S)) → IsOf key turn → Keeps old new
-      → Returns old new (Some turn)
-  late_returns key (Fresh k local) old new of keeps = absurd of
-  late_returns key (Ready k) old new of keeps = keeps
-  late_returns key (Late k) old new of keeps = keeps
-  late_returns key Quiet old new of keeps = absurd of
-  late_returns key Stop old new of keeps = absurd of
+  returned_stays old new turn t q most h = t (Ahead q most) h
 
   pub returns_of : (key : Option ℕ) (turn : Turn) (old new : Links (OpenLink S)) → IsOf key turn → KeepsLinks old new
       → ReturnsLinks old new (Some turn)
   returns_of key (Fresh k local) old new of keeps = absurd of
-  returns_of key (Ready k) old new of keeps = keeps
-  returns_of key (Late k) old new of keeps = keeps
-  returns_of key Quiet old new of keeps = absurd of
-  returns_of key Stop old new of keeps = absurd of
+  returns_of key turn old new of keeps = keeps
 
   none_come : (turn : Turn) (old new : Links (OpenLink S)) → come turn ≡ None → KeepsLinks old new → Comes (Has old) (Has new) turn
   none_come turn old new none keeps = record {
@@ -601,10 +521,7 @@ module _ {S : Type 0} where
     where
       same : (k : ℕ) → Some key ≡ Some k → key ≡ k
       same k e = ap (λ o. unwrap_or o key) e
-  comes (Ready key) old new t = none_come (Ready key) old new refl t
-  comes (Late key) old new t = none_come (Late key) old new refl t
-  comes Quiet old new t = none_come Quiet old new refl t
-  comes Stop old new t = none_come Stop old new refl t
+  comes turn old new t = none_come turn old new refl t
 
   -- ---- reports that are noted
 
@@ -612,53 +529,43 @@ module _ {S : Type 0} where
       → ((q : ℕ) → q ≢ key → link_at new q ≡ link_at old q) → (k : ℕ) → noted_at new k ≡ hears k (noted_at old k) (Stream key closed)
   one_noted key closed old new reported others k = elim (cases_eq k key) [
     | inl same ↦ rw same (here (link_at old key) (link_at new key) reported)
-    | inr differs ↦ ap (option_map (λ (l : OpenLink S × LinkState). notes_of l.0)) (others k differs) ∙ there (link_at old k) differs
+    | inr differs ↦ ap noted (others k differs) ∙ there (link_at old k) differs
   ]
     where
-      here : (o n : Option (OpenLink S × LinkState)) → IsReported closed o n
-          → option_map (λ (l : OpenLink S × LinkState). notes_of l.0) n
-          ≡ hears key (option_map (λ (l : OpenLink S × LinkState). notes_of l.0) o) (Stream key closed)
+      here : (o n : Option (OpenLink S × LinkState)) → IsReported closed o n → noted n ≡ hears key (noted o) (Stream key closed)
       here None n e = rw e (grind (arith, nat_tests))
       here (Some o) None e = absurd (cc)
       here (Some o) (Some n) e = rw e.1 (grind (arith, nat_tests))
 
-      there : (o : Option (OpenLink S × LinkState)) → k ≢ key → option_map (λ (l : OpenLink S × LinkState). notes_of l.0) o
-          ≡ hears k (option_map (λ (l : OpenLink S × LinkState). notes_of l.0) o) (Stream key closed)
+      there : (o : Option (OpenLink S × LinkState)) → k ≢ key → noted o ≡ hears k (noted o) (Stream key closed)
       there o d = grind (arith, nat_tests, d)
 
   module _ (n : ℕ) (event : Report) (old between new : Links (OpenLink S)) where
     -- One more report is noted.
-    more_noted : (reports : List Report) → Some event ≡ slice_get reports n → AreNoted (take n reports) old between
-        → ((k : ℕ) → noted_at new k ≡ hears k (noted_at between k) event) → AreNoted (take (n + 1) reports) old new
-    more_noted reports e noted more k =
+    pub more_noted : (o : Option (List Report)) → IfSome o (λ reports. Some event ≡ slice_get reports n)
+        → IfSome o (λ reports. AreNoted (take n reports) old between) → ((k : ℕ) → noted_at new k ≡ hears k (noted_at between k) event)
+        → IfSome o (λ reports. AreNoted (take (n + 1) reports) old new)
+    more_noted None e noted more = tt
+    more_noted (Some reports) e noted more = λ k.
         more k ∙ ap (λ o. hears k o event) (noted k)
         ∙ ap (hears k (fold (hears k) (noted_at old k) (take n reports))) (sym (get_or_from_slice_get reports n event event (sym e)))
         ∙ sym (fold_more (hears k) (noted_at old k) reports n event (slice_get_within reports n event (sym e)))
 
-    pub more_noted_if : (o : Option (List Report)) → IfSome o (λ reports. Some event ≡ slice_get reports n)
-        → IfSome o (λ reports. AreNoted (take n reports) old between) → ((k : ℕ) → noted_at new k ≡ hears k (noted_at between k) event)
-        → IfSome o (λ reports. AreNoted (take (n + 1) reports) old new)
-    more_noted_if None e noted more = tt
-    more_noted_if (Some reports) e noted more = more_noted reports e noted more
-
   module _ (n most : ℕ) (old new : Links (OpenLink S)) where
     -- All reports are noted.
-    all_noted : (reports : List Report) → None ≡ slice_get reports n → n ≤ most → AreNoted (take n reports) old new
-        → AreNoted (take most reports) old new
-    all_noted reports e below noted k = noted k ∙ ap (fold (hears k) (noted_at old k)) (sym no_more)
+    pub all_noted : (o : Option (List Report)) → IfSome o (λ reports. None ≡ slice_get reports n) → n ≤ most
+        → IfSome o (λ reports. AreNoted (take n reports) old new) → IfSome o (λ reports. AreNoted (take most reports) old new)
+    all_noted None e below noted = tt
+    all_noted (Some reports) e below noted = λ k. noted k ∙ ap (fold (hears k) (noted_at old k)) (sym no_more)
       where
         no_more : take most reports ≡ take n reports
         no_more =
+            let none : None ≡ slice_get reports n = e in
             let short : length reports ≤ n = elim (slice_get_cases reports n).1 [
               | inl x ↦ absurd (cc)
               | inr past ↦ past.0
             ] in
             take_all most reports (omega arith) ∙ sym (take_all n reports short)
-
-    pub all_noted_if : (o : Option (List Report)) → IfSome o (λ reports. None ≡ slice_get reports n) → n ≤ most
-        → IfSome o (λ reports. AreNoted (take n reports) old new) → IfSome o (λ reports. AreNoted (take most reports) old new)
-    all_noted_if None e below noted = tt
-    all_noted_if (Some reports) e below noted = all_noted reports e below noted
 
   -- ---- the end of a pause
 

@@ -11,8 +11,7 @@ use Rattle.portmap_worker.specs.declared.{open_link.OpenLink.OpenLink, source.Tu
 use Rattle.portmap_worker.specs.Schedule.{Act, Acts, AllSpare, Does, IsPolled, HasAccepted, IsFree, IsPast, IsSpent, IsStep, IsTurn, Nears}
 use Rattle.portmap_worker.specs.Schedule.{Passes, QueuedAreServed, Scene, Within, scene}
 use Rattle.portmap_worker.specs.Schedule.{burst, patience, share, turns, Counts, Free, Lends, Leaves}
-use Rattle.portmap_worker.specs.{IdleLinks.{Ahead, Changes, Holds, Returns}, Link.IsOf}
-use Rattle.portmap_worker.specs.declared.source.Turn.TheVariants.{Late}
+use Rattle.portmap_worker.specs.{IdleLinks.{Ahead, Changes, Returns}, Link.IsOf}
 use Rattle.portmap_worker.proofs.Idle.{Stays, lent, stays_of, returned_stays}
 
 pub patience_most : (s : Schedule) → patience s < share
@@ -55,14 +54,6 @@ accepted old taken new turns t h =
       | inl many ↦ rw (h.1, t) (grind (arith, nat_tests, many, turns, fewer))
       | inr one ↦ rw (h.1, t) (grind (arith, nat_tests, one, turns, fewer))
     ]
-
-pub again_free : (last : Option ℕ) (turn : Option Turn) → IfSome turn (IsOf last) → IfSome turn (IsFree last)
-again_free last None of = tt
-again_free last (Some turn) of = inr of
-
-pub late_free : (last : Option ℕ) (turn : Option Turn) → IfSome turn (λ t. (k : ℕ) × (t ≡ Late k)) → IfSome turn (IsFree last)
-late_free last None late = tt
-late_free last (Some turn) late = inl late
 
 module _ {S : Type 0} where
   pub longer : (k : ℕ) (scene : Scene S) {least most : ℕ} → least ≤ most → Within k least scene → Within k most scene

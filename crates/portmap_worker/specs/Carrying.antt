@@ -6,7 +6,7 @@ use Rattle.portmap_core.specs.declared.event.Answer.TheVariants as answer
 use Rattle.portmap_core.specs.declared.event.Event.TheVariants as event
 use Rattle.portmap_core.specs.declared.event.Fate.TheVariants as fate
 use Rattle.portmap_core.specs.declared.event.Refusal.TheVariants as refusal
-use Rattle.portmap_book.specs.{Seat.{SeatView, Counts}, declared.book.ActFault.{ActFault, TheVariants.{Refused, Worn}}}
+use Rattle.portmap_book.specs.{Seat.{SeatView, Counts}, declared.book.ActFault.{ActFault, TheVariants.{Refused}}}
 use Rattle.portmap_link.specs.{Asking.Devices, Flush.LastPut, declared.device.Pull.Pull, declared.device.Put.Put}
 use Rattle.portmap_link.specs.declared.outbox.Flush.{Flush}
 use Rattle.portmap_link.specs.declared.device.Pull.TheVariants as pull
@@ -54,27 +54,20 @@ fate_of answer.Gone = fate.Close
 
 -- The connection is to be closed once all is written.
 abbrev pub is_close : Fate → Bool
-is_close fate.Stay = false
 is_close fate.Close = true
-is_close fate.Halt = false
+is_close becomes = false
 
 -- The bytes of the reply that are to be written: none if there was no room for them.
 abbrev pub added : Answer → Next → List ℕ
-added acted Keep = bytes_of acted
-added acted Close = bytes_of acted
-added acted Fault = bytes_of acted
-added acted Halt = bytes_of acted
 added acted NoMemory = []
+added acted next = bytes_of acted
 
 -- The next step if there was room for the reply, by the fate of the connection and the end of the write.
 abbrev pub next_after : Fate → Flush → Next
 next_after fate.Halt ended = Halt
-next_after fate.Stay flush.Empty = Keep
-next_after fate.Stay flush.Later = Keep
-next_after fate.Stay flush.Fault = Fault
+next_after becomes flush.Fault = Fault
 next_after fate.Close flush.Empty = Close
-next_after fate.Close flush.Later = Keep
-next_after fate.Close flush.Fault = Fault
+next_after becomes ended = Keep
 
 -- The next step after an answer.
 abbrev pub FollowsAnswer : Answer → List Put → List Put → List ℕ → Next → Type 0
@@ -85,11 +78,9 @@ FollowsAnswer acted old new waiting next =
 
 -- The next step after a refusal.
 abbrev pub next_of : ActFault → Next
-next_of Worn = Close
 next_of (Refused refusal.Halted) = Halt
-next_of (Refused refusal.Full) = Close
-next_of (Refused refusal.NoSlot) = Close
 next_of (Refused refusal.NoMemory) = NoMemory
+next_of fault = Close
 
 -- The only pull returned a chunk, whose refusal leads to this next step.
 abbrev pub Refuses : Next → Devices → Devices → Type 0
@@ -104,8 +95,7 @@ abbrev pub FollowsNothing : Bool → Devices → Devices → List ℕ → Next �
 FollowsNothing true old new waiting Keep = PullsNothing old new × WritingEnds flush.Later old.puts new.puts waiting
 FollowsNothing true old new waiting Close = PullsNothing old new × WritingEnds flush.Empty old.puts new.puts waiting
 FollowsNothing true old new waiting Fault = PullsNothing old new × WritingEnds flush.Fault old.puts new.puts waiting
-FollowsNothing true old new waiting Halt = ⊥
-FollowsNothing true old new waiting NoMemory = ⊥
+FollowsNothing true old new waiting next = ⊥
 FollowsNothing false old new waiting Keep = OffersFirst old new waiting × Pulls pull.Later old new
 FollowsNothing false old new waiting Close = OffersFirst old new waiting × (Pulls pull.End old new ⊎ Refuses Close old new)
 FollowsNothing false old new waiting Fault = (PullsNothing old new × WritingEnds flush.Fault old.puts new.puts waiting)
@@ -126,7 +116,5 @@ IsLate slot old new next =
 -- The connection is no longer held.
 abbrev pub LetsGo : Next → Type 0
 LetsGo Keep = ⊥
-LetsGo Close = Unit {0}
-LetsGo Fault = Unit {0}
 LetsGo Halt = ⊥
-LetsGo NoMemory = Unit {0}
+LetsGo next = Unit {0}

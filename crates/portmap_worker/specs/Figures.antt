@@ -1,6 +1,6 @@
 -- What the daemon counts of its replies: profile.
 use Rattle.std.specs.Prelude.{ℕ, Bool, List, [], ◌∷◌, false, Option, Some, None, ◌==◌, ◌||◌, if◌then◌else◌}
-use Rattle.portmap_core.specs.declared.event.Fate.{Fate, TheVariants.{Close, Halt, Stay}}
+use Rattle.portmap_core.specs.declared.event.Fate.{Fate, TheVariants.{Close}}
 use Rattle.portmap_worker.specs.declared.figures.Counter.{Counter}
 use Rattle.portmap_worker.specs.declared.figures.Counter.TheVariants as counter
 
@@ -22,6 +22,5 @@ counter_of_first first rest =
 
 abbrev pub counter_of_reply : List ℕ → Fate → Option Counter
 counter_of_reply [] Close = Some counter.Malformed
-counter_of_reply [] Stay = None
-counter_of_reply [] Halt = None
+counter_of_reply [] fate = None
 counter_of_reply (first ∷ rest) fate = counter_of_first first rest

@@ -6,7 +6,7 @@ use Rattle.portmap_ready.specs.{Links.{Links, link_at, times}, Runs.before}
 use Rattle.portmap_ready.specs.declared.LinkState.{LinkState, TheVariants.{Idle, Queued, Paused}}
 use Rattle.portmap_worker.specs.{Quiet.is_quiet, declared.open_link.OpenLink.OpenLink}
 use Rattle.portmap_worker.specs.declared.readiness.Note.{Note, TheVariants.{Reported}}
-use Rattle.portmap_worker.specs.declared.source.Turn.{Turn, TheVariants.{Fresh, Idle as Quiet, Late, Ready, Stop}}
+use Rattle.portmap_worker.specs.declared.source.Turn.{Turn, TheVariants.{Fresh}}
 use Rattle.portmap_worker.specs.declared.system.Report.{Report, TheVariants.{Stream}}
 
 -- The state of a link after a report: queued, if it was idle, or paused with a peer that sends no more. Otherwise the state is unchanged.
@@ -16,12 +16,9 @@ place_reported true Paused = Queued
 place_reported closed place = place
 
 -- The notes of the link with this key, if there is such a link, after a report.
-abbrev pub heard : ℕ → Report → Option (List Note) → Option (List Note)
-heard k (Stream key closed) notes = cond (key == k) (option_map (λ notes. notes ++ Reported ∷ []) notes) notes
-heard k report notes = notes
-
 abbrev pub hears : ℕ → Option (List Note) → Report → Option (List Note)
-hears k notes report = heard k report notes
+hears k notes (Stream key closed) = cond (key == k) (option_map (λ notes. notes ++ Reported ∷ []) notes) notes
+hears k notes report = notes
 
 -- A fact about a key: there is a link or not; no event of its link can be missed; or its link is queued behind fewer others than a number.
 pub data Fact : Type 0 where
@@ -38,9 +35,8 @@ Spares key false (Ahead k most) = k ≢ key
 
 -- The fact is about a link, and not about the queue.
 abbrev pub IsOfLink : Fact → Type 0
-IsOfLink (There k there) = Unit {0}
-IsOfLink (Safe k) = Unit {0}
 IsOfLink (Ahead k most) = ⊥
+IsOfLink fact = Unit {0}
 
 module _ {S : Type 0} where
   -- The events of the link's stream.
@@ -82,23 +78,19 @@ module _ {S : Type 0} where
     pub now : Has new key there
     pub others : (fact : Fact) → Spares key there fact → Holds fact old → Holds fact new
 
-  -- If the turn announces a new link, that link has arrived. All other facts stay true.
+  -- If the turn announces a new link, that link has arrived, and all other facts stay true. `kept` holds after any other turn.
+  abbrev pub Returned : Type 0 → Links (OpenLink S) → Links (OpenLink S) → Option Turn → Type 0
+  Returned kept old new None = Keeps old new
+  Returned kept old new (Some (Fresh key local)) = Has old key false × Changes key true old new
+  Returned kept old new turn = kept
+
+  -- All facts stay true, except that a new link may have arrived.
   abbrev pub Returns : Links (OpenLink S) → Links (OpenLink S) → Option Turn → Type 0
-  Returns old new None = Keeps old new
-  Returns old new (Some (Fresh key local)) = Has old key false × Changes key true old new
-  Returns old new (Some (Ready key)) = Keeps old new
-  Returns old new (Some (Late key)) = Keeps old new
-  Returns old new (Some Quiet) = Keeps old new
-  Returns old new (Some Stop) = Keeps old new
+  Returns old new turn = Returned (Keeps old new) old new turn
 
   -- As in `Returns`, but a turn may also have taken a link from the queue, so that only facts about links stay true.
   abbrev pub ReturnsLinks : Links (OpenLink S) → Links (OpenLink S) → Option Turn → Type 0
-  ReturnsLinks old new None = Keeps old new
-  ReturnsLinks old new (Some (Fresh key local)) = Has old key false × Changes key true old new
-  ReturnsLinks old new (Some (Ready key)) = KeepsLinks old new
-  ReturnsLinks old new (Some (Late key)) = KeepsLinks old new
-  ReturnsLinks old new (Some Quiet) = KeepsLinks old new
-  ReturnsLinks old new (Some Stop) = KeepsLinks old new
+  ReturnsLinks old new turn = Returned (KeepsLinks old new) old new turn
 
   -- The poll has reported the link.
   abbrev pub IsReported : Bool → Option (OpenLink S × LinkState) → Option (OpenLink S × LinkState) → Type 0

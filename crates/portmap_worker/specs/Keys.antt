@@ -1,7 +1,7 @@
 -- The links of a source, and the connections of a worker: profile. A source may say of a key that it has a link, or that it has none.
 use Rattle.std.specs.{BTreeMap.{BTreeMap, get}, Ordering.nat_cmp}
 use Rattle.std.specs.Prelude.{◌≡◌, ◌≢◌, ℕ, Bool, true, false, Option, Some, None, is_some}
-use Rattle.portmap_worker.specs.declared.source.Turn.{Turn, TheVariants.{Fresh, Idle, Late, Ready, Stop}}
+use Rattle.portmap_worker.specs.declared.source.Turn.{Turn, TheVariants.{Fresh}}
 
 -- The source says the same about every key: a link stays a link, and a missing link stays missing.
 abbrev pub Stay : (ℕ → Bool → Type 0) → (ℕ → Bool → Type 0) → Type 0
@@ -15,10 +15,7 @@ pub record Ends (key : ℕ) (old new : ℕ → Bool → Type 0) : Type 0 where
 -- The key of the link that arrived, by the turn.
 abbrev pub come : Turn → Option ℕ
 come (Fresh key local) = Some key
-come (Ready key) = None
-come (Late key) = None
-come Idle = None
-come Stop = None
+come turn = None
 
 -- The turn is right about arrivals: under its key there is a link now and was none before. Nothing changes for any other key.
 pub record Comes (old new : ℕ → Bool → Type 0) (turn : Turn) : Type 0 where

@@ -6,10 +6,10 @@ use Rattle.std.specs.Prelude.{ℕ, ◌-◌, ◌≤◌, Bool, true, false, not, �
 use Rattle.std.specs.declared.io.Error.{Error}
 use Rattle.std.specs.declared.io.ErrorKind.{ErrorKind}
 use Rattle.std.specs.declared.io.ErrorKind.TheVariants as kind
-use Rattle.portmap_worker.specs.declared.link.ReplyProgress.{ReplyProgress, TheVariants.{Answered, Asked, Left}}
+use Rattle.portmap_worker.specs.declared.link.ReplyProgress.{ReplyProgress, TheVariants.{Asked}}
 use Rattle.portmap_worker.specs.declared.readiness.Reading.{Reading, TheVariants.{Dry, Open}}
 use Rattle.portmap_worker.specs.declared.readiness.Writing.{Writing, TheVariants.{CutShort, Free, Waits}}
-use Rattle.portmap_worker.specs.declared.source.Turn.{Turn, TheVariants.{Fresh, Idle, Late, Ready, Stop}}
+use Rattle.portmap_worker.specs.declared.source.Turn.{Turn, TheVariants.{Late, Ready}}
 use Rattle.portmap_worker.specs.declared.system.Interest.{Interest}
 use Rattle.portmap_worker.specs.declared.system.Interest.TheVariants as interest
 
@@ -22,14 +22,12 @@ may_move Dry Free = false
 
 abbrev pub is_unsent : Writing → Bool
 is_unsent Free = false
-is_unsent CutShort = true
-is_unsent Waits = true
+is_unsent writing = true
 
 -- Bytes of a reply were ever written.
 abbrev pub is_answered : ReplyProgress → Bool
 is_answered Asked = false
-is_answered Answered = true
-is_answered Left = true
+is_answered progress = true
 
 -- A timeout applies: no byte of a reply was ever written, or bytes wait to be written. The owner of a name that has read its reply has no
 -- timeout.
@@ -45,8 +43,7 @@ unsent_after Fault offered = 0
 -- The interest that the poll has to watch.
 abbrev pub wanted : Writing → Interest
 wanted Free = interest.Reading
-wanted CutShort = interest.Both
-wanted Waits = interest.Both
+wanted writing = interest.Both
 
 -- The time that began at `since` is over at `then_`.
 abbrev pub IsOver : Option ℕ → ℕ → ℕ → Type 0
@@ -57,9 +54,7 @@ IsOver None then_ timeout = ⊥
 abbrev pub IsOf : Option ℕ → Turn → Type 0
 IsOf key (Ready k) = key ≡ Some k
 IsOf key (Late k) = key ≡ Some k
-IsOf key (Fresh k local) = ⊥
-IsOf key Idle = ⊥
-IsOf key Stop = ⊥
+IsOf key turn = ⊥
 
 -- The call failed with `BrokenPipe`.
 abbrev pub IsBroken : Result ℕ Error → Type 0

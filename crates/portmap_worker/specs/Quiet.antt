@@ -3,7 +3,7 @@
 use Rattle.std.specs.Prelude.{◌≡◌, ℕ, Bool, true, false, ◌&&◌, cond, Option, Some, None, IfSome, List, [], ◌∷◌, ◌++◌, fold, map}
 use Rattle.std.specs.Prelude.{Result, Ok, Err}
 use Rattle.std.specs.declared.io.Error.{Error}
-use Rattle.portmap_link.specs.declared.device.Put.{TheVariants.{Fault, Later, Wrote as Took}}
+use Rattle.portmap_link.specs.declared.device.Put.{TheVariants.{Later}}
 use Rattle.portmap_worker.specs.declared.readiness.Note.{Note, TheVariants.{Read, Reported, Watched, Wrote}}
 use Rattle.portmap_worker.specs.declared.system.Interest.{Interest, TheVariants.{Both, Reading}}
 
@@ -34,8 +34,7 @@ asked notes = fold asks None notes
 -- Bytes of the last write wait to be written.
 abbrev pub leaves : Bool → Note → Bool
 leaves before (Wrote Later would_wait) = true
-leaves before (Wrote (Took count) would_wait) = false
-leaves before (Wrote Fault would_wait) = false
+leaves before (Wrote answer would_wait) = false
 leaves before note = before
 
 abbrev pub is_left : List Note → Bool

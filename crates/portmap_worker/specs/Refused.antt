@@ -2,7 +2,7 @@
 use Rattle.std.specs.Fmt.{decimal}
 use Rattle.std.specs.Prelude.{ℕ, ◌≡◌, ◌⊎◌, ◌==◌, List, [], ◌++◌, codes, Option, Some, None, if◌then◌else◌}
 use Rattle.portmap_wire.specs.{Reply.alive_reply, declared.reply_writing.TheConstants.WIDE_VERSION}
-use Rattle.portmap_core.specs.{Entry.{Entry, Connected, Piece, Closed, Faulted, Late}, Registering.Registers}
+use Rattle.portmap_core.specs.{Entry.{Entry, Piece}, Registering.Registers}
 use Rattle.portmap_worker.specs.Showing.{shown}
 
 -- The reply has result 1, in the narrow form or in the wide form.
@@ -11,19 +11,13 @@ SaysInUse reply = (reply ≡ alive_reply WIDE_VERSION 1 0) ⊎ (reply ≡ alive_
 
 -- The entry is a chunk whose reply says that a name is in use.
 abbrev pub IsInUse : Entry → Type 0
-IsInUse (Connected local slot) = ⊥
 IsInUse (Piece slot bytes reply fate) = SaysInUse reply
-IsInUse (Closed slot) = ⊥
-IsInUse (Faulted slot) = ⊥
-IsInUse (Late slot fate) = ⊥
+IsInUse entry = ⊥
 
 -- The entry is a chunk that asks to register this name, and its reply says that the name is in use.
 abbrev pub Refuses : Entry → List ℕ → Type 0
-Refuses (Connected local slot) name = ⊥
 Refuses (Piece slot bytes reply fate) name = SaysInUse reply × Registers bytes name
-Refuses (Closed slot) name = ⊥
-Refuses (Faulted slot) name = ⊥
-Refuses (Late slot fate) name = ⊥
+Refuses entry name = ⊥
 
 -- The name in the text of a notice, if it is known.
 abbrev pub named : Option (List ℕ) → List ℕ

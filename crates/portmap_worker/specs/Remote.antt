@@ -5,7 +5,7 @@ use Rattle.portmap_wire.specs.Request.{Spells}
 use Rattle.portmap_wire.specs.declared.request.Request.{Request}
 use Rattle.portmap_wire.specs.declared.request.Request.TheVariants as request
 use Rattle.portmap_feed.specs.Stream.{Whole, first_request}
-use Rattle.portmap_core.specs.Entry.{Entry, Connected, Piece, Closed, Faulted, Late}
+use Rattle.portmap_core.specs.Entry.{Entry, Connected, Piece, Closed, Faulted}
 use Rattle.portmap_core.specs.declared.event.Fate.TheVariants as fate
 use Rattle.portmap_worker.specs.Refused.{and_more}
 use Rattle.portmap_worker.specs.declared.remote.LocalRequest.{LocalRequest, TheVariants.{Dump, Kill, Registration, Stop}}
@@ -13,11 +13,10 @@ use Rattle.portmap_worker.specs.declared.remote.LocalRequest.{LocalRequest, TheV
 -- The request as a request that only this host may make, if it is of that kind.
 abbrev pub local_of : Request → Option LocalRequest
 local_of (request.Alive node) = Some Registration
-local_of (request.Port name) = None
-local_of request.Names = None
 local_of request.Dump = Some Dump
 local_of request.Kill = Some Kill
 local_of (request.Stop name) = Some Stop
+local_of asked = None
 
 -- The first request in these bytes is complete, and is this one.
 pub record AsksFor (bytes : List ℕ) (asked : LocalRequest) : Type 0 where
@@ -30,19 +29,15 @@ pub record AsksFor (bytes : List ℕ) (asked : LocalRequest) : Type 0 where
 -- The slots of remote peers after an entry.
 abbrev pub remote_after : Entry → List Bool → List Bool
 remote_after (Connected local slot) slots = slice_set slots slot (not local)
-remote_after (Piece slot bytes reply fate) slots = slots
 remote_after (Closed slot) slots = slice_set slots slot false
 remote_after (Faulted slot) slots = slice_set slots slot false
-remote_after (Late slot fate) slots = slots
+remote_after entry slots = slots
 
 -- A chunk on the slot of a remote peer is this request, and its connection is closed without a reply.
 abbrev pub IsRefusedFrom : List Bool → Entry → LocalRequest → Type 0
-IsRefusedFrom slots (Connected local slot) asked = ⊥
 IsRefusedFrom slots (Piece slot bytes reply end) asked =
     (slice_index_or slots slot false ≡ true) × (reply ≡ []) × (end ≡ fate.Close) × AsksFor bytes asked
-IsRefusedFrom slots (Closed slot) asked = ⊥
-IsRefusedFrom slots (Faulted slot) asked = ⊥
-IsRefusedFrom slots (Late slot end) asked = ⊥
+IsRefusedFrom slots entry asked = ⊥
 
 -- The first refused request, after one more refusal.
 abbrev pub first_of : Option LocalRequest → LocalRequest → Option LocalRequest

@@ -4,7 +4,7 @@ use Rattle.std.proofs.{KnownBytes.{Appends-nil, Keeps-refl}, lemmas.Bool.{false�
 use Rattle.std.proofs.lemmas.List.Elements.{All-nil, All-cons, All-head, All-tail}
 use Rattle.portmap_core.specs.declared.event.Answer.{Answer}
 use Rattle.portmap_link.specs.Flush.{Moves}
-use Rattle.portmap_worker.specs.declared.carrier.Next.{Next, TheVariants.{Close, Fault, Halt, Keep, NoMemory}}
+use Rattle.portmap_worker.specs.declared.carrier.Next.{Next, TheVariants.{NoMemory}}
 use Rattle.portmap_worker.specs.Replies.{AreWritten, Carried, ClosesAreFinal, Does, Returned, Runs, replies, reply_of}
 use Rattle.portmap_worker.proofs.Carrying.{moves_more}
 use Rattle.portmap_worker.proofs.laws.only_answers_are_written.Goals as goal
@@ -17,11 +17,8 @@ one : (slot : ℕ) (acted : Option (ℕ × Answer)) (next : Next) (old new : Car
     → ((next ≡ NoMemory) × Sends [] old new) ⊎ Sends (reply_of acted) old new
 one slot None next old new did =
     inr (subst (λ (text : List ℕ). Moves old.link.held new.link.held text new.out) (sym (append-nil old.out)) did.writes)
-one slot (Some acted) Keep old new did = inr did.writes
-one slot (Some acted) Close old new did = inr did.writes
-one slot (Some acted) Fault old new did = inr did.writes
-one slot (Some acted) Halt old new did = inr did.writes
 one slot (Some acted) NoMemory old new did = inl (refl, did.writes)
+one slot (Some acted) next old new did = inr did.writes
 
 -- The calls after the first call are added.
 more : (call : Returned) (calls : List Returned) (old mid new : Carried) → Sends (reply_of call.0) old mid → AreWritten calls mid new

@@ -1,3 +1,4 @@
+use borrow.Author.Count.{below_more}
 use Rattle.std.specs.List.{list_all}
 use Rattle.std.proofs.Common.{◌≡◌, ℕ, zero, suc, ◌+◌, ◌*◌, ◌/◌, ◌%◌, ◌^◌, ◌<◌, ◌≤◌, Bool, true, false, ◌&&◌, List, [], ◌∷◌, ◌++◌}
 use Rattle.std.proofs.Common.{All, codes, get_or, take, Option, Some, refl, arith}
@@ -60,52 +61,21 @@ high (suc count) [] h = All-nil IsNoControl
 high (suc count) (byte ∷ bytes) h = All-cons IsNoControl byte (take count bytes) (above byte (h 0 (omega arith)))
     (high count bytes (λ k less. h (suc k) (omega (arith, less))))
 
-two_high : (bytes : List ℕ) → 128 ≤ get_or bytes 0 0 → 128 ≤ get_or bytes 1 0 → (k : ℕ) → k < 2 → 128 ≤ get_or bytes k 0
-two_high bytes a b zero less = a
-two_high bytes a b (suc zero) less = b
-two_high bytes a b (suc (suc k)) less = absurd (omega (arith, less))
-
-three_high : (bytes : List ℕ) → 128 ≤ get_or bytes 0 0 → 128 ≤ get_or bytes 1 0 → 128 ≤ get_or bytes 2 0 → (k : ℕ) → k < 3
+-- Each of the first bytes is at least 128, by the test that begins a character of that length.
+ahead : (n : ℕ) (bytes : List ℕ) → ((k : ℕ) → k < n → 128 ≤ get_or bytes k 0) → 128 ≤ get_or bytes n 0 → (k : ℕ) → k < n + 1
     → 128 ≤ get_or bytes k 0
-three_high bytes a b c zero less = a
-three_high bytes a b c (suc zero) less = b
-three_high bytes a b c (suc (suc zero)) less = c
-three_high bytes a b c (suc (suc (suc k))) less = absurd (omega (arith, less))
+ahead n bytes = below_more (λ (k : ℕ). 128 ≤ get_or bytes k 0) n
 
-four_high : (bytes : List ℕ) → 128 ≤ get_or bytes 0 0 → 128 ≤ get_or bytes 1 0 → 128 ≤ get_or bytes 2 0 → 128 ≤ get_or bytes 3 0 → (k : ℕ)
-    → k < 4 → 128 ≤ get_or bytes k 0
-four_high bytes a b c d zero less = a
-four_high bytes a b c d (suc zero) less = b
-four_high bytes a b c d (suc (suc zero)) less = c
-four_high bytes a b c d (suc (suc (suc zero))) less = d
-four_high bytes a b c d (suc (suc (suc (suc k)))) less = absurd (omega (arith, less))
+of_two : (a b : ℕ) (rest : Bool) → (is_within a 192 223 && continues b && rest) ≡ true → (128 ≤ a) × (128 ≤ b)
+of_two a b rest is = (grind arith, grind arith)
 
-lead_two : (a b : ℕ) (rest : Bool) → (is_within a 192 223 && continues b && rest) ≡ true → 128 ≤ a
-lead_two a b rest is = grind arith
+of_three : (a b c : ℕ) (rest : Bool) → (is_within a 224 239 && continues b && continues c && rest) ≡ true
+    → (128 ≤ a) × (128 ≤ b) × (128 ≤ c)
+of_three a b c rest is = (grind arith, grind arith, grind arith)
 
-next_two : (a b : ℕ) (rest : Bool) → (is_within a 192 223 && continues b && rest) ≡ true → 128 ≤ b
-next_two a b rest is = grind arith
-
-lead_three : (a b c : ℕ) (rest : Bool) → (is_within a 224 239 && continues b && continues c && rest) ≡ true → 128 ≤ a
-lead_three a b c rest is = grind arith
-
-next_three : (a b c : ℕ) (rest : Bool) → (is_within a 224 239 && continues b && continues c && rest) ≡ true → 128 ≤ b
-next_three a b c rest is = grind arith
-
-last_three : (a b c : ℕ) (rest : Bool) → (is_within a 224 239 && continues b && continues c && rest) ≡ true → 128 ≤ c
-last_three a b c rest is = grind arith
-
-lead_four : (a b c d : ℕ) (rest : Bool) → ((is_within a 240 247 && continues b && continues c && continues d) && rest) ≡ true → 128 ≤ a
-lead_four a b c d rest is = grind arith
-
-next_four : (a b c d : ℕ) (rest : Bool) → ((is_within a 240 247 && continues b && continues c && continues d) && rest) ≡ true → 128 ≤ b
-next_four a b c d rest is = grind arith
-
-third_four : (a b c d : ℕ) (rest : Bool) → ((is_within a 240 247 && continues b && continues c && continues d) && rest) ≡ true → 128 ≤ c
-third_four a b c d rest is = grind arith
-
-last_four : (a b c d : ℕ) (rest : Bool) → ((is_within a 240 247 && continues b && continues c && continues d) && rest) ≡ true → 128 ≤ d
-last_four a b c d rest is = grind arith
+of_four : (a b c d : ℕ) (rest : Bool) → ((is_within a 240 247 && continues b && continues c && continues d) && rest) ≡ true
+    → (128 ≤ a) × (128 ≤ b) × (128 ≤ c) × (128 ≤ d)
+of_four a b c d rest is = (grind arith, grind arith, grind arith, grind arith)
 
 each_fine : (bytes : List ℕ) (code size : ℕ) → code < 2 ^ 24 → (is_hidden code ≡ false → All IsNoControl (take size bytes))
     → All IsNoControl (front_of bytes (Some (code, size)))
@@ -120,23 +90,24 @@ front_fine a bytes less =
     let two = a % 32 * 64 + b % 64 in
     let three = a % 16 * 4096 + b % 64 * 64 + c % 64 in
     let four = a % 8 * 262144 + b % 64 * 4096 + c % 64 * 64 + d % 64 in
-    let Fine = λ (found : Option (ℕ × ℕ)). All IsNoControl (front_of (a ∷ bytes) found) in
+    let all = a ∷ bytes in
+    let Fine = λ (found : Option (ℕ × ℕ)). All IsNoControl (front_of all found) in
     cond_both (nat_lt a 128) _ _ Fine
-    (λ e. each_fine (a ∷ bytes) a 1 (omega (arith, less))
+    (λ e. each_fine all a 1 (omega (arith, less))
     (λ seen. All-cons IsNoControl a [] (low a (ltb-true a 128 e) seen) (All-nil IsNoControl)))
     (λ _. cond_both (is_within a 192 223 && continues b && nat_le 128 two) _ _ Fine
-    (λ e. each_fine (a ∷ bytes) two 2 (omega arith)
-    (λ _. high 2 (a ∷ bytes) (two_high (a ∷ bytes) (lead_two a b (nat_le 128 two) e) (next_two a b (nat_le 128 two) e))))
+    (λ e. let h = of_two a b (nat_le 128 two) e in each_fine all two 2 (omega arith)
+    (λ _. high 2 all (ahead 1 all (ahead 0 all none h.0) h.1)))
     (λ _. cond_both (is_within a 224 239 && continues b && continues c && is_of_three three) _ _ Fine
-    (λ e. each_fine (a ∷ bytes) three 3 (omega arith)
-    (λ _. high 3 (a ∷ bytes) (three_high (a ∷ bytes) (lead_three a b c (is_of_three three) e) (next_three a b c (is_of_three three) e)
-    (last_three a b c (is_of_three three) e))))
+    (λ e. let h = of_three a b c (is_of_three three) e in each_fine all three 3 (omega arith)
+    (λ _. high 3 all (ahead 2 all (ahead 1 all (ahead 0 all none h.0) h.1) h.2)))
     (λ _. cond_both ((is_within a 240 247 && continues b && continues c && continues d) && is_within four 65536 1114111) _ _ Fine
-    (λ e. each_fine (a ∷ bytes) four 4 (omega arith)
-    (λ _. high 4 (a ∷ bytes) (four_high (a ∷ bytes) (lead_four a b c d (is_within four 65536 1114111) e)
-    (next_four a b c d (is_within four 65536 1114111) e) (third_four a b c d (is_within four 65536 1114111) e)
-    (last_four a b c d (is_within four 65536 1114111) e))))
+    (λ e. let h = of_four a b c d (is_within four 65536 1114111) e in each_fine all four 4 (omega arith)
+    (λ _. high 4 all (ahead 3 all (ahead 2 all (ahead 1 all (ahead 0 all none h.0) h.1) h.2) h.3)))
     (λ _. escape_fine a (omega (arith, less))))))
+  where
+    none : (k : ℕ) → k < 0 → 128 ≤ get_or (a ∷ bytes) k 0
+    none k below = absurd (omega (arith, below))
 
 -- ---- all of them
 

@@ -1,4 +1,4 @@
-use Rattle.std.proofs.Common.{sym, ◌∙◌}
+use Rattle.std.proofs.Common.{sym, ◌∙◌, rules}
 use Rattle.portmap_worker.proofs.Idle.{returned_none, stays_of, then_returns_links, weaker}
 use Rattle.portmap_worker.proofs.Turns.{accepts_so, passes_so, spent_so}
 use Rattle.portmap_worker.proofs.socket_source.SocketSource.next.Goals as goal
@@ -11,19 +11,13 @@ returns-then-is_some-clause-nears g c =
     accepts_so _ _ _ _ c.take_turn.new.self _ (c.take_turn.ensures.most.0 c.if-not-take_turn.false)
     (c.take_turn.ensures.counted c.if-not-take_turn.false) c.accept-accepted.ensures.links c.accept-accepted.ensures.some
 
-pub returns-clause-links : goal.returns-clause-links
-returns-clause-links g c =
-    then_returns_links _ _ _ _ (returned_none _ _ _ (sym c.is_some.ensures ∙ c.if-is_some.false) c.accept-accepted.ensures.links)
-    c.pop.ensures.links
-
-pub returns-clause-nears : goal.returns-clause-nears
-returns-clause-nears g c =
-    let before = returned_none _ _ _ (sym c.is_some.ensures ∙ c.if-is_some.false) c.accept-accepted.ensures.links in
-    passes_so _ c.accept-accepted.new.self.ready c.pop.new.self.ready _ _ _ (stays_of _ _ before)
-    c.pop.ensures.passes
-
-pub returns-clause-spent : goal.returns-clause-spent
-returns-clause-spent g c =
-    let before = returned_none _ _ _ (sym c.is_some.ensures ∙ c.if-is_some.false) c.accept-accepted.ensures.links in
-    spent_so _ c.accept-accepted.new.self.ready c.pop.new.self.ready _ _ _ _ (stays_of _ _ before)
-    c.pop.ensures.none
+pub returns : goal.returns
+returns g c =
+    let before = returned_none _ _ _ (sym c.is_some.ensures ∙ c.if-is_some.false) (weaker _ _ _ c.accept-accepted.ensures.links) in
+    record {
+      none = search rules;
+      most = search rules;
+      links = then_returns_links _ _ _ _ before c.pop.ensures.links;
+      nears = passes_so _ c.accept-accepted.new.self.ready c.pop.new.self.ready _ _ _ (stays_of _ _ before) c.pop.ensures.passes;
+      spent = spent_so _ c.accept-accepted.new.self.ready c.pop.new.self.ready _ _ _ _ (stays_of _ _ before) c.pop.ensures.none;
+    }

@@ -1,71 +1,63 @@
-use Rattle.std.proofs.Common.{◌∙◌, inl}
-use Rattle.portmap_worker.specs.IdleLinks.{Holds}
-use Rattle.portmap_worker.proofs.Idle.{then_returns}
-use Rattle.portmap_worker.proofs.Turns.{asked, loaded}
+use Rattle.std.proofs.Common.{◌≡◌, ◌∙◌, inl}
+use Rattle.portmap_worker.specs.{IdleLinks.Keeps, Schedule.IsPolled}
+use Rattle.portmap_worker.proofs.{Idle.then_returns, Turns.{asked, loaded}, socket_source.SocketSource.poll.Given.Over}
+use Rattle.portmap_worker.proofs.socket_source.SocketSource.poll.Goals.{After-on_polled, After-scan_links}
 use Rattle.portmap_worker.proofs.socket_source.SocketSource.poll.Goals as goal
 
+kept : (g : Over) (c : After-on_polled g) → Keeps c.args.self.now.ready c.on_polled.new.self.ready
+kept g c = λ fact h. c.on_polled.ensures.links fact (c.wait-is_well.ensures.links fact (c.retry_pending.ensures.links fact h))
+
+waited : (g : Over) (c : After-on_polled g) → c.on_polled.new.self.schedule ≡ record c.args.self.now.schedule { turns = 0 }
+waited g c =
+    asked c.args.self.now.schedule c.retry_pending.new.self.schedule c.wait-is_well.new.self.schedule _
+    c.retry_pending.ensures.schedule c.wait-is_well.ensures.schedule c.on_polled.ensures.schedule
+
+scanned : (g : Over) (c : After-scan_links g) → Keeps c.args.self.now.ready c.scan_links.new.self.ready
+scanned g c = λ fact h. c.scan_links.ensures.links fact (rw (c.pass_listeners.ensures.ready, c.on_load.ensures.ready)
+    (c.on_polled.ensures.links fact (c.wait-is_well.ensures.links fact (c.retry_pending.ensures.links fact h))))
+
+polled : (g : Over) (c : After-scan_links g) → IsPolled c.args.self.now.schedule c.scan_links.new.self.schedule
+polled g c =
+    loaded c.args.self.now.schedule c.on_polled.new.self.schedule c.on_load.new.self.schedule _
+    (asked c.args.self.now.schedule c.retry_pending.new.self.schedule c.wait-is_well.new.self.schedule _
+    c.retry_pending.ensures.schedule c.wait-is_well.ensures.schedule c.on_polled.ensures.schedule)
+    c.on_load.ensures.schedule (c.scan_links.ensures.schedule ∙ c.pass_listeners.ensures.schedule)
+
 pub returns-then-not-is_well : goal.returns-then-not-is_well
-returns-then-not-is_well g c = record {
-  links = rw c.fail.ensures (λ fact h.
-      c.on_polled.ensures.links fact (c.wait-is_well.ensures.links fact (c.retry_pending.ensures.links fact h)));
-  schedule = inl (asked c.args.self.now.schedule c.retry_pending.new.self.schedule c.wait-is_well.new.self.schedule _
-      c.retry_pending.ensures.schedule c.wait-is_well.ensures.schedule c.on_polled.ensures.schedule);
-}
+returns-then-not-is_well g c =
+    let at = (goal.at.returns-then-not-is_well g c).After-on_polled in
+    record { links = rw c.fail.ensures (kept g at); schedule = inl (waited g at) }
 
 pub returns-then-is_stopping : goal.returns-then-is_stopping
-returns-then-is_stopping g c = record {
-  links = λ fact h. c.on_polled.ensures.links fact (c.wait-is_well.ensures.links fact (c.retry_pending.ensures.links fact h));
-  schedule = inl (asked c.args.self.now.schedule c.retry_pending.new.self.schedule c.wait-is_well.new.self.schedule _
-      c.retry_pending.ensures.schedule c.wait-is_well.ensures.schedule c.on_polled.ensures.schedule);
-}
+returns-then-is_stopping g c =
+    let at = (goal.at.returns-then-is_stopping g c).After-on_polled in
+    record { links = kept g at; schedule = inl (waited g at) }
 
 pub returns-then-not-scan_links : goal.returns-then-not-scan_links
-returns-then-not-scan_links g c = record {
-  links = rw c.fail-then-not-scan_links.ensures (λ fact h.
-      let passed : Holds fact c.pass_listeners.new.self.ready = rw (c.pass_listeners.ensures.ready, c.on_load.ensures.ready)
-      (c.on_polled.ensures.links fact (c.wait-is_well.ensures.links fact (c.retry_pending.ensures.links fact h))) in
-      c.scan_links.ensures.links fact passed);
-  schedule = loaded c.args.self.now.schedule c.on_polled.new.self.schedule c.on_load.new.self.schedule _
-      (asked c.args.self.now.schedule c.retry_pending.new.self.schedule c.wait-is_well.new.self.schedule _
-      c.retry_pending.ensures.schedule c.wait-is_well.ensures.schedule c.on_polled.ensures.schedule)
-      c.on_load.ensures.schedule (c.scan_links.ensures.schedule ∙ c.pass_listeners.ensures.schedule);
-}
+returns-then-not-scan_links g c =
+    let at = (goal.at.returns-then-not-scan_links g c).After-scan_links in
+    record { links = rw c.fail-then-not-scan_links.ensures (scanned g at); schedule = polled g at }
 
 pub returns-in-None : goal.returns-in-None
-returns-in-None g c = record {
-  links = λ fact h.
-      let passed : Holds fact c.pass_listeners.new.self.ready = rw (c.pass_listeners.ensures.ready, c.on_load.ensures.ready)
-      (c.on_polled.ensures.links fact (c.wait-is_well.ensures.links fact (c.retry_pending.ensures.links fact h))) in
-      rw c.in-None.is at c.evict_for_other_worker.ensures.links fact (c.scan_links.ensures.links fact passed);
-  schedule = loaded c.args.self.now.schedule c.on_polled.new.self.schedule c.on_load.new.self.schedule _
-      (asked c.args.self.now.schedule c.retry_pending.new.self.schedule c.wait-is_well.new.self.schedule _
-      c.retry_pending.ensures.schedule c.wait-is_well.ensures.schedule c.on_polled.ensures.schedule)
-      c.on_load.ensures.schedule (c.evict_for_other_worker.ensures.schedule ∙ c.scan_links.ensures.schedule
-      ∙ c.pass_listeners.ensures.schedule);
-}
+returns-in-None g c =
+    let at = (goal.at.returns-in-None g c).After-scan_links in
+    record {
+      links = λ fact h. rw c.in-None.is at c.evict_for_other_worker.ensures.links fact (scanned g at fact h);
+      schedule = rw c.evict_for_other_worker.ensures.schedule (polled g at);
+    }
 
 pub returns-in_default : goal.returns-in_default
-returns-in_default g c = record {
-  links = then_returns _ _ _ _ (λ fact h.
-      let passed : Holds fact c.pass_listeners.new.self.ready = rw (c.pass_listeners.ensures.ready, c.on_load.ensures.ready)
-      (c.on_polled.ensures.links fact (c.wait-is_well.ensures.links fact (c.retry_pending.ensures.links fact h))) in
-      c.scan_links.ensures.links fact passed) c.evict_for_other_worker.ensures.links;
-  schedule = loaded c.args.self.now.schedule c.on_polled.new.self.schedule c.on_load.new.self.schedule _
-      (asked c.args.self.now.schedule c.retry_pending.new.self.schedule c.wait-is_well.new.self.schedule _
-      c.retry_pending.ensures.schedule c.wait-is_well.ensures.schedule c.on_polled.ensures.schedule)
-      c.on_load.ensures.schedule (c.evict_for_other_worker.ensures.schedule ∙ c.scan_links.ensures.schedule
-      ∙ c.pass_listeners.ensures.schedule);
-}
+returns-in_default g c =
+    let at = (goal.at.returns-in_default g c).After-scan_links in
+    record {
+      links = then_returns _ _ _ _ (scanned g at) c.evict_for_other_worker.ensures.links;
+      schedule = rw c.evict_for_other_worker.ensures.schedule (polled g at);
+    }
 
 pub returns-in_default-2 : goal.returns-in_default-2
-returns-in_default-2 g c = record {
-  links = then_returns _ _ _ _ (λ fact h.
-      let passed : Holds fact c.pass_listeners.new.self.ready = rw (c.pass_listeners.ensures.ready, c.on_load.ensures.ready)
-      (c.on_polled.ensures.links fact (c.wait-is_well.ensures.links fact (c.retry_pending.ensures.links fact h))) in
-      c.scan_links.ensures.links fact passed) c.evict_for_other_worker.ensures.links;
-  schedule = loaded c.args.self.now.schedule c.on_polled.new.self.schedule c.on_load.new.self.schedule _
-      (asked c.args.self.now.schedule c.retry_pending.new.self.schedule c.wait-is_well.new.self.schedule _
-      c.retry_pending.ensures.schedule c.wait-is_well.ensures.schedule c.on_polled.ensures.schedule)
-      c.on_load.ensures.schedule (c.evict_for_other_worker.ensures.schedule ∙ c.scan_links.ensures.schedule
-      ∙ c.pass_listeners.ensures.schedule);
-}
+returns-in_default-2 g c =
+    let at = (goal.at.returns-in_default-2 g c).After-scan_links in
+    record {
+      links = then_returns _ _ _ _ (scanned g at) c.evict_for_other_worker.ensures.links;
+      schedule = rw c.evict_for_other_worker.ensures.schedule (polled g at);
+    }
