@@ -1,4 +1,4 @@
-"""The diagrams of the pages keep to a small part of Mermaid's syntax. No test draws them, since Debian has no renderer."""
+"""The diagrams of the pages keep to a small part of Mermaid's syntax. No test draws them: of Debian only unstable has node-mermaid."""
 import glob
 import os
 import re

@@ -18,6 +18,7 @@ from programs import closed_port
 from test_log import FOUND, GRANTED, IN_USE, NO_ROOM, Written, alive, close, connect, late, piece, sized, start, visit
 
 HERE = os.path.dirname(os.path.abspath(__file__))
+FORMATS = os.path.join(HERE, "..", "..", "docs", "FORMATS.md")
 DUMP = b"\0\0\x11\x11active name     a at port 1, fd = 3\nactive name     b at port 2, fd = 4\nold/unused name c at port 3, fd = -1\n"
 
 
@@ -220,6 +221,35 @@ class Metrics(unittest.TestCase):
         played = Played(DUMP)
         self.assertEqual(figures(printed(played.port, *self.recorded))["epmd_recording_moves"], 0)
         played.end()
+
+
+def counters_of_the_daemon():
+    """The names of the counters in the file that the daemon writes, as their page has them."""
+    with open(FORMATS, encoding="utf-8") as page:
+        return re.search(r"(?s)\n## Counters\n.*?\n```text\n(.*?)\n```\n", page.read())[1].split("\n")
+
+
+class Published(Written, unittest.TestCase):
+    """The counters of a file that the daemon writes."""
+
+    def test_each_is_printed_with_its_value(self):
+        wanted = {name: value for value, name in enumerate(counters_of_the_daemon(), 1)}
+        self.write("".join(f"{name} {value}\n" for name, value in wanted.items()).encode())
+        found = figures(printed(closed_port(self), "-figures", self.path))
+        self.assertEqual({name: value for name, value in found.items() if "_total" in name}, wanted)
+        self.assertLess(found["epmd_figures_age_seconds"], programs.PATIENCE)
+        os.utime(self.path, (1, 1))
+        self.assertGreater(figures(printed(closed_port(self), "-figures", self.path))["epmd_figures_age_seconds"], 1e9)
+
+    def test_a_line_of_another_text_is_no_counter(self):
+        self.write(b"epmd_lists_total 1 2\nepmd_lists_total -1\nepmd_accepted_total\nepmd_other_total 1\nepmd_timeouts_total 7\n")
+        found = figures(printed(closed_port(self), "-figures", self.path))
+        self.assertEqual({name: value for name, value in found.items() if "_total" in name}, {"epmd_timeouts_total": 7})
+
+    def test_a_file_that_cannot_be_read_is_told(self):
+        done = run(closed_port(self), "-figures", self.path)
+        self.assertEqual((done.returncode, figures(done.stdout)), (0, {"epmd_up": 0, "epmd_connections": 0}))
+        self.assertRegex(done.stderr, f"^epmd-metrics: no counters: .*{re.escape(self.path)}")
 
 
 class Counted(Written, unittest.TestCase):

@@ -9,7 +9,7 @@ import programs
 from programs import CONTRIB
 from test_install import TOP, needs, read
 from test_log import Written, start
-from test_metrics import DUMP, Played, figures, printed
+from test_metrics import DUMP, Played, counters_of_the_daemon, figures, printed
 
 RULES = os.path.join(CONTRIB, "prometheus", "epmd.rules.yml")
 DASHBOARD = os.path.join(CONTRIB, "grafana", "epmd.json")
@@ -45,7 +45,11 @@ class Figures(Written, unittest.TestCase):
         played = Played(DUMP, does=lambda: self.add(b"\0"))
         self.text = printed(played.port, "-recording", self.path, "-state", os.path.join(self.folder.name, "state"))
         played.end()
-        self.series = figures(self.text)
+        self.write("".join(f"{name} 1\n" for name in counters_of_the_daemon()).encode(), ".figures")
+        played = Played(DUMP)
+        self.published = printed(played.port, "-figures", self.path + ".figures")
+        played.end()
+        self.series = figures(self.text) | figures(self.published)
         self.names = {re.sub("{.*", "", each) for each in self.series}
 
     def test_each_figure_of_an_alert_or_a_panel_is_printed_and_each_that_is_printed_is_shown(self):
@@ -60,8 +64,9 @@ class Figures(Written, unittest.TestCase):
 
     @needs("promtool")
     def test_promtool_takes_what_is_printed(self):
-        done = programs.run(["promtool", "check", "metrics"], input=self.text)
-        self.assertEqual((done.returncode, done.stdout + done.stderr), (0, ""))
+        for text in self.text, self.published:
+            done = programs.run(["promtool", "check", "metrics"], input=text)
+            self.assertEqual((done.returncode, done.stdout + done.stderr), (0, ""))
 
     def labelled(self, series):
         """A series as it is stored once a node exporter was asked for it."""

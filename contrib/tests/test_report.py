@@ -142,7 +142,7 @@ class Shown(Reported, unittest.TestCase):
         data = self.values(earlier, self.path)
         self.assertEqual(self.lane(data, "a")["spells"], [[1000, 60_000, 5000, 4, "restart"], [120_000, None, 7000, 4, None]])
         self.assertEqual(self.lane(data, "b")["spells"], [[1000, 60_000, 5000, 4, "restart"]])
-        self.assertEqual(data["marks"], [[0, "start", None], [60_000, "start", None]])
+        self.assertEqual(data["marks"], [[0, "start", None], [60_000, "start", 1000]])
 
     def test_a_recording_that_begins_in_a_state_and_one_with_a_gap(self):
         state = [(b"a", 5000, 4, 0), (b"b", 5001, 4, 1)], (), [(0, 1, 1, b""), (1, 1, 1, b"")]
@@ -154,7 +154,7 @@ class Shown(Reported, unittest.TestCase):
         self.assertEqual(self.lane(data, "a")["spells"], [[0, 60_000, 5000, None, "close"]])
         self.assertEqual(self.lane(data, "b")["spells"], [[0, 300_000, 5001, None, "gap"]])
         self.assertEqual(self.lane(data, "c")["spells"], [[300_000, None, 5002, None, None]])
-        self.assertEqual(data["marks"], [[300_000, "gap", 19]])
+        self.assertEqual(data["marks"], [[60_000, "gap", 19], [300_000, "again", None]])
 
     def test_names_are_text_and_nothing_else(self):
         names = [name.encode() for name in HOSTILE] + [b"\xff\xfe"]
@@ -360,15 +360,30 @@ class InABrowser(Reported, unittest.TestCase):
 
     def test_a_line_is_where_a_run_begins_or_ends_and_where_the_recording_has_a_gap(self):
         self.write(start() + visit(b"x"))
-        self.write(times((0, 0), (3, SECOND)), ".times")
+        self.write(times((0, 0), (3, MINUTE)), ".times")
         self.write(start(90) + visit(b"x"), ".1")
-        self.write(times((90, MINUTE), (93, 4 * MINUTE), (93, 4 * MINUTE)), ".1.times")
+        self.write(times((90, 2 * MINUTE), (93, 4 * MINUTE), (93, 4 * MINUTE)), ".1.times")
         value = self.loaded()
         found = value("[...document.querySelectorAll('#mapper .pin')].map(each => [each.className, each.title, each.style.left])")
-        self.assertEqual(found, [["pin start", "start at 2024-11-28 00:00:00Z", "0%"], ["pin gap", "gap at 2024-11-28 00:01:00Z", "25%"],
-                                 ["pin end", "end at 2024-11-28 00:04:00Z", "100%"]])
+        self.assertEqual(found, [
+            ["pin start", "start at 2024-11-28 00:00:00Z", "0%"], ["pin gap", "gap at 2024-11-28 00:01:00Z", "25%"],
+            ["pin again", "recording again at 2024-11-28 00:02:00Z", "50%"], ["pin end", "end at 2024-11-28 00:04:00Z", "100%"]])
         left = value("[...document.querySelectorAll('.chart')].map(each => [...each.querySelectorAll('.pin')].map(pin => pin.style.left))")
-        self.assertEqual(left, [["0%", "20%", "80%"]] * 3)
+        self.assertEqual(left, [["0%", "20%", "40%", "80%"]] * 3)
+        rows = value("[...document.querySelectorAll('#runs-table tbody tr')].map(each => each.textContent)")
+        failed = "Here the recording failed, until 00:02:00Z: entries are missing, 87 in number."
+        self.assertEqual(rows[1:], [f"2024-11-28 00:01:00Z{failed}", "2024-11-28 00:04:00ZThe port mapper ended in order."])
+        self.assertEqual(value("document.querySelectorAll('#mapper .run').length"), 1)
+
+    def test_of_a_run_that_did_not_end_in_order_the_last_time_is_shown(self):
+        earlier = self.path + "-20241128T000300Z"
+        self.write(start() + visit(b"x"), "-20241128T000300Z")
+        self.write(times((0, 0), (3, MINUTE)), "-20241128T000300Z.times")
+        self.write(start() + visit(b"x"))
+        self.write(times((0, 3 * MINUTE), (3, 4 * MINUTE)), ".times")
+        rows = self.loaded(earlier, self.path)("[...document.querySelectorAll('#runs-table tbody tr')].map(each => each.textContent)")
+        before = "The one before it, last seen at 00:01:00Z, did not end in order, or not in the recording."
+        self.assertEqual(rows, ["2024-11-28 00:00:00ZThe port mapper began.", f"2024-11-28 00:03:00ZThe port mapper began. {before}"])
 
     def test_a_refusal_names_the_date_of_its_holder_where_it_is_another_one(self):
         self.write(start() + register(0, b"a") + refused(b"a"))

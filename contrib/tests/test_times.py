@@ -120,12 +120,20 @@ class Timed(Written, unittest.TestCase):
         self.write(times((6, 3 * SECOND), (9, 4 * SECOND)), ".2.times")
         self.assertEqual(self.log(), [f"{at(0)} 0 start", f"{at(1)} 1 lookup a", "4 lookup b", f"{at(4)} 7 lookup c"])
 
-    def test_a_gap_has_the_time_at_which_the_recording_went_on(self):
+    def test_a_gap_has_the_times_between_which_nothing_was_recorded(self):
         self.write(start() + visit(b"a"))
-        self.write(start(9) + visit(b"b"), ".1")
-        self.write(times((0, 0), (3, SECOND)), ".times")
-        self.write(times((9, 5 * SECOND), (12, 6 * SECOND)), ".1.times")
+        self.write(b"", ".1")  # One that failed as it began.
+        self.write(start(9) + visit(b"b"), ".2")
+        self.write(times((9, 5 * SECOND), (12, 6 * SECOND)), ".2.times")
         self.assertEqual(self.log()[2:], [f"{at(5)} 3 gap: 6 entries are missing", f"{at(6)} 10 lookup b"])
+        self.write(times((0, 0), (2, SECOND), (3, 2 * SECOND)), ".times")
+        self.assertEqual(self.log()[2:], [f"{at(5)} 3 gap: 6 entries are missing since {at(2)}", f"{at(6)} 10 lookup b"])
+        gap = json.loads(self.log("-json")[2])
+        self.assertEqual((gap["time"], gap["since"]), (at(5), at(2)))
+        os.remove(self.path + ".1")
+        self.assertEqual(self.log()[2:], [f"{at(5)} 3 gap: 6 entries are missing since {at(2)}", f"{at(6)} 10 lookup b"])
+        os.remove(self.path + ".2.times")
+        self.assertEqual(self.log()[2:], [f"3 gap: 6 entries are missing since {at(2)}", "10 lookup b"])
 
     def test_an_end_is_a_row_at_the_place_of_the_one_before(self):
         wanted = ([(9, SECOND), (9, 3 * SECOND)], [f"{at(3)} 9 end"]), ([(9, SECOND)], []), ([(12, SECOND), (12, 3 * SECOND)], [])
