@@ -9,7 +9,8 @@ abbrev pub Separated : {X : Type 0} → ℕ → (List ℕ → X → Type 0) → 
 Separated separator Writes text [] = ⊥
 Separated separator Writes text (x ∷ []) = Writes text x
 Separated separator Writes text (x ∷ y ∷ ys) =
-    (prefix : List ℕ) × (after : List ℕ) × (text ≡ prefix ++ separator ∷ after) × Writes prefix x × Separated separator Writes after (y ∷ ys)
+    (prefix : List ℕ) × (after : List ℕ) × (text ≡ prefix ++ separator ∷ after) × Writes prefix x
+    × Separated separator Writes after (y ∷ ys)
 
 -- The digits, one to three, write a number that fits a byte.
 abbrev pub WritesByte : List ℕ → ℕ → Type 0

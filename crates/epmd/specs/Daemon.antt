@@ -55,8 +55,8 @@ served_lines worker (count ∷ counts) = served_line worker count ++ served_line
 abbrev pub cannot_listen_line : List ℕ → ℕ → List ℕ
 cannot_listen_line address port =
     let number = λ (index : ℕ). decimal (slice_index address index) in
-    concat (the.CANNOT_LISTEN.now ∷ number 0 ∷ codes "." ∷ number 1 ∷ codes "." ∷ number 2 ∷ codes "." ∷ number 3 ∷ codes ":" ∷ decimal port ∷
-    (10 ∷ []) ∷ [])
+    concat (the.CANNOT_LISTEN.now ∷ number 0 ∷ codes "." ∷ number 1 ∷ codes "." ∷ number 2 ∷ codes "." ∷ number 3 ∷ codes ":"
+    ∷ decimal port ∷ (10 ∷ []) ∷ [])
 
 -- The IPv6 address that goes with an IPv4 address: every address of the host, or the host itself.
 abbrev pub beside : List ℕ → List ℕ

@@ -1,7 +1,8 @@
 //! The daemon: its settings, and what is printed when it ends.
 ghost use Rattle.std.specs.Prelude.{◌≡◌, false, IfOk, IfSome, None};
 ghost use Rattle.portmap_link.specs.Adapters.{writing_inner};
-ghost use Rattle.epmd.specs.Daemon.{SetsAs, beside, first_by, status_of_end, served_line, served_lines, without_ipv6_line};
+ghost use Rattle.epmd.specs.Daemon.{SetsAs, beside, first_by, status_of_end, served_line, served_lines};
+ghost use Rattle.epmd.specs.Daemon.{without_ipv6_line};
 ghost use Rattle.epmd.specs.Daemon.{cannot_listen_line, text_of_end};
 ghost use Rattle.epmd.specs.Errors.{IsWritten, IsSpent, IsPrinted};
 
@@ -141,7 +142,8 @@ pub fn end_daemon<E: Write>(
 ) -> u8
     ensures status { result ≡ status_of_end ended.now }
     ensures silent { IfOk ended.now (λ _. command.now.debug ≡ false → errors.new ≡ errors.old) }
-    ensures line { IfSome (text_of_end command.now ended.now) (λ text. IsPrinted E.contents text errors.old errors.new) }
+    ensures line { IfSome (text_of_end command.now ended.now)
+        (λ text. IsPrinted E.contents text errors.old errors.new) }
     ensures none { text_of_end command.now ended.now ≡ None → errors.new ≡ errors.old }
 {
     match ended {

@@ -28,8 +28,8 @@ pub fn say<E: Write>(errors: &mut Writing<E>, text: &[u8]) -> bool
 
 /// Writes a text that is given in pieces. Returns whether all of it was written.
 pub fn say_all<E: Write>(errors: &mut Writing<E>, pieces: &[&[u8]]) -> bool
-    ensures written { IsWritten (flat_map (λ piece. piece.now) pieces.now) result (E.contents (writing_inner errors.old))
-        (E.contents (writing_inner errors.new)) }
+    ensures written { IsWritten (flat_map (λ piece. piece.now) pieces.now) result
+        (E.contents (writing_inner errors.old)) (E.contents (writing_inner errors.new)) }
     ensures spent { result ≡ false → IsSpent errors.new }
 {
     for piece in pieces {
@@ -47,8 +47,8 @@ pub fn say_number<E: Write>(
     number: u64,
     suffix: &[u8],
 ) -> bool
-    ensures written { IsWritten (prefix.now ++ decimal number ++ suffix.now) result (E.contents (writing_inner errors.old))
-        (E.contents (writing_inner errors.new)) }
+    ensures written { IsWritten (prefix.now ++ decimal number ++ suffix.now) result
+        (E.contents (writing_inner errors.old)) (E.contents (writing_inner errors.new)) }
     ensures spent { result ≡ false → IsSpent errors.new }
 {
     let mut digits = Buffer::new();

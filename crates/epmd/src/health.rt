@@ -7,7 +7,8 @@ ghost use Rattle.portmap_client.specs.Exchange.{Calls, StreamView, view};
 ghost use Rattle.portmap_client.specs.declared.fault.ClientFault.{ClientFault};
 ghost use Rattle.epmd.specs.Errors.{IsPrinted};
 ghost use Rattle.epmd.specs.Health.{Ends, Grows, Made, Makes, PrintsHealth, failing, health_node, is_granted};
-ghost use Rattle.epmd.specs.Health.{line_of_health, look_up_outcome, plan, registration_outcome, status_of_health, text_of};
+ghost use Rattle.epmd.specs.Health.{line_of_health, look_up_outcome, plan, registration_outcome};
+ghost use Rattle.epmd.specs.Health.{status_of_health, text_of};
 ghost use Rattle.epmd.specs.declared.health.Step.{Step};
 
 use crate::actions::{DONE, Failure, NOT_DONE, fail};

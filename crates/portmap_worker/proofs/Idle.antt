@@ -477,23 +477,23 @@ module _ {S : Type 0} where
   returned_none old new (Some turn) e t = absurd (cc)
 
   -- `Keeps` before a turn and the effect of the turn are together such an effect.
-  then_returned : (kept more : Type 0) (old r new : Links (OpenLink S)) (turn : Option Turn) → (kept → more) → Keeps old r
+  then_returned : {kept more : Type 0} (old r new : Links (OpenLink S)) (turn : Option Turn) → (kept → more) → Keeps old r
       → Returned kept r new turn → Returned more old new turn
-  then_returned kept more old r new None f k t = λ fact h. t fact (k fact h)
-  then_returned kept more old r new (Some (Fresh key local)) f k t =
+  then_returned old r new None f k t = λ fact h. t fact (k fact h)
+  then_returned old r new (Some (Fresh key local)) f k t =
       (none_before key old r k t.0, record { now = t.1.now; others = λ fact s h. t.1.others fact s (k fact h) })
-  then_returned kept more old r new turn f k t = f t
+  then_returned old r new turn f k t = f t
 
   pub then_returns : (old r new : Links (OpenLink S)) (turn : Option Turn) → Keeps old r → Returns r new turn → Returns old new turn
-  then_returns old r new turn k = then_returned (Keeps r new) (Keeps old new) old r new turn (λ t fact h. t fact (k fact h)) k
+  then_returns old r new turn k = then_returned {kept = Keeps r new} {more = Keeps old new} old r new turn (λ t fact h. t fact (k fact h)) k
 
   pub then_returns_links : (old r new : Links (OpenLink S)) (turn : Option Turn) → Keeps old r → ReturnsLinks r new turn
       → ReturnsLinks old new turn
   then_returns_links old r new turn k =
-      then_returned (KeepsLinks r new) (KeepsLinks old new) old r new turn (λ t fact l h. t fact l (k fact h)) k
+      then_returned {kept = KeepsLinks r new} {more = KeepsLinks old new} old r new turn (λ t fact l h. t fact l (k fact h)) k
 
   pub weaker : (old new : Links (OpenLink S)) (turn : Option Turn) → Returns old new turn → ReturnsLinks old new turn
-  weaker old new turn = then_returned (Keeps old new) (KeepsLinks old new) old old new turn (λ t fact _. t fact) (λ fact h. h)
+  weaker old new turn = then_returned {kept = Keeps old new} {more = KeepsLinks old new} old old new turn (λ t fact _. t fact) (λ fact h. h)
 
   -- No queued link falls back by a turn.
   pub returned_stays : (old new : Links (OpenLink S)) (turn : Option Turn) → Returns old new turn → Stays old new

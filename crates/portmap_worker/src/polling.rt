@@ -121,7 +121,8 @@ impl<L: Ledger, S: System, R: Host + Wait + Clock> SocketSource<'_, L, S, R> {
     fn wait(&mut self) -> bool
         ensures links { Keeps self.old.ready self.new.ready }
         ensures schedule { self.new.schedule ≡ record self.old.schedule { turns = 0 } }
-        ensures counted { result ≡ true → self.old.rounds.pass.left ≡ 0 → length self.new.ready.queue ≤ self.new.rounds.pass.left }
+        ensures counted { result ≡ true → self.old.rounds.pass.left ≡ 0
+            → length self.new.ready.queue ≤ self.new.rounds.pass.left }
     {
         self.schedule.end_turns();
         if !self.rounds.pass.is_over() {
