@@ -128,14 +128,20 @@ impl<'a, L: Ledger, S: LinkSource + Drop, R: Wait + Drop> Daemon<'a, L, S, R> {
         self.rest()
     }
 
-    fn serve(mut self, case: &Case) -> Option<(Outcome, Vec<Seat<L>>)> {
+    /// Runs a case to the end of the daemon, and returns its result.
+    fn outcome(&mut self, case: &Case) -> Option<Outcome> {
         self.run(case)?;
         self.end()?;
         let seats = self.seats.iter();
         let acts = seats.fold(0, |sum: u64, seat| sum.saturating_add(seat.count()));
         let alloc = self.scene.alloc;
         let opened = mem::replace(&mut self.opened, Vec::new(alloc));
-        let outcome = self.scene.outcome(&opened, acts)?;
+        self.scene.outcome(&opened, acts)
+    }
+
+    fn serve(mut self, case: &Case) -> Option<(Outcome, Vec<Seat<L>>)> {
+        let outcome = self.outcome(case)?;
+        let alloc = self.scene.alloc;
         Some((outcome, mem::replace(&mut self.seats, Vec::new(alloc))))
     }
 }
