@@ -189,19 +189,26 @@ impl<'a, L: Ledger, R: Wait + Drop> Around<'a, L, R> {
         Some(sources)
     }
 
+    fn workers<S: LinkSource + Drop>(&self, sources: Vec<S>) -> Option<SimWorkers<'a, L, S, R>> {
+        let mut workers = Vec::new(self.alloc);
+        let mut number = 0u32;
+        for source in sources {
+            number = number.saturating_add(1);
+            let seat = self.desk.seat(self.host, number)?;
+            self.shared.ending.begin_one();
+            let worker = Worker::new(self.host, self.alloc, self.desk, seat, source, &Open);
+            workers.push(Some(worker)).ok()?;
+        }
+        Some(workers)
+    }
+
     /// Serves the peers of the case by a worker for each source.
     fn simulate<S: LinkSource + Drop>(
         &'a self,
         sources: Vec<S>,
     ) -> Option<(Outcome, Vec<Seat<L>>)> {
         let (host, alloc, case) = (self.host, self.alloc, self.case);
-        let mut workers: SimWorkers<'a, L, S, R> = Vec::new(alloc);
-        for (number, source) in (1..u32::MAX).zip(sources) {
-            let seat = self.desk.seat(host, number)?;
-            self.shared.ending.begin_one();
-            let worker = Worker::new(host, alloc, self.desk, seat, source, &Open);
-            workers.push(Some(worker)).ok()?;
-        }
+        let workers = self.workers(sources)?;
         let scene = Scene {
             alloc,
             world: &host.world,
@@ -232,6 +239,58 @@ impl<'a, L: Ledger, R: Wait + Drop> Around<'a, L, R> {
     }
 }
 
+/// Returns what the workers of a case share.
+fn shared_of<R: Wait + Drop>(
+    host: &SimHost<R>,
+    alloc: Global,
+    case: &Case,
+) -> Option<Shared<SimThread>> {
+    let mut states = Vec::new(alloc);
+    for thread in 0..case.workers as usize {
+        let waker = SimThread::of(&host.world, thread)?;
+        states.push(WorkerState::new(waker)).ok()?;
+    }
+    let drain = SimThread::of(&host.world, case.workers as usize)?;
+    let (places, unsent) = (case.scenario.conn_max, case.scenario.unsent_bytes_most);
+    Some(Shared::new(host, states, drain, places, unsent))
+}
+
+fn book_of(alloc: Global, scenario: &Scenario) -> Option<Book> {
+    let config = Config::new(4369, scenario.is_relaxed, scenario.conn_max, KNOWN_MAX).ok()?;
+    Book::new(alloc, config, 4).ok()
+}
+
+/// Runs a case at a new desk.
+fn at_desk<L: Ledger, R: Wait + Drop>(
+    host: &SimHost<R>,
+    alloc: Global,
+    blank: Blank,
+    case: &Case,
+) -> Option<Outcome>
+    requires name { blank.name ≡ L.name }
+    requires parts { blank.parts ≡ L.parts }
+    requires enough { blank.parts ≡ PARTS }
+{
+    let desk: Desk<L> = Desk::new(blank, book_of(alloc, case.scenario)?);
+    let queue = RecordQueue::new(alloc, PATH.to_string(alloc).ok()?);
+    let shared = shared_of(host, alloc, case)?;
+    let around = Around {
+        alloc,
+        case,
+        host,
+        desk: &desk,
+        shared: &shared,
+        queue: &queue,
+    };
+    let (mut outcome, seats) = around.simulate(around.sources()?)?;
+    let odd = desk
+        .finish(seats)
+        .is_err()
+        .then_some("the seats don't add up");
+    outcome.wrong = outcome.wrong.or(odd);
+    Some(outcome)
+}
+
 /// Runs a case. Returns `None` if memory runs out.
 pub fn run_case<L: Ledger, R: Wait + Drop>(
     rt: R,
@@ -243,30 +302,7 @@ pub fn run_case<L: Ledger, R: Wait + Drop>(
     requires parts { blank.parts ≡ L.parts }
     requires enough { blank.parts ≡ PARTS }
 {
-    let (scenario, places) = (case.scenario, case.scenario.conn_max);
     let world = Rc::new(alloc, RefCell::new(World::of(alloc, case)?)).ok()?;
     let host = SimHost { rt, world };
-    let config = Config::new(4369, scenario.is_relaxed, places, KNOWN_MAX).ok()?;
-    let desk: Desk<L> = Desk::new(blank, Book::new(alloc, config, 4).ok()?);
-    let queue = RecordQueue::new(alloc, PATH.to_string(alloc).ok()?);
-    let mut states = Vec::new(alloc);
-    for thread in 0..case.workers as usize {
-        let waker = SimThread::of(&host.world, thread)?;
-        states.push(WorkerState::new(waker)).ok()?;
-    }
-    let drain = SimThread::of(&host.world, case.workers as usize)?;
-    let shared = Shared::new(&host, states, drain, places, scenario.unsent_bytes_most);
-    let around = Around {
-        alloc,
-        case,
-        host: &host,
-        desk: &desk,
-        shared: &shared,
-        queue: &queue,
-    };
-    let (mut outcome, seats) = around.simulate(around.sources()?)?;
-    let finished = desk.finish(seats);
-    let odd = finished.is_err().then_some("the seats don't add up");
-    outcome.wrong = outcome.wrong.or(odd);
-    Some(outcome)
+    at_desk::<L, R>(&host, alloc, blank, case)
 }
