@@ -94,7 +94,7 @@ class Figures(Case):
     def test_a_file_that_cannot_be_written_is_told_and_the_daemon_serves(self):
         file = self.path("none/epmd.prom")
         daemon = self.daemon("-figures", file)
-        eventually(lambda: daemon.lines() == [f"epmd: cannot write the counters: {file}"], "a line")
+        eventually(lambda: daemon.lines() == [f"epmd: cannot write the counters: {file}: No such file or directory"], "a line")
         self.assertEqual(reply(daemon.port, port_please(b"beta")), NOT_FOUND)
 
 

@@ -14,7 +14,7 @@ from test_metrics import DUMP, Played, counters_of_the_daemon, figures, printed
 RULES = os.path.join(CONTRIB, "prometheus", "epmd.rules.yml")
 DASHBOARD = os.path.join(CONTRIB, "grafana", "epmd.json")
 FIGURE = re.compile(r"\bepmd_\w+")
-ALERTS = {"EpmdDown": "epmd_up", "EpmdRecordingStandsStill": "epmd_recording_moves",
+ALERTS = {"EpmdDown": "epmd_up", "EpmdFiguresAreOld": "epmd_figures_age_seconds", "EpmdRecordingStandsStill": "epmd_recording_moves",
           "EpmdRefusalsRise": "epmd_refusals_total", "EpmdNamesNearLimit": "epmd_names",
           "EpmdConnectionsNearLimit": "epmd_connections"}
 
@@ -92,7 +92,7 @@ class Figures(Written, unittest.TestCase):
 
 
 class Alerts(unittest.TestCase):
-    def test_there_are_five_and_each_is_tried(self):
+    def test_there_are_six_and_each_is_tried(self):
         self.assertEqual({name: FIGURE.findall(query)[0] for name, query in alerts().items()}, ALERTS)
         tried = read(RULES.replace(".rules.", ".test."))
         for name in ALERTS:

@@ -39,10 +39,10 @@ awake false b e = refl
 
 module _ {S : Type 0} where
   -- The link gets another state, gets another value, or is reported.
-  abbrev to : LinkState → OpenLink S × LinkState → OpenLink S × LinkState
+  abbrev pub to : LinkState → OpenLink S × LinkState → OpenLink S × LinkState
   to state l = (l.0, state)
 
-  abbrev with : OpenLink S → OpenLink S × LinkState → OpenLink S × LinkState
+  abbrev pub with : OpenLink S → OpenLink S × LinkState → OpenLink S × LinkState
   with v l = (v, l.1)
 
   abbrev waked : OpenLink S × LinkState → OpenLink S × LinkState

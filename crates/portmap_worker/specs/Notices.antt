@@ -18,7 +18,7 @@ notice_line (Unread count) = codes "epmd: " ++ decimal count ++ codes " connecti
 notice_line (RecordingFailed path number reason) =
     codes "epmd: recording failed: " ++ file_path path.now number ++ codes ": " ++ reason.now ++ codes "\n"
 notice_line (RecordingAgain path number) = codes "epmd: recording again: " ++ file_path path.now number ++ codes "\n"
-notice_line (FiguresLost path) = codes "epmd: cannot write the counters: " ++ path.now ++ codes "\n"
+notice_line (FiguresLost path reason) = codes "epmd: cannot write the counters: " ++ path.now ++ codes ": " ++ reason.now ++ codes "\n"
 notice_line (FewerPlaces places limit) = codes "epmd: at most " ++ decimal places
     ++ codes " connections, since the limit of descriptors is " ++ decimal limit ++ codes "\n"
 
@@ -31,5 +31,5 @@ brief_line (ShortOfMemory count) = codes "epmd: memory is short, requests were r
 brief_line (Unread count) = codes "epmd: connections that did not read their replies were reset\n"
 brief_line (RecordingFailed path number reason) = codes "epmd: recording failed: there is no memory to say why\n"
 brief_line (RecordingAgain path number) = codes "epmd: recording again\n"
-brief_line (FiguresLost path) = codes "epmd: the counters cannot be written\n"
+brief_line (FiguresLost path reason) = codes "epmd: the counters cannot be written\n"
 brief_line (FewerPlaces places limit) = codes "epmd: the limit of descriptors is low\n"

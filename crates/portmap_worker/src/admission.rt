@@ -267,22 +267,21 @@ pub(crate) fn evict<S: Stream>(links: &mut Links<'_, S>, key: usize, now: u64) -
     Turn::Late(key as u64)
 }
 
-/// Returns the link to evict first: a remote link, or with `with_local` any link. Pending links are spared.
+/// Returns the link to evict first: a remote link, or with `with_local` any link. A link that keeps a registration back
+/// is spared: it waits for its name, or is queued to be answered.
 fn first_to_evict<S: Stream>(links: &Links<'_, S>, with_local: bool, now: u64) -> Option<usize> {
     let mut first: Option<EvictionCandidate> = None;
     for key in 0..links.keys() {
-        let place = links.state(key);
-        if place == Some(LinkState::Pending) {
-            continue;
-        }
+        let is_queued = links.state(key) == Some(LinkState::Queued);
         if let Some(OpenLink { link, .. }) = links.get(key) {
             let candidate = EvictionCandidate {
                 is_local: link.is_local,
-                is_ready: place == Some(LinkState::Queued) && !link.is_late(),
+                is_ready: is_queued && !link.is_late(),
                 came: link.came,
                 key,
             };
-            if (with_local || !candidate.is_local) && link.is_evictable(now) {
+            let is_spared = link.asked_name().is_some() || !link.is_evictable(now);
+            if !is_spared && (with_local || !candidate.is_local) {
                 first = first_of(first, candidate);
             }
         }

@@ -3,6 +3,7 @@ ghost use Rattle.std.specs.Prelude.{◌≡◌};
 ghost use Rattle.portmap_worker.specs.Figures.{counter_of_reply};
 
 use crate::host::Host;
+use crate::write_fault::WriteFault;
 use itoa::Buffer;
 use portmap_core::{Entry, Fate, NoMemory};
 use std::alloc::Global;
@@ -131,11 +132,15 @@ impl Figures {
         Ok(text)
     }
 
-    /// Puts the text into the file at this path. Returns whether it is there.
-    pub(crate) fn publish<R: Host>(&self, rt: &R, alloc: Global, path: &str) -> bool {
-        let Ok(text) = self.text(alloc) else {
-            return false;
-        };
-        rt.publish(alloc, path, text.as_slice()).is_ok()
+    /// Puts the text into the file at this path.
+    pub(crate) fn publish<R: Host>(
+        &self,
+        rt: &R,
+        alloc: Global,
+        path: &str,
+    ) -> Result<(), WriteFault> {
+        let text = self.text(alloc)?;
+        rt.publish(alloc, path, text.as_slice())
+            .map_err(|error| WriteFault::of(&error))
     }
 }

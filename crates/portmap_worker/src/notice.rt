@@ -35,7 +35,10 @@ pub enum Notice<'a> {
         number: u32,
     },
     /// The counters cannot be written to the file at this path.
-    FiguresLost(&'a str),
+    FiguresLost {
+        path: &'a str,
+        reason: &'a [u8],
+    },
     /// The daemon has only `places` permits, since the limit of descriptors is low.
     FewerPlaces {
         places: u64,
@@ -109,13 +112,19 @@ fn count_line(alloc: Global, text: &[u8], count: u64, behind: &[u8]) -> Result<V
     Ok(line)
 }
 
-fn failed_line(alloc: Global, path: &str, number: u32, reason: &[u8]) -> Result<Vec<u8>, NoMemory>
+fn fault_line(
+    alloc: Global,
+    text: &[u8],
+    path: &str,
+    number: u32,
+    reason: &[u8],
+) -> Result<Vec<u8>, NoMemory>
     ensures { IfOk result (λ line. line.items
-        ≡ codes "epmd: recording failed: " ++ file_path path.now number ++ codes ": " ++ reason.now ++ codes "\n") }
+        ≡ text.now ++ file_path path.now number ++ codes ": " ++ reason.now ++ codes "\n") }
 {
     let mut behind = Vec::from_slice(alloc, b": ")?;
     behind.extend_from_slice(reason)?;
-    file_line(alloc, b"epmd: recording failed: ", path, number, &behind)
+    file_line(alloc, text, path, number, &behind)
 }
 
 fn places_line(alloc: Global, places: u64, limit: u64) -> Result<Vec<u8>, NoMemory>
@@ -144,12 +153,12 @@ impl Notice<'_> {
                 path,
                 number,
                 reason,
-            } => failed_line(alloc, path, *number, reason),
+            } => fault_line(alloc, b"epmd: recording failed: ", path, *number, reason),
             Notice::RecordingAgain { path, number } => {
                 file_line(alloc, b"epmd: recording again: ", path, *number, b"")
             }
-            Notice::FiguresLost(path) => {
-                file_line(alloc, b"epmd: cannot write the counters: ", path, 0, b"")
+            Notice::FiguresLost { path, reason } => {
+                fault_line(alloc, b"epmd: cannot write the counters: ", path, 0, reason)
             }
             Notice::FewerPlaces { places, limit } => places_line(alloc, *places, *limit),
         }
@@ -167,7 +176,7 @@ impl Notice<'_> {
             Notice::Unread(_) => BRIEF_UNREAD,
             Notice::RecordingFailed { .. } => BRIEF_FAILED,
             Notice::RecordingAgain { .. } => BRIEF_AGAIN,
-            Notice::FiguresLost(_) => BRIEF_FIGURES,
+            Notice::FiguresLost { .. } => BRIEF_FIGURES,
             Notice::FewerPlaces { .. } => BRIEF_PLACES,
         }
     }

@@ -126,7 +126,7 @@ fn told_by(notice: &Notice<'_>) -> Option<(Subject, u64)> {
         Notice::Unread(count) => Some((Subject::Unread, *count)),
         Notice::RecordingFailed { .. } => Some((Subject::ShutdownCause, 1)),
         Notice::RecordingAgain { .. } => Some((Subject::Again, 1)),
-        Notice::FiguresLost(_) | Notice::FewerPlaces { .. } => None,
+        Notice::FiguresLost { .. } | Notice::FewerPlaces { .. } => None,
     }
 }
 

@@ -123,7 +123,7 @@ epmd: memory is short, 1200 requests were refused
 epmd: 3 connections that did not read their replies were reset
 epmd: recording failed: /var/session: No space left on device
 epmd: recording again: /var/session.12
-epmd: cannot write the counters: /var/session
+epmd: cannot write the counters: /var/session: No space left on device
 epmd: at most 990 connections, since the limit of descriptors is 1024
 ";
 
@@ -141,7 +141,7 @@ fn an_operator_reads_a_line_of_each_kind(rt: HostRuntime) -> Result<(), Fail> {
             reason,
         },
         Notice::RecordingAgain { path, number: 12 },
-        Notice::FiguresLost(path),
+        Notice::FiguresLost { path, reason },
         Notice::FewerPlaces {
             places: 990,
             limit: 1024,

@@ -3,7 +3,7 @@ use Rattle.std.proofs.Common.{◌≡◌, Option, Some, None, refl, sym, subst, a
 use Rattle.portmap_ready.specs.Links.{link_at}
 use Rattle.portmap_ready.specs.declared.LinkState.{LinkState, TheVariants.{Queued}}
 use Rattle.portmap_worker.specs.declared.open_link.OpenLink.{OpenLink}
-use Rattle.portmap_worker.proofs.Idle.{moved_here, seen, sent, written_here}
+use Rattle.portmap_worker.proofs.Idle.{moved_here, seen, sent, to, with, written_here}
 use Rattle.portmap_worker.proofs.pending.resume.Goals.{in-Some, in_default}
 use Rattle.portmap_worker.proofs.pending.resume.Goals as goal
 
@@ -17,18 +17,12 @@ returns-clause-links g c =
     (ap seen c.requeue.ensures) (λ v. refl)
 
 module _ {S : Type 0} where
-  abbrev queued : OpenLink S × LinkState → OpenLink S × LinkState
-  queued l = (l.0, Queued)
-
-  abbrev with : OpenLink S → OpenLink S × LinkState → OpenLink S × LinkState
-  with v l = (v, l.1)
-
   abbrev is_late : OpenLink S × LinkState → Bool
   is_late l = l.0.link.timer.is_late
 
   -- A link that got this value, and is queued, is late as the value says.
   late_of : (late : Bool) (v : OpenLink S) (o : Option (OpenLink S × LinkState)) → v.link.timer.is_late ≡ late
-      → IfSome (option_map queued (option_map (with v) o)) (λ l. is_late l ≡ late)
+      → IfSome (option_map (to Queued) (option_map (with v) o)) (λ l. is_late l ≡ late)
   late_of late v None e = search rules
   late_of late v (Some l) e = e
 
@@ -39,7 +33,7 @@ returns-clause-late g c =
     subst (λ o. IfSome o (λ l. is_late l ≡ c.args.is_short)) (sym at)
     (elim c.match-get_mut.branch [
       | in-Some w ↦
-          subst (λ o. IfSome (option_map queued o) (λ l. is_late l ≡ c.args.is_short))
+          subst (λ o. IfSome (option_map (to Queued) o) (λ l. is_late l ≡ c.args.is_short))
           (sym (ap (λ r. link_at r k) w.links-is ∙ written_here k _ c.args.links.now))
           (late_of c.args.is_short _ (link_at c.args.links.now k) (ap (λ l. l.timer.is_late) w.set_late.ensures))
       | in_default w ↦ search (rules, w.links-is, c.get_mut.ensures.value)
