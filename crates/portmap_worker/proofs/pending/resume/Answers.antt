@@ -1,4 +1,4 @@
-use Rattle.std.specs.Prelude.{Bool, IfSome, option_map, ◌∷◌}
+use Rattle.std.specs.Prelude.{Bool, IfSome, option_map}
 use Rattle.std.proofs.Common.{◌≡◌, Option, Some, None, refl, sym, subst, ap, ◌∙◌, inl, inr, rules}
 use Rattle.portmap_ready.specs.Links.{link_at}
 use Rattle.portmap_ready.specs.declared.LinkState.{LinkState, TheVariants.{Queued}}
