@@ -119,7 +119,7 @@ pub const ENDS: &[Scenario] = scenarios! {
     "choked" (182, 0, 228, 0) [Local UNREADING 200, Remote UNREADING 40, Local NODE 30, Local SEEKER 3, Local LISTER 3]
         [] conn_max: 512, hold_us: 60_000_000, unsent_bytes_most: 20_000;
     "penned" (56, 42, 156, 0) [Local SILENT 40, Remote SILENT 10, Local NODE 4, Local SEEKER 4]
-        [] conn_max: 256, descriptors: 24, limit_ms: 3000, timeout_us: 60_000_000, is_strict: false;
+        [] conn_max: 256, descriptors: 24, limit_ms: 3000, timeout_us: 60_000_000;
     "unheeded" (130, 110, 2100, 0) [Local SILENT 6, Remote SILENT 3, Remote DRIPPER 3, Local NODE 3, Local SEEKER 3]
         [Unreported 1000] limit_ms: 10;
     "few" (0, 0, 72, 0) [Local SILENT 2, Remote SILENT 1, Local SEEKER 1]
