@@ -155,12 +155,23 @@ class Told(unittest.TestCase):
         ])
 
     def test_a_name_that_was_stopped_does_not_leave(self):
-        entries = connect(0) + piece(0, alive(b"a", 5000), 0, GRANTED) + connect(1) + piece(1, sized(b"sa"), 1, b"STOPPED") + close(0)
-        self.assertEqual(self.told(start() + entries)[1:], ["3 stop a by a local peer: STOPPED"])
+        entries = connect(0) + piece(0, alive(b"a", 5000), 0, GRANTED) + connect(2) + piece(2, alive(b"b", 5001), 0, GRANTED)
+        entries += connect(1) + piece(1, sized(b"sa"), 1, b"STOPPED") + close(0) + close(2)
+        self.assertEqual(self.told(start() + entries)[2:], ["5 stop a by a local peer: STOPPED", "7 leave b port 5001"])
+
+    def test_requests_of_the_greatest_lengths_are_well_formed(self):
+        name = b"a" * NAME_MOST
+        body = alive(name, 5000)[2:-2]
+        extra = BODY_MOST - len(body) - 2
+        entries = connect(0) + piece(0, sized(body + sized(bytes(extra))), 0, GRANTED)
+        entries += connect(1) + piece(1, sized(b"za") + b"b", 1, FOUND)  # What is behind a request counts for nothing.
+        self.assertEqual(self.told(start() + entries), [
+            f"1 register {name.decode()} port 5000 creation 4", "3 lookup a by a local peer: port 5000"])
 
     def test_malformed_requests_are_called_so(self):
         bad = [b"\0\0", b"\x20\x01", number(5, 2) + b"za", sized(b"a"), sized(b"nn"), sized(b"z"), sized(b"z\n"), sized(b"z" + b"a" * 1021),
-               sized(b"x" + bytes(11)), alive(b"a", 1)[:2] + b"x\0\1\x4d\0\0\6\0\5\0\2a\0\0"]
+               sized(b"z\x7f"), sized(alive(b"a", 1)[2:] + b"a"), sized(b"x" + bytes(11)),
+               alive(b"a", 1)[:2] + b"x\0\1\x4d\0\0\6\0\5\0\2a\0\0"]
         entries = b"".join(connect(slot) + piece(slot, request, 1) for slot, request in enumerate(bad))
         wanted = [f"{2 * slot + 1} malformed request by a local peer: {request[:40].hex()}" for slot, request in enumerate(bad)]
         self.assertEqual(self.told(start() + entries), wanted)
@@ -205,6 +216,8 @@ class Told(unittest.TestCase):
         done = self.run_log()
         self.assertEqual(done.returncode, 2)
         self.assertEqual(done.stderr, f"epmd-log: {self.path}.1: it begins at place 9, and the one before it ends at 1: another run wrote it\n")
+        self.write(start() + connect(0), self.path + ".1")
+        self.assertIn("it begins at place 0, and the one before it ends at 1: another run wrote it", self.run_log().stderr)
 
     def test_a_recording_that_began_anew_has_a_gap(self):
         self.write(start() + connect(0) + connect(1)[:-1])
@@ -223,6 +236,9 @@ class Told(unittest.TestCase):
             self.write(cut)
             done = self.run_log()
             self.assertEqual((done.returncode, done.stderr), (1, f"epmd-log: {self.path}: what is behind {where} is cut off\n"))
+        self.write(start() + connect(0))
+        self.write(start(1) + connect(1)[:-1], self.path + ".1")
+        self.assertEqual(self.run_log().stderr, f"epmd-log: {self.path}.1: what is behind place 1 is cut off\n")
         self.write(b"EPMX" + bytes(33))
         self.assertEqual(self.run_log().returncode, 2)
         self.write(start() + WORKER + b"\6")
@@ -244,7 +260,7 @@ class Told(unittest.TestCase):
         entries += connect(2) + piece(2, alive(b"a", 1), 1, IN_USE) + connect(3) + late(3) + close(0, 4)
         entries += connect(4) + piece(4, sized(b"n"), 1, number(4369, 4)) + connect(5) + piece(5, sized(b"d"), 1, number(4369, 4))
         entries += connect(6) + piece(6, sized(b"sq"), 1, b"NOEXIST") + connect(7) + piece(7, sized(b"k"), 1, b"NO")
-        entries += connect(8) + piece(8, sized(b"zq"), 1, b"w\1") + connect(9) + piece(9, b"\0\0", 1)
+        entries += connect(8) + piece(8, sized(b"zq"), 1, b"w\1") + connect(9) + piece(9, bytes(50), 1)
         self.assertEqual([json.loads(line) for line in self.told(start() + entries, "-json")], [
             {"place": 1, "event": "register", "name": "a", "port": 5000, "creation": 4, "peer": "local"},
             {"place": 3, "event": "lookup", "name": "a", "port": 5000, "peer": "remote"},
@@ -256,7 +272,7 @@ class Told(unittest.TestCase):
             {"place": 14, "event": "stop", "name": "q", "peer": "local", "answer": "NOEXIST"},
             {"place": 16, "event": "kill", "peer": "local", "answer": "NO"},
             {"place": 18, "event": "lookup", "name": "q", "peer": "local"},
-            {"place": 20, "event": "malformed", "peer": "local", "request": "0000"},
+            {"place": 20, "event": "malformed", "peer": "local", "request": "00" * 40},
         ])
 
     def test_a_name_that_is_no_text_can_be_had_back_from_json(self):
@@ -324,12 +340,14 @@ class Told(unittest.TestCase):
         running = self.follower()
         self.assertEqual(running.stderr.readline(), f"epmd-log: {self.path} is not there yet\n")
         time.sleep(0.5)
-        self.write(start() + visit(b"a"))
-        self.assertEqual([running.stdout.readline() for _ in range(2)], ["0 start\n", "1 lookup a by a local peer: not registered\n"])
+        self.write(start() + visit(b"a") + connect(0) + piece(0, alive(b"n", 5000), 0, GRANTED))
+        self.assertEqual([running.stdout.readline() for _ in range(3)], [
+            "0 start\n", "1 lookup a by a local peer: not registered\n", "4 register n port 5000 creation 4\n"])
         os.rename(self.path, self.path + "-20261128T040632Z")
         time.sleep(LATER)
         self.write(start() + visit(b"b"))
-        self.assertEqual([running.stdout.readline() for _ in range(2)], ["0 start\n", "1 lookup b by a local peer: not registered\n"])
+        self.assertEqual([running.stdout.readline() for _ in range(3)], [
+            "0 start\n", "0 leave n port 5000 (restart)\n", "1 lookup b by a local peer: not registered\n"])
         running.send_signal(signal.SIGINT)
         self.assertEqual((running.wait(SILENCE), running.stderr.read()), (0, ""))
 
@@ -373,9 +391,11 @@ class Told(unittest.TestCase):
         for each in (running.stdout.close, running.wait, running.kill, patience.cancel):
             self.addCleanup(each)
         with open(self.path, "wb", buffering=0) as pipe:
-            pipe.write(start() + visit(b"a"))
+            pipe.write(start() + visit(b"a") + visit(b"b")[:-20])
             self.assertRegex(running.stdout.readline(), f"^{STAMP}0 start")
             self.assertRegex(running.stdout.readline(), f"^{STAMP}1 lookup a ")
+            pipe.write(visit(b"b")[-20:])
+            self.assertRegex(running.stdout.readline(), f"^{STAMP}4 lookup b ")
 
     def test_where_the_reader_of_its_lines_has_gone_it_ends_well(self):
         self.write(start() + visit(b"a") * 5000)
@@ -463,6 +483,7 @@ class Followed(Written, unittest.TestCase):
         self.write(start(6)[:30], ".1")
         self.assertEqual(self.seen(), ["4 b"])
         self.add(start(6)[30:] + visit(b"c"), ".1")
+        self.now -= 1  # Within one tick of the clock of files.
         self.write(start(9) + visit(b"d"), ".2")
         self.assertEqual(self.seen(), ["7 c", "10 d"])
 

@@ -141,6 +141,11 @@ class Metrics(unittest.TestCase):
 
     def test_none_answers(self):
         self.assertEqual(figures(printed(closed_port(self))), {"epmd_up": 0, "epmd_connections": 0})
+        self.write(self.path, start())
+        module = tool()
+        module.moves = lambda *_: True  # As where another one writes to it.
+        values = {name: value for name, _, _, value in module.figures(closed_port(self), self.path, self.path + ".state", None)}
+        self.assertEqual(values["epmd_recording_moves"], {"": 0})
 
     def test_half_an_answer_is_none(self):
         played = Played(b"\0\0\x11")
@@ -240,6 +245,8 @@ class Published(Written, unittest.TestCase):
         self.assertLess(found["epmd_figures_age_seconds"], programs.PATIENCE)
         os.utime(self.path, (1, 1))
         self.assertGreater(figures(printed(closed_port(self), "-figures", self.path))["epmd_figures_age_seconds"], 1e9)
+        os.utime(self.path, (1e10, 1e10))
+        self.assertEqual(figures(printed(closed_port(self), "-figures", self.path))["epmd_figures_age_seconds"], 0)
 
     def test_a_line_of_another_text_is_no_counter(self):
         self.write(b"epmd_lists_total 1 2\nepmd_lists_total -1\nepmd_accepted_total\nepmd_other_total 1\nepmd_timeouts_total 7\n")
@@ -250,6 +257,8 @@ class Published(Written, unittest.TestCase):
         done = run(closed_port(self), "-figures", self.path)
         self.assertEqual((done.returncode, figures(done.stdout)), (0, {"epmd_up": 0, "epmd_connections": 0}))
         self.assertRegex(done.stderr, f"^epmd-metrics: no counters: .*{re.escape(self.path)}")
+        self.write(b"\xff")
+        self.assertRegex(run(closed_port(self), "-figures", self.path).stderr, "^epmd-metrics: no counters: .+\n$")
 
 
 class Counted(Written, unittest.TestCase):
@@ -303,6 +312,7 @@ class Counted(Written, unittest.TestCase):
         self.add(visit(b"b"))
         self.tool.BYTES_MOST = len(visit(b"b"))
         self.assertEqual([self.lookups(), self.lookups()], [201, 201])
+        self.assertEqual(self.given()["epmd_recording_counted"], {"": 1})
 
     def test_a_call_reads_no_more_than_it_is_to(self):
         self.tool.BYTES_MOST = 1000
@@ -396,8 +406,10 @@ class Counted(Written, unittest.TestCase):
     def test_without_its_state_it_begins_anew(self):
         self.write(start() + visit(b"a"))
         self.assertEqual([self.lookups(), self.lookups()], [1, 1])
+        list(self.tool.counters(os.path.relpath(self.path), self.state))
         with open(self.state) as file:
             kept = json.load(file)
+        self.assertEqual(kept["recording"], self.path)
         kept["counts"]["epmd_lookups_total"]["missing"] = 7
         for state in ("", "{", "[]", "{}", json.dumps({**kept, "format": 0}), json.dumps({**kept, "recording": "/another"})):
             with open(self.state, "w") as file:
@@ -436,6 +448,8 @@ class Counted(Written, unittest.TestCase):
         for port in ("0", "65536", "70000", "-1", "x", "1" * 10):
             done = run(port)
             self.assertEqual((done.returncode, done.stdout, done.stderr), (2, "", "epmd-metrics: bad port in environment\n"), port)
+        for port in ("", "65535"):
+            self.assertEqual(run(port).returncode, 0)
         self.assertEqual(run(4369, "-nothing").returncode, 2)
         told = printed(4369, "--help")
         for word in ("usage: epmd-metrics", "cd FOLDER && epmd-metrics", "The status is 0", "-recording FILE", "-state FILE"):

@@ -14,14 +14,14 @@ DAY = "s-20261128T"
 
 
 class Prune(unittest.TestCase):
-    def left(self, names, keep, written=()):
+    def left(self, names, keep, written=(), recording="s"):
         """What is left of these files, which are written in their order and then those of `written` once more."""
         with tempfile.TemporaryDirectory() as folder:
             for time, name in enumerate([*names, *written]):
                 path = os.path.join(folder, name)
                 open(path, "w").close()
                 os.utime(path, (time, time))
-            done = programs.run([sys.executable, TOOL, "-keep", str(keep), os.path.join(folder, "s")])
+            done = programs.run([sys.executable, TOOL, "-keep", str(keep), os.path.join(folder, recording)])
             self.assertEqual((done.returncode, done.stdout, done.stderr), (0, "", ""))
             return sorted(os.listdir(folder))
 
@@ -44,6 +44,10 @@ class Prune(unittest.TestCase):
         self.assertEqual(self.left(["s.1", *lonely], 8), ["s.1"])
         others = ["s.01.times", "s.last.times", "s-.times", "t.times", "s.1.times.copy", "s.0.times"]
         self.assertEqual(self.left(["s", *others], 1), sorted(["s", *others]))
+
+    def test_no_letter_of_its_name_is_a_pattern(self):
+        self.assertEqual(self.left(["s[1]+", "s[1]+.1", "s[1]+.3.times", "s1+", "s1+.3.times"], 1, recording="s[1]+"),
+                         ["s1+", "s1+.3.times", "s[1]+.1"])
 
     def test_few_all_stay(self):
         self.assertEqual(self.left(["s", "s.1"], 2), ["s", "s.1"])
@@ -78,12 +82,13 @@ class Prune(unittest.TestCase):
         self.assertEqual(self.left(["s", "s.1", "s.2", "s.3"], 2, written=["s"]), ["s", "s.3"])
         self.assertEqual(self.left(["s", "s.1", "s.2", "s.3"], 1, written=["s", "s.1"]), ["s.1", "s.3"])
 
-    def test_a_pipe_is_no_file_of_it(self):
+    def test_a_pipe_or_a_link_to_nothing_is_no_file_of_it(self):
         with tempfile.TemporaryDirectory() as folder:
             os.mkfifo(os.path.join(folder, "s"))
+            os.symlink("nothing", os.path.join(folder, "s.2"))
             open(os.path.join(folder, "s.1"), "w").close()
             programs.run([sys.executable, TOOL, "-keep", "1", os.path.join(folder, "s")], check=True)
-            self.assertEqual(sorted(os.listdir(folder)), ["s", "s.1"])
+            self.assertEqual(sorted(os.listdir(folder)), ["s", "s.1", "s.2"])
 
     def called(self, folder, find=None, remove=os.remove):
         """The status, and what is told, of a call that finds or removes files in a way of its own. One file is to stay."""

@@ -94,19 +94,43 @@ class Shown(Reported, unittest.TestCase):
         self.assertEqual(data["columns"]["rows"], [  # Registered, refused, found, absent, most connections.
             [0, 0, 0, 0, 0], [1, 0, 0, 0, 1], [1, 0, 0, 0, 2], [0, 3, 0, 0, 3], [0, 0, 1, 1, 3], [0, 0, 0, 2, 2], [1, 0, 0, 0, 2],
             [0, 0, 0, 0, 4], [0, 0, 0, 0, 2], [0, 0, 0, 0, 2], [0, 0, 0, 0, 2]])
-        self.assertEqual(data["worst"][:3], [[180_000, 0, 3, 0, 0, 3], [300_000, 0, 0, 0, 2, 2], [240_000, 0, 0, 1, 1, 3]])
-        wanted = {"names": 3, "registrations": 3, "refusals": 3, "look-ups": 4, "of these while absent": 3, "timeouts": 1}
-        self.assertEqual({what: data["counts"][what] for what in wanted}, wanted)
+        self.assertEqual(data["worst"], [
+            [180_000, 0, 3, 0, 0, 3], [300_000, 0, 0, 0, 2, 2], [240_000, 0, 0, 1, 1, 3],
+            [60_000, 1, 0, 0, 0, 1], [120_000, 1, 0, 0, 0, 2], [360_000, 1, 0, 0, 0, 2]])
+        self.assertEqual((data["counts"]["starts"], data["counts"]["ends in order"]), (1, 1))
         self.assertEqual(data["verdicts"], [])
         self.assertEqual(data["notes"], ["A mark stands for all refusals, or all look-ups while absent, in 1/480 of the time line."])
 
+    def test_each_sum_counts_what_it_says(self):
+        def asked(request, answer=b""):
+            return connect(9) + piece(9, request, 1, answer) + close(9)
+        entries = (register(0, b"a") + close(0, 4)) * 3 + register(0, b"a") + refused(b"a") * 5 + looked_up(b"a") + visit(b"x") * 6
+        entries += asked(sized(b"n"), bytes(4)) * 8 + asked(sized(b"d"), bytes(4)) + asked(b"\0\0") * 10
+        entries += (connect(9) + late(9) + close(9)) * 9
+        self.write(start() + entries)
+        self.assertEqual(self.values()["counts"], {
+            "names": 2, "registrations": 4, "refusals": 5, "look-ups": 7, "of these while absent": 6, "lists": 8,
+            "connections that failed": 3, "timeouts": 9, "malformed requests": 10, "most connections": 2, "starts": 1,
+            "ends in order": 0, "gaps": 0})
+
+    def test_a_name_is_held_until_it_is_stopped(self):
+        self.write(start() + register(0, b"a") + b"".join(connect(1) + piece(1, sized(b"sa"), 1, said) for said in (b"", b"STOPPED")))
+        self.assertEqual(self.lane(self.values(), "a")["spells"], [[1, 5, 5000, 4, "stop"]])
+
     def test_without_times_the_axis_is_the_number_of_the_entry(self):
-        self.write(start() + register(0, b"a") + refused(b"a", NO_ROOM) + close(0))
+        self.write(start() + register(0, b"a") + refused(b"a", NO_ROOM) * 2 + close(0))
+        self.write(b"", ".times")
         data = self.values()
-        self.assertEqual((data["isTimed"], data["first"], data["span"]), (False, 0, 5))
-        self.assertEqual(self.lane(data, "a")["spells"], [[1, 5, 5000, 4, "close"]])
-        self.assertEqual(data["refusals"], [[3, 3, 1, "a", 6000, "no_room", 5000, 1]])
+        self.assertEqual((data["isTimed"], data["first"], data["span"], data["columns"]["per"]), (False, 0, 8, 1000))
+        self.assertEqual(self.lane(data, "a")["spells"], [[1, 8, 5000, 4, "close"]])
+        self.assertEqual(data["refusals"], [[3, 6, 2, "a", 6000, "no_room", 5000, 1]])
         self.assertIn("has no times: the axis is the number of the entry", data["notes"][0])
+
+    def test_without_times_a_further_recording_stands_behind_the_one_before(self):
+        self.write(start() + register(0, b"a"), "-20261128T000100Z")
+        self.write(start() + register(0, b"b"))
+        data = self.values(self.path + "-20261128T000100Z", self.path)
+        self.assertEqual([self.lane(data, name)["spells"] for name in "ab"], [[[1, 2, 5000, 4, "restart"]], [[3, None, 5000, 4, None]]])
 
     def test_what_has_no_time_stands_at_the_last_one_known_and_is_counted(self):
         self.write(start() + register(0, b"a") + visit(b"x") + register(1, b"b"))
@@ -123,6 +147,9 @@ class Shown(Reported, unittest.TestCase):
             rows = [(0, 0), (3, 9), (6, 5), (9, 6), (12, 5 + later), (15, 8)]
             self.write(times(*((place, seconds * SECOND) for place, seconds in rows)), ".times")
             self.assertIn(f"The clock was set back {said}: times are shown as the clock had them.", self.values()["notes"])
+        self.write(times((0, 9 * SECOND), (3, 10 * SECOND), (15, 0)), ".times")
+        data = self.values()
+        self.assertEqual((data["first"], data["span"], data["marks"]), (BEGAN // 1000, 10_000, [[9000, "start", None]]))
 
     def test_a_minute_begins_at_its_second_whenever_the_recording_begins(self):
         for begun in (0, 1, 999, 1000, 41_010_708, 59_999_999):
@@ -144,6 +171,14 @@ class Shown(Reported, unittest.TestCase):
         self.assertEqual(self.lane(data, "b")["spells"], [[1000, 60_000, 5000, 4, "restart"]])
         self.assertEqual(data["marks"], [[0, "start", None], [60_000, "start", 1000]])
 
+    def test_between_two_runs_no_connection_is_held(self):
+        self.write(start() + register(0, b"a"), "-20261128T000100Z")
+        self.write(times((0, 0), (2, MINUTE), (2, 2 * MINUTE)), "-20261128T000100Z.times")
+        self.write(start() + register(0, b"a") + register(1, b"b") + close(0))
+        self.write(times((0, 5 * MINUTE), (4, 6 * MINUTE), (5, 7 * MINUTE)), ".times")
+        data = self.values(self.path + "-20261128T000100Z", self.path)
+        self.assertEqual([row[4] for row in data["columns"]["rows"]], [0, 1, 1, 0, 0, 0, 2, 2])
+
     def test_a_recording_that_begins_in_a_state_and_one_with_a_gap(self):
         state = [(b"a", 5000, 4, 0), (b"b", 5001, 4, 1)], (), [(0, 1, 1, b""), (1, 1, 1, b"")]
         self.write(start(70, *state) + close(0), ".3")
@@ -154,7 +189,21 @@ class Shown(Reported, unittest.TestCase):
         self.assertEqual(self.lane(data, "a")["spells"], [[0, 60_000, 5000, None, "close"]])
         self.assertEqual(self.lane(data, "b")["spells"], [[0, 300_000, 5001, None, "gap"]])
         self.assertEqual(self.lane(data, "c")["spells"], [[300_000, None, 5002, None, None]])
-        self.assertEqual(data["marks"], [[60_000, "gap", 19], [300_000, "again", None]])
+        self.assertEqual((data["marks"], data["counts"]["gaps"]), ([[60_000, "gap", 19], [300_000, "again", None]], 1))
+        self.write(start(94) + register(0, b"c"), ".9")
+        self.rename("20261128T000100Z", ".3", ".4")
+        data = self.values(self.path + "-20261128T000100Z", self.path)
+        self.assertEqual([spell[2:] for spell in self.lane(data, "c")["spells"]], [[5002, None, "gap"], [5000, 4, None]])
+
+    def test_a_state_behind_which_nothing_happened(self):
+        self.write(start(70, [(b"a", 5000, 4, 0)], (), [(0, 1, 1, b"")]))
+        self.assertEqual(self.lane(self.values(), "a")["spells"], [[0, None, 5000, None, None]])
+
+    def test_where_the_first_files_were_pruned_the_clock_was_not_set_back(self):
+        self.write(start(70) + visit(b"x"), ".3")
+        self.write(times((70, 0), (73, MINUTE)), ".3.times")
+        data = self.values()
+        self.assertEqual((data["notes"], data["span"], self.lane(data, "x")["absent"]), ([], 60_000, [[472, 1]]))
 
     def test_names_are_text_and_nothing_else(self):
         names = [name.encode() for name in HOSTILE] + [b"\xff\xfe"]
@@ -172,22 +221,23 @@ class Shown(Reported, unittest.TestCase):
                        "COLUMNS": 4, "MARKS_MOST": 2}
         rows, data = [(0, 0)], b""
         for number in range(8):
-            data += register(0, b"a" * 9) + refused(b"a" * 9) + refused(b"b") + visit(b"%d" % number) + close(0)
-            rows.append((rows[-1][0] + 12, (number + 1) * MINUTE))
+            data += register(0, b"a" * 9) + refused(b"a" * 9) + refused(b"b") + refused(b"other") * 2 + visit(b"%d" % (number % 7))
+            data += close(0)
+            rows.append((rows[-1][0] + 18, (number + 1) * MINUTE))
         self.write(start() + data)
         self.write(times(*rows), ".times")
         data = self.values()
-        self.assertEqual([row[0] for row in data["lanes"]["rows"]], ["aaaaa… (9 bytes)", "b"])
-        self.assertEqual(self.lane(data, "b")["refused"], [[0, 8]])
+        self.assertEqual([row[0] for row in data["lanes"]["rows"]], ["aaaaa… (9 bytes)", "other"])
+        self.assertEqual(self.lane(data, "other")["refused"], [[0, 16]])
         spells = self.lane(data, "aaaaa… (9 bytes)")["spells"]
         self.assertEqual([spell[:2] for spell in spells], [[minute * 60_000] * 2 for minute in (6, 7, 8)])
-        self.assertEqual(len(data["refusals"]), 1)
-        self.assertEqual((data["columns"]["per"], [row[:4] for row in data["columns"]["rows"]]), (180_000, [[1, 2, 0, 1]] * 3))
+        self.assertEqual(data["refusals"], [[480_000, 480_000, 2, "other", 6000, "in_use"]])
+        self.assertEqual((data["columns"]["per"], [row[:4] for row in data["columns"]["rows"]]), (180_000, [[1, 4, 0, 1]] * 3))
         self.assertEqual(data["notes"], [
             "Each column of a chart is the busiest of 3 minutes.", "2 of 4 names have a lane, those of refusals first.",
             "The last 3 registrations of a name are shown, at most.",
             "A mark stands for all refusals, or all look-ups while absent, in 1/1 of the time line.",
-            "The table has the last 1 of 16 rows of refusals.",
+            "The table has the last 1 of 24 rows of refusals.",
             "6 look-ups of further names that were never there have no lane."])
 
     def test_words_that_name_no_recording_of_their_own(self):
@@ -197,6 +247,8 @@ class Shown(Reported, unittest.TestCase):
         self.write(times((33, 11 * MINUTE)), ".1.times")
         data = self.values(*words)
         self.assertEqual((data["files"], data["counts"]["registrations"], data["counts"]["look-ups"]), ([self.path], 3, 5))
+        os.remove(self.path + ".1.times")
+        self.assertTrue(self.values()["isTimed"])
 
     def test_what_can_not_be_read(self):
         self.assertEqual(self.report(status=2, err=f"epmd-report: {self.path}: no such file\n"), "")
@@ -209,17 +261,25 @@ class Shown(Reported, unittest.TestCase):
             data = self.values(status=1, err=f"epmd-report: {fault}\n")
             self.assertIn(fault, data["notes"])
             self.assertEqual(data["counts"]["registrations"], 1)
+        os.rename(self.path, self.path + "\x9b")
+        data = self.values(self.path + "\x9b", status=1, err=f"epmd-report: {fault}\n".replace(self.path, self.path + "\x9b"))
+        self.assertIn(fault.replace(self.path, self.path + "\\x9b"), data["notes"])
 
     def test_the_verdict_is_that_of_the_program(self):
         self.day()
         program = os.path.join(self.folder.name, "program")
-        for text, wanted in (("echo run of 5 entries in 1 files", [0, ["run of 5 entries in 1 files"]]),
+        for text, wanted in (("echo run of 5 entries in 1 files", [0, ["run of 5 entries in 1 files"]]), ("seq 7", [0, [*"12345"]]),
                              ("echo \"$1 ${2##*/} is <b>\" >&2; exit 1", [1, ["-audit session is <b>"]])):
             with open(program, "w", encoding="utf-8") as file:
                 file.write(f"#!/bin/sh\n{text}\n")
             os.chmod(program, 0o755)
             self.assertEqual(self.values("-epmd", program, self.path)["verdicts"], [[self.path, *wanted]])
         verdict, = self.values("-epmd", program + ".not", self.path)["verdicts"]
+        self.assertEqual(verdict[:2], [self.path, None])
+        self.limits = {"AUDIT_SECONDS": 0.1}
+        with open(program, "w", encoding="utf-8") as file:
+            file.write("#!/bin/sh\nexec sleep 600\n")
+        verdict, = self.values("-epmd", program, self.path)["verdicts"]
         self.assertEqual(verdict[:2], [self.path, None])
 
     def test_wrong_words_and_help(self):
@@ -355,6 +415,8 @@ class InABrowser(Reported, unittest.TestCase):
                          ["2024-11-28 00:00:00ZThe port mapper began.", "2024-11-28 00:10:00ZThe port mapper ended in order."])
         self.assertEqual(value("document.querySelectorAll('.chart .pin.start, .chart .pin.end').length"), 6)
         self.assertEqual(value("document.querySelector('#mapper .run').title"), "served from 2024-11-28 00:00:00Z to 2024-11-28 00:10:00Z")
+        self.assertAlmostEqual(float(value("document.querySelector('#lanes .refused').style.left").rstrip("%")), 29.9, 1)
+        self.assertEqual(value("document.querySelector('.chart .bad').getAttribute('d')"), "M4 100v-50h1V100zM5 100v-100h1V100z")
         self.assertEqual(value(CURSOR), "none")
         self.assertRegex(value(text_of("#about")), r" Made at \d{4}-\d\d-\d\d \d\d:\d\d:\d\dZ by ")
 
@@ -384,6 +446,9 @@ class InABrowser(Reported, unittest.TestCase):
         rows = self.loaded(earlier, self.path)("[...document.querySelectorAll('#runs-table tbody tr')].map(each => each.textContent)")
         before = "The one before it, last seen at 00:01:00Z, did not end in order, or not in the recording."
         self.assertEqual(rows, ["2024-11-28 00:00:00ZThe port mapper began.", f"2024-11-28 00:03:00ZThe port mapper began. {before}"])
+        self.write(times((0, 0), (3, MINUTE), (3, 2 * MINUTE)), "-20241128T000300Z.times")
+        rows = self.loaded(earlier, self.path)("[...document.querySelectorAll('#runs-table tbody tr')].map(each => each.textContent)")
+        self.assertEqual(rows[1:], ["2024-11-28 00:02:00ZThe port mapper ended in order.", "2024-11-28 00:03:00ZThe port mapper began."])
 
     def test_a_refusal_names_the_date_of_its_holder_where_it_is_another_one(self):
         self.write(start() + register(0, b"a") + refused(b"a"))
@@ -393,12 +458,22 @@ class InABrowser(Reported, unittest.TestCase):
         self.assertEqual(value(text_of("#refusals-table tbody td:last-child")), held)
 
     def test_a_name_is_searched_for(self):
-        self.write(start() + b"".join(register(slot, b"node%d" % slot) for slot in range(250)) + refused(b"node7") + refused(b"other"))
+        nodes = b"".join(register(slot, b"node%d" % slot) for slot in range(180)) + refused(b"node7")
+        self.write(start() + nodes + b"".join(refused(b"other%d" % each) for each in range(120)))
         value = self.loaded()
+        found = f"{text_of('#found')} + {text_of('#refusals-found')}"
         self.assertEqual(value("document.querySelectorAll('.lane > button').length"), 100)
-        self.assertEqual(value(text_of("#found")), "100 of 251 names shown")
+        self.assertEqual(value(found), "100 of 300 names shown100 of 121 rows shown")
         value("document.getElementById('more').click()")
-        self.assertEqual(value("document.querySelectorAll('.lane > button').length"), 251)
+        self.assertEqual(value("document.querySelectorAll('.lane > button').length"), 300)
+        value("document.getElementById('more-refusals').click()")
+        self.assertEqual(value(found), "300 of 300 names shown121 of 121 rows shown")
+        self.assertEqual(value("[document.getElementById('more').hidden, document.getElementById('more-refusals').hidden]"), [True, True])
+        for order, first in (("name", ["node0", "node1", "node10"]), ("begin", ["node0", "node1", "node2"]),
+                             ("bad", ["node7", "other0", "other1"])):
+            value(f"(e => {{ e.value = '{order}'; e.dispatchEvent(new Event('change')); }})(document.getElementById('order'))")
+            self.assertEqual(value("[...document.querySelectorAll('.lane > button')].slice(0, 3).map(each => each.textContent)"), first)
+            self.assertEqual(value(found), "100 of 300 names shown100 of 121 rows shown")
         value("document.getElementById('search').focus()")
         for letter in "NODE7":
             self.browser.press(letter, letter)
@@ -423,6 +498,30 @@ class InABrowser(Reported, unittest.TestCase):
         self.assertEqual(value(text_of("#readout")), "2024-11-28 00:00:00Z: 0 look-ups, of these 0 while absent, 0 registrations, "
                          "0 refusals, 0 connections")
         self.assertEqual(value(CURSOR), "block")
+        value("document.querySelector('.chart').focus()")
+        for key, minute in (("End", 10), ("ArrowRight", 10), ("ArrowLeft", 9), ("ArrowLeft", 8), ("Home", 0), ("ArrowLeft", 0)):
+            self.browser.press(key)
+            self.assertIn(f"2024-11-28 00:{minute:02}:00Z: ", value(text_of("#readout")))
+
+    def test_a_chart_is_read_by_the_pointer(self):
+        self.day()
+        value = self.loaded()
+        value("""(box => box.dispatchEvent(new PointerEvent("pointermove", {
+            clientX: box.getBoundingClientRect().left + box.clientWidth * 4.05 / 11})))(document.querySelector(".chart"))""")
+        self.assertEqual(value(text_of("#readout")), "2024-11-28 00:04:00Z: 2 look-ups, of these 1 while absent, 0 registrations, "
+                         "0 refusals, 3 connections")
+
+    def test_what_the_program_says_of_the_files(self):
+        self.day()
+        program = os.path.join(self.folder.name, "program")
+        for status, said, kind in ((0, "The files are one run: ", ""), (1, "The files are no run: ", "fault"),
+                                   (2, "There is no verdict: ", "")):
+            with open(program, "w", encoding="utf-8") as file:
+                file.write(f"#!/bin/sh\nseq 2; exit {status}\n")
+            os.chmod(program, 0o755)
+            value = self.loaded("-epmd", program, self.path)
+            self.assertEqual(value(text_of("#verdicts")), f"epmd -audit {self.path}. {said}1; 2")
+            self.assertEqual(value("document.querySelector('#verdicts p').className"), kind)
 
     def test_hostile_names_are_text(self):
         names = [name.encode() for name in HOSTILE]
@@ -457,6 +556,11 @@ class InABrowser(Reported, unittest.TestCase):
                          "port 6000: the name was in use, held at port 5000 since entry 4")
         self.assertEqual(value("document.querySelector('#lanes li:last-child .held').title"),
                          "registered at port 5000 from entry 1 to entry 2")
+        ends = value("[...document.querySelectorAll('#lanes li:nth-child(2) :is(.bar, .held)')].map(e => e.getBoundingClientRect().right)")
+        self.assertAlmostEqual(*ends, 1)
+        value("document.querySelector('#lanes button').click()")
+        self.assertEqual(value(text_of("#lanes .detail")), "registered fromtoportcreationwhat ended itentry 4still there50004"
+                         "Refused entry 6: port 6000: the name was in use, held at port 5000 since entry 4Looked up and found: 0 times")
 
 
 if __name__ == "__main__":

@@ -14,7 +14,7 @@ import unittest.mock
 
 import programs
 from programs import SILENCE
-from epmd_recording import Recording
+from epmd_recording import Recording, time_of
 from test_log import GRANTED, LOG, Written, alive, close, connect, number, piece, start, visit
 
 BEGAN = 1_732_752_000_000_000  # 2024-11-28T00:00:00Z, in microseconds since 1970.
@@ -69,6 +69,13 @@ class Timed(Written, unittest.TestCase):
         late = at(4.000001)
         self.assertEqual(self.log(), [f"{at(0)} 0 start", f"{at(2)} 1 lookup a", f"{late} 4 lookup b", f"{late} 7 lookup c"])
 
+    def test_no_time_is_lost_where_the_rows_are_read_in_parts(self):
+        self.three((0, 0), (1, SECOND), (4, 2 * SECOND), (7, 3 * SECOND), (9, 4 * SECOND), (9, 5 * SECOND))
+        for rows in range(2, 8):
+            with unittest.mock.patch("epmd_recording.CHUNK", 16 * rows):
+                self.assertEqual(self.log(), [f"{at(0)} 0 start", f"{at(2)} 1 lookup a", f"{at(3)} 4 lookup b", f"{at(4)} 7 lookup c",
+                                              f"{at(5)} 9 end"], rows)
+
     def test_since_names_the_earlier_runs_that_may_have_lines_too(self):
         for run in ("20281128T000100Z", "20281128T000200Z", "20281128T000300Z"):
             for number in ("", ".1"):
@@ -80,6 +87,7 @@ class Timed(Written, unittest.TestCase):
             stated = datetime.datetime.fromtimestamp(written + later, datetime.timezone.utc).isoformat()
             self.assertEqual(self.called("-since", stated), (0, [], "".join(wanted)), later)
         self.assertEqual([self.called(*words)[2] for words in ([], ["-until", "2024-11-28T00:00:02Z"])], ["", ""])
+        self.assertEqual(self.called("-since", "1d", "-until", "1s")[2].count("an earlier run was recorded since then too"), 3)
 
     def test_what_stands_behind_the_last_row_has_no_time(self):
         self.three((0, 0), (3, SECOND))
@@ -117,6 +125,7 @@ class Timed(Written, unittest.TestCase):
         for number, name in enumerate((b"a", b"b", b"c")):
             self.write(start(3 * number) + visit(name), f".{number}" if number else "")
         self.write(times((0, 0), (3, SECOND)), ".times")
+        self.write(times((2, 2 * SECOND), (6, 3 * SECOND)), ".1.times")  # It is of another run.
         self.write(times((6, 3 * SECOND), (9, 4 * SECOND)), ".2.times")
         self.assertEqual(self.log(), [f"{at(0)} 0 start", f"{at(1)} 1 lookup a", "4 lookup b", f"{at(4)} 7 lookup c"])
 
@@ -136,10 +145,12 @@ class Timed(Written, unittest.TestCase):
         self.assertEqual(self.log()[2:], [f"3 gap: 6 entries are missing since {at(2)}", "10 lookup b"])
 
     def test_an_end_is_a_row_at_the_place_of_the_one_before(self):
-        wanted = ([(9, SECOND), (9, 3 * SECOND)], [f"{at(3)} 9 end"]), ([(9, SECOND)], []), ([(12, SECOND), (12, 3 * SECOND)], [])
+        wanted = (([(9, SECOND), (9, 3 * SECOND)], [f"{at(3)} 9 end"]), ([(9, SECOND)], []), ([(12, SECOND), (12, 3 * SECOND)], []),
+                  ([(6, SECOND), (6, 3 * SECOND)], []))
         for rows, end in wanted:
             self.three((0, 0), *rows)
             self.assertEqual(self.log()[4:], end)
+            self.assertEqual(self.log("-n", "b")[2:], end)
         self.write(start())
         self.write(times((0, 0), (0, SECOND)), ".times")
         self.assertEqual(self.log(), [f"{at(0)} 0 start", f"{at(1)} 0 end"])
@@ -153,6 +164,7 @@ class Timed(Written, unittest.TestCase):
             (["-since", "2024-11-28T00:00:02Z", "-until", "2024-11-28 00:00:04+00:00"], [4, 7]),
             (["-since", "2024-11-28"], [0, 1, 4, 7, 9]), (["-until", "2024-11-28"], []), (["-since", "2024-11-29"], []),
             (["-since", "1s"], []), (["-until", "00:00"], [0, 1, 4, 7, 9]),
+            (["-until", "00:00:00.250"], [0, 1, 4, 7, 9]),
         ):
             self.assertEqual([int(line.split(" ")[1]) for line in self.log(*words)], places, words)
 
@@ -160,12 +172,17 @@ class Timed(Written, unittest.TestCase):
         now = time.time_ns() // 1000
         self.write(start() + visit(b"a") + visit(b"b"))
         self.write(times((0, now - 7300 * SECOND - BEGAN), (3, now - 3500 * SECOND - BEGAN), (6, now - BEGAN)), ".times")
-        for age, places in (("3h", [0, 1, 4]), ("1h59m", [1, 4]), ("3000s", [4]), ("1d", [0, 1, 4])):
+        for age, places in (("3h", [0, 1, 4]), ("58m1h", [1, 4]), ("3000s", [4]), ("1d", [0, 1, 4])):
             self.assertEqual([int(line.split(" ")[1]) for line in self.log("-since", age)], places, age)
         for text in ("", "2", "2w", "h", "25:00", "3:12", "2026-13-01", "yesterday", "-1h", "9999-12-31T23:59:59-23:59"):
             status, lines, err = self.called(f"-since={text}")
             self.assertEqual((status, lines), (2, []), text)
             self.assertIn("is no time", err)
+
+    def test_today_is_that_of_the_zone(self):
+        os.environ["TZ"] = "XXX-12" if time.gmtime().tm_hour >= 12 else "XXX12"  # There it is another day than at UTC.
+        time.tzset()
+        self.assertEqual(time_of("03:12"), time_of(time.strftime("%Y-%m-%dT03:12")))
 
     def test_what_has_no_time_is_left_out_aloud(self):
         self.three((0, 0), (3, SECOND))
@@ -207,7 +224,7 @@ class TimedAndFollowed(Written, unittest.TestCase):
         self.assertEqual(self.seen(), [])
         self.write(times((0, 0), (3, SECOND), (6, 2 * SECOND), (6, 2_500_000)), ".times")
         self.assertEqual(self.seen(), [("lookup b", 2), ("end", 2.5)])
-        self.assertEqual(self.seen(), [])
+        self.assertEqual((self.seen(), self.recording.held_since), ([], None))
 
     def test_it_waits_for_some_seconds_and_then_does_without(self):
         self.write(start() + visit(b"a"))
@@ -255,9 +272,9 @@ class TimedAndFollowed(Written, unittest.TestCase):
         self.write(times((0, 0), (2, SECOND), (2, 2 * SECOND)), ".times")
         self.write(start() + connect(0) + piece(0, alive(b"a", 5000), 0, GRANTED))
         self.assertEqual(self.seen(), [("start", 0), ("register a", 1), ("end", 2)])
-        self.write(times((0, 5 * SECOND), (3, 6 * SECOND)), ".times")
+        self.write(times((0, 5 * SECOND), (3, 6 * SECOND), (3, 7 * SECOND)), ".times")
         self.write(start() + visit(b"c"))
-        self.assertEqual(self.seen(), [("start", 5), ("leave a", 5), ("lookup c", 6)])
+        self.assertEqual(self.seen(), [("start", 5), ("leave a", 5), ("lookup c", 6), ("end", 7)])
 
     def test_times_that_were_written_over_are_not_those_of_the_open_file(self):
         self.write(times((0, 0), (3, SECOND)), ".times")
@@ -277,6 +294,12 @@ class TimedAndFollowed(Written, unittest.TestCase):
         self.write(times((70, 5 * SECOND), (73, 6 * SECOND)), ".2.times")
         self.write(start(70) + visit(b"b"), ".2")
         self.assertEqual(self.seen(), [("lookup b", 6)])
+        for number, place, seen in ((3, 73, [("lookup c", 8)]), (1, 40, [("start", 7), ("lookup c", 8)])):
+            for each in os.listdir(self.folder.name):
+                os.remove(os.path.join(self.folder.name, each))
+            self.write(times((place, 7 * SECOND), (place + 3, 8 * SECOND)), f".{number}.times")
+            self.write(start(place) + visit(b"c"), f".{number}")
+            self.assertEqual(self.seen(), seen)
 
     def test_times_of_a_name_that_another_run_has_meanwhile_are_not_taken(self):
         self.write(start() + visit(b"a"))
@@ -301,11 +324,12 @@ class Begun(Written, unittest.TestCase):
 
     def setUp(self):
         super().setUp()
-        self.write(start() + visit(b"a") + connect(0) + piece(0, alive(b"n", 5000), 0, GRANTED) + visit(b"b"))
-        self.write(times((0, 0), (5, SECOND), (8, 2 * SECOND), (11, 3 * SECOND), (12, 4 * SECOND)), ".times")
+        self.write(start() + visit(b"a") + connect(0) + piece(0, alive(b"n", 5000), 0, GRANTED) + visit(b"b")[:-len(close(9))])
+        self.rows = (0, 0), (5, SECOND), (8, 2 * SECOND), (11, 3 * SECOND), (12, 4 * SECOND)
+        self.write(times(*self.rows), ".times")
 
     def go_on(self):
-        self.add(visit(b"c") + close(0))
+        self.add(close(9) + visit(b"c") + close(0))
         return [f"{at(3)} 9 lookup c by a local peer: not registered\n", f"{at(4)} 11 leave n port 5000\n"]
 
     def told(self, running, lines):
@@ -325,14 +349,19 @@ class Begun(Written, unittest.TestCase):
     def test_it_begins_at_the_end(self):
         recording = Recording(self.path, True, is_timed=True)
         self.addCleanup(recording.close)
+        self.write(times(*self.rows[:2]), ".times")
         tool = programs.tool("epmd-log")
         told, looks = [], []
 
         def pause(_):
-            """Between two looks: at the first all was there that is."""
+            """Between two looks. At the first one the last entry waits for its time, and behind the second the file is written over."""
             looks.append(list(told))
             if len(looks) == 1:
+                self.write(times(*self.rows), ".times")
                 self.go_on()
+            if len(looks) == 2:
+                self.write(times((0, 5 * SECOND), (3, 6 * SECOND)), ".times")
+                self.write(start() + visit(b"z"))
             if len(looks) == 3:
                 raise KeyboardInterrupt
         given = unittest.mock.Mock(file=self.path, tells_all=False, since=None, until=None, name=None, is_json=False)
@@ -342,6 +371,7 @@ class Begun(Written, unittest.TestCase):
             tool.follow(recording, given)
         self.assertEqual(looks[0], [])
         self.assertEqual(looks[1], [f"{at(3)} 9 lookup c by a local peer: not registered", f"{at(4)} 11 leave n port 5000"])
+        self.assertEqual(looks[2][2:], [f"{at(5)} 0 start", f"{at(6)} 1 lookup z by a local peer: not registered"])
 
     def test_a_book_that_is_kept_from_json_is_right_after_a_crash(self):
         running = self.follower("-all", "-json")
