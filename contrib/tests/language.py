@@ -89,7 +89,7 @@ def markdown(text):
 
 
 # Macros of manual pages: those that end a paragraph, and those that stand for a word of a sentence.
-BREAKS = "Pp", "It", "Ss", "Sh", "Dl", "D1", "Bl", "El", "Bd", "Ed"
+BREAKS = "Pp", "It", "Ss", "Sh", "Dl", "Bl", "El", "Bd", "Ed"
 SPANS = set("Ar Fl Nm Ql Pa Ev Fn Xr Dv Li Va Sx Dq Pq Sq Em Sy Cm Ic Vt Ft In Er Fa Op".split())
 
 
