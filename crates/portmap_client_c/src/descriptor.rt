@@ -7,12 +7,22 @@ use portmap_link::{Device, GhostList, Input, Output, Pull, Put, pull_from, put_f
 use std::io;
 
 /// A connected socket of the caller, by its number. Dropping this value does not close the socket.
-#[derive(Drop)]
 pub(crate) struct Descriptor {
     number: i32,
     failed: bool,
     pulls: GhostList<Pull>,
     puts: GhostList<Put>,
+}
+
+impl Drop for Descriptor {
+    fn drop(self) {
+        let Descriptor {
+            number: _,
+            failed: _,
+            pulls: _,
+            puts: _,
+        } = self;
+    }
 }
 
 /// Returns the result of a system call that moved `count` bytes. A negative `count` is a failure with `errno`.

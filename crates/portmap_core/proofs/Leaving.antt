@@ -11,9 +11,12 @@ use Rattle.portmap_feed.specs.Stream.{Framing, More, Zero, TooLarge, Whole, firs
 use Rattle.portmap_table.specs.{Laws.row_of, Rows.{AreKept, Names, active_row, is_active, is_full_for, registered}}
 use Rattle.portmap_table.specs.{Rows.{retired_of, same_name, slot_of, with_room}, declared.row.Row.Row}
 use Rattle.portmap_table.proofs.{Finding.{find-push_other, is_none}, NameEntry.has_name}
-use Rattle.portmap_table.proofs.NameLaws.{active_names_stay, names_outlive_connections, others_stay_at_retirement}
+use Rattle.portmap_table.proofs.NameLaws.{active_names_stay, last_creations_are_remembered, names_outlive_connections}
+use Rattle.portmap_table.proofs.NameLaws.{others_stay_at_retirement}
+use Rattle.portmap_table.specs.Rows.{remembered}
 use Rattle.portmap_core.specs.{Config.Configuration, Entry.{Closed, Connected, Entry, Faulted, Late, Piece}}
-use Rattle.portmap_core.specs.Laws.{AbsentNamesAreNotFound, EndsRetire, IsReplied, NoneRegisters, Retires, StopsRetire}
+use Rattle.portmap_core.specs.Laws.{AbsentNamesAreNotFound, EndsRetire, IsReplied, LeaversAreRemembered, NoneRegisters, Retires}
+use Rattle.portmap_core.specs.Laws.{StopsRetire}
 use Rattle.portmap_core.specs.{Run.Run, Serving.{Served, ServesReceived, alive_served, closed, registers}}
 use Rattle.portmap_core.specs.{Serving.{replied, served, stops}, State.State}
 use Rattle.portmap_core.specs.Step.{Effect, Says, Step, AnswersPiece, outcome_of}
@@ -76,6 +79,13 @@ pub ends_retire : EndsRetire
 ends_retire cfg s s' name row e owned step ends found =
     subst (λ (n : Names). Retires name s.names n) (sym (ends_at cfg s s' row.slot e ends step))
     (slot_retires cfg.known_max s.names owned.names name row found)
+
+pub leavers_are_remembered : LeaversAreRemembered
+leavers_are_remembered cfg s s' name row e owned step ends found =
+    let owner : row_of row.slot s.names ≡ Some row = found_by_key slot_of (has_name name) s.names.active row owned.names.owners found in
+    let called = name_of_found name s.names row found in
+    let left = last_creations_are_remembered cfg.known_max s.names row.slot row owned.names owner in
+    subst (λ (n : Names). remembered name n ≡ Some row.creation) (sym (ends_at cfg s s' row.slot e ends step)) (rw called at left.1)
 
 pub stops_retire : StopsRetire
 stops_retire cfg s s' name row reply fate owned relaxed t found =

@@ -1,3 +1,4 @@
+pub mod GhostWalks
 pub mod Waits
 pub mod Determined
 pub mod Prefixes

@@ -10,7 +10,7 @@ use Rattle.portmap_feed.specs.Stream.{Whole, first_request, sight_behind}
 use Rattle.portmap_table.specs.Rows.{owns_name, known_names, same_name}
 use Rattle.portmap_table.proofs.Owners.{owner_owns}
 use Rattle.portmap_core.specs.{Config.Configuration, Entry.Entry, Laws.{WrittenIsWhole, NamesBelong}}
-use Rattle.portmap_core.specs.Laws.{NamesBelongToConnections, owners, MalformedChangesNoName}
+use Rattle.portmap_core.specs.Laws.{NamesBelongToConnections, owners, IncompleteRequestsWait, MalformedChangesNoName}
 use Rattle.portmap_core.specs.{Owned.{IsSlotFor, IsOwned}, Run.Run, State.State, Step.Step}
 use Rattle.portmap_core.specs.{declared.connection.Connection.Connection, declared.connection.Stage.TheVariants.Holding}
 use Rattle.portmap_core.proofs.Owned.{owned_empty, steps_keep}
@@ -50,6 +50,9 @@ names_belong cfg es s is run = belongs cfg s (run_owned cfg es _ s (owned_empty 
 
 pub malformed_keeps : MalformedChangesNoName
 malformed_keeps cfg s s' slot connection received piece reply fate here stage bad says = search rules
+
+pub incomplete_wait : IncompleteRequestsWait
+incomplete_wait cfg s s' slot connection received piece reply fate here stage more says = search rules
 
 -- ---- written requests
 

@@ -11,7 +11,7 @@ use Rattle.portmap_table.specs.Rows.{Names, active_row, is_known, known_len, kno
 use Rattle.portmap_table.specs.{Creation.IsLegalCreation, declared.row.Row.Row}
 use Rattle.portmap_core.specs.Entry.{Entry, Connected, Piece, Closed, Faulted, Late}
 use Rattle.portmap_core.specs.{Config.{Configuration, IsConfiguration}, Owned.IsOwned, Run.Run}
-use Rattle.portmap_core.specs.{Serving.names_line_of, State.{State, empty_state}, Step.{Step, Says}}
+use Rattle.portmap_core.specs.{Serving.names_line_of, State.{State, empty_state, with_connection}, Step.{Step, Says}}
 use Rattle.portmap_core.specs.declared.connection.Connection.{Connection}
 use Rattle.portmap_core.specs.declared.connection.Stage.TheVariants.{Waiting, Holding}
 use Rattle.portmap_core.specs.declared.event.Fate.{Fate, TheVariants.{Close, Halt, Stay}}
@@ -269,3 +269,21 @@ AbsentNamesAreNotFound =
     (cfg : Configuration) (es : List Entry) (s last s' : State) (name : List ℕ) (asker : ℕ) (connection : Connection)
     (body answer : List ℕ) (run : Run cfg s es last) → active_row name s.names ≡ None → NoneRegisters name cfg es s last run
     → Completes cfg last asker connection body answer s' → Spells body (request.Port name) → answer ≡ port2_reply None
+
+-- ---- how requests arrive, and what restarts get
+
+-- A chunk that completes no request is kept: there is no reply, the connection waits with all its bytes, and nothing else changes.
+abbrev pub IncompleteRequestsWait : Type 0
+IncompleteRequestsWait =
+    (cfg : Configuration) (s s' : State) (slot : ℕ) (connection : Connection) (received piece reply : List ℕ) (fate : Fate)
+    → map.get s.connections slot ≡ Some connection → connection.stage ≡ Waiting received
+    → first_request (received ++ piece) ≡ More → Says cfg s slot piece reply fate s'
+    → (reply ≡ []) × (fate ≡ Stay)
+    × (s' ≡ with_connection s slot (record { local = connection.local; stage = Waiting (received ++ piece) }))
+
+-- The creation of a name whose connection ends is remembered for it, so that it cannot be its next one.
+abbrev pub LeaversAreRemembered : Type 0
+LeaversAreRemembered =
+    (cfg : Configuration) (s s' : State) (name : List ℕ) (row : Row) (e : Entry) → IsOwned cfg s → Step cfg s e s'
+    → (e ≡ Closed row.slot) ⊎ (e ≡ Faulted row.slot) → active_row name s.names ≡ Some row
+    → remembered name s'.names ≡ Some row.creation

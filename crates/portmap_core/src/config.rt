@@ -21,7 +21,7 @@ pub enum ConfigFault {
 }
 
 /// The configuration of a port mapper. Both limits are 1 to 65,535.
-#[derive(Clone, Copy, Debug, PartialEq, Eq)]
+#[derive(Clone, Copy, PartialEq, Eq)]
 pub struct Config {
     /// The port that the port mapper reports as its own.
     pub port: u16,

@@ -15,14 +15,14 @@ pub enum Phase {
 }
 
 /// A phase with the bytes received so far.
-#[derive(Debug, Drop)]
+#[derive(Drop)]
 pub(crate) enum Stage {
     Waiting(Feed),
     Holding,
     Done,
 }
 
-#[derive(Debug, Drop)]
+#[derive(Drop)]
 pub(crate) struct Connection {
     pub(crate) local: bool,
     pub(crate) stage: Stage,

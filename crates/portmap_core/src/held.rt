@@ -8,7 +8,7 @@ use std::alloc::Global;
 use std::marker::Model;
 
 /// An open connection of a plain state.
-#[derive(Debug, Drop)]
+#[derive(Drop)]
 pub struct Held {
     pub slot: u64,
     /// True if the peer is on this host.

@@ -14,7 +14,7 @@ use std::alloc::Global;
 use std::marker::Model;
 
 /// The open connections of a plain state, by rising slot. Slots may be any numbers.
-#[derive(Debug, Drop)]
+#[derive(Drop)]
 pub(crate) struct Slots {
     held: Vec<Held>,
 }

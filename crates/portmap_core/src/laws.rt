@@ -5,6 +5,7 @@ ghost use Rattle.portmap_core.specs.Laws.{RemotePeersMayOnlyLookUp, RunsKeepLimi
 ghost use Rattle.portmap_core.specs.Laws.{TakenCreationsAreNew};
 ghost use Rattle.portmap_core.specs.Laws.{WrittenIsWhole};
 ghost use Rattle.portmap_core.specs.Laws.{AbsentNamesAreNotFound, EndsRetire, ListsAreExact, StopsRetire};
+ghost use Rattle.portmap_core.specs.Laws.{IncompleteRequestsWait, LeaversAreRemembered};
 ghost use Rattle.portmap_core.specs.Laws.{FreeNamesRegister, NamesStay, RegisteredAreAlone, RegisteredAreFound};
 
 /// Law: the first request of written bytes, whatever follows them, is the request that was written.
@@ -99,4 +100,14 @@ pub fn names_that_left_are_not_found()
     ensures ends { EndsRetire }
     ensures stops { StopsRetire }
     ensures absent { AbsentNamesAreNotFound }
+{}
+
+/// Law: a chunk that completes no request is kept, and changes nothing else.
+pub fn incomplete_requests_wait()
+    ensures { IncompleteRequestsWait }
+{}
+
+/// Law: the creation of a name whose connection ends is remembered for it.
+pub fn leavers_are_remembered()
+    ensures { LeaversAreRemembered }
 {}

@@ -2,7 +2,7 @@ ghost use Rattle.std.specs.Prelude.{◌≡◌};
 ghost use Rattle.portmap_core.specs.Locality.{plain, is_loopback, is_local_to};
 
 /// The IP address of one end of a connection.
-#[derive(Clone, Copy, Debug)]
+#[derive(Clone, Copy)]
 pub enum Ip {
     V4([u8; 4]),
     V6([u8; 16]),

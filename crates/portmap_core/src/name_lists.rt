@@ -10,13 +10,21 @@ use std::alloc::Global;
 use std::marker::Model;
 
 /// The known names of a plain state. They need not be valid: a name or a slot may occur twice.
-#[derive(Debug, Drop)]
 pub(crate) struct NameLists {
     /// In order of registration.
     pub(crate) active: Vec<Row>,
     /// In order of retirement. Rows that are registered or copied here reserve room, so that in practice retiring them
     /// does not allocate. No clause states this.
     pub(crate) retired: Vec<Old>,
+}
+
+impl Drop for NameLists {
+    fn drop(self) {
+        let NameLists {
+            active: _,
+            retired: _,
+        } = self;
+    }
 }
 
 impl Model for NameLists {

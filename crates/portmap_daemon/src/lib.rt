@@ -24,6 +24,7 @@ mod limits;
 mod listening;
 mod mio_system;
 mod recording;
+mod reports;
 
 pub use crate::daemon::{RunEnd, RunFault, Settings, run, run_gated, run_over};
 pub use crate::limits::{TIMEOUT_SECONDS_MOST, numbers_are_the_profiles};

@@ -29,7 +29,7 @@ const EAFNOSUPPORT: i32 = 97;
 const EADDRNOTAVAIL: i32 = 99;
 
 /// The reason for which passed sockets are not served.
-#[derive(Clone, Copy, Debug, PartialEq, Eq)]
+#[derive(Clone, Copy, PartialEq, Eq)]
 pub enum HandedFault {
     /// The descriptor with this number is not a listening TCP socket.
     NotListening(i32),

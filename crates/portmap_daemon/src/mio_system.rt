@@ -112,13 +112,23 @@ impl Wake for MioWaker {
 
 /// A poll with its last reports, and a thread's shares of the listening sockets. Programs use it through `run`, and
 /// tests call it.
-#[derive(Drop)]
 pub struct MioSystem {
     poll: Poll,
     events: Events,
     listeners: Vec<TcpListener>,
     /// The keys and interests that the poll accepted. Only proofs read them.
     watched: GhostList<(usize, Interest)>,
+}
+
+impl Drop for MioSystem {
+    fn drop(self) {
+        let MioSystem {
+            poll: _,
+            events: _,
+            listeners: _,
+            watched: _,
+        } = self;
+    }
 }
 
 impl MioSystem {

@@ -102,7 +102,7 @@ fn take_room(held: &mut Vec<u8>, piece: &[u8]) -> Result<(), NoMemory>
 ///
 /// A feed keeps every byte while the request is incomplete, then its length and body, or a bad length alone. It keeps
 /// at most `BODY_MOST` + 2 bytes. Once the length is known, the buffer has room for every byte that will be kept.
-#[derive(Debug, Drop)]
+#[derive(Drop)]
 pub struct Feed {
     bytes: Vec<u8>,
 }

@@ -6,14 +6,14 @@ ghost use Rattle.portmap_link.specs.Limit.{SendsOn, left_after, left_in, puts_mo
 use crate::{Flush, Output, Put};
 
 /// The limit at which no more puts are made.
-#[derive(Clone, Copy, Debug, PartialEq, Eq)]
+#[derive(Clone, Copy, PartialEq, Eq)]
 pub enum Limit {
     Puts(u64),
     /// The number of puts that would block.
     Laters(u64),
 }
 
-#[derive(Clone, Copy, Debug, PartialEq, Eq)]
+#[derive(Clone, Copy, PartialEq, Eq)]
 pub struct Sent {
     pub count: usize,
     /// The number of puts that would block.

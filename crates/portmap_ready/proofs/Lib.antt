@@ -1,5 +1,4 @@
 pub mod Times
-pub mod Tables
 pub mod Steps
 pub mod Calls
 pub mod Turns

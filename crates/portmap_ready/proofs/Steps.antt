@@ -1,23 +1,16 @@
--- Lemmas: a step that changes the entry under one key.
+-- Lemmas: a link that changes its state, arrives or is removed, and the lists of keys.
 use Rattle.std.specs.{Cmp.nat_cmp_total, FinMap.nat_cmp-IsAntisymmetric, Ordering.nat_cmp}
-use Rattle.std.specs.Prelude.{map as list_map, option_map}
-use Rattle.std.proofs.Common.{◌≡◌, ◌≢◌, ℕ, suc, zero, ◌+◌, ◌-◌, ◌<◌, ◌≤◌, Bool, true, false, cond, List, [], ◌∷◌}
-use Rattle.std.proofs.Common.{length, get_or, Option, Some, None, is_some, IsSome, refl, sym, ap, ◌∙◌, arith, rules}
+use Rattle.std.specs.Prelude.{drop, map as list_map, option_map, slice_get}
+use Rattle.std.proofs.Common.{◌≡◌, ◌≢◌, ◌↔◌, ℕ, suc, zero, ◌+◌, ◌-◌, ◌<◌, ◌≤◌, Bool, true, false, not, cond, eqb, List, [], ◌∷◌}
+use Rattle.std.proofs.Common.{length, get_or, Option, Some, None, is_some, IsSome, refl, sym, ap, ◌∙◌, arith, rules, inl, inr}
+use Rattle.std.proofs.lemmas.Bool.{cases_eq}
 use Rattle.std.proofs.lemmas.Bool.Decides.{nat_tests}
 use Rattle.std.specs.FinMap as map
 use Rattle.slab.specs.Slab.{Slab, get, Updates, entries_from}
-use Rattle.portmap_ready.specs.Tracked.{Marks, one, link_of, marks_of, is_fine}
-use Rattle.portmap_ready.specs.Links.{Links, with_state, put_at, pushed, times, without}
-use Rattle.portmap_ready.specs.{Whole.{IsWhole, links_of, kept, room, marks}, declared.Tracked.Tracked, declared.LinkState.LinkState}
-use Rattle.portmap_ready.specs.declared.Scheduler.TheInside.{Inside}
-use Rattle.portmap_ready.proofs.Times.{times_fit, filter_same, filter-pushed, without-filter, without-pushed}
-use Rattle.portmap_ready.proofs.Times.{without_absent}
-
-pub one_most : (b : Bool) → one b ≤ 1
-one_most b = search rules
-
-one_less : (b : Bool) (a n : ℕ) → a ≡ cond b (n - 1) n → n ≤ a + 1
-one_less b a n e = search rules
+use Rattle.portmap_ready.specs.Tracked.{one, link_of}
+use Rattle.portmap_ready.specs.Links.{Links, one_at, put_at, pushed, times, with_state, without}
+use Rattle.portmap_ready.specs.{Whole.{Lists, links_of}, declared.Tracked.Tracked, declared.LinkState.LinkState}
+use Rattle.portmap_ready.proofs.Times.{joined_other, times-cons, times-filter, times-pushed, times_fit, without_absent, without_first}
 
 module _ {T : Type 0} where
   pub seen_is : (v w : Links T) → v.links ≡ w.links → v.queue ≡ w.queue → v.pending ≡ w.pending → v.paused ≡ w.paused
@@ -49,59 +42,17 @@ module _ {T : Type 0} where
       let links = list_map link_of s.slots in
       map.get-from_entries nat_cmp_total (entries_from 0 links) k ∙ at_slot 0 k k links (omega arith) ∙ link_at_slot s.slots k
 
-  same : (m n : map.FinMap nat_cmp (T × LinkState)) → ((q : ℕ) → map.get m q ≡ map.get n q) → m ≡ n
+  pub same : (m n : map.FinMap nat_cmp (T × LinkState)) → ((q : ℕ) → map.get m q ≡ map.get n q) → m ≡ n
   same m n h = map.same_map nat_cmp_total nat_cmp-IsAntisymmetric m n h
 
-  -- If every key is below `n`, there are at most `n` links.
-  pub len_most : (n : ℕ) (m : map.FinMap nat_cmp (T × LinkState)) → ((q : ℕ) → is_some (map.get m q) ≡ true → q < n) → map.len m ≤ n
-  len_most zero m h =
-      let none : m ≡ map.empty = same _ _ (λ q. at_none (map.get m q) (h q) ∙ sym (map.get-empty nat_cmp q)) in
-      omega (arith, ap map.len none, map.len-empty nat_cmp (T × LinkState))
-    where
-      at_none : {q : ℕ} (o : Option (T × LinkState)) → (is_some o ≡ true → q < 0) → o ≡ None
-      at_none None g = refl
-      at_none (Some l) g = absurd (omega (arith, g refl))
-  len_most (suc n) m h =
-      let rest = len_most n (map.remove m n) (λ q. grind (arith, nat_tests, map.gets, h q)) in
-      omega (arith, rest, one_less (map.contains_key m n) (map.len (map.remove m n)) (map.len m) (map.len-remove nat_cmp_total m n))
-
-  len-put_at : (state : LinkState) (k : ℕ) (o : Option (T × LinkState)) (m : map.FinMap nat_cmp (T × LinkState)) → map.get m k ≡ o
+  pub len-put_at : (state : LinkState) (k : ℕ) (o : Option (T × LinkState)) (m : map.FinMap nat_cmp (T × LinkState)) → map.get m k ≡ o
       → map.len (put_at state k o m) ≡ map.len m
   len-put_at state k None m e = refl
   len-put_at state k (Some link) m e = map.len-insert nat_cmp_total m k (link.0, state) ∙ rw (ap is_some e) refl
 
-  -- A change of state does not change the number of links.
-  pub counted_to : (state : LinkState) {old : Inside T} (k : ℕ) (s : Slab (Tracked T)) → IsWhole old
-      → links_of s.slots ≡ with_state state k (links_of old.held.slots) → old.count ≡ map.len (links_of s.slots)
-  counted_to state {old} k s i e = search (rules, len-put_at)
-
   -- ---- one entry changes
 
   module _ {s s' : Slab (Tracked T)} {k : ℕ} {o : Option (Tracked T)} (u : Updates s s' k o) where
-    -- A predicate holds at each key if it holds of the new entry, and of every other entry as before.
-    pub at_each : (P : ℕ → Option (Tracked T) → Type 0) → P k o → ((j : ℕ) → j ≢ k → P j (get s j)) → (j : ℕ) → P j (get s' j)
-    at_each P here there j = search rules
-
-    pub kept_same : (f : Option (Tracked T) → Bool) (xs : List ℕ) → (0 < times k xs → f o ≡ f (get s k)) → kept f s' xs ≡ kept f s xs
-    kept_same f xs h =
-        let each = at_each (λ j o. 0 < times j xs → f o ≡ f (get s j)) h (λ j d l. refl) in
-        filter_same (λ j. f (get s' j)) (λ j. f (get s j)) xs each
-
-    pub kept_absent : (f : Option (Tracked T) → Bool) (xs : List ℕ) → times k xs ≡ 0 → kept f s' xs ≡ kept f s xs
-    kept_absent f xs e = kept_same f xs (λ l. absurd (omega (arith, e, l)))
-
-    pub kept_pushed : (f : Option (Tracked T) → Bool) (b : Bool) (xs : List ℕ) → times k xs ≡ 0 → f o ≡ true
-        → kept f s' (pushed b k xs) ≡ pushed b k (kept f s xs)
-    kept_pushed f b xs e h = filter-pushed (λ j. f (get s' j)) b k xs (ap f u.changed ∙ h) ∙ ap (pushed b k) (kept_absent f xs e)
-
-    -- The other keys of the list are unchanged.
-    pub kept_others : (f : Option (Tracked T) → Bool) (b : Bool) (xs : List ℕ)
-        → without k (kept f s' (pushed b k xs)) ≡ without k (kept f s xs)
-    kept_others f b xs = search (rules, without-filter, without-pushed)
-
-    pub kept_out : (f : Option (Tracked T) → Bool) (xs : List ℕ) → f o ≡ false → kept f s' xs ≡ without k (kept f s xs)
-    kept_out f xs h = sym (without_absent (λ j. f (get s' j)) k xs (ap f u.changed ∙ h)) ∙ kept_others f false xs
-
     pub links_put : (link : T × LinkState) → link_of o ≡ Some link → links_of s'.slots ≡ map.insert (links_of s.slots) k link
     links_put link h = same _ _ (λ q. grind (arith, nat_tests, map.gets, get-links_of s q, get-links_of s' q, u.changed, u.others q, h))
 
@@ -116,40 +67,79 @@ module _ {T : Type 0} where
         → links_of s'.slots ≡ with_state state k (links_of s.slots)
     links_to state e = search (rules, get-links_of, links_put, links_same)
 
-  -- The step changes the entry under `k`, which agrees with the new marks. The marks of other keys are unchanged.
-  pub record IsStep (old new : Inside T) (k : ℕ) (o : Option (Tracked T)) : Type 0 where
-    pub held : Updates old.held new.held k o
-    pub here : marks new k ≡ marks_of o
-    pub others : (j : ℕ) → j ≢ k → marks new j ≡ marks old j
-    pub fine : is_fine o ≡ true
-    pub within : IsSome o → k < room old
-    pub rooms : room new ≡ room old
-    pub counted : new.count ≡ map.len (links_of new.held.slots)
+  -- ---- a list of keys
 
-  pub whole_step : {old new : Inside T} {k : ℕ} {o : Option (Tracked T)} → IsWhole old → IsStep old new k o → IsWhole new
-  whole_step {old} {new} i step = search rules
+  module _ (test : LinkState → Bool) (k : ℕ) (xs : List ℕ) (m : map.FinMap nat_cmp (T × LinkState)) (h : Lists test xs m) where
+    pub none_left : times k (without k xs) ≡ 0
+    none_left = grind (arith, nat_tests, times-filter (λ j. not (eqb j k)) k xs)
 
-  -- A list has room for a key below `room` that is not in it.
-  room_for : {r : Inside T} (list : Inside T → List ℕ) (mark : Marks → ℕ) (k : ℕ) → IsWhole r
-      → ((j : ℕ) → times j (list r) ≡ mark (marks r j)) → mark (marks_of {T = T} None) ≡ 0
-      → ((h : Tracked T) → mark (marks_of (Some h)) ≤ 1)
-      → times k (list r) ≡ 0 → k < room r → length (list r) < room r
-  room_for {r} list mark k i is none most absent within =
-      times_fit (list r) (room r) k (λ j. let e = is j ∙ ap mark (i.marks j) in let m = once (get r.held j) in omega arith)
-      (λ j l. i.fits j (some_at (get r.held j) (let e = is j ∙ ap mark (i.marks j) in omega arith))) absent within
-    where
-      once : (o : Option (Tracked T)) → mark (marks_of o) ≤ 1
-      once None = omega arith
-      once (Some h) = most h
+    left : (q : ℕ) → q ≢ k → times q (without k xs) ≡ times q xs
+    left q d = grind (arith, nat_tests, times-filter (λ j. not (eqb j k)) q xs, d)
 
-      some_at : (o : Option (Tracked T)) → 0 < mark (marks_of o) → IsSome o
-      some_at o l = search rules
+    -- The link under `k` arrives or gets another state.
+    pub lists_put : (link : T × LinkState) → Lists test (pushed (test link.1) k (without k xs)) (map.insert m k link)
+    lists_put link q = elim (cases_eq q k) [
+      | inl same ↦ rw same (grind (arith, nat_tests, map.gets, times-pushed (test link.1) k (without k xs), none_left))
+      | inr differs ↦ joined_other (test link.1) k (without k xs) refl q differs
+          ∙ grind (arith, nat_tests, map.gets, left q differs, h q, differs)
+    ]
 
-  pub queue_room : {r : Inside T} (k : ℕ) → IsWhole r → times k r.queue.items ≡ 0 → k < room r → length r.queue.items < room r
-  queue_room k i = room_for (λ r. r.queue.items) (λ m. m.queue) k i (λ j. refl) refl (λ h. one_most _)
+    pub lists_cut : Lists test (without k xs) (map.remove m k)
+    lists_cut q = elim (cases_eq q k) [
+      | inl same ↦ rw same (grind (arith, nat_tests, map.gets, none_left))
+      | inr differs ↦ grind (arith, nat_tests, map.gets, left q differs, h q, differs)
+    ]
 
-  pub pending_room : {r : Inside T} (k : ℕ) → IsWhole r → times k r.pending.items ≡ 0 → k < room r → length r.pending.items < room r
-  pending_room k i = room_for (λ r. r.pending.items) (λ m. m.pending) k i (λ j. refl) refl (λ h. one_most _)
+    -- The list has no key of a link whose state fails the test.
+    pub not_listed : one_at test (map.get m k) ≡ 0 → without k xs ≡ xs
+    not_listed e = without_absent k xs (h k ∙ e)
 
-  pub resting_room : {r : Inside T} (k : ℕ) → IsWhole r → times k r.paused.items ≡ 0 → k < room r → length r.paused.items < room r
-  resting_room k i = room_for (λ r. r.paused.items) (λ m. m.paused) k i (λ j. refl) refl (λ h. one_most _)
+    pub listed_once : times k xs ≤ 1
+    listed_once = let at = h k in let most = one_most (map.get m k) in omega arith
+      where
+        one_most : (o : Option (T × LinkState)) → one_at test o ≤ 1
+        one_most None = omega arith
+        one_most (Some link) = one_less (test link.1)
+          where
+            one_less : (b : Bool) → cond b 1 0 ≤ 1
+            one_less b = search rules
+
+    first_listed : slice_get xs 0 ≡ Some k → 0 < times k xs
+    first_listed first = some_first xs first
+      where
+        some_first : (xs : List ℕ) → slice_get xs 0 ≡ Some k → 0 < times k xs
+        some_first [] e = absurd cc
+        some_first (x ∷ xs) e = grind (arith, nat_tests, times-cons k x xs, e)
+
+    -- The first key is that of a link whose state passes the test.
+    pub first_link : slice_get xs 0 ≡ Some k → (link : T × LinkState) × (map.get m k ≡ Some link) × (test link.1 ≡ true)
+    first_link first = let some = first_listed first in let at = h k in link_here (map.get m k) refl (omega arith)
+      where
+        link_here : (o : Option (T × LinkState)) → map.get m k ≡ o → 0 < one_at test o
+            → (link : T × LinkState) × (map.get m k ≡ Some link) × (test link.1 ≡ true)
+        link_here None e l = absurd (omega arith)
+        link_here (Some link) e l = (link, e, passes (test link.1) l)
+          where
+            passes : (b : Bool) → 0 < cond b 1 0 → b ≡ true
+            passes true l = refl
+            passes false l = absurd (omega arith)
+
+    pub rest_listed : slice_get xs 0 ≡ Some k → drop 1 xs ≡ without k xs
+    rest_listed first = sym (without_first k xs first listed_once)
+
+    -- If all keys of links are below `n`, the list has room for one more key below `n`.
+    pub room_for : (n : ℕ) → ((q : ℕ) → IsSome (map.get m q) → q < n) → times k xs ≡ 0 → k < n → length xs < n
+    room_for n below absent lt = times_fit xs n k (λ q. once q) (λ q l. below q (here q l)) absent lt
+      where
+        most : (o : Option (T × LinkState)) → one_at test o ≤ 1
+        most o = search rules
+
+        once : (q : ℕ) → times q xs ≤ 1
+        once q = let at = h q in let less = most (map.get m q) in omega arith
+
+        some_here : (o : Option (T × LinkState)) → 0 < one_at test o → IsSome o
+        some_here None l = absurd (omega arith)
+        some_here (Some link) l = refl
+
+        here : (q : ℕ) → 0 < times q xs → IsSome (map.get m q)
+        here q l = let at = h q in some_here (map.get m q) (omega arith)

@@ -1,9 +1,9 @@
 -- Lemmas: how often a key is in a list.
-use Rattle.std.specs.List.{All, IsDistinct, list_any}
+use Rattle.std.specs.{List.{All, IsDistinct, list_any}, Prelude.{drop, slice_get}}
 use Rattle.std.proofs.Common.{◌≡◌, ◌≢◌, ℕ, ◌+◌, ◌<◌, ◌≤◌, Bool, true, false, cond, eqb, List, [], ◌∷◌, length, refl}
-use Rattle.std.proofs.Common.{sym, ap, ◌∙◌, inl, inr, arith, filter, rules}
-use Rattle.std.proofs.{lemmas.Bool.{cases_eq, cases_Bool, false≢true}, lemmas.Bool.Decides.nat_tests}
-use Rattle.std.proofs.{lemmas.Grind.common_steps, lemmas.List.Elements.{All-nil, filter-append, recursion_from_All}}
+use Rattle.std.proofs.Common.{sym, ap, ◌∙◌, inl, inr, arith, filter, rules, Some}
+use Rattle.std.proofs.{lemmas.Bool.{cases_eq, cases_Bool}, lemmas.Bool.Decides.nat_tests}
+use Rattle.std.proofs.{lemmas.Grind.common_steps, lemmas.List.Elements.{All-nil, recursion_from_All}}
 use Rattle.std.proofs.{lemmas.List.Sums.{sum_by-append, sum_by-cons}, lemmas.Map.Steps.length-le_from_distinct_below}
 use Rattle.portmap_ready.specs.{Tracked.one, Links.{pushed, times, without}}
 
@@ -22,19 +22,6 @@ joined b k xs e = ap (times k) e ∙ times-pushed b k xs
 
 pub joined_other : (b : Bool) (k : ℕ) (xs : List ℕ) {ys : List ℕ} → ys ≡ pushed b k xs → (j : ℕ) → j ≢ k → times j ys ≡ times j xs
 joined_other b k xs e j d = ap (times j) e ∙ times-pushed_other b j k xs d
-
--- Puts `k` ahead of the list if the flag is true.
-abbrev pub front : Bool → ℕ → List ℕ → List ℕ
-front true k xs = k ∷ xs
-front false k xs = xs
-
--- Taking the first key subtracts 1 from its count. Other counts do not change.
-pub first_left : (b : Bool) (k : ℕ) {xs : List ℕ} (ys : List ℕ) → xs ≡ front b k ys → one b + times k ys ≡ times k xs
-first_left false k ys e = rw e (omega arith)
-first_left true k ys e = rw e (grind (arith, nat_tests, times-cons k k ys))
-
-pub first_left_other : (b : Bool) (k : ℕ) {xs : List ℕ} (ys : List ℕ) → xs ≡ front b k ys → (j : ℕ) → j ≢ k → times j ys ≡ times j xs
-first_left_other b k ys e j d = search rules
 
 pub times-filter : (p : ℕ → Bool) (k : ℕ) (xs : List ℕ) → times k (filter p xs) ≡ cond (p k) (times k xs) 0
 times-filter p k [] = grind arith
@@ -74,44 +61,13 @@ times_fit xs n j once below absent within =
     let fit = length-le_from_distinct_below (j ∷ xs) n (distinct_from_times (j ∷ xs) each) all in
     omega arith
 
--- ---- keys that pass a test
+-- ---- lists without a key
 
--- Tests that agree on each key of a list keep the same keys.
-pub filter_same : (p q : ℕ → Bool) (xs : List ℕ) → ((k : ℕ) → 0 < times k xs → p k ≡ q k) → filter p xs ≡ filter q xs
-filter_same p q [] h = refl
-filter_same p q (x ∷ xs) h =
-    let here : p x ≡ q x = h x (grind (arith, nat_tests, times-cons x x xs)) in
-    let rest : filter p xs ≡ filter q xs = filter_same p q xs (λ k l. h k (grind (arith, nat_tests, times-cons k x xs))) in
-    rw (here, rest)
+pub without_absent : (k : ℕ) (xs : List ℕ) → times k xs ≡ 0 → without k xs ≡ xs
+without_absent k [] e = refl
+without_absent k (x ∷ xs) e = grind (arith, common_steps, nat_tests, without_absent k xs)
 
-pub filter-pushed : (p : ℕ → Bool) (b : Bool) (x : ℕ) (xs : List ℕ) → p x ≡ true → filter p (pushed b x xs) ≡ pushed b x (filter p xs)
-filter-pushed p b x xs h = search (rules, filter-append)
-
--- Without `k`, the result does not depend on whether `k` passes.
-without-first : (p : ℕ → Bool) (k : ℕ) (xs : List ℕ) → without k (filter p (k ∷ xs)) ≡ without k (filter p xs)
-without-first p k xs = search rules
-
-pub without-pushed : (p : ℕ → Bool) (b : Bool) (k : ℕ) (xs : List ℕ) → without k (filter p (pushed b k xs)) ≡ without k (filter p xs)
-without-pushed p b k xs = search (rules, filter-append)
-
--- Tests that agree on each key other than `k` keep the same other keys.
-pub without-filter : (p q : ℕ → Bool) (k : ℕ) (xs : List ℕ) → ((j : ℕ) → j ≢ k → q j ≡ p j)
-    → without k (filter q xs) ≡ without k (filter p xs)
-without-filter p q k [] g = refl
-without-filter p q k (x ∷ xs) g = elim (cases_eq x k) [
-  | inl same ↦ rw same (without-first q k xs ∙ without-filter p q k xs g ∙ sym (without-first p k xs))
-  | inr differs ↦ elim (cases_Bool (p x)) [
-    | inl passes ↦ grind (arith, nat_tests, without-filter p q k xs g, g x differs, passes)
-    | inr fails ↦ grind (arith, nat_tests, without-filter p q k xs g, g x differs, fails)
-  ]
-]
-
-pub without_absent : (p : ℕ → Bool) (k : ℕ) (xs : List ℕ) → p k ≡ false → without k (filter p xs) ≡ filter p xs
-without_absent p k [] h = refl
-without_absent p k (x ∷ xs) h = elim (cases_Bool (p x)) [
-  | inl passes ↦ elim (cases_eq x k) [
-    | inl same ↦ absurd (false≢true (sym h ∙ ap p (sym same) ∙ passes))
-    | inr differs ↦ grind (arith, nat_tests, without_absent p k xs h, passes)
-  ]
-  | inr fails ↦ grind (arith, nat_tests, without_absent p k xs h, fails)
-]
+-- A key that is first and occurs once.
+pub without_first : (k : ℕ) (xs : List ℕ) → slice_get xs 0 ≡ Some k → times k xs ≤ 1 → without k xs ≡ drop 1 xs
+without_first k [] first once = absurd cc
+without_first k (x ∷ xs) first once = grind (arith, common_steps, nat_tests, first, once, without_absent k xs)

@@ -1,15 +1,8 @@
 -- The value of the scheduler after a mutable borrow of a link ends.
-use Rattle.std.specs.{Borrow.{Lends, LendsIf, Fml, RattleType, MutBor}, Prelude.{ℕ, Option, Some}}
-use Rattle.portmap_ready.specs.{Links.{Links, written}, contracts.Tracked.the_row as held_row, contracts.Scheduler.the_row}
-use Rattle.portmap_ready.specs.declared.Tracked.{Tracked}
+use Rattle.std.specs.{Borrow.{Lends, LendsIf, Fml, RattleType, MutBor}, Prelude.{ℕ, Option}}
+use Rattle.portmap_ready.specs.{Links.{Links, written}, contracts.Scheduler.the_row}
 
 module _ (T : RattleType) where
-  abbrev pub with_item : Tracked T.Denot → T.Denot → Tracked T.Denot
-  with_item h w = record h { value = Some w }
-
-  abbrev pub lends_item : MutBor (Tracked T.Denot) → MutBor T.Denot → Fml
-  lends_item h r = Lends (held_row T) T h r (with_item h.now)
-
   module _ (s : MutBor (Links T.Denot)) (key : ℕ) where
     -- The link under `key` has the last value written through `r`, and the state that it had.
     abbrev pub lends_value : MutBor T.Denot → Fml

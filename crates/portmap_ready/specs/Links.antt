@@ -110,21 +110,16 @@ module _ {T : Type 0} where
   abbrev pub inserted : ℕ → T → Links T → Links T
   inserted k value r = record r { links = map.insert r.links k (value, Queued); queue = r.queue ++ k ∷ [] }
 
-  -- Moves an idle, paused or current link to `state`: to the end of the queue or of the pending links, or to no list.
+  -- Moves an idle, paused or current link to `state`: to the end of the list of that state, or to no list.
   abbrev pub moved : LinkState → ℕ → Links T → Links T
   moved state k r =
       record r {
         links = with_state state k r.links;
         queue = pushed (is_queued state) k r.queue;
         pending = pushed (is_pending state) k r.pending;
-        paused = without k r.paused;
+        paused = pushed (is_paused state) k (without k r.paused);
         current = not_key k r.current;
       }
-
-  -- The link becomes paused, and the other paused links keep their order. Its own position among them is open.
-  pub record Pauses (k : ℕ) (old new : Links T) : Type 0 where
-    pub moved : new ≡ record (moved Paused k old) { paused = new.paused }
-    pub others : without k new.paused ≡ without k old.paused
 
   abbrev pub reported : ℕ → Links T → Links T
   reported k r = cond (is_quiet (state_at r k)) (moved Queued k r) r

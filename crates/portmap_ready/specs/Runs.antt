@@ -1,8 +1,8 @@
 -- Sequences of calls, and what they do to the keys that wait in a list: profile.
 use Rattle.std.specs.Prelude.{◌≡◌, ◌≢◌, ℕ, ◌+◌, ◌<◌, ◌≤◌, cond, ◌==◌, List, [], ◌∷◌, ◌++◌, length, slice_get, Option}
 use Rattle.std.specs.Prelude.{Some, option_to_list}
-use Rattle.portmap_ready.specs.declared.LinkState.TheVariants.{Idle, Queued, Pending}
-use Rattle.portmap_ready.specs.Links.{Links, IsButForRoom, Pauses, inserted, moved, removed, reported, after_resume}
+use Rattle.portmap_ready.specs.declared.LinkState.TheVariants.{Idle, Paused, Queued, Pending}
+use Rattle.portmap_ready.specs.Links.{Links, IsButForRoom, inserted, moved, removed, reported, after_resume}
 use Rattle.portmap_ready.specs.Links.{after_next_pending, times}
 use Rattle.portmap_ready.specs.Links.{after_next, written}
 
@@ -58,13 +58,13 @@ module _ {T : Type 0} where
   Does (Insert k value) old new = IsButForRoom new (inserted k value old)
   Does Refuse old new = IsButForRoom new old
   Does (Report k) old new = new ≡ reported k old
-  Does (Next current) old new = (current ≡ slice_get old.queue 0) × IsButForRoom new (after_next old)
-  Does (NextPending current) old new = (current ≡ slice_get old.pending 0) × IsButForRoom new (after_next_pending old)
+  Does (Next current) old new = (current ≡ slice_get old.queue 0) × (new ≡ after_next old)
+  Does (NextPending current) old new = (current ≡ slice_get old.pending 0) × (new ≡ after_next_pending old)
   Does (PutBack k) old new = new ≡ moved Queued k old
   Does (Leave k) old new = new ≡ moved Idle k old
   Does (Hold k) old new = new ≡ moved Pending k old
-  Does (Rest k) old new = Pauses k old new
-  Does EndRest old new = IsButForRoom new (after_resume old)
+  Does (Rest k) old new = new ≡ moved Paused k old
+  Does EndRest old new = new ≡ after_resume old
   Does (Remove k) old new = IsButForRoom new (removed k old)
   Does (Write k value) old new = new ≡ written k old value
 

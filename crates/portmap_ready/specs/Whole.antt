@@ -1,22 +1,14 @@
 -- The invariant of the fields, and the view that callers see. No public clause cites this module.
-use Rattle.std.specs.{Ordering.nat_cmp, Prelude.{◌≡◌, ℕ, ◌<◌, Bool, true, false, ◌&&◌, ◌==◌, nat_lt, nat_le, min, List}}
-use Rattle.std.specs.{Prelude.{filter, map as list_map, Option, Some, None, IsSome}, VecDeque.deque_capacity}
+use Rattle.std.specs.{Ordering.nat_cmp, Prelude.{◌≡◌, ℕ, ◌<◌, Bool, ◌&&◌, nat_lt, nat_le, min, List}}
+use Rattle.std.specs.{Prelude.{map as list_map, Option, IsSome}, VecDeque.deque_capacity}
 use Rattle.std.specs.FinMap as map
-use Rattle.slab.specs.Slab.{Slab, get, slab_len, entries_from}
-use Rattle.portmap_ready.specs.{Tracked.{Marks, link_of, is_live, is_paused_in, marks_of, is_fine}, Links.{Links, times}}
+use Rattle.slab.specs.Slab.{get, slab_len, entries_from}
+use Rattle.portmap_ready.specs.{Tracked.{is_current_in, is_key, link_of}, Links.{Links, is_paused, is_pending, is_queued, one_at, times}}
 use Rattle.portmap_ready.specs.{declared.Tracked.Tracked, declared.LinkState.LinkState, declared.Scheduler.TheInside.Inside}
-
-abbrev pub is_key : Option ℕ → ℕ → Bool
-is_key None k = false
-is_key (Some j) k = j == k
 
 module _ {T : Type 0} where
   abbrev pub links_of : List (Option (Tracked T)) → map.FinMap nat_cmp (T × LinkState)
   links_of slots = map.from_entries (entries_from 0 (list_map link_of slots))
-
-  -- The keys of a list whose entries pass the test.
-  abbrev pub kept : (Option (Tracked T) → Bool) → Slab (Tracked T) → List ℕ → List ℕ
-  kept test held keys = filter (λ k. test (get held k)) keys
 
   -- The least capacity of the three lists: each can hold all keys below this number.
   abbrev pub room : Inside T → ℕ
@@ -29,25 +21,26 @@ module _ {T : Type 0} where
   seen r =
       record {
         links = links_of r.held.slots;
-        queue = kept is_live r.held r.queue.items;
-        pending = kept is_live r.held r.pending.items;
-        paused = kept is_paused_in r.held r.paused.items;
+        queue = r.queue.items;
+        pending = r.pending.items;
+        paused = r.paused.items;
         current = r.current;
         has_room = has_room r;
       }
 
-  abbrev pub marks : Inside T → ℕ → Marks
-  marks r k =
-      record {
-        queue = times k r.queue.items;
-        pending = times k r.pending.items;
-        paused = times k r.paused.items;
-        current = is_key r.current k;
-      }
+  -- The list has the keys of the links whose state passes the test, each once.
+  abbrev pub Lists : (LinkState → Bool) → List ℕ → map.FinMap nat_cmp (T × LinkState) → Type 0
+  Lists test xs m = (q : ℕ) → times q xs ≡ one_at test (map.get m q)
 
-  -- Each key is in the lists as its entry says, at most once in each. Each list can hold all keys in use. `count` is the number of links.
+  -- Lists and `current` are those of the links.
+  pub record Agrees (v : Links T) : Type 0 where
+    pub queue : Lists is_queued v.queue v.links
+    pub pending : Lists is_pending v.pending v.links
+    pub paused : Lists is_paused v.paused v.links
+    pub current : (q : ℕ) → is_key v.current q ≡ is_current_in (map.get v.links q)
+
+  -- Each list can hold all keys in use.
   pub record IsWhole (r : Inside T) : Type 0 where
-    pub marks : (k : ℕ) → marks r k ≡ marks_of (get r.held k)
-    pub fine : (k : ℕ) → is_fine (get r.held k) ≡ true
+    pub agrees : Agrees (seen r)
     pub fits : (k : ℕ) → IsSome (get r.held k) → k < room r
-    pub counted : r.count ≡ map.len (links_of r.held.slots)
+    pub counted : slab_len r.held ≡ map.len (links_of r.held.slots)

@@ -9,9 +9,8 @@
 //!   pending links.
 //! - The queue is FIFO (`queue_is_fifo`): no link is served before a link that was queued earlier. The same holds for
 //!   pending links.
-//! - Each call leaves exactly what its clause says. After `rest` the link is paused, and the others keep their order.
+//! - Each call leaves exactly what its clause says.
 //! - Only `insert` may allocate. If it is refused, no link changes. If `has_room` holds, it is not refused.
-//! - A key is not used again while it is in a list, even if its link was removed.
 //!
 //! # Not covered
 //! Which links are ready, and that the caller continues to take turns.
@@ -26,14 +25,10 @@ ghost use Rattle.std.specs.Borrow.{sem};
 ghost use Rattle.std.specs.FinMap as map;
 ghost use Rattle.std.specs.VecDeque.{deque_capacity};
 ghost use Rattle.slab.specs.Slab.{Updates, get, slab_len};
-ghost use Rattle.portmap_ready.specs.Links.{is_pending, is_queued, is_paused, is_current, not_key, pushed};
-ghost use Rattle.portmap_ready.specs.declared.LinkState.TheVariants.{Idle, Pending, Queued};
-ghost use Rattle.portmap_ready.specs.Tracked.{cleared, is_live, is_out, left, link_of, with_link_state, is_paused_in};
-ghost use Rattle.portmap_ready.specs.Tracked.{taken, tidied};
-ghost use Rattle.portmap_ready.specs.Tracked.{unlisted, woken};
-
-#[cfg(test)]
-mod tests;
+ghost use Rattle.portmap_ready.specs.Links.{is_pending, is_queued, is_paused, is_current, not_key, pushed, times};
+ghost use Rattle.portmap_ready.specs.Links.{without};
+ghost use Rattle.portmap_ready.specs.declared.LinkState.TheVariants.{Idle, Paused, Pending, Queued};
+ghost use Rattle.portmap_ready.specs.Tracked.{link_of, with_link_state};
 
 use slab::Slab;
 use std::alloc::{AllocError, AllocFailed, Global};
@@ -41,7 +36,7 @@ use std::collections::VecDeque;
 use std::marker::Model;
 
 /// The scheduling state of a link.
-#[derive(Clone, Copy, Debug, PartialEq, Eq)]
+#[derive(Clone, Copy, PartialEq, Eq)]
 pub enum LinkState {
     /// The link is in no list until it is reported.
     Idle,
@@ -55,16 +50,14 @@ pub enum LinkState {
     Current,
 }
 
-/// The entry under a key. `value` is `None` if the link was removed while its key is still in a list.
+/// A link with its state.
 #[derive(Drop)]
 struct Tracked<T> {
-    value: Option<T>,
+    value: T,
     state: LinkState,
-    /// True if the key is in `paused`. The link may have been queued since.
-    is_listed: bool,
 }
 
-/// A scheduler: links by key, each in one link state.
+/// A scheduler: links by key, each in one link state. Each list has the keys of the links in its state.
 #[derive(Drop)]
 pub struct Scheduler<T> {
     held: Slab<Tracked<T>>,
@@ -72,7 +65,6 @@ pub struct Scheduler<T> {
     pending: VecDeque<usize>,
     paused: VecDeque<usize>,
     current: Option<usize>,
-    count: usize,
 }
 
 impl<T> Model for Scheduler<T> {
@@ -108,39 +100,6 @@ impl LinkState {
     {
         matches!(self, LinkState::Paused)
     }
-
-    fn left(self) -> LinkState
-        ensures { result ≡ left self }
-    {
-        match self {
-            LinkState::Queued | LinkState::Pending => self,
-            LinkState::Idle | LinkState::Paused | LinkState::Current => LinkState::Idle,
-        }
-    }
-
-    fn woken(self) -> LinkState
-        ensures { result ≡ woken self }
-    {
-        match self {
-            LinkState::Paused => LinkState::Idle,
-            LinkState::Idle | LinkState::Queued | LinkState::Pending | LinkState::Current => self,
-        }
-    }
-}
-
-impl<T> Tracked<T> {
-    ghost use Rattle.portmap_ready.specs.Lends.{lends_item};
-
-    fn value_mut(&mut self) -> &mut T
-        requires { IsSome self.old.value }
-        ensures* lends { sem 𝓛 (lends_item T.row self.entry result) }
-        ensures value { self.old.value ≡ Some result.now }
-    {
-        match &mut self.value {
-            Some(value) => value,
-            None => unreachable!(),
-        }
-    }
 }
 
 fn forget(current: Option<usize>, key: usize) -> Option<usize>
@@ -171,95 +130,25 @@ fn push_if(keys: &mut VecDeque<usize>, key: usize, is_wanted: bool)
     }
 }
 
-fn state_in<T>(held: &Slab<Tracked<T>>, key: usize) -> Option<LinkState>
-    ensures { result ≡ option_map (λ link. link.1) (link_of (get held.now key)) }
+/// Removes the key from a list that has it only if `is_listed`.
+fn cut_if(keys: &mut VecDeque<usize>, key: usize, is_listed: bool)
+    requires { is_listed ≡ false → times key keys.old.items ≡ 0 }
+    ensures items { keys.new.items ≡ without key keys.old.items }
+    ensures room { deque_capacity keys.new ≡ deque_capacity keys.old }
 {
-    match held.get(key) {
-        Some(kept) if kept.value.is_some() => Some(kept.state),
-        _ => None,
+    if is_listed {
+        keys.retain(|other| *other != key);
     }
 }
 
-fn value_in<T>(held: &Slab<Tracked<T>>, key: usize) -> Option<&T>
-    ensures { option_copied result ≡ option_map (λ link. link.0) (link_of (get held.now key)) }
-{
-    match held.get(key) {
-        Some(Tracked { value, .. }) => value.as_ref(),
-        None => None,
-    }
-}
-
-fn set_state<T>(held: &mut Slab<Tracked<T>>, key: usize, state: LinkState) -> bool
+fn set_state<T>(held: &mut Slab<Tracked<T>>, key: usize, state: LinkState)
     ensures held { Updates held.old held.new key (with_link_state state (get held.old key)) }
     ensures len { slab_len held.new ≡ slab_len held.old }
     ensures capacity { held.new.capacity ≡ held.old.capacity }
-    ensures out { result ≡ is_out state (get held.old key) }
 {
-    let Some(kept) = held.get_mut(key) else {
-        return false;
-    };
-    let is_out = state.is_paused() && !kept.is_listed;
-    kept.state = state;
-    kept.is_listed = kept.is_listed || is_out;
-    is_out
-}
-
-/// Frees the entry under `key` if it has no link and the key is in no list.
-fn tidy<T: Drop>(held: &mut Slab<Tracked<T>>, key: usize)
-    ensures { Updates held.old held.new key (tidied (get held.old key)) }
-{
-    if let Some(
-        Tracked {
-            value: None,
-            state: LinkState::Idle,
-            is_listed: false,
-        },
-    ) = held.get(key)
-    {
-        held.try_remove(key);
+    if let Some(link) = held.get_mut(key) {
+        link.state = state;
     }
-}
-
-fn take<T: Drop>(held: &mut Slab<Tracked<T>>, key: usize) -> bool
-    ensures held { Updates held.old held.new key (tidied (taken (get held.old key))) }
-    ensures live { result ≡ is_live (get held.old key) }
-{
-    let Some(kept) = held.get_mut(key) else {
-        return false;
-    };
-    let is_live = kept.value.is_some();
-    kept.state = if is_live {
-        LinkState::Current
-    } else {
-        LinkState::Idle
-    };
-    tidy(held, key);
-    is_live
-}
-
-fn unlist<T: Drop>(held: &mut Slab<Tracked<T>>, key: usize) -> bool
-    ensures held { Updates held.old held.new key (tidied (unlisted (get held.old key))) }
-    ensures is_paused_in { result ≡ is_paused_in (get held.old key) }
-{
-    let Some(kept) = held.get_mut(key) else {
-        return false;
-    };
-    let is_paused_in = kept.state.is_paused();
-    kept.is_listed = false;
-    kept.state = kept.state.woken();
-    tidy(held, key);
-    is_paused_in
-}
-
-fn clear<T: Drop>(held: &mut Slab<Tracked<T>>, key: usize) -> Option<T>
-    ensures held { Updates held.old held.new key (tidied (cleared (get held.old key))) }
-    ensures value { result ≡ option_map (λ link. link.0) (link_of (get held.old key)) }
-{
-    let kept = held.get_mut(key)?;
-    let value = kept.value.take();
-    kept.state = kept.state.left();
-    tidy(held, key);
-    value
 }
 
 #[tactic(auto, using(crate::proofs::Calls::looks, crate::proofs::Turns::laws))]
@@ -267,9 +156,9 @@ impl<T: Drop> Scheduler<T> {
     ghost use Rattle.portmap_ready.specs.Lends.{lends_link, lends_value};
     ghost use Rattle.portmap_ready.specs.Runs.{QueueIsFifo, WaitIsBounded};
     ghost use Rattle.portmap_ready.specs.Runs as line;
-    ghost use Rattle.portmap_ready.specs.Links.{IsButForRoom, IsConsistent, Pauses, inserted, link_at, moved, state_at};
+    ghost use Rattle.portmap_ready.specs.Links.{IsButForRoom, IsConsistent, inserted, link_at, moved, state_at};
     ghost use Rattle.portmap_ready.specs.Links.{removed, reported, after_resume, after_next_pending, after_next};
-    ghost use Rattle.portmap_ready.specs.Tracked.{Moves, is_free};
+    ghost use Rattle.portmap_ready.specs.Tracked.{is_free};
 
     pub fn new(alloc: Global) -> Scheduler<T>
         ensures links { result.links ≡ map.empty }
@@ -284,7 +173,6 @@ impl<T: Drop> Scheduler<T> {
             pending: VecDeque::new(alloc),
             paused: VecDeque::new(alloc),
             current: None,
-            count: 0,
         }
     }
 
@@ -306,32 +194,32 @@ impl<T: Drop> Scheduler<T> {
     pub fn len(&self) -> usize
         ensures { result ≡ map.len self.now.links }
     {
-        self.count
+        self.held.len()
     }
 
     pub fn is_empty(&self) -> bool
         ensures { result ≡ (map.len self.now.links == 0) }
     {
-        self.count == 0
+        self.held.is_empty()
     }
 
-    /// Returns an upper bound of the number of queued links. Keys of removed links may count.
+    /// Returns the number of queued links.
     pub fn backlog(&self) -> usize
-        ensures { length self.now.queue ≤ result }
+        ensures { result ≡ length self.now.queue }
     {
         self.queue.len()
     }
 
-    /// Returns an upper bound of the number of pending links. Keys of removed links may count.
+    /// Returns the number of pending links.
     pub fn pending(&self) -> usize
-        ensures { length self.now.pending ≤ result }
+        ensures { result ≡ length self.now.pending }
     {
         self.pending.len()
     }
 
-    /// Returns an upper bound of the number of paused links. Keys of removed or requeued links may count.
+    /// Returns the number of paused links.
     pub fn paused(&self) -> usize
-        ensures { length self.now.paused ≤ result }
+        ensures { result ≡ length self.now.paused }
     {
         self.paused.len()
     }
@@ -355,13 +243,13 @@ impl<T: Drop> Scheduler<T> {
     pub fn state(&self, key: usize) -> Option<LinkState>
         ensures { result ≡ state_at self.now key }
     {
-        state_in(&self.held, key)
+        Some(self.held.get(key)?.state)
     }
 
     pub fn get(&self, key: usize) -> Option<&T>
         ensures { option_copied result ≡ option_map (λ link. link.0) (link_at self.now key) }
     {
-        value_in(&self.held, key)
+        Some(&self.held.get(key)?.value)
     }
 
     /// Returns the link under `key` for writing. Its state does not change.
@@ -387,7 +275,7 @@ impl<T: Drop> Scheduler<T> {
         ensures* writes_back { sem 𝓛 (lends_value T.row self.entry key result) }
         ensures value { option_map (λ link. link.0) (link_at self.old key) ≡ Some result.now }
     {
-        self.held[key].value_mut()
+        &mut self.held[key].value
     }
 
     /// Reserves space for one link in every list, so that no other call allocates.
@@ -409,12 +297,10 @@ impl<T: Drop> Scheduler<T> {
         ensures inserted { IsButForRoom self.new (inserted result value self.old) }
     {
         let key = self.held.insert_reserved(Tracked {
-            value: Some(value),
+            value,
             state: LinkState::Queued,
-            is_listed: false,
         });
         self.queue.push_back_reserved(key);
-        self.count += 1;
         key
     }
 
@@ -436,12 +322,13 @@ impl<T: Drop> Scheduler<T> {
     fn put(&mut self, key: usize, state: LinkState)
         requires from { is_free (state_at self.old key) ≡ true }
         requires to { is_current state ≡ false }
-        ensures { Moves state key self.old self.new }
+        ensures { self.new ≡ moved state key self.old }
     {
-        let is_out = set_state(&mut self.held, key, state);
+        set_state(&mut self.held, key, state);
+        cut_if(&mut self.paused, key, true);
         push_if(&mut self.queue, key, state.is_queued());
         push_if(&mut self.pending, key, state.is_pending());
-        push_if(&mut self.paused, key, is_out);
+        push_if(&mut self.paused, key, state.is_paused());
         self.current = forget(self.current, key);
     }
 
@@ -458,15 +345,12 @@ impl<T: Drop> Scheduler<T> {
     pub fn next(&mut self) -> Option<usize>
         requires { self.old.current ≡ None }
         ensures key { result ≡ slice_get self.old.queue 0 }
-        ensures current { IsButForRoom self.new (after_next self.old) }
+        ensures current { self.new ≡ after_next self.old }
     {
-        while let Some(key) = self.queue.pop_front() {
-            if take(&mut self.held, key) {
-                self.current = Some(key);
-                return Some(key);
-            }
-        }
-        None
+        let key = self.queue.pop_front()?;
+        set_state(&mut self.held, key, LinkState::Current);
+        self.current = Some(key);
+        Some(key)
     }
 
     /// Takes the first pending link, which becomes current. The caller decides if it continues to wait. The last
@@ -474,15 +358,12 @@ impl<T: Drop> Scheduler<T> {
     pub fn next_pending(&mut self) -> Option<usize>
         requires { self.old.current ≡ None }
         ensures key { result ≡ slice_get self.old.pending 0 }
-        ensures current { IsButForRoom self.new (after_next_pending self.old) }
+        ensures current { self.new ≡ after_next_pending self.old }
     {
-        while let Some(key) = self.pending.pop_front() {
-            if take(&mut self.held, key) {
-                self.current = Some(key);
-                return Some(key);
-            }
-        }
-        None
+        let key = self.pending.pop_front()?;
+        set_state(&mut self.held, key, LinkState::Current);
+        self.current = Some(key);
+        Some(key)
     }
 
     /// Makes the current link idle until it is reported.
@@ -512,11 +393,10 @@ impl<T: Drop> Scheduler<T> {
         self.put(key, LinkState::Pending);
     }
 
-    /// Pauses the current link. It is the last of the paused links, unless its key is still listed from an earlier
-    /// pause.
+    /// Pauses the current link. It is the last of the paused links.
     pub fn rest(&mut self, key: usize)
         requires { self.old.current ≡ Some key }
-        ensures { Pauses key self.old self.new }
+        ensures { self.new ≡ moved Paused key self.old }
     {
         self.no_link_is_lost();
         self.put(key, LinkState::Paused);
@@ -525,14 +405,11 @@ impl<T: Drop> Scheduler<T> {
     /// Ends the pause of the first paused link, which becomes idle.
     pub fn resume_oldest(&mut self) -> Option<usize>
         ensures key { result ≡ slice_get self.old.paused 0 }
-        ensures ended { IsButForRoom self.new (after_resume self.old) }
+        ensures ended { self.new ≡ after_resume self.old }
     {
-        while let Some(key) = self.paused.pop_front() {
-            if unlist(&mut self.held, key) {
-                return Some(key);
-            }
-        }
-        None
+        let key = self.paused.pop_front()?;
+        set_state(&mut self.held, key, LinkState::Idle);
+        Some(key)
     }
 
     /// Removes the link under `key`, whatever its state, and returns it.
@@ -540,10 +417,12 @@ impl<T: Drop> Scheduler<T> {
         ensures value { result ≡ option_map (λ link. link.0) (link_at self.old key) }
         ensures removed { IsButForRoom self.new (removed key self.old) }
     {
+        let link = self.held.try_remove(key)?;
+        cut_if(&mut self.queue, key, link.state.is_queued());
+        cut_if(&mut self.pending, key, link.state.is_pending());
+        cut_if(&mut self.paused, key, link.state.is_paused());
         self.current = forget(self.current, key);
-        let value = clear(&mut self.held, key);
-        self.count = self.count.saturating_sub(usize::from(value.is_some()));
-        value
+        Some(link.value)
     }
 
     /// Law: `next` serves a link with `n` other links queued ahead within `n + 1` calls. Other calls may come in

@@ -14,13 +14,13 @@ use std::alloc::Global;
 use std::marker::Model;
 
 /// The row of an active name, or what is remembered of a retired name.
-#[derive(Debug, Drop)]
+#[derive(Drop)]
 pub(crate) enum NameEntry {
     Active(Row),
     Retired { port: u16, creation: u32 },
 }
 
-#[derive(Debug, Drop)]
+#[derive(Drop)]
 pub(crate) struct Entries {
     kept: IndexMap<Name, NameEntry>,
 }

@@ -1,5 +1,5 @@
 /// The status of a name: whether it may be registered, and which creation is remembered for it.
-#[derive(Clone, Copy, Debug, PartialEq, Eq)]
+#[derive(Clone, Copy, PartialEq, Eq)]
 pub enum NameStatus {
     Active,
     /// The name is not known, and as many names are active as may be known.

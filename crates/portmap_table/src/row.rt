@@ -5,7 +5,7 @@ use portmap_wire::{Name, NoMemory, Reg};
 use std::alloc::Global;
 
 /// An active name.
-#[derive(Debug, Drop, PartialEq, Eq)]
+#[derive(Drop, PartialEq, Eq)]
 pub struct Row {
     pub reg: Reg,
     pub creation: u32,
@@ -26,7 +26,7 @@ impl Row {
 }
 
 /// A retired name.
-#[derive(Debug, Drop, PartialEq, Eq)]
+#[derive(Drop, PartialEq, Eq)]
 pub struct Old {
     pub name: Name,
     /// The port that its node listened on.
@@ -36,7 +36,7 @@ pub struct Old {
 }
 
 /// A retired name, borrowed from a table.
-#[derive(Clone, Copy, Debug)]
+#[derive(Clone, Copy)]
 pub struct Retired<'a> {
     pub name: &'a Name,
     pub port: u16,

@@ -37,7 +37,6 @@ impl From<NoMemory> for RegFault {
 
 /// The names that a port mapper knows, and the counter for creations. Each name has an index of its own, and two lists
 /// of indices hold the orders.
-#[derive(Debug, Drop)]
 pub struct Table {
     entries: Entries,
     // Indices of the active names, in order of registration.
@@ -50,6 +49,19 @@ pub struct Table {
     known_max: u32,
     // The source of the next wide creation.
     counter: u32,
+}
+
+impl Drop for Table {
+    fn drop(self) {
+        let Table {
+            entries: _,
+            active: _,
+            retired: _,
+            owners: _,
+            known_max: _,
+            counter: _,
+        } = self;
+    }
 }
 
 impl Model for Table {

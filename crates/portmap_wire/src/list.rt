@@ -1,14 +1,14 @@
 use crate::name::Name;
 
 /// A line of the reply to NAMES_REQ.
-#[derive(Debug, Drop)]
+#[derive(Drop)]
 pub struct Line {
     pub name: Name,
     pub port: u16,
 }
 
 /// A line of the reply to DUMP_REQ.
-#[derive(Debug, Drop)]
+#[derive(Drop)]
 pub struct DumpLine {
     pub name: Name,
     pub port: u16,

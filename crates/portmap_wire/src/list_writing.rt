@@ -16,7 +16,7 @@ pub const NAMES_LINE_REST: usize = 20;
 pub const DUMP_LINE_REST: usize = 58;
 
 /// A list's reply under construction, in one buffer. If memory runs out, the whole reply is dropped.
-#[derive(Debug, Drop)]
+#[derive(Drop)]
 pub struct ListReply {
     bytes: Vec<u8>,
 }

@@ -20,7 +20,7 @@ pub const KILL_REQ: u8 = 107;
 
 pub const STOP_REQ: u8 = 115;
 
-#[derive(Debug, Drop)]
+#[derive(Drop)]
 pub enum Request {
     /// ALIVE2_REQ: registers a node.
     Alive(Reg),

@@ -1,5 +1,5 @@
 ghost use Rattle.std.specs.Prelude.{◌≡◌, ◌≢◌, IfOk, IfErr, Err, IsOk};
-ghost use Rattle.portmap_wire.specs.RequestReading.{Gives, request_in, alive_in};
+ghost use Rattle.portmap_wire.specs.RequestReading.{Gives, request_in, alive_in, alone, by_tag};
 ghost use Rattle.portmap_wire.specs.Request.{Spells, IsMalformed};
 
 use crate::fields_reading::{fields_at, registration_of};
@@ -31,21 +31,41 @@ fn read_alive_request(alloc: Global, rest: &[u8]) -> Result<Request, Malformed>
     Ok(Request::Alive(registration_of(alloc, &fields, name)?))
 }
 
+/// Returns a request whose body is its tag.
+fn read_alone(request: Request, rest: &[u8]) -> Result<Request, Malformed>
+    ensures exact { Gives result (alone request rest.now) }
+    ensures memory { result ≢ Err Malformed.NoMemory }
+{
+    if rest.is_empty() {
+        Ok(request)
+    } else {
+        Err(Malformed::LengthsDisagree)
+    }
+}
+
 #[tactic(auto, unfolding(crate::specs::RequestReading::by_tag))]
+fn read_tagged(alloc: Global, tag: u8, rest: &[u8]) -> Result<Request, Malformed>
+    ensures exact { Gives result (by_tag tag rest.now) }
+    ensures memory { result ≡ Err Malformed.NoMemory → IsOk (by_tag tag rest.now) }
+{
+    match tag {
+        ALIVE2_REQ => read_alive_request(alloc, rest),
+        PORT_PLEASE2_REQ => Ok(Request::Port(Name::read(alloc, rest)?)),
+        NAMES_REQ => read_alone(Request::Names, rest),
+        DUMP_REQ => read_alone(Request::Dump, rest),
+        KILL_REQ => read_alone(Request::Kill, rest),
+        STOP_REQ => Ok(Request::Stop(Name::read(alloc, rest)?)),
+        _ => Err(Malformed::UnknownTag),
+    }
+}
+
 fn read_by_tag(alloc: Global, body: &[u8]) -> Result<Request, Malformed>
     ensures exact { Gives result (request_in body.now) }
     ensures memory { result ≡ Err Malformed.NoMemory → IsOk (request_in body.now) }
 {
     match body {
         [] => Err(Malformed::Short),
-        [ALIVE2_REQ, rest @ ..] => read_alive_request(alloc, rest),
-        [PORT_PLEASE2_REQ, name @ ..] => Ok(Request::Port(Name::read(alloc, name)?)),
-        [NAMES_REQ] => Ok(Request::Names),
-        [DUMP_REQ] => Ok(Request::Dump),
-        [KILL_REQ] => Ok(Request::Kill),
-        [STOP_REQ, name @ ..] => Ok(Request::Stop(Name::read(alloc, name)?)),
-        [NAMES_REQ | DUMP_REQ | KILL_REQ, ..] => Err(Malformed::LengthsDisagree),
-        [_, ..] => Err(Malformed::UnknownTag),
+        [tag, rest @ ..] => read_tagged(alloc, *tag, rest),
     }
 }
 

@@ -9,7 +9,7 @@ use Rattle.portmap_ready.specs.Links.{state_at, put_at, removed, reported, after
 use Rattle.std.proofs.{Math.Seq.{drop-nil, take_all}, lemmas.List.{drop-drop, Sums.fold_more}}
 use Rattle.std.proofs.lemmas.{Option.{get_or_from_slice_get, slice_get_cases, slice_get_within}}
 use Rattle.portmap_ready.{specs.Links.{is_queued, is_quiet as is_quiet_place, pushed}}
-use Rattle.portmap_ready.{specs.Runs.{Queue, PutBack, Remove}, proofs.{Tables.some_map, Turns.wait_is_bounded}}
+use Rattle.portmap_ready.{specs.Runs.{Queue, PutBack, Remove}, proofs.Turns.wait_is_bounded}
 use Rattle.portmap_ready.specs.declared.LinkState.{LinkState, TheVariants.{Idle, Queued, Paused, Current}}
 use Rattle.portmap_worker.specs.IdleLinks.{Ahead, AllQuiet, AreNoted, Changes, Fact, Has, Holds, IsReported, Keeps, KeepsLinks}
 use Rattle.portmap_worker.specs.IdleLinks.{Safe, Spares, Returned, Returns, ReturnsLinks, There}
@@ -32,6 +32,9 @@ pub all_dropped : (n most : ℕ) (xs : List ℕ) → drop n xs ≡ [] → n ≤ 
 all_dropped n most xs e b =
     let sum : most ≡ n + (most - n) = omega arith in
     ap (λ k. drop k xs) sum ∙ sym (drop-drop (most - n) n xs) ∙ ap (drop (most - n)) e ∙ drop-nil (most - n)
+
+some_map : {A B : Type 0} (f : A → B) (o : Option A) → is_some (option_map f o) ≡ is_some o
+some_map f o = search rules
 
 awake : (a b : Bool) → not a && b ≡ true → a ≡ false
 awake true b e = absurd (cc)
@@ -351,7 +354,7 @@ module _ {S : Type 0} where
 
   -- The first queued link becomes the current link, and gets another value.
   pub current_written : (k : ℕ) (old r : Links (OpenLink S)) (v : OpenLink S) → slice_get old.queue 0 ≡ Some k
-      → IsButForRoom r (after_next old)
+      → r ≡ after_next old
       → KeepsLinks old (written k r v)
   current_written k old r v s h =
       let links = ap (λ (r : Links (OpenLink S)). r.links) h in
@@ -365,7 +368,7 @@ module _ {S : Type 0} where
       at (Some l) = refl
 
   -- No link is queued.
-  pub none_current : (old new : Links (OpenLink S)) → slice_get old.queue 0 ≡ None → IsButForRoom new (after_next old) → Keeps old new
+  pub none_current : (old new : Links (OpenLink S)) → slice_get old.queue 0 ≡ None → new ≡ after_next old → Keeps old new
   none_current old new s e =
       keeps_both old new (first_goes Current (slice_get old.queue 0) old new (ap (λ (r : Links (OpenLink S)). r.links) e) (λ v. refl))
       (stays old new (ap (λ (r : Links (OpenLink S)). r.queue) e ∙ at old.queue s))
@@ -578,7 +581,7 @@ module _ {S : Type 0} where
 
   module _ (k : ℕ) (v : OpenLink S) (old r new : Links (OpenLink S)) where
     -- The key of a link that resumes is not in the rest of the paused list.
-    pub rest_over : IsConsistent old → slice_get old.paused 0 ≡ Some k → IsButForRoom r (after_resume old) → new
+    pub rest_over : IsConsistent old → slice_get old.paused 0 ≡ Some k → r ≡ after_resume old → new
         ≡ reported k (written k r v)
         → new.paused ≡ drop 1 old.paused
     rest_over ready s ended e =

@@ -8,52 +8,36 @@ use Rattle.portmap_ready.{specs.Runs.{before, Next, Queue}, proofs.Turns.wait_is
 use Rattle.portmap_worker.specs.declared.limits.TheConstants.{TURNS_MOST}
 use Rattle.portmap_worker.specs.declared.schedule.Schedule.{Schedule}
 use Rattle.portmap_worker.specs.declared.{open_link.OpenLink.OpenLink, source.Turn.Turn}
-use Rattle.portmap_worker.specs.Schedule.{Act, Acts, AllSpare, Does, IsPolled, HasAccepted, IsFree, IsPast, IsSpent, IsStep, IsTurn, Nears}
+use Rattle.portmap_worker.specs.Schedule.{Act, Acts, AllSpare, Does, HasAccepted, IsFree, IsPast, IsSpent, IsStep, IsTurn, Nears}
 use Rattle.portmap_worker.specs.Schedule.{Passes, QueuedAreServed, Scene, Within, scene}
-use Rattle.portmap_worker.specs.Schedule.{burst, patience, share, turns, Counts, Free, Lends, Leaves}
+use Rattle.portmap_worker.specs.Schedule.{patience, share, turns, Counts, Free, Lends, Leaves}
 use Rattle.portmap_worker.specs.{IdleLinks.{Ahead, Changes, Returns}, Link.IsOf}
 use Rattle.portmap_worker.proofs.Idle.{Stays, lent, stays_of, returned_stays}
 
 pub patience_most : (s : Schedule) → patience s < share
-patience_most s = elim (cases_Bool s.is_burst) [
-  | inl many ↦ grind (arith, nat_tests, many)
-  | inr one ↦ grind (arith, nat_tests, one)
+patience_most s = elim (cases_Bool s.has_accepted) [
+  | inl served ↦ grind (arith, nat_tests, served)
+  | inr accepts ↦ grind (arith, nat_tests, accepts)
 ]
 
 -- After all turns, a poll lowers the patience by at least 1.
-pub polled : (old new : Schedule) → IsPolled old new → TURNS_MOST ≤ old.turns → 1 + patience new ≤ patience old
-polled old new (inl e) most = elim (cases_Bool old.is_burst) [
-  | inl many ↦ rw e (grind (arith, nat_tests, many, most))
-  | inr one ↦ rw e (grind (arith, nat_tests, one, most))
+pub polled : (old new : Schedule) → new ≡ record old { turns = 0 } → TURNS_MOST ≤ old.turns → 1 + patience new ≤ patience old
+polled old new e most = elim (cases_Bool old.has_accepted) [
+  | inl served ↦ rw e (grind (arith, nat_tests, served, most))
+  | inr accepts ↦ rw e (grind (arith, nat_tests, accepts, most))
 ]
-polled old new (inr e) most = elim (cases_Bool old.is_burst) [
-  | inl many ↦ rw e (grind (arith, nat_tests, many, most))
-  | inr one ↦ rw e (grind (arith, nat_tests, one, most))
-]
-
-abbrev pub burst_again : Schedule → Schedule
-burst_again s = record s { accepted = 0; is_burst = true }
 
 -- The poll sets the count of turns to 0.
 pub asked : (old first waited new : Schedule) → first ≡ old → waited ≡ record first { turns = 0 } → new ≡ waited
     → new ≡ record old { turns = 0 }
 asked old first waited new f w n = rw f at (n ∙ w)
 
--- A poll has this effect, whether a burst follows or not.
-pub loaded : (old asked load new : Schedule) → asked ≡ record old { turns = 0 }
-    → (load ≡ asked) ⊎ (load ≡ record asked { accepted = 0; is_burst = true }) → new ≡ load → IsPolled old new
-loaded old asked load new a (inl e) n = inl (n ∙ e ∙ a)
-loaded old asked load new a (inr e) n = inr (n ∙ e ∙ ap burst_again a)
-
 -- A counted turn that accepts a connection lowers the patience by at least 1.
 accepted : (old taken new : Schedule) → old.turns < TURNS_MOST → taken ≡ record old { turns = old.turns + 1 } → HasAccepted taken new
     → 1 + patience new ≤ patience old
 accepted old taken new turns t h =
-    let fewer : old.accepted < burst old = rw t at h.0 in
-    elim (cases_Bool old.is_burst) [
-      | inl many ↦ rw (h.1, t) (grind (arith, nat_tests, many, turns, fewer))
-      | inr one ↦ rw (h.1, t) (grind (arith, nat_tests, one, turns, fewer))
-    ]
+    let none : old.has_accepted ≡ false = rw t at h.0 in
+    rw (h.1, t) (grind (arith, nat_tests, none, turns))
 
 module _ {S : Type 0} where
   pub longer : (k : ℕ) (scene : Scene S) {least most : ℕ} → least ≤ most → Within k least scene → Within k most scene
@@ -165,7 +149,8 @@ module _ {S : Type 0} where
   past_step old new (Some turn) past = inl (λ k most h. inr (past k most h))
 
   -- A poll followed after all turns were taken.
-  pub polls_so : (old mid new : Scene S) → IsSpent old mid → Stays mid.links new.links → IsPolled mid.schedule new.schedule → IsPast old new
+  pub polls_so : (old mid new : Scene S) → IsSpent old mid → Stays mid.links new.links → new.schedule ≡ record mid.schedule { turns = 0 }
+      → IsPast old new
   polls_so old mid new spent stay poll k most h =
       let there = spent k (1 + most) h in
       moves 1 mid new stay (polled mid.schedule new.schedule poll there.1) k most there.0

@@ -1,26 +1,23 @@
 -- The wait of a queued link until it is served: profile.
-use Rattle.std.specs.Prelude.{◌≡◌, ◌≢◌, ◌⊎◌, ℕ, ◌+◌, ◌*◌, ◌-◌, ◌<◌, ◌≤◌, true, cond, nat_lt, List, [], ◌∷◌, length, Option, Some, None}
+use Rattle.std.specs.Prelude.{◌≡◌, ◌≢◌, ◌⊎◌, ℕ, ◌+◌, ◌*◌, ◌-◌, ◌<◌, ◌≤◌, true, false, cond, nat_lt, List, [], ◌∷◌, length, Option, Some}
+use Rattle.std.specs.Prelude.{None}
 use Rattle.portmap_ready.specs.{Links.{Links, times}, Runs.before}
 use Rattle.portmap_worker.specs.{IdleLinks.{Ahead, Holds}, Link.IsOf}
 use Rattle.portmap_worker.specs.{declared.open_link.OpenLink.OpenLink, declared.schedule.Schedule.Schedule}
-use Rattle.portmap_worker.specs.declared.limits.TheConstants.{BACKLOG_MOST, TURNS_MOST}
+use Rattle.portmap_worker.specs.declared.limits.TheConstants.{TURNS_MOST}
 use Rattle.portmap_worker.specs.declared.source.Turn.{Turn, TheVariants.{Late}}
 
--- The number of connections that are accepted in a row.
-abbrev pub burst : Schedule → ℕ
-burst s = cond s.is_burst BACKLOG_MOST 1
-
--- The number of connections that are still accepted before the queue is served, unless a poll comes first.
+-- The number of connections that may be accepted before the queue is served, unless a poll comes first.
 abbrev pub accepts : Schedule → ℕ
-accepts s = burst s - s.accepted
+accepts s = cond s.has_accepted 0 1
 
--- The number of turns that may pass before the queue is served. If a poll comes first, a whole burst may be accepted after it.
+-- The number of turns that may pass before the queue is served. If a poll comes first, a connection may be accepted after it.
 abbrev pub patience : Schedule → ℕ
-patience s = cond (nat_lt (accepts s) (TURNS_MOST - s.turns)) (accepts s) (TURNS_MOST - s.turns + 1 + BACKLOG_MOST)
+patience s = cond (nat_lt (accepts s) (TURNS_MOST - s.turns)) (accepts s) (TURNS_MOST - s.turns + 2)
 
 -- A queued link waits for at most this many turns, and for as many more for each link before it.
 abbrev pub share : ℕ
-share = 2 * BACKLOG_MOST + 2
+share = 4
 
 -- The turn serves the link with this key: it is ready, or late.
 abbrev pub Serves : ℕ → Turn → Type 0
@@ -53,13 +50,9 @@ abbrev pub AllSpare : ℕ → List Act → Type 0
 AllSpare k [] = Unit {0}
 AllSpare k (act ∷ acts) = Spares k act × AllSpare k acts
 
--- A poll was made. A burst of connections may follow.
-abbrev pub IsPolled : Schedule → Schedule → Type 0
-IsPolled old new = (new ≡ record old { turns = 0 }) ⊎ (new ≡ record { turns = 0; accepted = 0; is_burst = true })
-
--- One more connection was accepted in a row.
+-- A connection was accepted, after a turn in which none was.
 abbrev pub HasAccepted : Schedule → Schedule → Type 0
-HasAccepted old new = (old.accepted < burst old) × (new ≡ record old { accepted = old.accepted + 1 })
+HasAccepted old new = (old.has_accepted ≡ false) × (new ≡ record old { has_accepted = true })
 
 -- The links of a worker, and its schedule.
 pub record Scene (S : Type 0) : Type 0 where

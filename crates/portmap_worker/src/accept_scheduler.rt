@@ -1,10 +1,10 @@
 //! The workers that accept connections: those with the lowest indices, as many as there is work for. Each new
 //! connection wakes all of them.
-ghost use Rattle.std.specs.Prelude.{◌≡◌, ◌↔◌, ◌≢◌, ◌+◌, ◌-◌, ◌<◌, ◌≤◌, ◌⊎◌, min, true, false};
-ghost use Rattle.portmap_worker.specs.declared.limits.TheConstants.{HELD_MS, LOAD_POLLS, LOAD_US, REST_US};
+ghost use Rattle.std.specs.Prelude.{◌≡◌, ◌↔◌, ◌≢◌, ◌-◌, ◌<◌, ◌≤◌, true};
+ghost use Rattle.portmap_worker.specs.declared.limits.TheConstants.{HELD_MS};
 ghost use Rattle.portmap_worker.specs.declared.shared.TheConstants.{IDLE};
 
-use crate::limits::{HELD_MS, LOAD_POLLS, LOAD_US, REST_US};
+use crate::limits::HELD_MS;
 use crate::shared::{IDLE, Shared};
 use crate::system::Wake;
 use std::rt::Clock;
@@ -13,11 +13,6 @@ use std::sync::atomic::Ordering;
 impl<W: Wake> Shared<W> {
     pub(crate) fn accepts(&self, worker: usize) -> bool {
         (worker as u64) < self.acceptors.load(Ordering::SeqCst)
-    }
-
-    pub(crate) fn may_add_acceptor(&self, worker: usize) -> bool {
-        let next = worker.saturating_add(1);
-        next < self.workers.len() && self.acceptors.load(Ordering::SeqCst) == next as u64
     }
 
     pub(crate) fn add_acceptor(&self, worker: usize) {
@@ -65,34 +60,4 @@ fn is_held(since: u64, now: u64) -> bool
     ensures { (result ≡ true) ↔ ((since ≢ IDLE) × (HELD_MS ≤ now - since)) }
 {
     since != IDLE && now.saturating_sub(since) >= HELD_MS
-}
-
-#[derive(Clone, Copy, Debug, Default, PartialEq, Eq)]
-pub(crate) struct LoadMeter {
-    since: u64,
-    polls: u32,
-}
-
-impl LoadMeter {
-    /// Records a poll between two times. Returns whether the worker has had no rest for so long that it may need help.
-    pub(crate) fn on_poll(&mut self, before: u64, after: u64) -> bool
-        ensures rest { REST_US ≤ after - before → (result ≡ false) × (self.new.since ≡ after) × (self.new.polls ≡ 0) }
-        ensures loaded { result ≡ true → (LOAD_US ≤ after - self.old.since) × (LOAD_POLLS ≤ self.old.polls + 1)
-            × (self.new.since ≡ after)
-            × (self.new.polls ≡ 0) }
-        ensures goes_on { result ≡ false → after - before < REST_US
-            → (self.new.since ≡ self.old.since) × (self.new.polls ≡ min (self.old.polls + 1) 4294967295)
-            × ((after - self.old.since < LOAD_US) ⊎ (self.old.polls + 1 < LOAD_POLLS)) }
-    {
-        let is_rest = after.saturating_sub(before) >= REST_US;
-        self.polls = self.polls.saturating_add(1);
-        let is_load = self.polls >= LOAD_POLLS && after.saturating_sub(self.since) >= LOAD_US;
-        if is_rest || is_load {
-            *self = LoadMeter {
-                since: after,
-                polls: 0,
-            };
-        }
-        is_load && !is_rest
-    }
 }

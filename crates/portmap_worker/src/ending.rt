@@ -4,7 +4,7 @@ ghost use Rattle.std.specs.Prelude.{◌≡◌, true, false, Some, None};
 use std::sync::atomic::{AtomicBool, AtomicU64, Ordering};
 
 /// The failure for which all workers end.
-#[derive(Clone, Copy, Debug, PartialEq, Eq)]
+#[derive(Clone, Copy, PartialEq, Eq)]
 pub enum ShutdownCause {
     /// The poll has failed.
     Poll,

@@ -9,7 +9,7 @@ use portmap_core::{Entry, Fate, NoMemory};
 use std::alloc::Global;
 
 /// What is counted. `SAMPLES` has the names in this order.
-#[derive(Clone, Copy, Debug, PartialEq, Eq)]
+#[derive(Clone, Copy, PartialEq, Eq)]
 pub(crate) enum Counter {
     Accepted,
     Found,

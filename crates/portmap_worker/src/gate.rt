@@ -1,7 +1,7 @@
 //! Points that a worker passes with no lock held.
 
 /// A point that a worker passes with a chunk that was answered.
-#[derive(Clone, Copy, Debug, PartialEq, Eq)]
+#[derive(Clone, Copy, PartialEq, Eq)]
 pub enum Point {
     /// The desk has answered, and no byte of the reply is written yet.
     Answered,
@@ -17,7 +17,7 @@ pub trait Gate {
 }
 
 /// A gate that never waits.
-#[derive(Clone, Copy, Debug, Drop)]
+#[derive(Clone, Copy, Drop)]
 pub struct Open;
 
 impl Gate for Open {

@@ -90,16 +90,6 @@ pub(crate) const IDLE_REPORTS_MOST: u32 = 2;
 /// A worker that accepts and has not polled for this long counts as held.
 pub(crate) const HELD_MS: u64 = 20;
 
-/// A poll of `REST_US` is a rest. A worker without a rest for `LOAD_US` and `LOAD_POLLS` polls may need help.
-pub(crate) const REST_US: u64 = 10;
-
-pub(crate) const LOAD_US: u64 = 4000;
-
-pub(crate) const LOAD_POLLS: u32 = 4;
-
-/// The number of connections that a loaded worker accepts in a row before it gets help, below `TURNS_MOST`.
-pub(crate) const BACKLOG_MOST: u32 = 32;
-
 // ---- the log and its recording
 
 /// The log is drained each second, each 50 milliseconds while memory is short, and at once if it is heavy. A heavy log

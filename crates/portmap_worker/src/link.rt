@@ -22,7 +22,7 @@ use std::io::{ErrorKind, Read, Write};
 use std::{io, mem};
 
 /// The progress of the reply to a connection.
-#[derive(Clone, Copy, Debug, PartialEq, Eq)]
+#[derive(Clone, Copy, PartialEq, Eq)]
 enum ReplyProgress {
     Asked,
     Answered,
@@ -31,11 +31,20 @@ enum ReplyProgress {
 }
 
 /// The answers of a device's calls. Only proofs read the lists.
-#[derive(Drop)]
 struct History {
     failed: bool,
     pulls: GhostList<Pull>,
     puts: GhostList<Put>,
+}
+
+impl Drop for History {
+    fn drop(self) {
+        let History {
+            failed: _,
+            pulls: _,
+            puts: _,
+        } = self;
+    }
 }
 
 /// A connection that a worker holds. Times are in milliseconds since the daemon began.

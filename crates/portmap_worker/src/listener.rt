@@ -11,7 +11,7 @@ use std::io::ErrorKind;
 use std::mem;
 use std::net::IpAddr;
 
-#[derive(Clone, Copy, Debug, PartialEq, Eq)]
+#[derive(Clone, Copy, PartialEq, Eq)]
 enum ListenerState {
     Off,
     On,
@@ -19,7 +19,7 @@ enum ListenerState {
     From(u64),
 }
 
-#[derive(Clone, Copy, Debug, PartialEq, Eq)]
+#[derive(Clone, Copy, PartialEq, Eq)]
 enum AcceptError {
     Aborted,
     WouldBlock,
@@ -37,7 +37,7 @@ fn accept_error(kind: ErrorKind) -> AcceptError
 }
 
 /// One worker's share of a socket. Each worker that watches the socket gets its reports, and one gets the connection.
-#[derive(Clone, Copy, Debug, PartialEq, Eq)]
+#[derive(Clone, Copy, PartialEq, Eq)]
 struct Listener {
     place: usize,
     watch: ListenerState,

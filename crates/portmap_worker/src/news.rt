@@ -5,7 +5,7 @@ use crate::system::Wake;
 use std::mem;
 use std::sync::atomic::{AtomicBool, AtomicU64, Ordering};
 
-#[derive(Clone, Copy, Debug, Default, PartialEq, Eq)]
+#[derive(Clone, Copy, Default, PartialEq, Eq)]
 pub(crate) struct Activity {
     pub(crate) answered: bool,
     /// A connection ended to which no byte was ever written.

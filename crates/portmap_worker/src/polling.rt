@@ -1,7 +1,6 @@
 //! The polls of a worker, and the handling of their reports.
-ghost use Rattle.std.specs.Prelude.{◌≡◌, ◌⊎◌, ◌<◌, ◌≤◌, ◌/◌, ℕ, [], None, true, drop, length};
+ghost use Rattle.std.specs.Prelude.{◌≡◌, ◌<◌, ◌≤◌, ◌/◌, ℕ, [], None, true, drop, length};
 ghost use Rattle.portmap_worker.specs.IdleLinks.{Keeps, Returns};
-ghost use Rattle.portmap_worker.specs.Schedule.{IsPolled};
 
 use crate::Turn;
 use crate::ending::ShutdownCause;
@@ -24,14 +23,12 @@ impl<L: Ledger, S: System, R: Host + Wait + Clock> SocketSource<'_, L, S, R> {
     pub(crate) fn poll(&mut self) -> Option<Turn>
         requires { self.old.ready.current ≡ None }
         ensures links { Returns self.old.ready self.new.ready result }
-        ensures schedule { IsPolled self.old.schedule self.new.schedule }
+        ensures schedule { self.new.schedule ≡ record self.old.schedule { turns = 0 } }
     {
         self.retry_pending();
-        let before = self.time_us();
         self.state.busy_since.store(IDLE, Ordering::SeqCst);
         let is_well = self.wait();
-        let after = self.time_us();
-        self.on_polled(after);
+        self.on_polled(self.time_us());
         self.state
             .busy_since
             .store(self.rounds.time, Ordering::SeqCst);
@@ -42,7 +39,6 @@ impl<L: Ledger, S: System, R: Host + Wait + Clock> SocketSource<'_, L, S, R> {
         if self.shared.ending.is_stopping() {
             return Some(Turn::Stop);
         }
-        self.on_load(before, after);
         self.pass_listeners();
         let is_due = self.rounds.is_scan_due();
         if !self.scan_links(is_due) {
@@ -64,17 +60,6 @@ impl<L: Ledger, S: System, R: Host + Wait + Clock> SocketSource<'_, L, S, R> {
         if self.rounds.on_polled(after) {
             let most = resumes_most(self.shared.unsent.is_crowded());
             resume_paused(&mut self.ready, most);
-        }
-    }
-
-    fn on_load(&mut self, before: u64, after: u64)
-        ensures ready { self.new.ready ≡ self.old.ready }
-        ensures schedule { (self.new.schedule ≡ self.old.schedule)
-            ⊎ (self.new.schedule ≡ record self.old.schedule { accepted = 0; is_burst = true }) }
-    {
-        let worker = self.sockets.worker;
-        if self.rounds.load.on_poll(before, after) && self.shared.may_add_acceptor(worker) {
-            self.schedule.expect_burst();
         }
     }
 

@@ -7,7 +7,7 @@ ghost use Rattle.portmap_worker.specs.declared.quota.EvictionCandidate.{Eviction
 use crate::limits::{REMOTE_FIRST_MS, RESERVED_SHARE};
 use std::sync::atomic::{AtomicBool, AtomicU64, Ordering};
 
-#[derive(Clone, Copy, Debug, PartialEq, Eq)]
+#[derive(Clone, Copy, PartialEq, Eq)]
 pub(crate) struct EvictionCandidate {
     pub(crate) is_local: bool,
     /// It is queued, and not because of a timeout.

@@ -11,7 +11,7 @@ use portmap_link::{GhostList, Pull, Put};
 use std::io;
 
 /// The read state of a stream. The poll is edge-triggered.
-#[derive(Clone, Copy, Debug, PartialEq, Eq)]
+#[derive(Clone, Copy, PartialEq, Eq)]
 pub(crate) enum Reading {
     Open,
     /// No byte was left, and nothing was reported since.
@@ -19,7 +19,7 @@ pub(crate) enum Reading {
 }
 
 /// The write state of a stream, by its last write.
-#[derive(Clone, Copy, Debug, PartialEq, Eq)]
+#[derive(Clone, Copy, PartialEq, Eq)]
 pub(crate) enum Writing {
     Free,
     /// Bytes wait and may be written: a signal cut the write short, or the stream was reported since.

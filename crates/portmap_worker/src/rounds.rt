@@ -4,7 +4,6 @@ ghost use Rattle.portmap_worker.specs.Pending.{earliest};
 ghost use Rattle.portmap_worker.specs.declared.limits.TheConstants.{IDLE_TIMEOUT_MS, SCAN_INTERVAL_MS};
 ghost use Rattle.portmap_worker.specs.declared.limits.TheConstants.{SHORT_TIMEOUT_MS};
 
-use crate::accept_scheduler::LoadMeter;
 use crate::epochs::Pass;
 use crate::limits::{IDLE_TIMEOUT_MS, SCAN_INTERVAL_MS, SHORT_TIMEOUT_MS};
 
@@ -35,7 +34,6 @@ pub(crate) struct LoopState {
     pub(crate) pending_until: Option<u64>,
     look_due: u64,
     pub(crate) looked: u64,
-    pub(crate) load: LoadMeter,
 }
 
 impl LoopState {
@@ -46,7 +44,6 @@ impl LoopState {
             pending_until: None,
             look_due: SCAN_INTERVAL_MS,
             looked: 0,
-            load: LoadMeter::default(),
         }
     }
 

@@ -45,7 +45,6 @@ impl<W: Wake> WorkerState<W> {
 }
 
 /// The values that the threads of a daemon share. Workers have indices from 0.
-#[derive(Drop)]
 pub struct Shared<W: Wake> {
     pub workers: Vec<WorkerState<W>>,
     /// The waker of the main thread, which drains the log.
@@ -61,6 +60,23 @@ pub struct Shared<W: Wake> {
     pub(crate) short: AtomicBool,
     pub ending: Shutdown,
     pub noted: SharedActivity,
+}
+
+impl<W: Wake> Drop for Shared<W> {
+    fn drop(self) {
+        let Shared {
+            workers: _,
+            drain: _,
+            begun: _,
+            quota: _,
+            unsent: _,
+            acceptors: _,
+            epoch: _,
+            short: _,
+            ending: _,
+            noted: _,
+        } = self;
+    }
 }
 
 impl<W: Wake> Shared<W> {

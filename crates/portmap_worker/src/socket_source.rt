@@ -122,7 +122,8 @@ impl<'a, L: Ledger, S: System, R: Host + Wait + Clock> SocketSource<'a, L, S, R>
         self.tally.on_written(moved.has_written);
     }
 
-    /// Returns a turn without a poll. New connections and queued links alternate, except in a burst.
+    /// Returns a turn without a poll. New connections and queued links alternate. If a connection still waits after
+    /// all turns, a further worker is to accept.
     fn next(&mut self) -> Option<Turn>
         requires { self.old.ready.current ≡ None }
         ensures none { IfNone result (self.new.ready.current ≡ None) }
@@ -134,13 +135,16 @@ impl<'a, L: Ledger, S: System, R: Host + Wait + Clock> SocketSource<'a, L, S, R>
             (IsSpent (scene self.old.ready self.old.schedule) (scene self.new.ready self.new.schedule)) }
     {
         if !self.schedule.take_turn() {
+            if self.sockets.listeners.is_waiting() {
+                self.shared.add_acceptor(self.sockets.worker);
+            }
             return None;
         }
         let accepted = self.accept();
         if accepted.is_some() {
             return accepted;
         }
-        self.schedule.end_burst();
+        self.schedule.set_accepted(false);
         self.pop()
     }
 
@@ -155,9 +159,7 @@ impl<'a, L: Ledger, S: System, R: Host + Wait + Clock> SocketSource<'a, L, S, R>
             return None;
         }
         let turn = self.admit()?;
-        if self.schedule.on_accepted() {
-            self.shared.add_acceptor(self.sockets.worker);
-        }
+        self.schedule.set_accepted(true);
         Some(turn)
     }
 

@@ -11,7 +11,6 @@ use portmap_link::NoMemory;
 use std::alloc::Global;
 
 /// The sockets of one worker.
-#[derive(Drop)]
 pub struct Sockets<S: System> {
     /// The index of the worker, from 0.
     pub worker: usize,
@@ -19,6 +18,17 @@ pub struct Sockets<S: System> {
     pub timeout: u64,
     pub(crate) system: S,
     pub(crate) listeners: Listeners,
+}
+
+impl<S: System> Drop for Sockets<S> {
+    fn drop(self) {
+        let Sockets {
+            worker: _,
+            timeout: _,
+            system: _,
+            listeners: _,
+        } = self;
+    }
 }
 
 impl<S: System> Sockets<S> {

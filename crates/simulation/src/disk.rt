@@ -11,7 +11,6 @@ use std::io::ErrorKind;
 pub const PATH: &str = "recording";
 
 /// A disk. Times are in microseconds.
-#[derive(Drop)]
 pub struct Disk {
     alloc: Global,
     pub files: Vec<Vec<u8>>,
@@ -25,6 +24,21 @@ pub struct Disk {
     /// The disk is full before this time. The recording thread stalls before `stalled_until`.
     pub full_until: u64,
     pub stalled_until: u64,
+}
+
+impl Drop for Disk {
+    fn drop(self) {
+        let Disk {
+            alloc: _,
+            files: _,
+            times: _,
+            killed: _,
+            uncut: _,
+            is_misnumbered: _,
+            full_until: _,
+            stalled_until: _,
+        } = self;
+    }
 }
 
 /// Returns the number of a recording file from its path.

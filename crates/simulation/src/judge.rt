@@ -14,7 +14,6 @@ const BEHIND_BYTES: u64 = 36_000;
 const IN_USE: &[u8] = b"v\x01";
 
 /// The replies in the log, by connection.
-#[derive(Drop)]
 struct Replies {
     alloc: Global,
     slots: Vec<Option<usize>>,
@@ -23,6 +22,19 @@ struct Replies {
     /// The number of registrations of names in use.
     in_use: u64,
     remote: Vec<LocalRequest>,
+}
+
+impl Drop for Replies {
+    fn drop(self) {
+        let Replies {
+            alloc: _,
+            slots: _,
+            by_connection: _,
+            opened: _,
+            in_use: _,
+            remote: _,
+        } = self;
+    }
 }
 
 /// Returns which request these bytes are, if only this host may send it.

@@ -33,7 +33,6 @@ pub enum Ending {
 }
 
 /// A network. Times are in microseconds.
-#[derive(Drop)]
 pub struct Network {
     alloc: Global,
     pub wires: Vec<Wire>,
@@ -52,6 +51,23 @@ pub struct Network {
     pub(crate) stopped: [(u64, u64); NODES_MOST],
     /// What the peers did.
     pub tally: Counts,
+}
+
+impl Drop for Network {
+    fn drop(self) {
+        let Network {
+            alloc: _,
+            wires: _,
+            flights: _,
+            backlogs: _,
+            connected: _,
+            remote: _,
+            wanting: _,
+            read_bytes: _,
+            stopped: _,
+            tally: _,
+        } = self;
+    }
 }
 
 impl Network {

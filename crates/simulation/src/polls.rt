@@ -35,7 +35,6 @@ struct Listening {
     news_at: Option<u64>,
 }
 
-#[derive(Drop)]
 pub struct Thread {
     listeners: [Listening; LISTENERS],
     pub(crate) watched: Vec<usize>,
@@ -49,6 +48,23 @@ pub struct Thread {
     pub polled_at: u64,
     pub polls: u64,
     pub steps: u32,
+}
+
+impl Drop for Thread {
+    fn drop(self) {
+        let Thread {
+            listeners: _,
+            watched: _,
+            is_woken: _,
+            reports: _,
+            until: _,
+            held_until: _,
+            work: _,
+            polled_at: _,
+            polls: _,
+            steps: _,
+        } = self;
+    }
 }
 
 /// What a worker has done. The connection of a turn is `None` if the turn had no connection.

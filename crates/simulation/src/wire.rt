@@ -64,7 +64,6 @@ pub struct Readiness {
 }
 
 /// A connection.
-#[derive(Drop)]
 pub struct Wire {
     pub is_local: bool,
     pub peer: PeerEnd,
@@ -81,6 +80,23 @@ pub struct Wire {
     pub accepted: Option<(usize, u64)>,
     pub daemon: DaemonEnd,
     pub readiness: Readiness,
+}
+
+impl Drop for Wire {
+    fn drop(self) {
+        let Wire {
+            is_local: _,
+            peer: _,
+            down: _,
+            received: _,
+            is_reset: _,
+            is_down_ended: _,
+            is_ended_well: _,
+            accepted: _,
+            daemon: _,
+            readiness: _,
+        } = self;
+    }
 }
 
 impl Wire {

@@ -15,7 +15,6 @@ use std::io::ErrorKind;
 pub const LISTENERS: usize = 2;
 
 /// A world. Times are in microseconds.
-#[derive(Drop)]
 pub struct World {
     pub scenario: &'static Scenario,
     pub weather: Weather,
@@ -28,6 +27,23 @@ pub struct World {
     pub notices: Notices,
     /// The notices of refused requests of other hosts.
     pub refusals: Vec<Refusals>,
+}
+
+impl Drop for World {
+    fn drop(self) {
+        let World {
+            scenario: _,
+            weather: _,
+            now: _,
+            network: _,
+            threads: _,
+            clock: _,
+            memory: _,
+            disk: _,
+            notices: _,
+            refusals: _,
+        } = self;
+    }
 }
 
 impl World {

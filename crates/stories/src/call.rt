@@ -12,12 +12,21 @@ use portmap_testing::tape::{DevicePlan, STEADY, Tape};
 use portmap_wire::Reg;
 use std::alloc::Global;
 
-#[derive(Drop)]
 pub struct Calls {
     /// The bytes that a call wrote before memory was refused to it.
     begun: Vec<u8>,
     outbox: Outbox,
     output: Tape<'static>,
+}
+
+impl Drop for Calls {
+    fn drop(self) {
+        let Calls {
+            begun: _,
+            outbox: _,
+            output: _,
+        } = self;
+    }
 }
 
 impl Calls {

@@ -6,10 +6,18 @@ use portmap_testing::marked;
 use std::alloc::Global;
 
 /// One stream twice: in the chunks of a story, and byte by byte.
-#[derive(Drop)]
 pub struct Pieces {
     whole: Feed,
     single: Feed,
+}
+
+impl Drop for Pieces {
+    fn drop(self) {
+        let Pieces {
+            whole: _,
+            single: _,
+        } = self;
+    }
 }
 
 impl Pieces {

@@ -16,7 +16,6 @@ use portmap_testing::marked;
 use std::alloc::Global;
 use std::mem;
 
-#[derive(Drop)]
 pub struct Machine {
     book: Book,
     first: u32,
@@ -33,6 +32,24 @@ pub struct Machine {
     /// The segments that were sealed, and the tickets of all events.
     segments: Vec<Segment>,
     tickets: Vec<Ticket>,
+}
+
+impl Drop for Machine {
+    fn drop(self) {
+        let Machine {
+            book: _,
+            first: _,
+            replay: _,
+            actual: _,
+            lines: _,
+            line_count: _,
+            kept: _,
+            worker: _,
+            is_followed: _,
+            segments: _,
+            tickets: _,
+        } = self;
+    }
 }
 
 impl Machine {

@@ -8,10 +8,15 @@ use portmap_testing::marks::was_refused;
 use std::alloc::Global;
 
 /// An event, and its result.
-#[derive(Drop)]
 pub struct Happened {
     pub act: String,
     pub result: String,
+}
+
+impl Drop for Happened {
+    fn drop(self) {
+        let Happened { act: _, result: _ } = self;
+    }
 }
 
 /// The results of a run, and whether memory was refused to it.

@@ -19,10 +19,18 @@ use portmap_testing::marks::was_refused;
 use std::alloc::Global;
 
 /// A recorded session, and entries to be recorded.
-#[derive(Drop)]
 pub struct Session {
     bytes: Vec<u8>,
     entries: Vec<Entry>,
+}
+
+impl Drop for Session {
+    fn drop(self) {
+        let Session {
+            bytes: _,
+            entries: _,
+        } = self;
+    }
 }
 
 impl Session {

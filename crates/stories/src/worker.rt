@@ -19,7 +19,6 @@ use std::sync::Wait;
 use std::sync::ledger::{Blank, Ledger};
 
 /// The input of a worker. Each line is run at a new worker, which makes all turns up to that line and stops.
-#[derive(Drop)]
 pub struct WorkerSetup {
     is_relaxed: bool,
     conn_max: u32,
@@ -31,6 +30,21 @@ pub struct WorkerSetup {
     is_killed: bool,
     turns: Vec<Turn>,
     actual: Amounts,
+}
+
+impl Drop for WorkerSetup {
+    fn drop(self) {
+        let WorkerSetup {
+            is_relaxed: _,
+            conn_max: _,
+            seven: _,
+            eight: _,
+            plan: _,
+            is_killed: _,
+            turns: _,
+            actual: _,
+        } = self;
+    }
 }
 
 /// The numbers of entries, of bytes of link 7, of bytes of link 8 and of ended links.

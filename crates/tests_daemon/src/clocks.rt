@@ -11,7 +11,8 @@ use std::thread::Threads;
 use std::time::Duration;
 
 /// A runtime whose clock can be moved forward, and whose memory can be short. It counts notices to the operator, and
-/// follows a link to the file of a recording.
+/// follows a link to the file of a recording. The first copy is refused: without a thread for its lines, a daemon
+/// notifies the operator by this runtime.
 #[derive(Drop)]
 pub struct Pushed<R: Clock> {
     rt: R,
@@ -35,6 +36,7 @@ pub struct Pushing {
     pub again: AtomicU64,
     pub short: AtomicU64,
     pub remote: AtomicU64,
+    copies: AtomicU64,
     /// True if no further copy of the runtime can be made.
     pub is_alone: AtomicBool,
 }
@@ -64,7 +66,8 @@ impl Pushing {
 
 impl<R: Clock + Copy> Clone for Pushed<R> {
     fn clone(&self) -> Result<Pushed<R>, AllocError> {
-        if self.shared.is_alone.load(Ordering::SeqCst) {
+        let is_first = self.shared.copies.fetch_add(1, Ordering::SeqCst) == 0;
+        if is_first || self.shared.is_alone.load(Ordering::SeqCst) {
             return Err(AllocError);
         }
         Ok(Pushed {

@@ -1,27 +1,12 @@
-use Rattle.std.proofs.Common.{false, Some, rules, sym, ap, ◌∙◌}
-use Rattle.portmap_ready.proofs.Calls.{gone_seen, take_whole, taken_seen}
+use Rattle.std.proofs.Common.{Some, ap, rules, ◌∙◌}
+use Rattle.portmap_ready.proofs.Calls.{next_pending_seen, next_pending_whole}
 use Rattle.portmap_ready.proofs.Scheduler.next_pending.Goals as goal
 
-pub invariant_of-self : goal.invariant_of-self
-invariant_of-self g c =
-    let live = sym c.take.ensures.live ∙ c.if-take.true in
-    let none = ap (λ v. v.current) c.loop-key.invariant.seen ∙ c.requires in
-    take_whole false {k = c.in-Some.key} c.loop-key.invariant.whole (search rules)
+pub invariant_of-self-2 : goal.invariant_of-self-2
+invariant_of-self-2 g c = next_pending_whole {k = c.in_ok-key.key} (search rules) c.self.invariant
+    (ap (λ v. v.current) c.self.view_is ∙ c.requires)
 
-pub returns-then-take-clause-current : goal.returns-then-take-clause-current
-returns-then-take-clause-current g c =
-    let live = sym c.take.ensures.live ∙ c.if-take.true in
-    let none = ap (λ v. v.current) c.loop-key.invariant.seen ∙ c.requires in
-    let new = record c.loop-key.self-inside { held = c.take.new.held; pending = c.pop_front.new.self; current = Some c.in-Some.key } in
-    taken_seen {k = c.in-Some.key} {new = new} c.args.self.now c.loop-key.invariant.whole (search rules) live c.loop-key.invariant.seen
-
-pub loop-key-preserved : goal.loop-key-preserved
-loop-key-preserved g c =
-    let gone = sym c.take.ensures.live ∙ c.if-take.false in
-    let none = ap (λ v. v.current) c.loop-key.invariant.seen ∙ c.requires in
-    let new = record c.loop-key.self-inside { held = c.take.new.held; pending = c.pop_front.new.self } in
-    record {
-      whole = take_whole false {k = c.in-Some.key} c.loop-key.invariant.whole (search rules);
-      seen = gone_seen false {k = c.in-Some.key} {new = new} c.args.self.now c.loop-key.invariant.whole
-          (search rules) gone c.loop-key.invariant.seen;
-    }
+pub returns-clause-current : goal.returns-clause-current
+returns-clause-current g c =
+    let new = record c.self.inside { held = c.set_state.new.held; pending = c.pop_front.new.self; current = Some c.in_ok-key.key } in
+    rw (← c.self.view_is) (next_pending_seen {k = c.in_ok-key.key} {old = c.self.inside} {new = new} (search rules))

@@ -7,7 +7,7 @@ pub returns-in-Again-clause-links : goal.returns-in-Again-clause-links
 returns-in-Again-clause-links g c = placed Queued c.args.key _ _ _ (ap seen c.requeue.ensures) (λ v. refl)
 
 pub returns-in-Rests-clause-links : goal.returns-in-Rests-clause-links
-returns-in-Rests-clause-links g c = placed Paused c.args.key _ _ _ (ap seen c.rest.ensures.moved) (λ v. refl)
+returns-in-Rests-clause-links g c = placed Paused c.args.key _ _ _ (ap seen c.rest.ensures) (λ v. refl)
 
 pub returns-in-Waits-clause-links : goal.returns-in-Waits-clause-links
 returns-in-Waits-clause-links g c =

@@ -1,6 +1,6 @@
-use Rattle.std.proofs.Common.{◌≡◌, ◌∙◌, inl}
-use Rattle.portmap_worker.specs.{IdleLinks.Keeps, Schedule.IsPolled}
-use Rattle.portmap_worker.proofs.{Idle.then_returns, Turns.{asked, loaded}, socket_source.SocketSource.poll.Given.Over}
+use Rattle.std.proofs.Common.{◌≡◌, ◌∙◌}
+use Rattle.portmap_worker.specs.IdleLinks.{Keeps}
+use Rattle.portmap_worker.proofs.{Idle.then_returns, Turns.{asked}, socket_source.SocketSource.poll.Given.Over}
 use Rattle.portmap_worker.proofs.socket_source.SocketSource.poll.Goals.{After-on_polled, After-scan_links}
 use Rattle.portmap_worker.proofs.socket_source.SocketSource.poll.Goals as goal
 
@@ -13,25 +13,24 @@ waited g c =
     c.retry_pending.ensures.schedule c.wait-is_well.ensures.schedule c.on_polled.ensures.schedule
 
 scanned : (g : Over) (c : After-scan_links g) → Keeps c.args.self.now.ready c.scan_links.new.self.ready
-scanned g c = λ fact h. c.scan_links.ensures.links fact (rw (c.pass_listeners.ensures.ready, c.on_load.ensures.ready)
+scanned g c = λ fact h. c.scan_links.ensures.links fact (rw c.pass_listeners.ensures.ready
     (c.on_polled.ensures.links fact (c.wait-is_well.ensures.links fact (c.retry_pending.ensures.links fact h))))
 
-polled : (g : Over) (c : After-scan_links g) → IsPolled c.args.self.now.schedule c.scan_links.new.self.schedule
+polled : (g : Over) (c : After-scan_links g) → c.scan_links.new.self.schedule ≡ record c.args.self.now.schedule { turns = 0 }
 polled g c =
-    loaded c.args.self.now.schedule c.on_polled.new.self.schedule c.on_load.new.self.schedule _
-    (asked c.args.self.now.schedule c.retry_pending.new.self.schedule c.wait-is_well.new.self.schedule _
-    c.retry_pending.ensures.schedule c.wait-is_well.ensures.schedule c.on_polled.ensures.schedule)
-    c.on_load.ensures.schedule (c.scan_links.ensures.schedule ∙ c.pass_listeners.ensures.schedule)
+    c.scan_links.ensures.schedule ∙ c.pass_listeners.ensures.schedule
+    ∙ asked c.args.self.now.schedule c.retry_pending.new.self.schedule c.wait-is_well.new.self.schedule _
+    c.retry_pending.ensures.schedule c.wait-is_well.ensures.schedule c.on_polled.ensures.schedule
 
 pub returns-then-not-is_well : goal.returns-then-not-is_well
 returns-then-not-is_well g c =
     let at = (goal.at.returns-then-not-is_well g c).After-on_polled in
-    record { links = rw c.fail.ensures (kept g at); schedule = inl (waited g at) }
+    record { links = rw c.fail.ensures (kept g at); schedule = waited g at }
 
 pub returns-then-is_stopping : goal.returns-then-is_stopping
 returns-then-is_stopping g c =
     let at = (goal.at.returns-then-is_stopping g c).After-on_polled in
-    record { links = kept g at; schedule = inl (waited g at) }
+    record { links = kept g at; schedule = waited g at }
 
 pub returns-then-not-scan_links : goal.returns-then-not-scan_links
 returns-then-not-scan_links g c =

@@ -1,6 +1,0 @@
-use Rattle.std.proofs.Common.{◌≡◌, take}
-use Rattle.epmd.specs.Commands.{names_text}
-use Rattle.epmd.proofs.commands.names_text.Given as goal
-
-abbrev pub invariant-loop-line : goal.invariant-loop-line
-invariant-loop-line l = l.text.items ≡ names_text l.port (take l.line-index l.lines)
