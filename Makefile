@@ -8,11 +8,12 @@ PREFIX = /usr/local
 # The port mapper that `make bench` measures beside ours.
 OTHER = /usr/bin/epmd
 
-# The port at which `make try` serves.
+# The port at which `make try` serves, and further options of its daemon.
 PORT = 4369
+WORDS =
 
 # The crates of tests that refuse memory.
-REFUSING = tests_book tests_daemon
+REFUSING = tests_libraries tests_daemon
 
 # Ends a target that calls `rt` where there is none.
 toolchain = $(if $(shell command -v rt 2> /dev/null),,$(error there is no rt on the path, the command of the Rattle toolchain: README.md \
@@ -25,12 +26,11 @@ toolchain = $(if $(shell command -v rt 2> /dev/null),,$(error there is no rt on 
 run: epmd
 	./build/epmd
 
-# Builds the program with nothing proved, and serves at PORT of this host until it is interrupted, for 1,000 seconds at most.
+# Builds the program with nothing proved, and serves at PORT of this host until it is interrupted. WORDS are further options of the daemon.
 try:
-	$(toolchain)@echo 'epmd: this program is NOT proved, and serves on 127.0.0.1:$(PORT) in a minute or two, for 1,000 seconds at most' >&2
-	@cd crates/epmd && rt try --seconds 1000 -- -port $(PORT) -address 127.0.0.1
+	$(toolchain)@contrib/try $(PORT) $(WORDS)
 
-# Proves the program and all below it, and leaves it at build/epmd. What `rt` says is in build/log.
+# Proves the program and all below it, and leaves it at build/epmd. What `rt` prints is in build/log.
 epmd:
 	$(toolchain)@contrib/build
 
@@ -50,13 +50,14 @@ MAN = $(PREFIX)/share/man
 DOC = $(PREFIX)/share/doc/epmd-proved
 INCLUDE = $(PREFIX)/include
 LIBRARIES = $(PREFIX)/lib
-COMMANDS = epmd epmd-log epmd-metrics epmd-prune epmd-report
+TOOLS = epmd-log epmd-metrics epmd-prune epmd-report
+COMMANDS = epmd $(TOOLS)
 PAGES = $(addsuffix .1,$(COMMANDS))
 # By default where zsh itself looks below /usr/local; a package has a folder of its own.
 ZSH_COMPLETIONS = $(PREFIX)/share/zsh/site-functions
 BASH_COMPLETIONS = $(PREFIX)/share/bash-completion/completions
-SERVICES = epmd-proved.socket epmd-proved.service epmd-proved-away.target epmd-proved-prune.service epmd-proved-prune.timer \
-    epmd-proved-metrics.service epmd-proved-metrics.timer
+SERVICES = epmd-proved.socket epmd-proved.service epmd-proved-away.target epmd-proved-pause@.service epmd-proved-prune.service \
+    epmd-proved-prune.timer epmd-proved-metrics.service epmd-proved-metrics.timer
 # What is added to units of erlang-base and to ours: an operator's own additions come after it.
 ADDED = $(addsuffix /10-proved.conf,epmd.socket.d epmd.service.d epmd-proved.service.d)
 
@@ -68,9 +69,9 @@ built = $(if $(shell ls build/epmd 2> /dev/null),,$(error there is no build/epmd
 GIT = git --no-optional-locks -c safe.directory='*'
 COMMIT = $(shell test -e .git && $(GIT) describe --always --exclude='*' --abbrev=7 --dirty=', changed' 2> /dev/null)
 
-# Says in files that are in place which version they are of, and where they lie.
+# Says in files that are in place which version they are of, where they lie, and what runs them.
 fill = sed -i 's|/usr/local/lib/systemd/system|$(UNITS)|g; s|/usr/local/share/zsh/site-functions|$(ZSH_COMPLETIONS)|g; \
-    s|/usr/local|$(PREFIX)|g; s|@LIBRARIES@|$(LIBRARIES)|; s|@VERSION@|$(shell cat VERSION)|; \
+    1s|^\#!/usr/bin/env python3$$|\#!$(LIB)/python|; s|/usr/local|$(PREFIX)|g; s|@LIBRARIES@|$(LIBRARIES)|; s|@VERSION@|$(shell cat VERSION)|; \
     s|@COMMIT@|$(if $(COMMIT), (commit $(COMMIT)))|' $(addprefix $(DESTDIR),$(1))
 
 # Puts the program, the wrapper that is called `epmd`, the tools, the manual pages, the units and what shells complete in their places, and
@@ -85,21 +86,24 @@ ifeq ($(DESTDIR),)
 endif
 
 install-program:
-	$(built)install -D -m 755 -t $(DESTDIR)$(LIB) build/epmd contrib/renew contrib/state-folder
+	$(built)install -D -m 755 -t $(DESTDIR)$(LIB) build/epmd $(addprefix contrib/,pause python renew state-folder)
 	ln -sf epmd $(DESTDIR)$(LIB)/epmd-all-options-ignored
 	install -m 644 contrib/epmd_recording.py contrib/epmd_report.html $(DESTDIR)$(LIB)
-	install -D -m 755 -t $(DESTDIR)$(BIN) $(addprefix contrib/,$(COMMANDS))
+	install -D -m 755 -t $(DESTDIR)$(LIB)/wrapper contrib/epmd
+	install -D -m 755 -t $(DESTDIR)$(BIN) $(addprefix contrib/,$(TOOLS))
+	ln -sfT ../lib/epmd-proved/wrapper/epmd $(DESTDIR)$(BIN)/epmd
 	install -D -m 644 -t $(DESTDIR)$(UNITS) $(addprefix contrib/units/,$(SERVICES))
 	install -D -m 644 contrib/units/socket.conf $(DESTDIR)$(UNITS)/epmd.socket.d/10-proved.conf
 	install -D -m 644 contrib/units/proved.conf $(DESTDIR)$(UNITS)/epmd.service.d/10-proved.conf
 	install -D -m 644 contrib/units/proved.conf $(DESTDIR)$(UNITS)/epmd-proved.service.d/10-proved.conf
 	install -D -m 644 -t $(DESTDIR)$(MAN)/man1 $(addprefix docs/,$(PAGES))
 	install -D -m 644 -t $(DESTDIR)$(BASH_COMPLETIONS) contrib/completions/epmd
-	for each in $(filter-out epmd,$(COMMANDS)); do ln -sf epmd $(DESTDIR)$(BASH_COMPLETIONS)/$$each || exit 1; done
+	for each in $(TOOLS); do ln -sf epmd $(DESTDIR)$(BASH_COMPLETIONS)/$$each || exit 1; done
 	install -D -m 644 -t $(DESTDIR)$(ZSH_COMPLETIONS) contrib/completions/_epmd
 	install -D -m 644 -t $(DESTDIR)$(DOC) README.md
 	install -D -m 644 -t $(DESTDIR)$(DOC)/examples contrib/grafana/epmd.json contrib/prometheus/epmd.rules.yml
-	@$(call fill,$(BIN)/epmd $(LIB)/epmd_recording.py $(addprefix $(MAN)/man1/,$(PAGES)) $(addprefix $(UNITS)/,$(SERVICES) $(ADDED)))
+	@$(call fill,$(LIB)/wrapper/epmd $(LIB)/epmd_recording.py $(addprefix $(BIN)/,$(TOOLS)) $(addprefix $(MAN)/man1/,$(PAGES)) \
+	    $(addprefix $(UNITS)/,$(SERVICES) $(ADDED)))
 
 install-client:
 	install -D -m 644 build/libepmd_client.so $(DESTDIR)$(LIBRARIES)/libepmd_client.so.0
@@ -117,6 +121,7 @@ MANAGED = $(if $(DESTDIR),,$(shell command -v systemctl 2> /dev/null))
 uninstall:
 ifneq ($(MANAGED),)
 	for unit in $(SERVICES); do systemctl disable --now $$unit 2> /dev/null || true; done
+	systemctl reset-failed 'epmd-proved*' 2> /dev/null || true
 	systemctl unmask epmd.socket 2> /dev/null || true
 endif
 	rm -f $(addprefix $(DESTDIR)$(UNITS)/,$(SERVICES) $(ADDED))
@@ -152,12 +157,9 @@ bench: build/epmd
 	cc -O2 -Wall -Wextra -pthread -o build/bench bench/bench.c
 	./build/bench $(OTHER) build/epmd
 
-# A first look, in minutes: compiles and runs the tests and the stories with nothing proved. Not those of the daemon: unproved, a byte
-# costs a hundred times as much, and a client of theirs runs into its timeout.
+# A first look, in minutes: stories, tests and cases of the simulation, with nothing proved.
 quick:
-	$(toolchain)@for crate in tests_machine tests_book tests_client epmd; do \
-	    echo "$$crate, with nothing proved:"; (cd crates/$$crate && rt try --test) || exit 1; done
-	@echo "stories, with nothing proved:"; cd crates/stories && rt try -- $$(grep -v ^large args | sed s,^,data/,)
+	$(toolchain)@tests/quick
 
 # Tries the wrong bodies that the gate leaves out, in some twenty minutes once all is proved: before a contract of their crate changes.
 attack:

@@ -2,46 +2,61 @@
 import os
 import re
 import shutil
-import time
+import socket
 
 from test_install import TOP, Checkout, read, uses, write
 
-# Notes its words and the crate. As `lib` and `run` it proves what is not kept yet of the crate and those below it, each
-# once, by whoever comes first, and leaves a program in out. What $LAST names waits for what $FIRST names. As `try` it
-# prints that nothing is proved.
+# Notes its words and the folder. As `ci` it proves the crates of crates.txt, lowest first, but those that $KEPT has from earlier runs, and
+# leaves a library or a program of each. As `try` it prints that nothing is proved. As a module it has what marks libraries as up to date.
 RT = """#!/usr/bin/env python3
-import os, sys, time
-if sys.argv[1] == "doc":
-    sys.exit(print("/kit/START.md"))
-crate = os.path.basename(os.getcwd())
-with open(os.environ["NOTES"], "a") as notes:
-    notes.write(f"{crate}: {' '.join(sys.argv[1:])}\\n")
-with open("../../crates.txt") as file:
-    lines = [line.split(":") for line in file if not line.startswith("#")]
-uses = {name.split()[0]: used.split() for name, used in lines}
-def prove(name):
-    for each in uses.get(name, []):
-        prove(each)
-    if name in uses and not os.path.exists(f"{os.environ['KEPT']}/{name}"):
-        try:
-            os.mkdir(f"{os.environ['KEPT']}/{name}")
-        except FileExistsError:
-            return
-        print(f"crate {name}: modules loaded=1\\nlogic=proved functions=1", flush=True)
-if sys.argv[1] == "try":
-    sys.exit("proved=no")
-until = time.monotonic() + 60
-while crate == os.environ.get("LAST") and not os.path.exists(f"{os.environ['KEPT']}/{os.environ['FIRST']}"):
-    assert time.monotonic() < until
-    time.sleep(0.01)
-prove(crate)
-if crate == os.environ.get("FAILS"):
-    sys.exit("fn link: not proved")
-os.makedirs("out", exist_ok=True)
-open(f"out/{crate}", "w").close()
+import os, sys
+class Crate:
+    def __init__(self, folder):
+        self.folder = folder
+    def makes_rlib(self):
+        return os.path.exists(f"{self.folder}/src/lib.rt")
+    def stamp(self):
+        return os.path.basename(self.folder)
+class rtlib:
+    def crates_below(top):
+        return [Crate(f"{top}/crates/{name}") for name in os.listdir(f"{top}/crates")]
+def processors():
+    return 1
+def main(words):
+    if words[0] == "doc":
+        return print(f"{os.environ['KIT']}/START.md")
+    if words[0] == "version":
+        return print("rattle-kit-7")
+    with open(os.environ["NOTES"], "a") as notes:
+        notes.write(f"{os.path.basename(os.getcwd())}: {' '.join(words)}\\n")
+    if words[0] == "try":
+        return "proved=no"
+    fails = os.environ.get("FAILS")
+    if words[0] == "lib" and os.path.basename(os.getcwd()) == fails:
+        return "fn link: not proved"
+    if words[0] == "ci":
+        assert processors() > os.cpu_count()
+        with open("crates.txt") as file:
+            lines = [line.split(":") for line in file if not line.startswith("#")]
+        uses, done = {name.split()[0]: used.split() for name, used in lines}, set()
+        return any([prove(name, uses, done, fails) for name in uses])
+def prove(name, uses, done, fails):
+    if any([prove(each, uses, done, fails) for each in uses.get(name, [])]) or name not in uses or name in done:
+        return name in uses and name not in done
+    if name == fails:
+        return print(f"fn link: not proved\\nrt: {name} NOT PROVED") or True
+    done.add(name)
+    kept = f"{os.environ['KEPT']}/{name}"
+    print(f"rt: {name} is kept: as before" if os.path.exists(kept) else f"== {name}\\nrt: {name} proved", flush=True)
+    os.makedirs(kept, exist_ok=True)
+    os.makedirs(f"crates/{name}/out/rlib")
+    open(f"crates/{name}/out/{name}", "w").close()
+    return False
+if __name__ == "__main__":
+    sys.exit(main(sys.argv[1:]))
 """
-# Of ours, what crates.txt has the program and the client for C stand on, themselves among them.
-OF_PROGRAM, OF_CLIENT = 13, 7
+# Of ours, what crates.txt has the program and the client stand on, themselves among them.
+OF_PROGRAM, OF_CLIENT = 13, 6
 NO_RT = "there is no rt on the path, the command of the Rattle toolchain: README.md names its kit under Install"
 
 
@@ -61,73 +76,72 @@ class Build(Checkout):
     def setUp(self):
         super().setUp()
         self.stand_in("rt", RT)
-        self.kept = os.path.join(self.folder, "kept")
+        self.kept, self.kit = os.path.join(self.folder, "kept"), os.path.join(self.folder, "kit")
         os.mkdir(self.kept)
+        write(os.path.join(self.kit, "bin", "rt"), RT)
         shutil.copy(os.path.join(TOP, "HANDLES"), self.top)
         for crate in uses():
-            os.makedirs(os.path.join(self.top, "crates", crate, "src"))
+            write(os.path.join(self.top, "crates", crate, "src", "main.rt" if crate == "epmd" else "lib.rt"), crate)
         # What the client for C is made with does nothing here.
         for name in ("ld", "objcopy", "ar", "cc"):
-            self.stand_in(name, "#!/bin/sh\ntouch build/client.o\n")
+            self.stand_in(name, f'#!/bin/sh\necho {name} >> "$NOTES"\ntouch build/client.o\n')
 
     def lines(self, target, **env):
-        """The crate, the number, the sum and the seconds of each line."""
-        found = []
-        for line in self.made(target, KEPT=self.kept, **env).splitlines():
-            self.assertRegex(line, r"^\w+: proved \(\d+ of \d+\), \d+ s$")
-            name, *numbers = re.findall(r"\w+", re.sub("proved| of|s$", "", line))
-            found.append((name, *map(int, numbers)))
-        return found
+        """The crate, what became of it, the number and the sum of each line."""
+        text = self.made(target, KEPT=self.kept, KIT=self.kit, **env)
+        return [(name, word, int(at), int(of)) for name, word, at, of in re.findall(r"(?m)^(\w+): (proved|kept) \((\d+) of (\d+)\), \d+ s$", text)]
 
     def test_each_crate_of_the_program_has_one_line_that_says_how_far_it_is(self):
         lines = self.lines("epmd")
-        self.assertEqual(sorted(line[0] for line in lines), sorted(reached("epmd")))
-        self.assertEqual((len(lines), {line[2] for line in lines}), (OF_PROGRAM, {OF_PROGRAM}))
-        self.assertTrue(all(1 <= line[1] <= OF_PROGRAM for line in lines))
-        # What is proved beside the program may end behind it.
-        self.assertEqual(max(line[1] for line in lines), OF_PROGRAM)
+        self.assertEqual({line[0] for line in lines}, reached("epmd"))
+        self.assertEqual([line[1:] for line in lines], [("proved", number, OF_PROGRAM) for number in range(1, OF_PROGRAM + 1)])
         self.assertTrue(os.path.exists(os.path.join(self.top, "build", "epmd")))
 
-    def test_what_is_proved_beside_the_longest_chain_counts_with_it(self):
-        lines = self.lines("epmd", LAST="portmap_client", FIRST="portmap_daemon")
-        number = {line[0]: line[1] for line in lines}["portmap_client"]
-        # All below the daemon, and the client; the daemon itself may be counted a moment later.
-        self.assertGreaterEqual(number, len(reached("portmap_daemon")))
-
-    def test_of_those_that_are_proved_one_after_another_each_counts_one(self):
+    def test_the_client_for_c_is_proved_over_libraries_that_are_marked(self):
         lines = self.lines("client")
-        self.assertEqual([line[1:3] for line in lines], [(number, OF_CLIENT) for number in range(1, OF_CLIENT + 1)])
-        self.assertEqual({line[0] for line in lines}, reached("portmap_client_c"))
+        self.assertEqual([line[2:] for line in lines], [(number, OF_CLIENT) for number in range(1, OF_CLIENT + 1)])
+        self.assertEqual({line[0] for line in lines}, reached("portmap_client"))
+        self.assertEqual(self.noted()[1:], ["portmap_client_c: lib", "ld", "objcopy", "ar", "cc"])
+        self.assertEqual(os.readlink(os.path.join(self.top, "build", "libepmd_client.so.0")), "libepmd_client.so")
+        for crate in reached("portmap_client"):
+            self.assertEqual(read(os.path.join(self.top, "crates", crate, "out", "rlib", "stamp")), crate)
 
-    def test_what_is_kept_from_an_earlier_run_counts_and_has_no_line(self):
+    def test_what_is_kept_from_an_earlier_run_is_called_kept(self):
         for name in reached("portmap_core"):
             os.mkdir(os.path.join(self.kept, name))
-        numbers = {name: number for name, number, _, _ in self.lines("client")}
-        self.assertEqual(numbers, {"portmap_link": 5, "portmap_client": 6, "portmap_client_c": 7})
-        self.assertEqual(self.lines("client"), [])
+        words = {name: word for name, word, _, _ in self.lines("client")}
+        proved = {name for name, word in words.items() if word == "proved"}
+        self.assertEqual(proved, {"portmap_link", "portmap_client"})
 
-    def test_seconds_from_a_thousand_on_have_a_comma(self):
-        for passed, told in (0, r"\d\d?\d?"), (1127, r"1,[12]\d\d"), (12007, r"12,[01]\d\d"):
-            shutil.rmtree(self.kept)
-            os.mkdir(self.kept)
-            began = str(int(time.time()) - passed)
-            done = self.run_in(self.top, "contrib/prove", ".", "portmap_wire", "lib", KEPT=self.kept, BEGAN=began)
-            self.assertRegex(done.stdout, rf"^portmap_wire: proved \(1 of 1\), {told} s\n$")
+    def test_what_has_not_changed_is_proved_once(self):
+        self.made("epmd", KEPT=self.kept, KIT=self.kit)
+        calls = len(self.noted())
+        self.assertEqual(self.made("epmd", KEPT=self.kept, KIT=self.kit), "epmd: proved before, and nothing has changed\n")
+        self.assertEqual(len(self.noted()), calls)
+        for path in ("crates/portmap_wire/src/lib.rt", "HANDLES", "crates/epmd/stdout"):
+            with open(os.path.join(self.top, path), "a", encoding="utf-8") as file:
+                file.write("\n")
+            self.assertEqual(len(self.lines("epmd")), OF_PROGRAM, path)
+            self.assertEqual(self.lines("epmd"), [], path)
+        # A crate that the program does not use has no part in it.
+        write(os.path.join(self.top, "crates", "stories", "src", "lib.rt"), "other")
+        self.assertEqual(self.lines("epmd"), [])
 
-    def test_a_folder_that_counts_is_left_nowhere(self):
+    def test_a_copy_is_left_nowhere(self):
         temporary = os.path.join(self.folder, "temporary")
         os.mkdir(temporary)
         self.lines("epmd", TMPDIR=temporary)
-        self.made("client", KEPT=self.kept, TMPDIR=temporary)
+        self.lines("client", TMPDIR=temporary)
         self.assertEqual(os.listdir(temporary), [])
 
     def test_a_failure_is_told_and_leaves_the_program_that_was_there(self):
         before = os.stat(os.path.join(self.top, "build", "epmd"))
-        done = self.make("epmd", KEPT=self.kept, FAILS="portmap_record")
-        self.assertEqual(done.returncode, 2)
-        told = "fn link: not proved\nportmap_record: failed, all of it is in build/log/portmap_record\n"
-        # A crate that is proved beside it may be told in between.
-        self.assertIn(told, re.sub(r"(?m)^\w+: proved .*\n", "", done.stdout))
+        for target, crate, log in (("epmd", "portmap_record", "epmd"), ("client", "portmap_client_c", "portmap_client_c")):
+            done = self.make(target, KEPT=self.kept, KIT=self.kit, FAILS=crate)
+            self.assertEqual(done.returncode, 2)
+            self.assertIn("fn link: not proved\n", done.stdout)
+            self.assertIn(f"\n{log}: failed, all of it is in build/log/{log}\n", done.stdout)
+        self.assertEqual(self.noted()[-1], "portmap_client_c: lib")
         self.assertEqual(os.stat(os.path.join(self.top, "build", "epmd")), before)
 
     def test_without_the_toolchain_one_sentence_says_what_is_missing_and_where_it_is_named(self):
@@ -140,15 +154,24 @@ class Build(Checkout):
         self.assertIn("\nThe toolchain is kit `rattle-kit-", install.split("\n## ")[0])
 
     def test_a_try_says_that_it_is_not_proved_and_serves_where_it_is_told_to(self):
-        for words, port in ([], "4369"), (["PORT=24400"], "24400"):
+        for words, rest in (["PORT=24400"], ""), (["PORT=24400", "WORDS=-record s"], " -record s"):
             done = self.make("try", *words)
-            told = f"serves on 127.0.0.1:{port} in a minute or two, for 1,000 seconds at most"
+            told = "serves on 127.0.0.1:24400 in a minute or two, for 1,000 seconds at most"
             self.assertEqual(done.stderr.splitlines()[:2], [f"epmd: this program is NOT proved, and {told}", "proved=no"])
             self.assertEqual(done.stdout, "")
-            self.assertEqual(self.noted(), [f"epmd: try --seconds 1000 -- -port {port} -address 127.0.0.1"])
+            self.assertEqual(self.noted(), [f"epmd: try --seconds 1000 -- -port 24400 -address 127.0.0.1{rest}"])
             os.remove(self.notes)
         self.assertEqual(os.listdir(self.kept), [])
 
+    def test_a_try_says_when_it_serves_and_that_its_port_is_taken(self):
+        self.stand_in("rt", "#!/bin/sh\nexec python3 -c 'import socket, time; s = socket.create_server((\"127.0.0.1\", 24401)); time.sleep(2)'\n")
+        self.assertEqual(self.make("try", "PORT=24401").stderr.splitlines()[1], "epmd: serves on 127.0.0.1:24401")
+        with socket.create_server(("127.0.0.1", 24402)):
+            done = self.make("try", "PORT=24402")
+        self.assertEqual(done.stderr.splitlines()[0], "epmd: port 24402 is in use: take another, as `make try PORT=24369`")
+        self.assertEqual(self.noted(), [])
+
     def test_a_port_of_the_environment_is_not_that_of_a_try(self):
-        self.make("try", PORT="80")
-        self.assertIn(" -port 4369 ", self.noted()[0])
+        self.assertIn("PORT = 4369\n", read(os.path.join(TOP, "Makefile")))
+        self.make("try", PORT="24403")
+        self.assertNotIn("24403", "".join(self.noted()))

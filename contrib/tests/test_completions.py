@@ -23,8 +23,8 @@ TAB, LINE_AWAY = "\t", "\x15"
 # What takes a file, and what takes a value that is none, of each command.
 FILES = {"epmd": ["-record", "-figures", "-check", "-play", "-local", "-audit"],
          "epmd-metrics": ["-recording", "-state", "-figures"], "epmd-report": ["-epmd"]}
-VALUES = {"epmd": ["-port", "-address", "-packet_timeout", "-workers", "-stop"], "epmd-log": ["-n", "-since", "-until"],
-          "epmd-prune": ["-keep"]}
+VALUES = {"epmd": ["-port", "-address", "-packet_timeout", "-workers", "-stop"], "epmd-log": ["-n", "-event", "-since", "-until"],
+          "epmd-prune": ["-keep"], "epmd-report": ["-since", "-until"]}
 
 
 def help_of(command):
@@ -64,8 +64,12 @@ class Shell:
     def press(self, keys):
         """What is shown from these keys on until the line that they left has been taken away."""
         self.count += 1
+        until = time.monotonic() + programs.SILENCE
+        # Between two lines the terminal would take LINE_AWAY itself, with all that the shell has not read.
+        while termios.tcgetattr(self.terminal)[3] & termios.ICANON and time.monotonic() < until:
+            time.sleep(0.001)
         os.write(self.terminal, f"{keys}{LINE_AWAY}echo end-$((0 + {self.count}))\n".encode())
-        shown, until = b"", time.monotonic() + programs.SILENCE
+        shown = b""
         while f"end-{self.count}\r\n".encode() not in shown:
             if not select.select([self.terminal], [], [], max(0, until - time.monotonic()))[0]:
                 raise AssertionError(f"the shell does not come to the end of {keys!r}: {shown!r}")
@@ -114,9 +118,14 @@ class Completions:
                 self.assertEqual(offered - set().union(*wanted), set())
 
     def test_the_help_of_the_wrapper_has_its_options_and_its_commands(self):
-        some = {"-port", "-packet_timeout", "-d", "-debug", "-names", "-stop", "-audit", "-once", "-version"}
+        some = {"-port", "-systemd", "-packet_timeout", "-d", "-debug", "-names", "-stop", "-audit", "-once", "-version"}
         self.assertLessEqual(some, set().union(*told("epmd")))
-        self.assertEqual(told("epmd-prune"), [{"-h", "--help"}, {"-keep"}, {"-version", "--version"}])
+        self.assertEqual(told("epmd-prune"), [{"-h", "--help"}, {"-version", "--version"}, {"-keep"}])
+
+    def test_behind_a_command_no_other_is_offered(self):
+        offered = self.listed("epmd -names -")
+        self.assertIn("-port", offered)
+        self.assertEqual(offered & {"-dump", "-kill", "-stop", "-audit", "-once"}, set())
 
     def test_a_word_that_has_begun_is_completed_behind_others_too(self):
         self.assertEqual(self.called("epmd -port 5000 -rel"), ["-port", "5000", "-relaxed_command_check"])
@@ -124,7 +133,7 @@ class Completions:
 
     def test_a_file_is_completed_where_one_is_wanted(self):
         rows = [(command, [word]) for command, words in FILES.items() for word in words]
-        for command, words in [*rows, ("epmd-log", []), ("epmd-log", ["-f"]), ("epmd-prune", ["-keep", "8"]), ("epmd-report", []),
+        for command, words in [*rows, ("epmd-log", []), ("epmd-log", ["-f"]), ("epmd-prune", ["-keep", "8"]), ("epmd-metrics", []), ("epmd-report", []),
                                ("epmd-report", ["recorded"])]:
             with self.subTest(command=command, words=words):
                 self.assertEqual(self.called(" ".join([command, *words, "rec"])), [*words, "recorded"])

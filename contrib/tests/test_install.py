@@ -17,8 +17,8 @@ PARTS = ["Makefile", "VERSION", "README.md", "CHANGELOG.md", "crates.txt", "cont
 # A small program, and a library, as good as any.
 PROGRAM = shutil.which("true")
 COMMANDS = ["epmd", "epmd-log", "epmd-metrics", "epmd-prune", "epmd-report"]
-UNITS = ["epmd-proved-away.target", "epmd-proved-metrics.service", "epmd-proved-metrics.timer", "epmd-proved-prune.service",
-         "epmd-proved-prune.timer", "epmd-proved.service", "epmd-proved.service.d/10-proved.conf", "epmd-proved.socket",
+UNITS = ["epmd-proved-away.target", "epmd-proved-metrics.service", "epmd-proved-metrics.timer", "epmd-proved-pause@.service",
+         "epmd-proved-prune.service", "epmd-proved-prune.timer", "epmd-proved.service", "epmd-proved.service.d/10-proved.conf", "epmd-proved.socket",
          "epmd.service.d/10-proved.conf", "epmd.socket.d/10-proved.conf"]
 
 # Notes its words. Of units that are enabled or masked there are links in ETC, as the service manager has them, and $ACTIVE is what is active.
@@ -41,11 +41,6 @@ echo "rt $*" >> "$NOTES"
 case $1 in
     version) echo rattle-kit-7 logic 0123 ;;
     doc) echo "$KIT/START.md" ;;
-    *)
-        printf 'crate portmap_wire: modules loaded=1\\nlogic=proved functions=1\\nnoise\\n'
-        if [ -n "$FAILS" ]; then echo 'fn portmap_link::link: not proved'; exit 1; fi
-        printf 'crate portmap_client_c: modules loaded=1\\nlogic=proved functions=1\\n'
-        ;;
 esac
 """
 
@@ -129,9 +124,10 @@ def below(root):
 
 
 def program_below(prefix):
-    return {**{f"{prefix}/bin/{name}": 0o755 for name in COMMANDS}, **{f"{prefix}/share/man/man1/{name}.1": 0o644 for name in COMMANDS},
-            **{f"{prefix}/lib/systemd/system/{name}": 0o644 for name in UNITS}, f"{prefix}/lib/epmd-proved/epmd": 0o755,
-            f"{prefix}/lib/epmd-proved/renew": 0o755, f"{prefix}/lib/epmd-proved/state-folder": 0o755,
+    return {**{f"{prefix}/bin/{name}": 0o755 for name in COMMANDS[1:]}, f"{prefix}/bin/epmd": "../lib/epmd-proved/wrapper/epmd",
+            **{f"{prefix}/lib/epmd-proved/{name}": 0o755 for name in ("wrapper/epmd", "epmd", "pause", "python", "renew", "state-folder")},
+            **{f"{prefix}/share/man/man1/{name}.1": 0o644 for name in COMMANDS},
+            **{f"{prefix}/lib/systemd/system/{name}": 0o644 for name in UNITS},
             f"{prefix}/lib/epmd-proved/epmd-all-options-ignored": "epmd", f"{prefix}/lib/epmd-proved/epmd_recording.py": 0o644,
             f"{prefix}/lib/epmd-proved/epmd_report.html": 0o644,
             f"{prefix}/share/bash-completion/completions/epmd": 0o644, f"{prefix}/share/zsh/site-functions/_epmd": 0o644,
@@ -176,7 +172,7 @@ class Install(Checkout):
                     self.assertIsNone(re.search(rb"/usr/local|@[A-Z]+@", file.read()), name)
         units = os.path.join(self.root, "opt/own/lib/systemd/system")
         for service in ("epmd.service", "epmd-proved.service"):
-            self.assertIn("\nExecStart=/opt/own/bin/epmd -systemd $EPMD_OPTIONS\n", read(os.path.join(units, f"{service}.d", "10-proved.conf")))
+            self.assertIn("epmd=/opt/own/lib/epmd-proved/wrapper/epmd; ", read(os.path.join(units, f"{service}.d", "10-proved.conf")))
         self.assertIn("\n[Unit]\n", read(os.path.join(units, "epmd.socket.d", "10-proved.conf")))
         self.assertNotIn("\n[Service]\n", read(os.path.join(units, "epmd.socket.d", "10-proved.conf")))
         version = read(os.path.join(TOP, "VERSION")).strip()
@@ -186,6 +182,13 @@ class Install(Checkout):
         self.assertEqual(done.stdout, f"epmd-log {version}\n")
         for unit in ("epmd.service.d", "epmd-proved.service.d"):
             self.assertIn("\nExecStartPre=-+/opt/own/lib/epmd-proved/state-folder\n", read(os.path.join(units, unit, "10-proved.conf")))
+
+    def test_a_tool_without_python3_says_so(self):
+        self.made("install", f"PREFIX={self.root}", DESTDIR="")
+        for path, status, said in (os.environ["PATH"], 0, ""), ("", 2, "epmd-{}: python3 is missing, which this tool needs\n"):
+            for name in COMMANDS[1:]:
+                done = self.run_in("/", os.path.join(self.root, "bin", name), "-version", PATH=path)
+                self.assertEqual((done.returncode, done.stderr), (status, said.format(name[5:])))
 
     def test_nothing_is_proved(self):
         self.made("install", f"DESTDIR={self.root}")
@@ -264,6 +267,7 @@ class Machine(Checkout):
         said = self.on("uninstall")
         self.assertEqual((self.links(), below(self.prefix)[0]), ({}, {}))
         self.assertIn("systemctl enable --now epmd.socket\n", said)
+        self.assertIn("systemctl reset-failed epmd-proved*", self.noted())
         self.assertNotIn("renew", "".join(self.noted()))
 
     def test_where_erlang_bases_socket_is_open_its_port_mapper_serves_again(self):
@@ -296,7 +300,7 @@ class Package(Checkout):
         """What the `epmd` of the package says of itself."""
         package, = glob.glob(os.path.join(self.top, "build", "epmd-proved_*.deb"))
         self.run_in("/", "dpkg-deb", "--extract", package, os.path.join(self.folder, "tree"))
-        return self.run_in("/", os.path.join(self.folder, "tree/usr/bin/epmd"), "-version").stdout
+        return self.run_in("/", os.path.join(self.folder, "tree/usr/lib/epmd-proved/wrapper/epmd"), "-version").stdout
 
     def test_the_same_sources_have_the_same_bytes(self):
         self.with_client()
@@ -355,6 +359,9 @@ class Package(Checkout):
         self.made("deb", KIT=self.folder)
         files = {name.replace("usr/lib/systemd", "lib/systemd").replace("site-functions", "vendor-completions"): mode
                  for name, mode in program_below("usr").items()}
+        # dpkg deletes a package's files when it likes, and no moment may lack this one: the scripts put it there.
+        del files["usr/bin/epmd"]
+        files["usr/lib/epmd-proved/stand-in"] = 0o755
         links = {name: to for name, to in files.items() if isinstance(to, str)}
         wanted = {name + (".gz" if "/man/" in name else "") for name in files}
         doc = "usr/share/doc/epmd-proved/"
@@ -401,14 +408,14 @@ def uses():
 class Parts(Checkout):
     """The document that tells of what the program is made."""
 
-    # What crates.txt has the program use of its own crates: what stands in it for tests alone is no part.
+    # What crates.txt has the program use of its own crates.
     OWN = {"epmd", "portmap_wire", "portmap_feed", "portmap_table", "portmap_core", "portmap_book", "portmap_link", "portmap_client", "portmap_record",
-           "portmap_ready", "portmap_worker", "portmap_daemon"}
+           "portmap_ready", "portmap_worker", "portmap_daemon", "portmap_command"}
 
     # How pages of the kit tell after what a crate is written.
     PAGES = {"slab": "Keys. A port of the Rust crate `slab` 0.4.12 (MIT, `LICENSE`).",
              "itoa": "Text, after the API of the Rust crate `itoa` 1.0.18 (MIT or Apache-2.0, `LICENSE`).",
-             "http_server": "Targets, after the module `uri` of the Rust crate `http` 1.5.0 (MIT or Apache-2.0, taken under MIT, `LICENSE`).",
+             "indexmap": "Maps, after the module `map` of the Rust crate `indexmap` 2.0 (MIT or Apache-2.0, taken under MIT, `LICENSE`).",
              "thiserror": "Errors, ported from the Rust crate `this-error` 2.0 (MIT or Apache-2.0; both are here).", "mio": "New code."}
 
     def document(self, **env):
@@ -466,7 +473,7 @@ class Parts(Checkout):
         self.assertEqual(set(packages), self.OWN | named | {"std", "os", "std_io", "core", "epmd-proved", "rattle-kit"})
         edges = self.edges(document)
         for crate in self.OWN:
-            self.assertEqual(edges[crate], own[crate] - {"portmap_testing"} | {"std"}, crate)
+            self.assertEqual(edges[crate], own[crate] | {"std"}, crate)
         self.assertEqual((edges["slab"], edges["std"], edges["os"]), ({"std", "os", "core"}, {"std_io", "core"}, {"core"}))
 
     def test_what_the_kit_tells_is_told_and_nothing_else(self):
@@ -475,7 +482,7 @@ class Parts(Checkout):
         told = {name: (package["licenseDeclared"], package["copyrightText"], package.get("sourceInfo")) for name, package in packages.items()}
         self.assertEqual(told["slab"], ("MIT", "Copyright (c) 2019 Carl Lerche", "After the Rust crate slab 0.4.12"))
         self.assertEqual(told["itoa"], ("MIT OR Apache-2.0", "NOASSERTION", "After the API of the Rust crate itoa 1.0.18"))
-        self.assertEqual(told["http_server"], ("MIT", "NOASSERTION", "After the module uri of the Rust crate http 1.5.0"))
+        self.assertEqual(told["indexmap"], ("MIT", "NOASSERTION", "After the module map of the Rust crate indexmap 2.0"))
         self.assertEqual(told["thiserror"], ("MIT OR Apache-2.0", "NOASSERTION", "After the Rust crate this-error 2.0"))
         self.assertEqual((told["mio"], told["std"]), (("NOASSERTION", "NOASSERTION", None),) * 2)
         self.assertEqual((packages["slab"]["versionInfo"], packages["rattle-kit"]["versionInfo"]), ("rattle-kit-7", "rattle-kit-7 logic 0123"))
@@ -491,28 +498,6 @@ class Parts(Checkout):
                 self.assertIn(package["copyrightText"], notices)
             if "sourceInfo" in package or package["copyrightText"].startswith("Copyright"):
                 self.assertRegex(notices, rf"\b{name}\b")
-
-
-class Client(Checkout):
-    """`make client`, whose compiler and linker do nothing here."""
-
-    def setUp(self):
-        super().setUp()
-        self.stand_in("rt", RT)
-        for name in ("ld", "objcopy", "ar", "cc"):
-            self.stand_in(name, f'#!/bin/sh\necho {name} >> "$NOTES"\ntouch build/client.o\n')
-        os.makedirs(os.path.join(self.top, "crates", "portmap_client_c"))
-
-    def test_each_crate_is_told(self):
-        self.assertRegex(self.made("client"), r"^portmap_wire: proved \(1 of 7\), \d+ s\nportmap_client_c: proved \(7 of 7\), \d+ s\n$")
-        self.assertEqual(self.noted(), ["rt lib", "rt doc", "ld", "objcopy", "ar", "cc"])
-        self.assertIn("\nnoise\n", read(os.path.join(self.top, "build", "log", "portmap_client_c")))
-
-    def test_a_failure_is_told_and_makes_nothing(self):
-        done = self.make("client", FAILS="yes")
-        self.assertEqual(done.returncode, 2)
-        self.assertIn("fn portmap_link::link: not proved\nportmap_client_c: failed, all of it is in build/log/portmap_client_c\n", done.stdout)
-        self.assertEqual(self.noted(), ["rt lib"])
 
 
 if __name__ == "__main__":

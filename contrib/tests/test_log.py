@@ -14,7 +14,7 @@ import unittest
 
 import programs
 from programs import CONTRIB, SILENCE
-from epmd_recording import BODY_MOST, NAME_MOST, Recording
+from epmd_recording import BODY_MOST, KINDS, NAME_MOST, Recording
 
 LOG = os.path.join(CONTRIB, "epmd-log")
 STAMP = r"\d{4}-\d\d-\d\dT\d\d:\d\d:\d\d\.\d{6}Z "
@@ -137,6 +137,77 @@ class Told(unittest.TestCase):
             "3 refuse b port 2: no room for the name",
             "5 refuse c port 3: a peer of another host",
         ])
+
+    def test_a_refusal_names_who_has_the_name(self):
+        entries = connect(0) + piece(0, alive(b"a", 5000), 0, GRANTED) + connect(1) + piece(1, alive(b"a", 1), 1, IN_USE)
+        entries += connect(2) + piece(2, sized(b"sa"), 1, b"STOPPED") + connect(3) + piece(3, alive(b"a", 2), 1, IN_USE)
+        entries += connect(4) + piece(4, alive(b"a", 6000), 0, GRANTED) + connect(5) + piece(5, alive(b"a", 3), 1, IN_USE) + close(0) + close(4)
+        lines = [line for line in self.told(start() + entries) if "refuse" in line]
+        self.assertEqual(lines, ["3 refuse a port 1: the name is in use, held at port 5000", "7 refuse a port 2: the name is in use",
+                                 "11 refuse a port 3: the name is in use, held at port 6000"])
+        self.assertEqual(self.told(start(9, [(b"b", 7, 4, 0)], (), [(0, 1, 1, b"")]) + connect(1) + piece(1, alive(b"b", 8), 1, IN_USE)),
+                         ["10 refuse b port 8: the name is in use, held at port 7"])
+
+    def test_events_of_some_kinds_alone(self):
+        entries = connect(0) + piece(0, alive(b"a", 1), 0, GRANTED) + visit(b"b") + close(0)
+        for words, lines in ((["-event", "leave,lookup"], ["3 lookup b", "5 leave a port 1"]), (["-event", "leave"], ["5 leave a port 1"]),
+                             (["-event", "start", "-event", "register"], ["0 start", "1 register a port 1 creation 4"]),
+                             (["-event", "lookup", "-n", "a"], [])):
+            self.write(start() + entries)
+            self.assertEqual([line.partition(" by")[0] for line in self.run_log(*words).stdout.splitlines()], lines, words)
+        for word in ("refused", "", "leave,,"):
+            done = self.run_log("-event", word)
+            self.assertEqual((done.returncode, done.stdout), (2, ""))
+            self.assertIn(f"{word!r} is no kind: write register, refuse, leave, held, lookup,", done.stderr)
+
+    def test_the_manual_has_each_kind(self):
+        with open(os.path.join(CONTRIB, "..", "docs", "epmd-log.1"), encoding="utf-8") as file:
+            keys = re.search(r"(?s)\n\.It event\n(.*?)\n\.It ", file.read())[1]
+        self.assertEqual(re.findall(r"(?m)^\.Ql (\w+)", keys), KINDS)
+
+    def test_health_checks_are_left_out_unless_they_are_asked_for(self):
+        checks = [b"epmd-health", b"epmd-health-4711", b"epmd-health4711"]
+        entries = b"".join(connect(0) + piece(0, alive(name, 1), 0, GRANTED) + visit(name) + close(0) for name in checks)
+        nodes = b"epmd-healthy", b"epmd-health-b", b"epmd-healt"
+        others = [f"{each} lookup {name.decode()} by a local peer: not registered" for each, name in zip((19, 22, 25), nodes)]
+        self.write(start() + entries + b"".join(map(visit, nodes)))
+        self.assertEqual(self.run_log().stdout.splitlines(), ["0 start", *others])
+        self.assertEqual(len(self.run_log("-health").stdout.splitlines()), 1 + 9 + 3)
+        self.assertEqual(len(self.run_log("-n", "epmd-health").stdout.splitlines()), 1 + 3)
+
+    def test_several_recordings_are_told_one_behind_the_other(self):
+        self.write(start() + connect(0) + piece(0, alive(b"n", 5000), 0, GRANTED), self.path + "-20261128T040632Z")
+        self.write(start() + visit(b"a"))
+        self.write(start(3) + visit(b"b"), self.path + ".1")
+        files = [self.path + behind for behind in ("-20261128T040632Z", "", ".1")]
+        done = programs.run([sys.executable, LOG, *files])
+        self.assertEqual((done.returncode, done.stderr), (0, ""))
+        self.assertEqual([line.partition(" by")[0] for line in done.stdout.splitlines()], [
+            "0 start", "1 register n port 5000 creation 4", "0 start", "0 leave n port 5000 (restart)", "1 lookup a", "4 lookup b"])
+        done = programs.run([sys.executable, LOG, "-f", *files])
+        self.assertEqual((done.returncode, done.stdout, done.stderr.splitlines()[-1]), (2, "", "epmd-log: error: with -f there is one FILE"))
+
+    def test_what_is_no_recording_is_told_in_a_sentence(self):
+        self.write(b"root:x:0:0:root:/root:/bin/sh\n")
+        self.write(b"EPMT", self.path + ".times")
+        for path, said in ((self.folder.name, "is a folder, and no file"), (self.path, ": it is no recording"), (self.path + "1", ": no such file"),
+                           (self.path + ".times", ": times of a recording, and no recording")):
+            done = programs.run([sys.executable, LOG, path])
+            self.assertEqual((done.returncode, done.stdout), (2, ""))
+            self.assertIn(path + ("" if said[0] == ":" else " ") + said, done.stderr)
+            self.assertNotIn("Errno", done.stderr)
+
+    def test_a_link_to_itself_is_passed_over(self):
+        self.write(start() + visit(b"a"))
+        os.symlink(self.path + ".1", self.path + ".1")
+        done = self.run_log()
+        self.assertEqual((done.returncode, done.stderr, len(done.stdout.splitlines())), (0, "", 2))
+
+    def test_an_answer_is_no_command_to_a_terminal(self):
+        answers = b"\x1b[2J", b"a\nb", b"a\rb", b"\x9b"
+        entries = b"".join(connect(0) + piece(0, sized(b"k"), 1, answer) + connect(1) + piece(1, sized(b"sn"), 1, answer) for answer in answers)
+        wanted = ["\\x1b[2J", "a\\nb", "a\\rb", "\\x9b"]
+        self.assertEqual([line.rpartition(": ")[2] for line in self.told(start() + entries)], [each for each in wanted for _ in range(2)])
 
     def test_lists_dumps_stops_and_kills(self):
         entries = b"".join(connect(slot, local) + piece(slot, sized(request), 1, reply) for slot, (local, request, reply) in enumerate([
@@ -264,7 +335,7 @@ class Told(unittest.TestCase):
         self.assertEqual([json.loads(line) for line in self.told(start() + entries, "-json")], [
             {"place": 1, "event": "register", "name": "a", "port": 5000, "creation": 4, "peer": "local"},
             {"place": 3, "event": "lookup", "name": "a", "port": 5000, "peer": "remote"},
-            {"place": 5, "event": "refuse", "name": "a", "port": 1, "peer": "local", "reason": "in_use"},
+            {"place": 5, "event": "refuse", "name": "a", "port": 1, "peer": "local", "reason": "in_use", "held_port": 5000},
             {"place": 7, "event": "timeout", "peer": "local"},
             {"place": 8, "event": "leave", "name": "a", "port": 5000, "peer": "local", "reason": "fault"},
             {"place": 10, "event": "list", "peer": "local"},
@@ -313,7 +384,8 @@ class Told(unittest.TestCase):
     def test_each_tool_has_a_version_and_says_what_it_lacks(self):
         with open(os.path.join(CONTRIB, "..", "VERSION")) as file:
             version = file.read().strip()
-        lacking = "import sys, runpy; sys.modules['argparse'] = None; sys.argv = sys.argv[1:]; runpy.run_path(sys.argv[0], run_name='__main__')"
+        lacking = "import sys, runpy; sys.modules['argparse'] = None; del sys.argv[0]; sys.path[0] = sys.argv[0].rpartition('/')[0]; "
+        lacking += "runpy.run_path(sys.argv[0], run_name='__main__')"
         for name in ("epmd-log", "epmd-metrics", "epmd-prune", "epmd-report"):
             tool = os.path.join(CONTRIB, name)
             for word in ("-version", "--version"):
@@ -618,6 +690,54 @@ class Followed(Written, unittest.TestCase):
         following = Recording(self.path, True, kept=recording.kept())
         self.addCleanup(following.close)
         self.assertEqual([(event.place, event.event) for event in following.events()], [(3, "gap"), (8, "lookup")])
+
+    def test_where_the_clock_was_set_back_all_is_told(self):
+        self.write(start() + visit(b"a"))
+        self.assertEqual(self.seen(), ["1 a"])
+        self.now -= 3600
+        self.write(start(3) + visit(b"b"), ".1")
+        self.assertEqual(self.seen(), ["4 b"])
+        self.now -= 3600
+        self.write(start(9) + visit(b"c"), ".2")
+        self.assertEqual(self.seen(), ["6 gap 3", "10 c"])
+        self.rename("20261128T040632Z", "", ".1", ".2")
+        self.now -= 3600
+        self.write(start() + visit(b"d"))
+        self.assertEqual(self.seen(), ["1 d"])
+        self.write(start() + visit(b"old"), "-20261128T050000Z")  # A copy, say.
+        self.rename("20261128T030000Z", "")
+        self.now -= 3600
+        self.write(start() + visit(b"e") * 2)
+        self.assertEqual(self.seen()[-2:], ["1 e", "4 e"])
+        self.assertEqual(self.seen(), [])
+
+    def test_a_run_of_a_later_name_is_not_told_again(self):
+        self.write(start() + visit(b"old"), "-20261128T050000Z")
+        self.write(start() + visit(b"a"))
+        self.assertEqual(self.seen(), ["1 a"])
+        self.now -= 3600
+        self.rename("20261128T040000Z", "")
+        self.assertEqual(self.seen(), [])
+        self.write(start() + visit(b"b"))
+        self.assertEqual(self.seen() + self.seen(), ["1 b"])
+
+    def test_a_left_over_file_of_a_later_time_is_not_told(self):
+        self.write(start() + visit(b"a"))
+        self.write(start(3) + visit(b"b"), ".1")
+        self.assertEqual(self.seen(), ["1 a", "4 b"])
+        self.now -= 3600
+        self.write(start() + visit(b"c"))
+        self.assertEqual(self.seen() + self.seen(), ["1 c"])
+        self.write(start(3) + visit(b"d"), ".1")
+        self.assertEqual(self.seen(), ["4 d"])
+
+    def test_who_comes_later_reads_on_in_a_file_of_an_earlier_time(self):
+        self.write(start() + visit(b"a"))
+        self.now -= 3600
+        self.write(start(3) + visit(b"b"), ".1")
+        self.now -= 3600
+        self.write(start(6) + visit(b"c"), ".2")
+        self.assertEqual(self.seen(), ["1 a", "4 b", "7 c"])
 
     def test_the_first_files_are_pruned(self):
         self.write(start() + visit(b"a"))

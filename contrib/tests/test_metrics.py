@@ -253,6 +253,19 @@ class Published(Written, unittest.TestCase):
         found = figures(printed(closed_port(self), "-figures", self.path))
         self.assertEqual({name: value for name, value in found.items() if "_total" in name}, {"epmd_timeouts_total": 7})
 
+    def test_what_is_no_plain_file_is_not_waited_for(self):
+        os.mkfifo(self.path)
+        for path in (self.path, "/dev/zero"):
+            done = run(closed_port(self), "-figures", path)
+            self.assertEqual((done.returncode, figures(done.stdout)), (0, {"epmd_up": 0, "epmd_connections": 0}))
+            self.assertEqual(done.stderr, f"epmd-metrics: no counters: {path}: not a plain file\n")
+        done = run(closed_port(self), "-recording", os.path.join(self.folder.name, "none"), "-state", self.path)
+        self.assertEqual((done.returncode, done.stderr), (0, f"epmd-metrics: no counters: {self.path}: not a plain file\n"))
+        for words in (["-figures"], ["-recording"], []):
+            done = run(closed_port(self), *words, self.folder.name)
+            self.assertEqual((done.returncode, done.stdout), (2, ""))
+            self.assertIn(f"{self.folder.name} is a folder, and no file\n", done.stderr)
+
     def test_a_file_that_cannot_be_read_is_told(self):
         done = run(closed_port(self), "-figures", self.path)
         self.assertEqual((done.returncode, figures(done.stdout)), (0, {"epmd_up": 0, "epmd_connections": 0}))
@@ -288,6 +301,48 @@ class Counted(Written, unittest.TestCase):
             'epmd_refusals_total{reason="in_use"}': (0, 1), 'epmd_refusals_total{reason="no_room"}': (0, 1),
             'epmd_refusals_total{reason="remote"}': (0, 1), "epmd_timeouts_total": (0, 1), "epmd_malformed_total": (0, 1)})
         self.assertEqual(counts["epmd_recording_counted"], 1)
+
+    def test_a_file_alone_is_a_recording(self):
+        self.write(start() + visit(b"a"))
+        for words in ([self.path], ["-recording", self.path]):
+            self.assertEqual(figures(printed(closed_port(self), *words, "-state", self.state))['epmd_lookups_total{result="missing"}'], 1)
+
+    def test_health_checks_count_only_where_they_are_asked_for(self):
+        self.write(start() + visit(b"a") + visit(b"epmd-health") + visit(b"epmd-health-4711"))
+        for words, count in (([], 1), (["-health"], 3)):
+            counts = figures(printed(closed_port(self), *words, self.path, "-state", self.state + str(count)))
+            self.assertEqual(counts['epmd_lookups_total{result="missing"}'], count)
+
+    def test_where_the_clock_was_set_back_all_is_counted(self):
+        self.write(start() + visit(b"old"), "-20261128T050000Z")
+        self.write(start() + visit(b"a"))
+        self.assertEqual(self.lookups(), 1)
+        self.now -= 3600
+        self.write(start(3) + visit(b"b"), ".1")
+        self.assertEqual(self.lookups(), 2)
+        self.rename("20261128T040632Z", "", ".1")
+        self.now -= 3600
+        self.write(start() + visit(b"c"))
+        self.assertEqual([self.lookups(), self.lookups()], [3, 3])
+        self.now -= 3600
+        self.write(start(5) + visit(b"d"), ".1")
+        self.assertEqual([self.lookups(), self.lookups()], [4, 4])
+
+    def test_a_state_of_version_1_1_0_is_read_on(self):
+        self.write(start() + visit(b"old"), "-20261128T050000Z")
+        self.write(start() + visit(b"a"))
+        self.write(start(3) + visit(b"b"), ".1")
+        self.assertEqual(self.lookups(), 2)
+        with open(self.state) as file:
+            kept = json.load(file)
+        first = os.stat(self.path)
+        kept["format"], kept["at"]["first"] = 1, ["now", 0, self.path, first.st_ino, first.st_mtime_ns, first.st_size]
+        del kept["at"]["passed"], kept["at"]["older"]
+        with open(self.state, "w") as file:
+            json.dump(kept, file)
+        self.rename("20261128T060000Z", "", ".1")
+        self.write(start() + visit(b"c"))
+        self.assertEqual([self.lookups(), self.lookups()], [3, 3])
 
     def test_a_recording_that_is_cut_anywhere_is_counted_once(self):
         whole = start() + connect(0) + piece(0, b"\0", 0) + piece(0, b"\2z", 0) + piece(0, b"a", 1, b"w\1") + close(0) + visit(b"b")

@@ -20,8 +20,10 @@ FIGURES = "bench/RESULTS.md"
 OTHERS = [CHANGELOG, "SECURITY.md"]
 # Of a line, and of a line of the code.
 COLUMNS_MOST, CODE_COLUMNS_MOST = 140, 120
-# Lines of README and docs/*.md together, and of the README of a crate. Manual pages, changes, figures and SECURITY.md have no limit.
-LINES_MOST, CRATE_LINES_MOST = 2400, 100
+# Lines of a page, and of the README of a crate. Manual pages, changes, figures and SECURITY.md have no limit.
+LINES_MOST = {"README.md": 170, "docs/ARCHITECTURE.md": 290, "docs/CONTRIBUTING.md": 440, "docs/DECISIONS.md": 380, "docs/FORMATS.md": 310,
+              "docs/GLOSSARY.md": 145, "docs/INSTALL.md": 135, "docs/PROTOCOL.md": 125, "docs/PROVED.md": 380, "docs/TESTING.md": 180}
+CRATE_LINES_MOST = 100
 # Of the decisions, in words.
 WORDS_MOST = 6000
 # Of a picture.
@@ -281,11 +283,11 @@ class Pages(unittest.TestCase):
         for ending, most in (".antt", COLUMNS_MOST), (".rt", CODE_COLUMNS_MOST):
             files = [path for path in below(["crates"]) if path.endswith(ending)]
             self.assertGreater(len(files), 0)
-            wide = [(path, *found) for path in files for found in too_wide(read(path), COLUMNS_MOST if "/tests/" in path else most)]
+            wide = [(path, *found) for path in files for found in too_wide(read(path), COLUMNS_MOST if "/tests" in path else most)]
             self.assertEqual(wide, [])
 
     def test_the_pages_are_short(self):
-        self.assertLessEqual(sum(read(page).count("\n") for page in PAGES), LINES_MOST)
+        self.assertEqual([page for page in PAGES if read(page).count("\n") > LINES_MOST[page]], [])
         self.assertEqual([page for page in CRATES if read(page).count("\n") > CRATE_LINES_MOST], [])
         self.assertLessEqual(len(read(DECISIONS).split()), WORDS_MOST)
 

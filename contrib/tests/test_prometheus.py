@@ -107,7 +107,7 @@ class Alerts(unittest.TestCase):
             self.assertRegex(page, rf"\n\.It {name}\nFor \w+ minutes {number:,} ")
 
     def test_near_a_limit_is_what_other_hosts_may_have_of_it(self):
-        actions = read(os.path.join(TOP, "crates", "epmd", "src", "actions.rt"))
+        actions = read(os.path.join(TOP, "crates", "portmap_command", "src", "actions.rt"))
         most = {name: int(number) for name, number in re.findall(r"pub const (\w+_MOST): u32 = (\d+);", actions)}
         limits = read(os.path.join(TOP, "crates", "portmap_worker", "src", "limits.rt"))
         share = int(re.search(r"RESERVED_SHARE: u64 = (\d+);", limits)[1])

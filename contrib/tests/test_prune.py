@@ -51,7 +51,26 @@ class Prune(unittest.TestCase):
 
     def test_few_all_stay(self):
         self.assertEqual(self.left(["s", "s.1"], 2), ["s", "s.1"])
-        self.assertEqual(self.left([], 2), [])
+
+    def test_what_is_no_recording_is_told_and_the_others_are_pruned(self):
+        with tempfile.TemporaryDirectory() as folder:
+            for name in ("s", "s.1"):
+                open(os.path.join(folder, name), "w").close()
+            done = programs.run([sys.executable, TOOL, "-keep", "1", os.path.join(folder, "t"), os.path.join(folder, "s")])
+            self.assertEqual((done.returncode, done.stdout, done.stderr), (1, "", f"epmd-prune: {folder}/t: no such file\n"))
+            self.assertEqual(os.listdir(folder), ["s.1"])
+            done = programs.run([sys.executable, TOOL, "-keep", "1", folder])
+            self.assertEqual((done.returncode, done.stderr.splitlines()[-1]),
+                             (2, f"epmd-prune: error: argument FILE: {folder} is a folder, and no file"))
+
+    def test_a_link_to_itself_is_no_file_of_it(self):
+        with tempfile.TemporaryDirectory() as folder:
+            for name in ("s", "s.1"):
+                open(os.path.join(folder, name), "w").close()
+            os.symlink("s.bak", os.path.join(folder, "s.bak"))
+            os.symlink("s.2", os.path.join(folder, "s.2"))
+            programs.run([sys.executable, TOOL, "-keep", "1", os.path.join(folder, "s")], check=True)
+            self.assertEqual(sorted(os.listdir(folder)), ["s.1", "s.2", "s.bak"])
 
     def test_the_newest_one_always_stays(self):
         self.assertEqual(self.left(["s", "s.1"], 1), ["s.1"])

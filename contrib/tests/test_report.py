@@ -79,27 +79,38 @@ class Shown(Reported, unittest.TestCase):
     """The values in the page."""
 
     def test_known_events_are_known_facts(self):
+        self.limits = {"COLUMNS": 11}
         self.day()
         data = self.values()
         self.assertEqual((data["isTimed"], data["first"], data["span"]), (True, BEGAN // 1000, 600_000))
         self.assertEqual(self.lane(data, "a"), {
-            "spells": [[60_000, 300_000, 5000, 4, "close"], [360_000, 600_000, 5002, 4, "end"]], "refused": [[143, 3]],
-            "absent": [[239, 2]], "found": 1, "registered": 2})
+            "spells": [[60_000, 300_000, 5000, 4, "close"], [360_000, 600_000, 5002, 4, "end"]], "refused": [[3, 3]],
+            "absent": [[5, 2]], "found": 1, "registered": 2})
         self.assertEqual(self.lane(data, "b")["spells"], [[120_000, 600_000, 5001, 4, "end"]])
-        self.assertEqual(self.lane(data, "c"), {"spells": [], "refused": [], "absent": [[191, 1]], "found": 0, "registered": 0})
+        self.assertEqual(self.lane(data, "c"), {"spells": [], "refused": [], "absent": [[4, 1]], "found": 0, "registered": 0})
         self.assertEqual([row[0] for row in data["lanes"]["rows"]], ["a", "b", "c"])
         self.assertEqual(data["refusals"], [[180_000, 180_000, 3, "a", 6000, "in_use", 5000, 60_000]])
         self.assertEqual(data["marks"], [[0, "start", None], [600_000, "end", None]])
-        self.assertEqual(data["columns"]["per"], 60_000)
+        self.assertEqual((data["columns"]["begin"], data["columns"]["width"], data["columns"]["per"]), (0, 60_000, 1))
         self.assertEqual(data["columns"]["rows"], [  # Registered, refused, found, absent, most connections.
-            [0, 0, 0, 0, 0], [1, 0, 0, 0, 1], [1, 0, 0, 0, 2], [0, 3, 0, 0, 3], [0, 0, 1, 1, 3], [0, 0, 0, 2, 2], [1, 0, 0, 0, 2],
+            0, [1, 0, 0, 0, 1], [1, 0, 0, 0, 2], [0, 3, 0, 0, 3], [0, 0, 1, 1, 3], [0, 0, 0, 2, 2], [1, 0, 0, 0, 2],
             [0, 0, 0, 0, 4], [0, 0, 0, 0, 2], [0, 0, 0, 0, 2], [0, 0, 0, 0, 2]])
         self.assertEqual(data["worst"], [
             [180_000, 0, 3, 0, 0, 3], [300_000, 0, 0, 0, 2, 2], [240_000, 0, 0, 1, 1, 3],
             [60_000, 1, 0, 0, 0, 1], [120_000, 1, 0, 0, 0, 2], [360_000, 1, 0, 0, 0, 2]])
-        self.assertEqual((data["counts"]["starts"], data["counts"]["ends in order"]), (1, 1))
+        self.assertEqual([data["counts"][each] for each in ("starts", "ends in order", "ends not in order")], [1, 1, 0])
         self.assertEqual(data["verdicts"], [])
-        self.assertEqual(data["notes"], ["A mark stands for all refusals, or all look-ups while absent, in 1/480 of the time line."])
+        self.assertEqual(data["notes"], ["A mark stands for all refusals, or all look-ups while absent, in 1/11 of the time line."])
+
+    def test_a_short_recording_has_columns_of_seconds_and_the_worst_minutes(self):
+        self.day()
+        data = self.values()
+        self.assertEqual((data["columns"]["width"], data["columns"]["per"], len(data["columns"]["rows"])), (1000, 1, 601))
+        rows = [row or [0] * 5 for row in data["columns"]["rows"]]
+        self.assertEqual([rows[second] for second in (0, 59, 60, 179, 180, 181, 599)], [
+            [0] * 5, [0] * 5, [1, 0, 0, 0, 1], [0, 0, 0, 0, 2], [0, 3, 0, 0, 3], [0, 0, 0, 0, 2], [0, 0, 0, 0, 2]])
+        self.assertEqual(data["worst"][:2], [[180_000, 0, 3, 0, 0, 3], [300_000, 0, 0, 0, 2, 2]])
+        self.assertEqual((self.lane(data, "a")["refused"], data["notes"]), ([[180 * 4800 // 601, 3]], []))
 
     def test_each_sum_counts_what_it_says(self):
         def asked(request, answer=b""):
@@ -110,8 +121,8 @@ class Shown(Reported, unittest.TestCase):
         self.write(start() + entries)
         self.assertEqual(self.values()["counts"], {
             "names": 2, "registrations": 4, "refusals": 5, "look-ups": 7, "of these while absent": 6, "lists": 8,
-            "connections that failed": 3, "timeouts": 9, "malformed requests": 10, "most connections": 2, "starts": 1,
-            "ends in order": 0, "gaps": 0})
+            "connections that failed": 3, "timeouts": 9, "malformed requests": 10, "connections at once": 2, "starts": 1,
+            "ends in order": 0, "ends not in order": 0, "gaps": 0})
 
     def test_a_name_is_held_until_it_is_stopped(self):
         self.write(start() + register(0, b"a") + b"".join(connect(1) + piece(1, sized(b"sa"), 1, said) for said in (b"", b"STOPPED")))
@@ -121,7 +132,7 @@ class Shown(Reported, unittest.TestCase):
         self.write(start() + register(0, b"a") + refused(b"a", NO_ROOM) * 2 + close(0))
         self.write(b"", ".times")
         data = self.values()
-        self.assertEqual((data["isTimed"], data["first"], data["span"], data["columns"]["per"]), (False, 0, 8, 1000))
+        self.assertEqual((data["isTimed"], data["first"], data["span"], data["columns"]["width"]), (False, 0, 8, 1000))
         self.assertEqual(self.lane(data, "a")["spells"], [[1, 8, 5000, 4, "close"]])
         self.assertEqual(data["refusals"], [[3, 6, 2, "a", 6000, "no_room", 5000, 1]])
         self.assertIn("has no times: the axis is the number of the entry", data["notes"][0])
@@ -130,7 +141,8 @@ class Shown(Reported, unittest.TestCase):
         self.write(start() + register(0, b"a"), "-20261128T000100Z")
         self.write(start() + register(0, b"b"))
         data = self.values(self.path + "-20261128T000100Z", self.path)
-        self.assertEqual([self.lane(data, name)["spells"] for name in "ab"], [[[1, 2, 5000, 4, "restart"]], [[3, None, 5000, 4, None]]])
+        self.assertEqual([self.lane(data, name)["spells"] for name in "ab"], [[[1, 1, 5000, 4, "restart"]], [[3, None, 5000, 4, None]]])
+        self.assertEqual(data["marks"], [[0, "start", None], [2, "start", 1]])
 
     def test_what_has_no_time_stands_at_the_last_one_known_and_is_counted(self):
         self.write(start() + register(0, b"a") + visit(b"x") + register(1, b"b"))
@@ -140,6 +152,47 @@ class Shown(Reported, unittest.TestCase):
         self.assertIn("2 events have no time, and stand at the last time that is known before.", data["notes"])
         self.write(times((0, 0), (5, 3 * MINUTE), (6, MINUTE)), ".times")
         self.assertEqual(self.values()["notes"][0], "1 event has no time, and stands at the last time that is known before.")
+
+    def test_what_comes_before_all_known_times_stands_at_the_first_one(self):
+        earlier = self.path + "-20241128T000100Z"
+        self.write(start() + register(0, b"a") + refused(b"a") + close(0) + register(0, b"b"), "-20241128T000100Z")
+        self.write(start() + register(0, b"c"))
+        self.write(times((0, 9 * SECOND), (2, 20 * SECOND)), ".times")
+        data = self.values(earlier, self.path)
+        self.assertEqual((data["first"], data["span"], data["columns"]["begin"]), (BEGAN // 1000 + 9000, 11_000, 0))
+        self.assertEqual((data["columns"]["rows"][0][:2], len(data["columns"]["rows"])), ([2, 1], 12))
+        self.assertEqual([self.lane(data, name)["spells"] for name in "abc"], [
+            [[0, 0, 5000, 4, "close"]], [[0, 0, 5000, 4, "restart"]], [[11_000, None, 5000, 4, None]]])
+
+    def test_a_part_of_the_time_alone(self):
+        self.day()
+        def part(*words):
+            return self.values(*words, self.path)
+        since, until = "2024-11-28T00:03:00Z", "2024-11-28T00:05:00Z"
+        data = part("-since", since, "-until", until)
+        self.assertEqual((data["first"] - BEGAN // 1000, data["span"]), (180_000, 120_000))
+        self.assertEqual([row[0] for row in data["lanes"]["rows"]], ["a", "b", "c"])
+        self.assertEqual(self.lane(data, "a")["spells"], [[-120_000, None, 5000, 4, None]])
+        self.assertEqual([data["counts"][each] for each in ("refusals", "look-ups", "registrations", "starts")], [3, 2, 0, 0])
+        self.assertEqual((data["refusals"][0][:3], data["refusals"][0][6:]), ([0, 0, 3], [5000, -120_000]))
+        self.assertEqual([row[4] if row else 0 for row in data["columns"]["rows"]][:2], [3, 2])
+        data = part("-since", "2024-11-28T00:05:30Z")
+        self.assertEqual([(row[0], [spell[:2] for spell in row[1]]) for row in data["lanes"]["rows"]],
+                         [("a", [[30_000, 270_000]]), ("b", [[-210_000, 270_000]])])
+        self.assertEqual((data["marks"], data["columns"]["rows"][0]), ([[270_000, "end", None]], [0, 0, 0, 0, 1]))
+        data = part("-until", "2024-11-28T00:02:00Z")
+        self.assertEqual((data["span"], [row[0] for row in data["lanes"]["rows"]]), (120_000, ["a"]))
+        self.assertEqual((part("-since", "1h")["lanes"]["rows"], part("-since", "1h")["counts"]["names"]), ([], 0))
+        os.remove(self.path + ".times")
+        self.assertEqual(self.report("-since", since, self.path, status=2,
+                                     err=f"epmd-report: {self.path}: there are no times, so nothing is known of that time\n"), "")
+
+    def test_health_checks_are_left_out_unless_they_are_asked_for(self):
+        self.write(start(5, [(b"epmd-health", 1, 4, 0)], (), [(0, 1, 1, b"")]) + register(1, b"a") + register(2, b"epmd-health-7") + visit(b"epmd-health-8"))
+        for words, names in (([], ["a"]), (["-health"], ["a", "epmd-health", "epmd-health-7", "epmd-health-8"])):
+            data = self.values(*words, self.path)
+            self.assertEqual(sorted(row[0] for row in data["lanes"]["rows"]), names)
+            self.assertEqual((data["counts"]["names"], data["counts"]["look-ups"]), (len(names), len(words)))
 
     def test_a_clock_that_was_set_back(self):
         self.write(start() + visit(b"x") * 5)
@@ -157,7 +210,7 @@ class Shown(Reported, unittest.TestCase):
             self.write(times((0, begun), (3, begun), (6, begun + 2 * MINUTE)), ".times")
             data = self.values()
             shown = data["columns"]["begin"], *(row[0] for row in data["worst"]), data["span"]
-            wanted = BEGAN, BEGAN, BEGAN + 2 * MINUTE, BEGAN + begun + 2 * MINUTE
+            wanted = BEGAN + begun // SECOND * SECOND, BEGAN, BEGAN + 2 * MINUTE, BEGAN + begun + 2 * MINUTE
             self.assertEqual([data["first"] + each for each in shown], [each // 1000 for each in wanted], begun)
 
     def test_a_crash_and_a_restart(self):
@@ -167,17 +220,23 @@ class Shown(Reported, unittest.TestCase):
         self.write(start() + register(0, b"a", 7000))
         self.write(times((0, MINUTE), (2, 2 * MINUTE)), ".times")
         data = self.values(earlier, self.path)
-        self.assertEqual(self.lane(data, "a")["spells"], [[1000, 60_000, 5000, 4, "restart"], [120_000, None, 7000, 4, None]])
-        self.assertEqual(self.lane(data, "b")["spells"], [[1000, 60_000, 5000, 4, "restart"]])
-        self.assertEqual(data["marks"], [[0, "start", None], [60_000, "start", 1000]])
+        self.assertEqual(self.lane(data, "a")["spells"], [[1000, 1000, 5000, 4, "restart"], [120_000, None, 7000, 4, None]])
+        self.assertEqual(self.lane(data, "b")["spells"], [[1000, 1000, 5000, 4, "restart"]])
+        self.assertEqual((data["marks"], data["counts"]["ends not in order"]), ([[0, "start", None], [60_000, "start", 1000]], 1))
+        self.write(times((0, 0), (4, SECOND), (4, 31 * SECOND), (4, 41 * SECOND), version=2), "-20261128T000100Z.times")
+        data = self.values(earlier, self.path)
+        self.assertEqual(self.lane(data, "b")["spells"], [[1000, 41_000, 5000, 4, "restart"]])
+        self.assertEqual(data["marks"], [[0, "start", None], [60_000, "start", 41_000]])
+        self.assertEqual([row[4] for row in (row or [0] * 5 for row in data["columns"]["rows"])][39:43], [2, 2, 2, 0])
 
     def test_between_two_runs_no_connection_is_held(self):
+        self.limits = {"COLUMNS": 8}
         self.write(start() + register(0, b"a"), "-20261128T000100Z")
         self.write(times((0, 0), (2, MINUTE), (2, 2 * MINUTE)), "-20261128T000100Z.times")
         self.write(start() + register(0, b"a") + register(1, b"b") + close(0))
         self.write(times((0, 5 * MINUTE), (4, 6 * MINUTE), (5, 7 * MINUTE)), ".times")
         data = self.values(self.path + "-20261128T000100Z", self.path)
-        self.assertEqual([row[4] for row in data["columns"]["rows"]], [0, 1, 1, 0, 0, 0, 2, 2])
+        self.assertEqual([row and row[4] for row in data["columns"]["rows"]], [0, 1, 1, 0, 0, 0, 2, 2])
 
     def test_a_recording_that_begins_in_a_state_and_one_with_a_gap(self):
         state = [(b"a", 5000, 4, 0), (b"b", 5001, 4, 1)], (), [(0, 1, 1, b""), (1, 1, 1, b"")]
@@ -187,7 +246,7 @@ class Shown(Reported, unittest.TestCase):
         self.write(times((90, 5 * MINUTE), (93, 6 * MINUTE)), ".4.times")
         data = self.values()
         self.assertEqual(self.lane(data, "a")["spells"], [[0, 60_000, 5000, None, "close"]])
-        self.assertEqual(self.lane(data, "b")["spells"], [[0, 300_000, 5001, None, "gap"]])
+        self.assertEqual(self.lane(data, "b")["spells"], [[0, 60_000, 5001, None, "gap"]])
         self.assertEqual(self.lane(data, "c")["spells"], [[300_000, None, 5002, None, None]])
         self.assertEqual((data["marks"], data["counts"]["gaps"]), ([[60_000, "gap", 19], [300_000, "again", None]], 1))
         self.write(start(94) + register(0, b"c"), ".9")
@@ -203,7 +262,7 @@ class Shown(Reported, unittest.TestCase):
         self.write(start(70) + visit(b"x"), ".3")
         self.write(times((70, 0), (73, MINUTE)), ".3.times")
         data = self.values()
-        self.assertEqual((data["notes"], data["span"], self.lane(data, "x")["absent"]), ([], 60_000, [[472, 1]]))
+        self.assertEqual((data["notes"], data["span"], self.lane(data, "x")["absent"]), ([], 60_000, [[60 * 4800 // 61, 1]]))
 
     def test_names_are_text_and_nothing_else(self):
         names = [name.encode() for name in HOSTILE] + [b"\xff\xfe"]
@@ -232,9 +291,10 @@ class Shown(Reported, unittest.TestCase):
         spells = self.lane(data, "aaaaa… (9 bytes)")["spells"]
         self.assertEqual([spell[:2] for spell in spells], [[minute * 60_000] * 2 for minute in (6, 7, 8)])
         self.assertEqual(data["refusals"], [[480_000, 480_000, 2, "other", 6000, "in_use"]])
-        self.assertEqual((data["columns"]["per"], [row[:4] for row in data["columns"]["rows"]]), (180_000, [[1, 4, 0, 1]] * 3))
+        self.assertEqual([data["columns"][each] for each in ("width", "per")], [60_000, 3])
+        self.assertEqual([row[:4] for row in data["columns"]["rows"]], [[1, 4, 0, 1]] * 3)
         self.assertEqual(data["notes"], [
-            "Each column of a chart is the busiest of 3 minutes.", "2 of 4 names have a lane, those of refusals first.",
+            "2 of 4 names have a lane, those of refusals first.",
             "The last 3 registrations of a name are shown, at most.",
             "A mark stands for all refusals, or all look-ups while absent, in 1/1 of the time line.",
             "The table has the last 1 of 24 rows of refusals.",
@@ -252,6 +312,16 @@ class Shown(Reported, unittest.TestCase):
 
     def test_what_can_not_be_read(self):
         self.assertEqual(self.report(status=2, err=f"epmd-report: {self.path}: no such file\n"), "")
+        self.write(b"root:x:0:0:root:/root:/bin/sh\n")
+        self.assertEqual(self.report(status=2, err=f"epmd-report: {self.path}: it is no recording\n"), "")
+        os.rename(self.path, self.path + "-passwd")
+        self.write(start() + register(0, b"a"))
+        fault = f"{self.path}-passwd: it is no recording: what is behind that is left out"
+        data = self.values(self.path, self.path + "-passwd", status=1, err=f"epmd-report: {fault}\n")
+        self.assertEqual((data["notes"][0], data["counts"]["registrations"]), (fault, 1))
+        done = programs.run([sys.executable, REPORT, self.folder.name])
+        self.assertEqual((done.returncode, done.stdout), (2, ""))
+        self.assertIn(f"{self.folder.name} is a folder, and no file\n", done.stderr)
         cut = f"{self.path} ends in the middle of an entry: it is being written, or its end was lost"
         for data, fault in (
             (start() + register(0, b"a") + connect(1)[:-1], cut),
@@ -268,7 +338,8 @@ class Shown(Reported, unittest.TestCase):
     def test_the_verdict_is_that_of_the_program(self):
         self.day()
         program = os.path.join(self.folder.name, "program")
-        for text, wanted in (("echo run of 5 entries in 1 files", [0, ["run of 5 entries in 1 files"]]), ("seq 7", [0, [*"12345"]]),
+        for text, wanted in (("echo run of 5 entries in 1 files", [0, ["run of 5 entries in 1 file"]]), ("seq 7", [0, [*"12345"]]),
+                             ("echo run of 1 entries in 5211 files", [0, ["run of 1 entry in 5,211 files"]]),
                              ("echo \"$1 ${2##*/} is <b>\" >&2; exit 1", [1, ["-audit session is <b>"]])):
             with open(program, "w", encoding="utf-8") as file:
                 file.write(f"#!/bin/sh\n{text}\n")
@@ -416,7 +487,18 @@ class InABrowser(Reported, unittest.TestCase):
         self.assertEqual(value("document.querySelectorAll('.chart .pin.start, .chart .pin.end').length"), 6)
         self.assertEqual(value("document.querySelector('#mapper .run').title"), "served from 2024-11-28 00:00:00Z to 2024-11-28 00:10:00Z")
         self.assertAlmostEqual(float(value("document.querySelector('#lanes .refused').style.left").rstrip("%")), 29.9, 1)
-        self.assertEqual(value("document.querySelector('.chart .bad').getAttribute('d')"), "M4 100v-50h1V100zM5 100v-100h1V100z")
+        self.assertEqual(value("document.querySelector('.chart .bad').getAttribute('d')"),
+                         "M400.00 100v-50h3.33V100zM500.00 100v-100h3.33V100z")
+        self.assertEqual(value("[...document.querySelectorAll('#charts h3')].map(each => each.textContent)"), [
+            "Look-ups a second, those while absent in red (at most 2)", "Registrations and refusals a second, refusals in red (at most 3)",
+            "Connections held (at most 4)"])
+        self.assertEqual(value(text_of("#per")), "A column is the busiest of 2 seconds.")
+        self.assertEqual(value("[...document.querySelectorAll('.chart')].map(each => [...each.querySelectorAll('.level')].map(e => e.textContent))"),
+                         [["1", "2"], ["1", "2", "3"], ["1", "2", "3", "4"]])
+        self.assertEqual(value("[...document.querySelectorAll('#counts > div')].map(each => each.textContent)"), [
+            "refusals3", "look-ups while absent3", "ends of the port mapper not in order0"])
+        self.assertEqual(value(text_of("#others")), "3 names · 3 registrations · 4 look-ups · 1 timeout · 4 connections at once · 1 start · "
+                         "1 end in order")
         self.assertEqual(value(CURSOR), "none")
         self.assertRegex(value(text_of("#about")), r" Made at \d{4}-\d\d-\d\d \d\d:\d\d:\d\dZ by ")
 
@@ -431,7 +513,7 @@ class InABrowser(Reported, unittest.TestCase):
             ["pin start", "start at 2024-11-28 00:00:00Z", "0%"], ["pin gap", "gap at 2024-11-28 00:01:00Z", "25%"],
             ["pin again", "recording again at 2024-11-28 00:02:00Z", "50%"], ["pin end", "end at 2024-11-28 00:04:00Z", "100%"]])
         left = value("[...document.querySelectorAll('.chart')].map(each => [...each.querySelectorAll('.pin')].map(pin => pin.style.left))")
-        self.assertEqual(left, [["0%", "20%", "40%", "80%"]] * 3)
+        self.assertEqual(left, [["0%", "25%", "50%", "100%"]] * 3)
         rows = value("[...document.querySelectorAll('#runs-table tbody tr')].map(each => each.textContent)")
         failed = "Here the recording failed, until 00:02:00Z: entries are missing, 87 in number."
         self.assertEqual(rows[1:], [f"2024-11-28 00:01:00Z{failed}", "2024-11-28 00:04:00ZThe port mapper ended in order."])
@@ -499,17 +581,107 @@ class InABrowser(Reported, unittest.TestCase):
                          "0 refusals, 0 connections")
         self.assertEqual(value(CURSOR), "block")
         value("document.querySelector('.chart').focus()")
-        for key, minute in (("End", 10), ("ArrowRight", 10), ("ArrowLeft", 9), ("ArrowLeft", 8), ("Home", 0), ("ArrowLeft", 0)):
+        for key, time in (("End", "10:00"), ("ArrowRight", "10:00"), ("ArrowLeft", "09:58"), ("ArrowLeft", "09:56"), ("Home", "00:00"),
+                          ("ArrowLeft", "00:00")):
             self.browser.press(key)
-            self.assertIn(f"2024-11-28 00:{minute:02}:00Z: ", value(text_of("#readout")))
+            self.assertIn(f"2024-11-28 00:{time}Z: ", value(text_of("#readout")))
+        for key, shown in (("+", "2024-11-28 00:02:30Z to 2024-11-28 00:07:30Z"), ("-", "2024-11-28 00:00:00Z to 2024-11-28 00:10:00Z")):
+            self.browser.press(key)
+            self.assertEqual((value(text_of("#readout")), value("document.activeElement.className")), (shown, "chart"))
 
     def test_a_chart_is_read_by_the_pointer(self):
         self.day()
         value = self.loaded()
         value("""(box => box.dispatchEvent(new PointerEvent("pointermove", {
-            clientX: box.getBoundingClientRect().left + box.clientWidth * 4.05 / 11})))(document.querySelector(".chart"))""")
+            bubbles: true, clientX: box.getBoundingClientRect().left + box.clientWidth * 0.401})))(document.querySelector(".chart"))""")
         self.assertEqual(value(text_of("#readout")), "2024-11-28 00:04:00Z: 2 look-ups, of these 1 while absent, 0 registrations, "
                          "0 refusals, 3 connections")
+
+    def test_what_is_drawn_over_is_shown_alone(self):
+        self.day()
+        value = self.loaded()
+        spells = "[...document.querySelectorAll('#lanes .lane:not(#mapper) .held')].map(e => e.title.slice(0, 23) + e.style.left + e.style.width)"
+
+        def draw(selector, begin, end):
+            value("(box => { for (const [kind, part] of %s) box.dispatchEvent(new PointerEvent(kind, {bubbles: true, button: 0, buttons: 1,"
+                  "clientX: box.getBoundingClientRect().left + box.getBoundingClientRect().width * part})); })(document.querySelector('%s'))" % (
+                      json.dumps([["pointerdown", begin], ["pointermove", end], ["pointerup", end]]), selector))
+        draw(".chart", 0.2, 0.4)
+        self.assertRegex(value(text_of("#readout")), r"^2024-11-28 00:0(2:00|1:59)Z to 2024-11-28 00:0(4:00|3:59)Z$")
+        value("zoom(120_000, 240_000)")  # The same, to the very second.
+        self.assertEqual(value("[...document.querySelectorAll('.lane > button')].map(each => each.textContent)"), ["a", "b", "c"])
+        self.assertEqual(value(spells), ["registered at port 50000%calc(100%)", "registered at port 50010%calc(100%)"])
+        self.assertEqual(value("[...document.querySelectorAll('#axis span')].map(each => each.textContent)"),
+                         ["00:02:00 UTC", "00:02:15", "00:02:30", "00:02:45", "00:03:00", "00:03:15", "00:03:30", "00:03:45"])
+        self.assertEqual(value(text_of("#refusals-found")), "1 of 1 row shown")
+        value("document.getElementById('later').click()")
+        self.assertEqual(value(text_of("#readout")), "2024-11-28 00:03:00Z to 2024-11-28 00:05:00Z")
+        draw("#over", 0.75, 0.995)
+        self.assertEqual(value(text_of("#refusals-found")), "0 of 0 rows shown")
+        draw("#lanes button", 0.2, 0.9)  # What is behind the names is no part of the axis.
+        draw("#over", 0.5, 0.503)
+        self.assertRegex(value(text_of("#readout")), r"^2024-11-28 00:04:\d\dZ: ")
+        value("document.getElementById('all').click()")
+        self.assertEqual(value(text_of("#readout")), "2024-11-28 00:00:00Z to 2024-11-28 00:10:00Z")
+        self.assertEqual(value("document.getElementById('all').disabled"), True)
+
+    def test_behind_what_was_last_seen_of_a_run_that_was_killed_a_lane_is_hatched(self):
+        earlier = self.path + "-20241128T000300Z"
+        self.write(start() + register(0, b"a"), "-20241128T000300Z")
+        self.write(times((0, 0), (2, MINUTE), (2, 2 * MINUTE), version=2), "-20241128T000300Z.times")
+        self.write(start() + visit(b"x"))
+        self.write(times((0, 3 * MINUTE), (3, 4 * MINUTE)), ".times")
+        value = self.loaded(earlier, self.path)
+        bars = "[...document.querySelectorAll('%s .bar i:not(.absent)')].map(e => [e.className.trim(), e.style.left, e.title])"
+        self.assertEqual(value(bars % "#mapper"), [
+            ["held run", "0%", "served from 2024-11-28 00:00:00Z to 2024-11-28 00:02:00Z"],
+            ["unknown run", "50%", "not known from 2024-11-28 00:02:00Z to 2024-11-28 00:03:00Z"],
+            ["held run", "75%", "served from 2024-11-28 00:03:00Z to 2024-11-28 00:04:00Z"]])
+        self.assertEqual(value(bars % "#lanes li:nth-child(2)"), [
+            ["held", "25%", "registered at port 5000 from 2024-11-28 00:01:00Z to 2024-11-28 00:02:00Z"],
+            ["unknown", "50%", "not known from 2024-11-28 00:02:00Z to 2024-11-28 00:03:00Z"]])
+        self.write(start(90) + visit(b"x"), "-20241128T000300Z.1")  # The recording failed, and a has left when it goes on.
+        self.write(times((90, 3 * MINUTE), (93, 4 * MINUTE)), "-20241128T000300Z.1.times")
+        value = self.loaded(earlier)
+        self.assertEqual([row[:2] for row in value(bars % "#lanes li:nth-child(2)")], [["held", "25%"], ["unknown", "50%"]])
+        os.remove(earlier + ".1")
+        value = self.loaded(earlier, self.path)
+        value("document.querySelector('#lanes li:nth-child(2) button').click()")
+        self.assertIn("00:02:00Z50004the port mapper was killed, or ended unrecorded", value(text_of("#lanes .detail tbody tr")))
+
+    def test_local_times_stand_beside_those_of_utc(self):
+        self.day()
+        self.browser.ask("Emulation.setTimezoneOverride", timezoneId="Asia/Kolkata")
+        self.addCleanup(self.browser.ask, "Emulation.setTimezoneOverride", timezoneId="UTC")
+        value = self.loaded()
+        self.assertEqual(value(text_of("#readout")), "2024-11-28 00:00:00Z (05:30:00+05:30) to 2024-11-28 00:10:00Z (05:40:00+05:30)")
+        self.assertEqual(value(text_of("#axis span")), "11-28 UTC\n05:30 local")
+        self.assertEqual(value(text_of("#worst-table tbody td")), "2024-11-28 00:03:00Z")
+        value("document.getElementById('local').click()")
+        self.assertEqual(value(text_of("#worst-table tbody td")), "2024-11-28 05:33:00+05:30")
+        self.assertIn("since 05:31:00+05:30, 3 times", value(text_of("#refusals-table tbody td:last-child")))
+        self.assertIn("Of {}: 2024-11-28 05:30:00+05:30 (00:00:00Z) to ".format(self.path), value(text_of("#about")))
+
+    def test_bars_are_printed(self):
+        self.day()
+        value = self.loaded()
+        self.browser.ask("Emulation.setEmulatedMedia", media="print", features=[{"name": "prefers-color-scheme", "value": "dark"}])
+        self.addCleanup(self.browser.ask, "Emulation.setEmulatedMedia", media="")
+        adjusted = "[...document.querySelectorAll('.bar i, .bar, .chart')].map(e => getComputedStyle(e).printColorAdjust)"
+        self.assertEqual(set(value(adjusted)), {"exact"})
+        self.assertEqual(value("getComputedStyle(document.body).color"), "rgb(28, 35, 41)")
+        self.assertEqual(value("[...document.querySelectorAll('button, input, select')].filter(e => e.offsetWidth).map(e => e.textContent)"), ["a", "b", "c"])
+
+    def test_a_day_has_times_of_the_day_on_its_axis(self):
+        self.write(start() + visit(b"x") * 2)
+        self.write(times((0, 0), (3, 30 * MINUTE), (6, 1439 * MINUTE)), ".times")
+        value = self.loaded()
+        axis = "[...document.querySelectorAll('#axis span')].map(each => each.textContent)"
+        self.assertEqual(value(axis), ["11-28 UTC", *(f"{hour:02}:00" for hour in range(3, 24, 3))])
+        self.assertEqual(value(text_of("#per")), "A column is the busiest of 3 minutes.")
+        value("zoom(3_600_000, 4_200_000)")
+        self.assertEqual(value(axis), ["01:00 UTC", "01:02", "01:04", "01:06", "01:08"])
+        self.assertEqual(value(text_of("#per")), "A column is a minute.")
 
     def test_what_the_program_says_of_the_files(self):
         self.day()

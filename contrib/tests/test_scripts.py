@@ -1,9 +1,15 @@
 """The scripts of the package in each order in which dpkg calls them, each also stopped before each of the commands by which it changes something,
-as where the machine stops: in a folder that stands for the root, with dpkg's own list of diversions and stand-ins for the service manager."""
+as where the machine stops: in a folder that stands for the root, with dpkg's own list of diversions and stand-ins for the service manager. And
+dpkg itself there, stopped before each of its own renames and deletions."""
+import collections
 import glob
 import os
 import re
+import shlex
 import shutil
+import socket
+import subprocess
+import time
 import unittest
 
 import programs
@@ -16,6 +22,7 @@ case "$*" in
     *is-active*) [ -z "$CLOSED" ] ;;
     *is-enabled*) [ -z "$DISABLED" ] ;;
     *was-enabled*) [ -z "$WAS_DISABLED" ] ;;
+    enable\ epmd-proved.socket) echo 'Created symlink' >&2 ;;
 esac
 """
 RENEW = """#!/bin/sh
@@ -29,41 +36,63 @@ if [ -n "$CHANGES" ]; then
     if [ "$(wc -l < "$CHANGES")" = "$AT" ]; then kill -KILL $PPID; exit 1; fi
 fi
 """
-# Ends with 1 at a change of the list where $FULL says that the disk is full.
+# Ends with 1 at a change of the list where $FULL says that the disk is full. The list has paths below $ROOT, and the scripts whole ones.
 DIVERT = """#!/bin/sh
-case "$*" in *--add* | *--remove*) if [ -n "$FULL" ]; then exit 1; fi ;; *) exec {real} --admindir "$ADMIN" "$@" ;; esac
-""" + STOPS.partition("\n")[2] + 'exec {real} --admindir "$ADMIN" "$@"\n'
-PAGE = "usr/share/man/man1/epmd"
-OURS = {"usr/bin/epmd": "ours", PAGE + ".1.gz": "ours"}
+for word in "$@"; do shift; set -- "$@" "${word#"$ROOT"}"; done
+case "$*" in
+    *--add* | *--remove*) if [ -n "$FULL" ]; then exit 1; fi ;;
+    *) case "$*" in *--truename*) printf %s "$ROOT" ;; esac; exec REAL --instdir "$ROOT" --admindir "$ADMIN" "$@" ;;
+esac
+""" + STOPS.partition("\n")[2] + 'exec REAL --instdir "$ROOT" --admindir "$ADMIN" "$@"\n'
+PLACE, PAGE, LIB = "usr/bin/epmd", "usr/share/man/man1/epmd", "usr/lib/epmd-proved/"
+ADDED, STAND_IN = "lib/systemd/system/epmd.service.d/10-proved.conf", LIB + "stand-in"
+SAYS = '#!/bin/sh\necho {} "$@"\n'
+WRAPPER = f'#!/bin/sh\n[ -x /{LIB}epmd ] && echo ours "$@"\n'
+OPTIONS = ["-record", "a b"]
+# Of each file that matters here what is in it, but for two that are those of the package, in the order of a package's files.
+OURS = {ADDED: None, LIB + "epmd": SAYS.format("none"), STAND_IN: None, LIB + "wrapper/epmd": WRAPPER, PAGE + ".1.gz": "ours"}
 
 
-@needs("dpkg-deb", "dpkg-divert", "strip")
-class Scripts(Checkout):
+class Packaged(Checkout):
+    """The package in parts, and the root to which it comes."""
+
     def setUp(self):
         super().setUp()
+        self.root, self.admin = os.path.join(self.folder, "root"), os.path.join(self.folder, "admin")
         self.made("deb")
         package, = glob.glob(os.path.join(self.top, "build", "*.deb"))
-        self.scripts = os.path.join(self.folder, "scripts")
-        self.run_in("/", "dpkg-deb", "--control", package, self.scripts)
+        self.tree = os.path.join(self.folder, "tree")
+        self.run_in("/", "dpkg-deb", "--raw-extract", package, self.tree)
+        self.scripts = os.path.join(self.tree, "DEBIAN")
         self.changes = os.path.join(self.folder, "changes")
-        self.root, self.admin = os.path.join(self.folder, "root"), os.path.join(self.folder, "admin")
-        for name in ("preinst", "postinst", "prerm", "postrm"):
-            path = os.path.join(self.scripts, name)
-            self.assertFalse(re.search("(?m)^@", read(path)), name)
-            write(path, re.sub(r"(?<![\w*./}])/(usr|etc|run|var|lib)/", rf"{self.root}/\1/", read(path)))
+        for path in [os.path.join(self.scripts, name) for name in ("preinst", "postinst", "prerm", "postrm")] + [os.path.join(self.tree, STAND_IN)]:
+            self.assertFalse(re.search("(?m)^@", read(path)), path)
+            write(path, self.rooted(read(path)), 0o755)
+        for path, text in OURS.items():
+            if text is not None:
+                write(os.path.join(self.tree, path), self.rooted(text), 0o755)
         for name in ("systemctl", "deb-systemd-helper", "deb-systemd-invoke"):
             self.stand_in(name, SYSTEMCTL)
-        self.stand_in("dpkg-divert", DIVERT.format(real=shutil.which("dpkg-divert")))
-        for name in ("ln", "rm", "mv", "rmdir"):
+        self.stand_in("dpkg-divert", DIVERT.replace("REAL", shutil.which("dpkg-divert")))
+        for name in ("cp", "ln", "mkdir", "mv", "rm", "rmdir"):
             self.stand_in(name, STOPS + f'exec {shutil.which(name)} "$@"\n')
         self.begin()
+
+    def rooted(self, text):
+        return re.sub(r"(?<![\w*./}])/(usr|etc|run|var|lib)/", rf"{self.root}/\1/", text)
+
+    def env(self, **more):
+        return super().env(**{"ROOT": self.root, "ADMIN": self.admin, **more})
 
     def begin(self, with_erlang=True):
         for folder in (self.root, self.admin):
             shutil.rmtree(folder, ignore_errors=True)
-            os.mkdir(folder)
-        for folder in ("run/systemd/system", "usr/bin", "usr/share/man/man1", "etc"):
+        for folder in ("info", "updates"):
+            os.makedirs(os.path.join(self.admin, folder))
+        write(os.path.join(self.admin, "status"), "")
+        for folder in ("run/systemd/system", "usr/share/man/man1", "etc"):
             os.makedirs(os.path.join(self.root, folder))
+        write(self.at("usr/bin/other"), "")
         write(self.at("usr/lib/epmd-proved/renew"), RENEW, 0o755)
         if with_erlang:
             self.erlang("erts-13")
@@ -73,15 +102,15 @@ class Scripts(Checkout):
 
     def erlang(self, runtime, before=""):
         """What erlang-base has, as dpkg puts it where nothing, or where the older runtime is."""
-        files = {f"usr/lib/erlang/{runtime}/bin/epmd": "theirs", PAGE + ".1.gz": "theirs"}
-        links = {"usr/lib/erlang/bin/epmd": f"../{runtime}/bin/epmd", "usr/bin/epmd": "../lib/erlang/bin/epmd"}
+        files = {f"usr/lib/erlang/{runtime}/bin/epmd": SAYS.format("theirs"), PAGE + ".1.gz": "theirs"}
+        links = {"usr/lib/erlang/bin/epmd": f"../{runtime}/bin/epmd", PLACE: "../lib/erlang/bin/epmd"}
         for path in [*files, *links]:
-            to = self.run_in("/", "dpkg-divert", "--truename", self.at(path), ADMIN=self.admin).stdout.strip()
+            to = self.run_in("/", "dpkg-divert", "--truename", self.at(path)).stdout.strip()
             os.makedirs(os.path.dirname(to), exist_ok=True)
             if os.path.lexists(to):
                 os.remove(to)
             if path in files:
-                write(to, files[path])
+                write(to, files[path], 0o755)
             else:
                 os.symlink(links[path], to)
         if before:
@@ -93,7 +122,7 @@ class Scripts(Checkout):
         if os.path.exists(self.changes):
             os.remove(self.changes)
         counted = {"CHANGES": self.changes, "AT": str(at)} if at else {}
-        done = programs.run(["sh", os.path.join(self.scripts, name), *words], env=self.env(ADMIN=self.admin, **counted, **env))
+        done = programs.run(["sh", os.path.join(self.scripts, name), *words], env=self.env(**counted, **env))
         return None if done.returncode == -9 else done
 
     def well(self, name, *words, **env):
@@ -101,16 +130,17 @@ class Scripts(Checkout):
         self.assertEqual((done.returncode, done.stderr), (0, ""), (name, words))
         return done.stdout
 
-    def unpack(self, is_cut=False):
+    def unpack(self, is_cut=False, each=lambda: None):
         """As dpkg does it: a file takes the place of another one in one step, and that one has a second name until all is well."""
-        for path, text in OURS.items():
+        for path in OURS:
             to = self.at(path)
             if os.path.islink(to):
                 os.symlink(os.readlink(to), to + ".dpkg-tmp")
             elif os.path.exists(to):
                 os.link(to, to + ".dpkg-tmp")
-            write(to + ".dpkg-new", text)
+            write(to + ".dpkg-new", read(os.path.join(self.tree, path)), 0o755)
             os.replace(to + ".dpkg-new", to)
+            each()
         for path in OURS:
             kept = self.at(path) + ".dpkg-tmp"
             if os.path.lexists(kept):
@@ -121,19 +151,37 @@ class Scripts(Checkout):
             elif is_cut:
                 os.remove(self.at(path))
 
-    def install(self):
+    def install(self, each=lambda: None):
         self.well("preinst", "install")
-        self.unpack()
+        self.unpack(each=each)
         self.well("postinst", "configure", "")
 
-    def remove(self):
+    def remove(self, each=lambda: None):
         self.well("prerm", "remove")
-        for path in OURS:
+        for path in reversed(OURS):
             os.remove(self.at(path))
+            each()
         self.well("postrm", "remove")
 
-    def who(self, path="usr/bin/epmd"):
-        return read(self.at(path)) if os.path.exists(self.at(path)) else None
+    def who(self, path=PLACE, *words):
+        """What is called there, or what a page says."""
+        if not os.path.exists(self.at(path)):
+            return None
+        return read(self.at(path)) if path.endswith(".gz") else self.run_in("/", self.at(path), *words).stdout.strip() or None
+
+    def service(self):
+        """What erlang-base's service starts, which has these options."""
+        if not os.path.exists(self.at(ADDED)):
+            return self.who(PLACE, "-systemd")
+        line, = re.findall("(?m)^ExecStart=(.+)", self.rooted(read(self.at(ADDED))))
+        words = [word.replace("$$", "$") for word in shlex.split(line)]
+        return self.run_in("/", *words[:words.index("$EPMD_OPTIONS")], *OPTIONS).stdout.strip()
+
+    def is_served(self):
+        """Whoever starts a port mapper finds one, and it knows the words with which it is started."""
+        self.assertIn((self.who(), self.runtime(), self.service()), [
+            (own, runtime, service) for own in ("ours", "theirs") for runtime in ("ours", "theirs")
+            for service in ("theirs -systemd", "ours -systemd", "ours -systemd " + " ".join(OPTIONS))])
 
     def runtime(self, name="erts-13"):
         return self.who(f"usr/lib/erlang/{name}/bin/epmd")
@@ -145,15 +193,36 @@ class Scripts(Checkout):
     def is_theirs(self):
         """Theirs stands at all places, as it did at first, and of ours nothing is left."""
         self.assertEqual([self.who(), self.who(PAGE + ".1.gz"), self.runtime()], ["theirs"] * 3)
-        self.assertEqual(os.readlink(self.at("usr/bin/epmd")), "../lib/erlang/bin/epmd")
+        self.assertEqual(os.readlink(self.at(PLACE)), "../lib/erlang/bin/epmd")
         self.is_clean()
 
     def is_clean(self):
-        self.assertEqual(self.run_in("/", "dpkg-divert", "--list", "epmd-proved", ADMIN=self.admin).stdout, "")
+        self.assertEqual(self.run_in("/", "dpkg-divert", "--list", "epmd-proved").stdout, "")
         found = [name for _, _, names in os.walk(self.root) for name in names]
         self.assertEqual([name for name in found if "erlang" in name or "dpkg" in name], [])
 
-    def stopped(self, name, *words, prepare, after):
+    def divert(self, path, kept):
+        """As a version before this one did it."""
+        words = ["--package", "epmd-proved", "--add", "--rename", "--divert", self.at(kept), self.at(path)]
+        self.assertEqual(self.run_in("/", "dpkg-divert", *words).returncode, 0)
+
+    def former(self):
+        """What version 1.1.0 has at these places."""
+        self.begin()
+        runtime = "usr/lib/erlang/erts-13/bin/epmd"
+        for path, kept in ((PLACE, PLACE + ".erlang"), (PAGE + ".1.gz", PAGE + ".erlang.1.gz"), (runtime, runtime + ".erlang")):
+            self.divert(path, kept)
+        os.symlink(self.at(PLACE), self.at(runtime))
+        for path, text in {PLACE: WRAPPER, LIB + "epmd": SAYS.format("none"), PAGE + ".1.gz": "ours",
+                           ADDED: "ExecStart=/usr/bin/epmd -systemd $EPMD_OPTIONS\n"}.items():
+            write(self.at(path), self.rooted(text), 0o755)
+        self.is_ours()
+
+
+@needs("dpkg-deb", "dpkg-divert", "strip")
+class Scripts(Packaged):
+
+    def stopped(self, name, *words, prepare, after, least=3):
         """Does `after` once the script was stopped before each of its changes, and once it ended."""
         for at in range(1, 50):
             with self.subTest(script=name, words=words, at=at):
@@ -162,14 +231,14 @@ class Scripts(Checkout):
                 done = self.call(name, *words, at=at)
                 after()
                 if done is not None:
-                    self.assertEqual((done.returncode, done.stderr, at > 3), (0, "", True))
+                    self.assertEqual((done.returncode, done.stderr, at > least), (0, "", True))
                     return
         self.fail("it does not end")
 
     def test_it_comes_and_goes(self):
-        self.install()
+        self.install(self.is_served)
         self.is_ours()
-        self.remove()
+        self.remove(self.is_served)
         self.is_theirs()
         self.assertIn("systemctl kill epmd.service", self.noted())
 
@@ -224,8 +293,8 @@ class Scripts(Checkout):
         stop = "deb-systemd-invoke stop epmd-proved-prune.timer epmd-proved-metrics.timer epmd-proved.socket epmd-proved.service"
         self.assertEqual(self.noted_of("prerm", "remove"), [stop])
         self.assertEqual(self.noted_of("prerm", "upgrade", "2"), [])
-        reload, kill = "systemctl daemon-reload", "systemctl kill epmd.service"
-        for words, wanted in ((["remove"], [reload, kill]), (["disappear", "other", "1"], [reload, kill]), (["abort-install"], [reload]),
+        reload, kill = ["systemctl daemon-reload", "systemctl reset-failed epmd-proved*"], ["systemctl kill epmd.service"]
+        for words, wanted in ((["remove"], reload + kill), (["disappear", "other", "1"], reload + kill), (["abort-install"], reload),
                               (["upgrade", "2"], [])):
             self.assertEqual(self.noted_of("postrm", *words), wanted, words)
 
@@ -239,6 +308,7 @@ class Scripts(Checkout):
     def test_where_no_service_manager_runs_none_is_called(self):
         for name, *words in ("postinst", "configure", ""), ("prerm", "remove"), ("postrm", "remove"):
             self.begin()
+            self.unpack()
             shutil.rmtree(self.at("run/systemd"))
             if os.path.exists(self.notes):
                 os.remove(self.notes)
@@ -259,6 +329,8 @@ class Scripts(Checkout):
         self.well("postrm", "purge")
         self.assertEqual([path for path in kept + others if os.path.exists(self.at(path))], others)
         self.assertIn("deb-systemd-helper purge epmd-proved.socket", self.noted())
+        self.stand_in("deb-systemd-helper", "#!/bin/sh\nexit 127\n")
+        self.well("postrm", "purge")
 
     def test_an_installation_that_is_stopped_leaves_theirs(self):
         def after():
@@ -311,13 +383,90 @@ class Scripts(Checkout):
             self.unpack()
 
         def after():
-            self.assertEqual(self.who(), "ours")
-            self.assertIn(self.runtime(), ("ours", "theirs"))
+            self.is_served()
             self.well("postinst", "configure", "")
             self.is_ours()
             self.remove()
             self.is_theirs()
         self.stopped("postinst", "configure", "", prepare=prepare, after=after)
+
+    def test_an_update_from_one_that_has_the_place_among_its_files(self):
+        """dpkg deletes what the former version has and the new one has not, but what it finds among the new files by another name."""
+        def unpack():
+            self.unpack()
+            self.assertIn(os.lstat(self.at(PLACE)).st_ino, [os.lstat(self.at(path)).st_ino for path in OURS])
+
+        def unpacked():
+            self.former()
+            self.well("preinst", "upgrade", "1.1.0", "2")
+            unpack()
+
+        def broken():
+            self.is_ours()
+            self.is_served()
+            if self.goes_on:
+                self.well("preinst", "upgrade", "1.1.0", "2")
+                unpack()
+                self.well("postinst", "configure", "1.1.0")
+            else:
+                self.well("postrm", "abort-upgrade", "1.1.0", "2")
+                self.assertFalse(os.path.lexists(self.at(LIB + "wrapper")))
+                self.is_ours()
+
+        def after():
+            self.is_ours()
+            self.is_served()
+            self.well("postinst", "configure", "1.1.0")
+            self.assertFalse(os.path.islink(self.at(LIB + "wrapper")) or os.path.lexists(self.at(LIB + "wrapper.new")))
+            self.is_ours()
+            self.remove()
+            self.is_theirs()
+        for self.goes_on in (True, False):
+            self.stopped("preinst", "upgrade", "1.1.0", "2", prepare=self.former, after=broken, least=1)
+        self.stopped("postinst", "configure", "1.1.0", prepare=unpacked, after=after)
+
+    def test_a_release_that_is_packed_beside_it_starts_elsewhere(self):
+        """`mix release` copies the folder of the runtime's programs as it is."""
+        self.install()
+        packed = os.path.join(self.folder, "release", "erts-13")
+        shutil.copytree(os.path.dirname(os.path.dirname(self.at("usr/lib/erlang/erts-13/bin/epmd"))), packed, symlinks=True)
+        program = os.path.join(packed, "bin", "epmd")
+        self.assertEqual(self.run_in("/", program, "-daemon").stdout, "ours -daemon\n")
+        shutil.rmtree(self.root)
+        self.assertEqual(self.run_in("/", program, "-daemon").stdout, "theirs -daemon\n")
+        self.assertEqual(self.run_in(os.path.join(packed, "bin"), "./epmd", "-names").stdout, "theirs -names\n")
+
+    @needs("erl", "mix")
+    def test_one_of_elixir_starts_a_port_mapper_elsewhere(self):
+        self.begin(with_erlang=False)
+        say = 'io:format("~s/erts-~s", [code:root_dir(), erlang:system_info(version)]), halt().'
+        theirs = self.run_in("/", "erl", "-noshell", "-eval", say).stdout
+        runtime = self.at("usr/lib/erlang/" + os.path.basename(theirs))
+        shutil.copytree(theirs + "/bin", runtime + "/bin")
+        self.install()
+        work = os.path.join(self.folder, "work")
+        write(work + "/mix.exs", f"""defmodule One.MixProject do
+  use Mix.Project
+  def project, do: [app: :one, version: "1.0.0", releases: [one: [include_erts: "{runtime}"]]]
+end
+""")
+        done = self.run_in(work, "mix", "release", MIX_ENV="prod", HOME=self.folder)
+        self.assertEqual(done.returncode, 0, done.stdout + done.stderr)
+        shutil.rmtree(self.root)
+        release = work + "/_build/prod/rel/one/"
+        with socket.socket() as free:
+            free.bind(("127.0.0.1", 0))
+            port = str(free.getsockname()[1])
+        own = self.env(HOME=self.folder, RELEASE_DISTRIBUTION="sname", RELEASE_NODE="one", ERL_EPMD_PORT=port, ERL_EPMD_ADDRESS="127.0.0.1",
+                       ERL_AFLAGS="-kernel inet_dist_use_interface {127,0,0,1}")
+        with programs.start([release + "bin/one", "start"], env=own, stdin=subprocess.DEVNULL, stdout=subprocess.PIPE, stderr=subprocess.STDOUT) as node:
+            ask = [release + os.path.basename(theirs) + "/bin/epmd", "-names"]
+            until = time.monotonic() + programs.SILENCE
+            while "name one at port" not in (listed := programs.run(ask, env=own).stdout) and node.poll() is None and time.monotonic() < until:
+                time.sleep(0.1)
+            node.terminate()
+            self.assertIn("name one at port", listed, node.communicate(timeout=programs.PATIENCE)[0])
+        self.assertEqual(programs.run([*ask[:1], "-kill"], env=own).stdout, "Killed\n")
 
     def test_an_update_that_breaks_off_keeps_ours(self):
         for breaks in ([("prerm", "upgrade", "2"), ("prerm", "failed-upgrade", "1", "2"), ("postinst", "abort-upgrade", "2")],
@@ -334,10 +483,17 @@ class Scripts(Checkout):
             self.remove()
             self.is_theirs()
 
+    def test_version_1_0_0_finds_the_runtimes_as_erlang_base_has_them(self):
+        self.install()
+        for version, runtime in ("1.1.0", "ours"), ("1.0.0", "theirs"):
+            self.well("prerm", "upgrade", version)
+            self.assertEqual((self.who(), self.runtime()), ("ours", runtime))
+        self.well("postinst", "abort-upgrade", "1.0.0")
+        self.is_ours()
+
     def test_a_removal_that_is_stopped_leaves_a_port_mapper_and_is_taken_back(self):
         def after():
-            self.assertEqual(self.who(), "ours")
-            self.assertIn(self.runtime(), ("ours", "theirs"))
+            self.is_served()
             self.well("postinst", "abort-remove")
             self.is_ours()
             self.remove()
@@ -373,7 +529,7 @@ class Scripts(Checkout):
                 os.remove(self.at(path))
 
         def after():
-            self.assertEqual(self.runtime(), "theirs")
+            self.is_served()
             self.well("postrm", "remove")
             self.is_theirs()
         self.stopped("postrm", "remove", prepare=prepare, after=after)
@@ -415,9 +571,8 @@ class Scripts(Checkout):
     def test_what_an_installation_of_the_first_version_left_is_mended(self):
         for way in (lambda: self.well("postrm", "abort-install"), lambda: (self.install(), self.is_ours(), self.remove())):
             self.begin()
-            for path, kept in (("usr/bin/epmd", "usr/bin/epmd.erlang"), (PAGE + ".1.gz", PAGE + ".erlang.1.gz")):
-                words = ["--package", "epmd-proved", "--add", "--rename", "--divert", self.at(kept), self.at(path)]
-                self.assertEqual(self.run_in("/", "dpkg-divert", *words, ADMIN=self.admin).returncode, 0)
+            for path, kept in ((PLACE, PLACE + ".erlang"), (PAGE + ".1.gz", PAGE + ".erlang.1.gz")):
+                self.divert(path, kept)
             self.assertEqual(self.who(), None)
             way()
             self.is_theirs()
@@ -428,9 +583,8 @@ class Scripts(Checkout):
         unit = "/lib/systemd/system/epmd-proved.service"
         for has_socket, to, kept in (False, "/opt/epmd.service", links[1:2]), (True, unit, []):
             self.begin()
-            for path in OURS:
-                words = ["--package", "epmd-proved", "--add", "--rename", "--divert", self.at(path + ".erlang"), self.at(path)]
-                self.assertEqual(self.run_in("/", "dpkg-divert", *words, ADMIN=self.admin).returncode, 0)
+            for path in (PLACE, PAGE + ".1.gz"):
+                self.divert(path, path + ".erlang")
             self.unpack()
             os.makedirs(os.path.dirname(self.at(links[2])))
             for link, of in zip(links, ("/dev/null", to, unit)):
@@ -445,6 +599,97 @@ class Scripts(Checkout):
             self.is_ours()
             self.remove()
             self.is_theirs()
+
+
+@needs("dpkg", "dpkg-deb", "dpkg-divert", "strip", "strace")
+class Cuts(Packaged):
+    """dpkg itself, killed before each rename and each deletion that it makes of what is looked at here, and behind it, and called again."""
+
+    def pack(self, tree):
+        package = os.path.join(self.folder, os.path.basename(tree) + ".deb")
+        done = self.run_in("/", "dpkg-deb", "--root-owner-group", "-Znone", "--build", tree, package)
+        self.assertEqual(done.returncode, 0, done.stderr)
+        return package
+
+    def dpkg(self, *words, trace="none", at=""):
+        """Calls dpkg, which is killed before the call of these that has this number."""
+        kill = ["-e", f"inject={trace}:signal=KILL:when={at}"] if at else []
+        how = ["--instdir", self.root, "--admindir", self.admin, "--log=/dev/null",
+               *(f"--force-{what}" for what in ("script-chrootless", "not-root", "depends", "downgrade", "unsafe-io"))]
+        done = self.run_in("/", "strace", "-qq", "-o", os.path.join(self.folder, "trace"), "-e", f"trace={trace}", *kill, "dpkg", *how, *words,
+                           PATH=f"{self.bin}:{os.environ['PATH']}:/usr/sbin:/sbin")
+        if not at:
+            self.assertEqual(done.returncode, 0, done.stdout + done.stderr)
+        return done.returncode
+
+    def cut(self, *words, prepare, after):
+        prepare()
+        kept = os.path.join(self.folder, "kept")
+        shutil.rmtree(kept, ignore_errors=True)
+        os.mkdir(kept)
+        self.run_in("/", "cp", "-a", self.root, self.admin, kept)
+        self.dpkg(*words, trace="rename,unlink,rmdir")
+        after()
+        number, calls, is_near = collections.Counter(), [], True
+        for line in read(os.path.join(self.folder, "trace")).splitlines():
+            call = line.partition("(")[0]
+            number[call] += 1
+            if line.endswith(" = 0"):
+                was_near, is_near = is_near, any(f"{path}{end}" in line for path in [PLACE, LIB + "wrapper", *OURS] for end in ('"', ".dpkg"))
+                calls += [(call, number[call], line)] * (was_near or is_near)
+        self.assertGreater(len(calls), 5)
+        for call, at, line in calls:
+            with self.subTest(words=words, at=line):
+                for folder in (self.root, self.admin):
+                    shutil.rmtree(folder)
+                self.run_in("/", "cp", "-a", *glob.glob(os.path.join(kept, "*")), self.folder)
+                self.assertLess(self.dpkg(*words, trace=call, at=at), 0)
+                self.is_served()
+                self.dpkg(*words)
+                after()
+
+    def former_package(self):
+        """Version 1.1.0: the place is among its files. What its scripts have done is done by `former`, and at an update they do nothing."""
+        tree = os.path.join(self.folder, "former")
+        shutil.copytree(self.tree, tree, symlinks=True)
+        for name in ("preinst", "postinst", "prerm", "postrm"):
+            os.remove(os.path.join(tree, "DEBIAN", name))
+        shutil.rmtree(os.path.join(tree, LIB, "wrapper"))
+        os.remove(os.path.join(tree, STAND_IN))
+        write(os.path.join(tree, PLACE), self.rooted(WRAPPER), 0o755)
+        return self.pack(tree)
+
+    def test_it_is_cut_off_anywhere(self):
+        if self.run_in("/", "strace", "-o", "/dev/null", "true").returncode:
+            self.skipTest("strace may not trace")
+        new, former = self.pack(self.tree), self.former_package()
+
+        def is_former():
+            self.former()
+            self.dpkg("-i", former)
+
+        def is_new():
+            self.begin()
+            self.dpkg("-i", new)
+        self.cut("-i", new, prepare=self.begin, after=self.is_ours)
+        self.cut("-i", new, prepare=is_former, after=self.is_ours)
+        self.cut("-r", "epmd-proved", prepare=is_new, after=self.is_theirs)
+
+
+class Pause(Checkout):
+    """What runs between a start that failed and the next one."""
+
+    def test_it_is_short_behind_a_signal_and_says_what_to_do_behind_all_else(self):
+        self.stand_in("sleep", '#!/bin/sh\necho "sleep $1" >> "$NOTES"\n')
+        self.stand_in("logger", '#!/bin/sh\ncat >> "$NOTES"\n')
+        for result, seconds in ("signal", "0.15"), ("core-dump", "0.15"), ("exit-code", "1"), ("timeout", "1"), ("", "1"):
+            write(self.notes, "")
+            self.assertEqual(self.run_in("/", os.path.join(TOP, "contrib", "pause"), "epmd", MONITOR_SERVICE_RESULT=result).stderr, "")
+            *line, pause = self.noted()
+            self.assertEqual(pause, f"sleep {seconds}")
+            self.assertEqual(sorted(field for field in line if "SYSTEMD_UNIT" in field or "PRIORITY" in field),
+                             [] if seconds != "1" else ["OBJECT_SYSTEMD_UNIT=epmd.service", "PRIORITY=3"])
+            self.assertEqual("systemctl stop epmd.socket" in "".join(line), seconds == "1")
 
 
 class StateFolder(Checkout):

@@ -15,10 +15,11 @@ import unittest.mock
 import programs
 from programs import SILENCE
 from epmd_recording import Recording, time_of
-from test_log import GRANTED, LOG, Written, alive, close, connect, number, piece, start, visit
+from test_log import GRANTED, IN_USE, LOG, Written, alive, close, connect, number, piece, start, visit
 
 BEGAN = 1_732_752_000_000_000  # 2024-11-28T00:00:00Z, in microseconds since 1970.
 SECOND = 1_000_000
+ENDED = (1 << 64) - 1, 200 * SECOND  # A row of an end in order, in version 2.
 
 
 def times(*rows, version=1):
@@ -59,10 +60,10 @@ class Timed(Written, unittest.TestCase):
         self.assertEqual((status, err), (0, ""))
         return [line.partition(" by")[0] for line in lines]
 
-    def three(self, *rows):
+    def three(self, *rows, version=1):
         """Three visits: look-ups at places 1, 4 and 7."""
         self.write(start() + visit(b"a") + visit(b"b") + visit(b"c"))
-        self.write(times(*rows), ".times")
+        self.write(times(*rows, version=version), ".times")
 
     def test_an_entry_has_the_time_of_the_first_row_whose_place_is_above_its_own(self):
         self.three((0, 0), (1, SECOND), (2, 2 * SECOND), (4, 3 * SECOND), (9, 4_000_001))
@@ -98,7 +99,7 @@ class Timed(Written, unittest.TestCase):
     def test_times_that_are_none_are_left_aside(self):
         rows = (0, 0), (9, SECOND)
         good = times(*rows)
-        for data in (times(*rows, version=2), b"EPMS" + good[4:], times((1, 0), (9, SECOND)), good[:31], good[:9], b"",
+        for data in (times(*rows, version=3), b"EPMS" + good[4:], times((1, 0), (9, SECOND)), good[:31], good[:9], b"",
                      good[:8] + b"\1" + good[9:]):
             self.three()
             self.write(data, ".times")
@@ -155,6 +156,61 @@ class Timed(Written, unittest.TestCase):
         self.write(times((0, 0), (0, SECOND)), ".times")
         self.assertEqual(self.log(), [f"{at(0)} 0 start", f"{at(1)} 0 end"])
 
+    def test_in_version_2_a_row_may_say_that_the_daemon_is_there_and_one_ends(self):
+        alive = [(0, 0), (1, SECOND), (1, 61 * SECOND), (4, 62 * SECOND), (9, 63 * SECOND), (9, 123 * SECOND), (9, 183 * SECOND)]
+        lines = [f"{at(0)} 0 start", f"{at(62)} 1 lookup a", f"{at(63)} 4 lookup b", f"{at(63)} 7 lookup c"]
+        for rows, end in (([], []), ([ENDED], [f"{at(200)} 9 end"]), ([ENDED, (12, 201 * SECOND)], [f"{at(200)} 9 end"])):
+            self.three(*alive, *rows, version=2)
+            self.assertEqual(self.log(), lines + end, rows)
+        self.three(*alive[:4], ENDED, *alive[4:], version=2)
+        self.assertEqual(self.log(), lines[:2] + ["4 lookup b", "7 lookup c"])
+
+    def test_since_begins_with_the_names_that_are_held_then(self):
+        entries = connect(0) + piece(0, alive(b"a", 5000), 0, GRANTED) + connect(1) + piece(1, alive(b"b", 5001), 0, GRANTED)
+        entries += close(0) + connect(2) + piece(2, alive(b"b", 6000), 1, IN_USE) + visit(b"c")
+        self.write(start() + entries)
+        rows = (0, 0), (2, SECOND), (4, 2 * SECOND), (5, 5 * SECOND), (7, 6 * SECOND), (10, 7 * SECOND)
+        self.write(times(*rows), ".times")
+        a, b = (f"held {name} port {port} since {at(since)}" for name, port, since in (("a", 5000, 1), ("b", 5001, 2)))
+        refused = f"{at(6)} 6 refuse b port 6000: the name is in use, held at port 5001 since {at(2)}"
+        for since, lines in ((0, [f"{at(0)} 0 start", f"{at(1)} 1 register a port 5000 creation 4"]),
+                             (2, [f"{at(2)} 2 {a}", f"{at(2)} 3 register b port 5001 creation 4"]),
+                             (4, [f"{at(4)} 4 {a}", f"{at(4)} 4 {b}", f"{at(5)} 4 leave a port 5000", refused]),
+                             (6, [f"{at(6)} 5 {b}", refused]), (7, [f"{at(7)} 7 {b}", f"{at(7)} 8 lookup c"]),
+                             (9, [f"{at(7)} 10 {b}"])):
+            self.assertEqual(self.log("-since", at(since))[:len(lines)], lines)
+        self.assertEqual(self.log("-since", at(4), "-until", at(5), "-n", "b"), [f"{at(4)} 4 {b}"])
+        self.assertEqual(self.log("-since", at(6), "-event", "refuse"), [refused])
+        self.assertEqual(json.loads(self.log("-since", at(6), "-json")[0]), {
+            "time": at(6), "place": 5, "event": "held", "name": "b", "port": 5001, "peer": "local", "since": at(2)})
+        self.assertEqual(self.log("-until", at(1)), [f"{at(0)} 0 start"])
+        self.write(times(*rows, (10, 8 * SECOND)), ".times")
+        self.assertEqual(self.log("-since", at(9)), [])
+        self.write(start(70, [(b"a", 5000, 4, 0)], (), [(0, 1, 1, b"")]) + close(0))  # Those before were pruned.
+        self.write(times((70, 5 * SECOND), (71, 6 * SECOND)), ".times")
+        self.assertEqual(self.log("-since", at(1)), [f"{at(5)} 70 held a port 5000", f"{at(6)} 70 leave a port 5000"])
+
+    def test_of_several_recordings_the_names_that_are_held_are_told_once(self):
+        earlier = "-20241128T000001Z"
+        self.write(start() + connect(0) + piece(0, alive(b"a", 5000), 0, GRANTED), earlier)
+        self.write(times((0, 0), (2, SECOND)), earlier + ".times")
+        self.write(start() + connect(0) + piece(0, alive(b"b", 5001), 0, GRANTED))
+        self.write(times((0, 5 * SECOND), (2, 6 * SECOND)), ".times")
+        held = f"{at(6)} 2 held b port 5001 since {at(6)}"
+        self.assertEqual(self.log("-since", at(9), self.path + earlier), [held])
+        self.assertEqual(self.log("-since", at(5), self.path + earlier), [
+            f"{at(5)} 0 start", f"{at(5)} 0 leave a port 5000 (restart)", f"{at(6)} 1 register b port 5001 creation 4"])
+
+    def test_a_pipe_in_the_place_of_times_is_not_opened(self):
+        self.write(start() + visit(b"a"))
+        os.mkfifo(self.path + ".times")
+        opened = threading.Event()
+        threading.Thread(target=lambda: (open(self.path + ".times", "wb").close(), opened.set()), daemon=True).start()
+        self.assertEqual(self.log(), ["0 start", "1 lookup a"])
+        self.assertFalse(opened.wait(0.2))
+        with open(self.path + ".times", "rb"):
+            opened.wait()
+
     def test_since_and_until_go_by_the_time_of_the_line(self):
         self.three((0, 0), (3, SECOND), (6, 2 * SECOND), (9, 3_500_000), (9, 10 * SECOND))
         # The zone of the tests is five and a half hours before UTC.
@@ -177,7 +233,7 @@ class Timed(Written, unittest.TestCase):
         for text in ("", "2", "2w", "h", "25:00", "3:12", "2026-13-01", "yesterday", "-1h", "9999-12-31T23:59:59-23:59"):
             status, lines, err = self.called(f"-since={text}")
             self.assertEqual((status, lines), (2, []), text)
-            self.assertIn("is no time", err)
+            self.assertIn(f"{text!r} is no time: write 2026-11-28T03:12:00, 2026-11-28T03:12, 2026-11-28, 03:12:00 or 03:12 of today, or an age:", err)
 
     def test_today_is_that_of_the_zone(self):
         os.environ["TZ"] = "XXX-12" if time.gmtime().tm_hour >= 12 else "XXX12"  # There it is another day than at UTC.
@@ -225,6 +281,19 @@ class TimedAndFollowed(Written, unittest.TestCase):
         self.write(times((0, 0), (3, SECOND), (6, 2 * SECOND), (6, 2_500_000)), ".times")
         self.assertEqual(self.seen(), [("lookup b", 2), ("end", 2.5)])
         self.assertEqual((self.seen(), self.recording.held_since), ([], None))
+
+    def test_rows_that_say_that_the_daemon_is_there_are_passed_over(self):
+        self.write(start() + visit(b"a"))
+        rows = [(0, 0), (3, SECOND), (3, 61 * SECOND)]
+        self.write(times(*rows, version=2), ".times")
+        self.assertEqual(self.seen(), [("start", 0), ("lookup a", 1)])
+        self.write(times(*rows, (3, 121 * SECOND), version=2), ".times")
+        self.assertEqual(self.seen(), [])
+        self.add(visit(b"b"))
+        self.write(times(*rows, (3, 121 * SECOND), (6, 122 * SECOND), (6, 182 * SECOND), version=2), ".times")
+        self.assertEqual(self.seen(), [("lookup b", 122)])
+        self.write(times(*rows, (3, 121 * SECOND), (6, 122 * SECOND), (6, 182 * SECOND), ENDED, version=2), ".times")
+        self.assertEqual(self.seen() + self.seen(), [("end", 200)])
 
     def test_it_waits_for_some_seconds_and_then_does_without(self):
         self.write(start() + visit(b"a"))
@@ -343,8 +412,12 @@ class Begun(Written, unittest.TestCase):
 
     def test_with_a_time_it_tells_first_what_there_is_since(self):
         running = self.follower("-since", "2024-11-28T00:00:02Z")
-        self.told(running, [f"{at(2)} 6 lookup b by a local peer: not registered\n"])
+        self.told(running, [f"{at(2)} 5 held n port 5000 since {at(1)}\n", f"{at(2)} 6 lookup b by a local peer: not registered\n"])
         self.told(running, self.go_on())
+
+    def test_where_nothing_came_since_the_names_that_are_held_are_told_first(self):
+        running = self.follower("-since", "2024-11-28T00:00:50Z")
+        self.told(running, [f"{at(2)} 7 held n port 5000 since {at(1)}\n"])
 
     def test_it_begins_at_the_end(self):
         recording = Recording(self.path, True, is_timed=True)
@@ -364,11 +437,11 @@ class Begun(Written, unittest.TestCase):
                 self.write(start() + visit(b"z"))
             if len(looks) == 3:
                 raise KeyboardInterrupt
-        given = unittest.mock.Mock(file=self.path, tells_all=False, since=None, until=None, name=None, is_json=False)
+        given = unittest.mock.Mock(tells_all=False, since=None, until=None, is_json=False, kinds=[])
         given.name = None
         with unittest.mock.patch.object(tool, "print", lambda line, **_: told.append(line), create=True), \
                 unittest.mock.patch.object(tool.time, "sleep", pause), self.assertRaises(KeyboardInterrupt):
-            tool.follow(recording, given)
+            tool.follow(recording, tool.Printer(given))
         self.assertEqual(looks[0], [])
         self.assertEqual(looks[1], [f"{at(3)} 9 lookup c by a local peer: not registered", f"{at(4)} 11 leave n port 5000"])
         self.assertEqual(looks[2][2:], [f"{at(5)} 0 start", f"{at(6)} 1 lookup z by a local peer: not registered"])

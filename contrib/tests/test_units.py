@@ -16,19 +16,28 @@ HARDENED = """
     RestrictSUIDSGID=yes SystemCallArchitectures=native SystemCallFilter=@system-service UMask=0077
 """.split() + ["SystemCallFilter=~@privileged @resources"]
 
+# A start that is tried and fails is followed by a pause. One that is not tried, as where a file of settings is missing, is at once tried again.
+LIMITED = ["TriggerLimitIntervalSec=10", "TriggerLimitBurst=200"]
+
 ROWS = {
     "proved.conf": {
-        "Unit": ["StartLimitIntervalSec=0"],  # Starts that fail close no port, however many there are.
+        "Unit": [
+            "StartLimitIntervalSec=0",  # Starts that fail close no port, however many there are.
+            # A pause between a start that failed and the next, which comes at once where a caller waits. It is a unit of its own, since what
+            # fails before its first command has no command that waits.
+            "OnFailure=epmd-proved-pause@%N.service",
+            "After=epmd-proved-pause@%N.service",
+        ],
         "Service": [
             "Environment=EPMD_OPTIONS=",  # Without the file of settings there are no options.
             "EnvironmentFile=-/etc/default/epmd-proved",  # The minus: the file need not be there.
             "ExecStartPre=-+/usr/local/lib/epmd-proved/state-folder",  # As root, and a start does not depend on it.
             "ReadWritePaths=-/var/lib/epmd-proved",  # Recordings are written there though all else is read-only. It need not be there.
             "ExecStart=",  # Takes erlang-base's own command away: a service has one.
-            "ExecStart=/usr/local/bin/epmd -systemd $EPMD_OPTIONS",  # Without braces, so that the words are separate.
+            # The words without braces, so that they are separate. Where the program has gone what is left does not know them.
+            "ExecStart=/bin/sh -c 'epmd=/usr/local/lib/epmd-proved/wrapper/epmd; [ ! -x $$epmd ] || exec $$epmd -systemd \"$$@\"; "
+            "exec /usr/bin/epmd -systemd' sh $EPMD_OPTIONS",
             "ExecReload=/bin/sh -c 'kill -HUP $$MAINPID'",
-            # A pause between a start that failed and the next, which comes at once where a caller waits.
-            "ExecStopPost=+/bin/sh -c 'case $$SERVICE_RESULT in exit-code) sleep 1 ;; *) sleep 0.15 ;; esac'",
             "SyslogLevel=warning",
             "LimitNOFILE=4096",  # 1,024 connections, the workers and the recording.
             "LimitCORE=0",
@@ -44,17 +53,27 @@ ROWS = {
         "Socket": [
             "ListenStream=4369",
             "BindIPv6Only=both",  # One socket takes peers of IPv4 and of IPv6.
-            "TriggerLimitIntervalSec=0",  # As StartLimitIntervalSec=.
+            *LIMITED,
         ],
         "Install": ["WantedBy=sockets.target"],
     },
     "socket.conf": {
         # Ours has ended before erlang-base's socket opens the port.
         "Unit": ["Wants=epmd-proved-away.target", "After=epmd-proved-away.target"],
-        "Socket": ["TriggerLimitIntervalSec=0"],
+        "Socket": LIMITED,
     },
     "epmd-proved-away.target": {
         "Unit": ["Conflicts=epmd-proved.socket", "After=epmd-proved.socket"],
+    },
+    "epmd-proved-pause@.service": {
+        "Unit": ["StartLimitIntervalSec=0"],
+        "Service": [
+            "Type=oneshot",  # Whoever comes after it waits for its end.
+            "ExecStart=-/usr/local/lib/epmd-proved/pause %i",
+            "LogRateLimitIntervalSec=60",
+            "LogRateLimitBurst=1",
+            "LogLevelMax=notice",
+        ],
     },
     "epmd-proved.service": {
         "Unit": ["Requisite=epmd-proved.socket"],  # Started by hand, it fails where its socket is closed, and opens none of its own.

@@ -88,11 +88,11 @@ class Wrapper(unittest.TestCase):
         self.assertFalse(os.path.exists(os.path.join(self.folder, "words")))
 
     def test_a_bad_word_is_told_itself_at_its_place(self):
-        self.refused("bad word 1: -bogus", "-d", "-bogus")
-        self.refused("bad word 1: -bogus", "-d", "-bogus", ERL_EPMD_ADDRESS="10.0.0.5")
-        self.refused("bad word 0: -bogus", "-bogus", "-daemon")
-        self.refused("bad word 2: -bogus", "-port", "1", "-bogus", "-names")
-        self.refused("bad word 1: -bogus", "-names", "-bogus", ERL_EPMD_ADDRESS="10.0.0.5")
+        self.refused("bad word 1: -bogus: see epmd -help", "-d", "-bogus")
+        self.refused("bad word 1: -bogus: see epmd -help", "-d", "-bogus", ERL_EPMD_ADDRESS="10.0.0.5")
+        self.refused("bad word 0: -bogus: see epmd -help", "-bogus", "-daemon")
+        self.refused("bad word 2: -bogus: see epmd -help", "-port", "1", "-bogus", "-names")
+        self.refused("bad word 1: -bogus: see epmd -help", "-names", "-bogus", ERL_EPMD_ADDRESS="10.0.0.5")
 
     def test_what_is_bad_in_the_environment_is_told(self):
         self.refused("bad address in environment: 10.0.0.300", "-d", ERL_EPMD_ADDRESS="10.0.0.300")
@@ -103,7 +103,7 @@ class Wrapper(unittest.TestCase):
         path = os.path.join(self.folder, "session")
         for process in ("1", ""):
             self.left("session")
-            self.refused("bad word 2: -bogus", "-record", path, "-bogus", LISTEN_PID=process, LISTEN_FDS="1")
+            self.refused("bad word 2: -bogus: see epmd -help", "-record", path, "-bogus", LISTEN_PID=process, LISTEN_FDS="1")
             self.assertEqual(self.call("-record", path, LISTEN_PID=process, LISTEN_FDS="1").returncode, 0)
             self.assertEqual(self.files(), ["session"])
             os.remove(os.path.join(self.folder, "words"))
@@ -116,7 +116,7 @@ class Wrapper(unittest.TestCase):
         return done.stderr, self.words()
 
     def test_with_sockets_that_are_handed_over_it_serves_whatever_the_words(self):
-        self.assertEqual(self.handed("-systemd", "-d", "-bogus"), ("epmd: bad word 1: -bogus: no option counts\n", [""]))
+        self.assertEqual(self.handed("-systemd", "-d", "-bogus"), ("epmd: bad word 1: -bogus: see epmd -help: no option counts\n", [""]))
         self.assertEqual(self.handed("-d", ERL_EPMD_PORT="x"), ("epmd: bad port in environment: x: no option counts\n", ["", ""]))
         self.assertEqual(self.handed("-d"), ("", ["", "", "-d"]))
 
@@ -297,7 +297,7 @@ class Wrapper(unittest.TestCase):
         self.assertEqual(self.words(), ["-daemon -kill"])
 
     def test_it_knows_each_command_of_the_program(self):
-        with open(os.path.join(os.path.dirname(WRAPPER), "..", "crates", "epmd", "src", "items.rt")) as source:
+        with open(os.path.join(os.path.dirname(WRAPPER), "..", "crates", "portmap_command", "src", "items.rt")) as source:
             text = source.read()
         arms = re.findall(r'(.*) => (?:Word::Act\(|Some\(Use::Action\))', text)
         acts = re.findall(r'"(-\w+)"', " ".join(arms))
@@ -329,6 +329,12 @@ class Wrapper(unittest.TestCase):
             self.assertEqual(self.call(word).stdout, f"epmd-proved {version}\n")
         for word in ("-help", "--help", "-h"):
             self.assertIn("-packet_timeout SECONDS", self.call(word).stdout)
+
+    def test_it_does_so_without_a_program(self):
+        for word in ("-version", "-help"):
+            done = self.call(word, EPMD="/nowhere")
+            self.assertEqual((done.returncode, done.stderr), (0, ""))
+            self.assertIn("epmd", done.stdout)
 
     def test_a_command_without_an_output_ends_as_the_program_does(self):
         done = programs.run(["sh", "-c", f"{WRAPPER} -kill >&-"], env=self.env(FAILS="is closed"))
