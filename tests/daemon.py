@@ -112,6 +112,13 @@ class Daemon:
                     return int(line.split()[1])
         return 0
 
+    def busy(self, rounds=2000):
+        """Registers a name with 8,000 extra bytes again and again. A log that nobody drains grows by 16 MB."""
+        for _ in range(rounds):
+            held = register(self.port, b"busy", bytes(8000), 5.0)
+            assert held, "the daemon refuses a name"
+            held.close()
+
     def limit(self, name, most):
         if self.runs():
             resource.prlimit(self.pid, getattr(resource, name), (most, resource.RLIM_INFINITY))

@@ -1,10 +1,11 @@
 """The counters that the daemon writes once a second to the file that `-figures` names."""
 import os
+import shutil
 import stat
 import unittest
 
-from case import Case, eventually
-from daemon import framed, register
+from case import PATIENCE, Case, eventually
+from daemon import ask, framed, preload, register
 from wire import DUMP, NAMES, NOT_FOUND, alive, dial, port_please
 
 COUNTED = (
@@ -96,6 +97,22 @@ class Figures(Case):
         daemon = self.daemon("-figures", file)
         eventually(lambda: daemon.lines() == [f"epmd: cannot write the counters: {file}: No such file or directory"], "a line")
         self.assertEqual(reply(daemon.port, port_please(b"beta")), NOT_FOUND)
+
+
+class DiskThatStalls(Case):
+    def test_it_holds_neither_the_log_nor_the_end(self):
+        if not shutil.which("gcc"):
+            self.skipTest("no gcc")
+        file = self.path("epmd.prom")
+        env = {"LD_PRELOAD": preload("stall"), "STALL_PATH": file + ".new", "STALL_AFTER": "1", "STALL_SECONDS": "0"}
+        daemon = self.daemon("-relaxed_command_check", "-figures", file, env=env)
+        eventually(lambda: os.path.exists(file + ".new") and not os.path.getsize(file + ".new"), "a write that waits")
+        before = daemon.kb("VmRSS")
+        daemon.busy()
+        self.assertLess(daemon.kb("VmRSS") - before, 6000)
+        self.assertEqual(ask(daemon.port, b"k", PATIENCE), b"OK")
+        eventually(lambda: not daemon.listens(), "the port is free")
+        self.assertEqual(daemon.process.wait(PATIENCE), 0)
 
 
 if __name__ == "__main__":

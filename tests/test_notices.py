@@ -73,6 +73,43 @@ class NamesInUse(NoticeCase):
         self.ends(daemon)
 
 
+class StandardErrorThatNobodyReads(NoticeCase):
+    def full_pipe(self):
+        """Both ends of a pipe that takes no byte more."""
+        reader, writer = os.pipe()
+        self.addCleanup(os.close, reader)
+        self.addCleanup(os.close, writer)
+        os.set_blocking(writer, False)
+        with contextlib.suppress(BlockingIOError):
+            while True:
+                os.write(writer, bytes(4096))
+        os.set_blocking(writer, True)
+        return reader, writer
+
+    def test_it_holds_neither_the_log_nor_the_end(self):
+        reader, writer = self.full_pipe()
+        daemon = self.daemon("-relaxed_command_check", before=lambda: os.dup2(writer, 2))
+        self.hold(daemon, b"one")
+        self.refused(daemon, b"one")
+        time.sleep(2)
+        before = daemon.kb("VmRSS")
+        daemon.busy()
+        self.assertLess(daemon.kb("VmRSS") - before, 6000)
+        self.assertEqual(ask(daemon.port, b"k", PATIENCE), b"OK")
+        eventually(lambda: not daemon.listens(), "the port is free")
+        self.assertEqual(daemon.process.wait(PATIENCE), 0)
+
+    def test_lines_come_once_it_is_read(self):
+        reader, writer = self.full_pipe()
+        daemon = self.daemon("-relaxed_command_check", before=lambda: os.dup2(writer, 2))
+        self.hold(daemon, b"one")
+        self.refused(daemon, b"one")
+        came = b""
+        while not came.endswith(b"\n"):
+            came += os.read(reader, 65536)
+        self.assertEqual(came.lstrip(b"\0"), b"epmd: name one is in use\n")
+
+
 class NamesInUseShown(NoticeCase):
     def test_a_name_that_a_terminal_may_obey(self):
         daemon = self.start("-relaxed_command_check")

@@ -77,10 +77,11 @@ class Slow(Peers):
             for s, request in slow:
                 if at < len(request):
                     s.sendall(request[at:at + 1])
+            for s, request in slow:
+                if at == len(request) - 1:
+                    self.assertEqual(rest(s), listed(daemon.port) if request == NAMES else wire.NOT_FOUND)
             if at % 10 == 0:
                 self.honest(daemon, 1)
-        for s, request in slow:
-            self.assertEqual(rest(s), listed(daemon.port) if request == NAMES else wire.NOT_FOUND)
 
     def test_half_closed_peers(self):
         daemon = self.daemon(*NEVER)

@@ -221,7 +221,7 @@ class Places(Serves):
         """A daemon with so many descriptors, and its places by the one line that it prints."""
         daemon = self.daemon(*NEVER, *words, limits={"RLIMIT_NOFILE": limit}, **how)
         ask(daemon.port, NAMES)
-        lines = daemon.lines()
+        lines = eventually(daemon.lines, "a line")
         self.assertEqual(len(lines), 1, lines)
         places, told = map(int, FEWER.fullmatch(lines[0]).groups())
         self.assertEqual(told, limit)
@@ -244,6 +244,14 @@ class Descriptors(Places):
         for limit, words in ((64, ()), (64, ("-workers", "1")), (256, ("-workers", "16")), (1024, ())):
             with self.subTest(limit=limit, words=words):
                 self.fills(*self.places(limit, *words))
+
+    def test_it_says_so_without_a_thread_for_lines(self):
+        with Faults() as faults:
+            faults.refuse("pthread_create", 1, "EAGAIN")
+            faults.on = 1
+            daemon = self.daemon(limits={"RLIMIT_NOFILE": 256}, env=faults.env)
+            eventually(lambda: len(daemon.lines()) == 1)
+            self.assertRegex(daemon.lines()[0], FEWER)
 
     def test_a_recording_has_its_descriptor(self):
         file = self.path("session")
@@ -310,22 +318,24 @@ class DescriptorsOfOtherHosts(Places):
 class Threads(Serves):
     def test_those_before_the_first_that_can_not_be_started_serve(self):
         for workers in 1, 4:
-            for nth, run in itertools.product(range(1, workers + 2), (1, FOR_EVER)):
+            for nth, run in itertools.product(range(1, workers + 3), (1, FOR_EVER)):
                 with self.subTest(workers=workers, nth=nth, run=run), Faults() as faults:
                     faults.refuse("pthread_create", nth, "EAGAIN", run)
                     faults.on = 1
                     daemon = self.daemon("-workers", str(workers), env=faults.env)
-                    if nth == 1:
+                    # The first thread writes lines, and without it the main thread does. A worker is wanted.
+                    if nth == 2 or (nth, run) == (1, FOR_EVER):
                         self.assertEqual(daemon.ended(PATIENCE), OUT_OF_MEMORY)
                         continue
                     self.serves(daemon)
-                    eventually(lambda: len(os.listdir(f"/proc/{daemon.pid}/task")) == nth)  # The first one, and nth - 1 workers.
+                    threads = workers + 1 if nth == 1 else nth
+                    eventually(lambda: len(os.listdir(f"/proc/{daemon.pid}/task")) == threads)
                     self.assertEqual(daemon.lines(), [])
                     daemon.stop()
 
     def test_the_thread_of_a_recording_can_not_be_started(self):
         with Faults() as faults:
-            faults.refuse("pthread_create", 1, "EAGAIN")
+            faults.refuse("pthread_create", 2, "EAGAIN")
             faults.on = 1
             file = self.path("session")
             daemon = self.daemon("-record", file, env=faults.env)
@@ -350,7 +360,7 @@ class Threads(Serves):
             with self.subTest(workers=workers):
                 daemon = self.daemon("-workers", str(workers))
                 self.serves(daemon)
-                eventually(lambda: len(os.listdir(f"/proc/{daemon.pid}/task")) == 1 + workers)
+                eventually(lambda: len(os.listdir(f"/proc/{daemon.pid}/task")) == 2 + workers)
 
 
 # ---- signals
