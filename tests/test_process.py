@@ -264,6 +264,16 @@ class Descriptors(Places):
         self.serves(daemon)
         self.assertEqual(daemon.lines(), [])
 
+    def prompt(self, daemon, request):
+        """A connection that has sent this request at once. One that is silent for a second, as on a busy machine, may be evicted."""
+        while True:
+            began = time.monotonic()
+            s = self.enterContext(dial(daemon.port))
+            s.sendall(request)
+            if time.monotonic() - began < 0.5:
+                return s
+            s.close()
+
     def test_a_limit_that_is_lowered(self):
         """Where descriptors run out before places do, the oldest silent peers give way as where no place is free."""
         daemon = self.daemon(*NEVER)
@@ -272,8 +282,9 @@ class Descriptors(Places):
         for _ in range(60):
             self.enterContext(dial(daemon.port))
         for number in range(5):
-            self.enterContext(register(daemon.port, b"node%d" % number))
-            self.assertEqual(ask(daemon.port, port_please(b"node%d" % number)), found(b"node%d" % number))
+            name = b"node%d" % number
+            self.assertEqual(wire.result(self.prompt(daemon, alive(name))), 0)
+            self.assertEqual(wire.rest(self.prompt(daemon, port_please(name))), found(name))
 
     def test_so_few_that_it_can_not_begin(self):
         for limit in range(3, 30, 3):

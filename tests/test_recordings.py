@@ -27,6 +27,7 @@ FILE_FULL = 240 * 1024 * 1024
 BEHIND = 4_000_000  # So many bytes may wait to be written: fewer than end a recording.
 KILLED_ENDS = 5  # Seconds for which a daemon waits at its end for the last write.
 NAMES = [b"%01000d" % number for number in range(300)]
+END = (1 << 64) - 1  # In FILE.times, the position in the row of an end in order.
 
 # The record of 109 bytes and that of 85 bytes of docs/FORMATS.md.
 SESSION = bytes.fromhex(
@@ -331,7 +332,7 @@ class Times(RecordCase):
     def rows(self, path):
         """The rows of the times of a file: a place of the log, and microseconds."""
         data = content(path + ".times")
-        self.assertEqual(data[:16], b"EPMT\1" + bytes(11))
+        self.assertEqual(data[:16], b"EPMT\2" + bytes(11))
         return list(struct.iter_unpack(">QQ", data[16:len(data) - len(data) % 16]))
 
     def asked_until(self, daemon, entries):
@@ -353,12 +354,12 @@ class Times(RecordCase):
         daemon = self.daemon("-record", self.file)
         self.asked_until(daemon, 10)
         self.assertEqual(self.kill(daemon), 0)
-        rows = self.rows(self.file)
-        self.assertEqual(rows[-2][0], rows[-1][0])
+        *rows, end = self.rows(self.file)
         self.assertEqual(rows[-1][0], self.entries(self.file))
-        self.assertLess(2, len(rows))
-        self.is_in_order(rows[:-1], began)
-        self.assertLessEqual(rows[-2][1], rows[-1][1])
+        self.assertLess(1, len(rows))
+        self.is_in_order(rows, began)
+        self.assertEqual(end[0], END)
+        self.assertTrue(rows[-1][1] <= end[1] <= time.time_ns() // 1000, (rows, end))
         self.assertEqual(stat.S_IMODE(os.stat(self.file + ".times").st_mode), 0o600)
 
     def test_a_daemon_that_is_killed_leaves_no_end(self):
@@ -368,6 +369,18 @@ class Times(RecordCase):
         daemon.process.kill()
         daemon.process.wait(PATIENCE)
         self.is_in_order(self.rows(self.file), began)
+
+    def test_a_minute_without_entries_has_a_row(self):
+        daemon = self.daemon("-record", self.file)
+        self.asked_until(daemon, 10)
+        before = len(self.rows(self.file))
+        time.sleep(58)
+        *rows, last = self.rows(self.file)
+        self.assertEqual(len(rows) + 1, before)
+        eventually(lambda: len(self.rows(self.file)) > before, "the row")
+        *_, row = self.rows(self.file)
+        self.assertEqual(row[0], last[0])
+        self.assertTrue(60e6 <= row[1] - last[1] + 1e6 and row[1] <= time.time_ns() // 1000, (last, row))
 
     def test_times_that_can_not_be_written(self):
         os.mkdir(self.file + ".times")

@@ -410,7 +410,7 @@ class Parts(Checkout):
 
     # What crates.txt has the program use of its own crates.
     OWN = {"epmd", "portmap_wire", "portmap_feed", "portmap_table", "portmap_core", "portmap_book", "portmap_link", "portmap_client", "portmap_record",
-           "portmap_ready", "portmap_worker", "portmap_daemon", "portmap_command"}
+           "portmap_operator", "portmap_recorder", "portmap_scheduler", "portmap_worker", "portmap_daemon", "portmap_command"}
 
     # How pages of the kit tell after what a crate is written.
     PAGES = {"slab": "Keys. A port of the Rust crate `slab` 0.4.12 (MIT, `LICENSE`).",

@@ -9,7 +9,7 @@ use Rattle.std.specs.declared.vec.Vec.{Vec}
 use Rattle.portmap_wire.specs.{List.names_line, declared.list.Line.Line}
 use Rattle.portmap_wire.specs.declared.request.Request.TheVariants as request
 use Rattle.portmap_link.specs.{Once.WritesReply, declared.single.OnceFault.OnceFault}
-use Rattle.portmap_worker.specs.Showing.{shown}
+use Rattle.portmap_operator.specs.Showing.{shown}
 use Rattle.portmap_client.specs.{Answer.{SaysNames, SaysDump, SaysKill, SaysStop}, Exchange.{StreamView, Calls}}
 use Rattle.portmap_client.specs.{declared.fault.ClientFault.ClientFault, declared.outcome.Kill.Kill}
 use Rattle.portmap_client.specs.declared.outcome.Stop.{Stop}

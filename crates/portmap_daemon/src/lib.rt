@@ -1,5 +1,5 @@
-//! The daemon over sockets: its threads, `mio`, and its start and end. Its workers are those of `portmap_worker`, whose
-//! calls this crate exports too.
+//! The daemon over sockets: its threads, `mio`, and its start and end. Its workers are those of `portmap_worker`. It also
+//! exports calls of that crate, of `portmap_recorder` and of `portmap_operator`.
 //!
 //! # Guarantees
 //! - `run` and `run_gated` require at least one address, 1 to 64 workers, and a timeout of 1 to 86,400 seconds. They
@@ -30,7 +30,6 @@ pub use crate::daemon::{RunEnd, RunFault, Settings, run, run_gated, run_over};
 pub use crate::limits::{TIMEOUT_SECONDS_MOST, numbers_are_the_profiles};
 pub use crate::listening::{HandedFault, beside, handed_over, lacks_ipv6};
 pub use crate::mio_system::{MioStream, MioSystem, MioWaker};
-pub use portmap_worker::{
-    Carrier, FILE_BYTES_MOST, Gate, Host, Next, Notice, Open, Outcome, Point, RecordFile, Recorder,
-    Refused, Source, Turn, serve, shown,
-};
+pub use portmap_operator::{Host, Notice, RecordFile, Refused, shown};
+pub use portmap_recorder::{FILE_BYTES_MOST, Recorder};
+pub use portmap_worker::{Carrier, Gate, Next, Open, Outcome, Point, Source, Turn, serve};

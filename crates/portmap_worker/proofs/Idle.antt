@@ -4,13 +4,13 @@ use Rattle.std.specs.FinMap as map
 use Rattle.std.proofs.Common.{◌≡◌, ◌≢◌, ℕ, Bool, true, false, not, ◌&&◌, Option, Some, None, List, [], ◌∷◌, ◌++◌}
 use Rattle.std.proofs.Common.{refl, sym, ap, ◌∙◌, ◌⊎◌, inl, inr, arith, length, take, ◌+◌, ◌-◌, ◌≤◌}
 use Rattle.std.proofs.{Common.rules, lemmas.Bool.{cases_eq, Decides.nat_tests}, lemmas.Grind.common_steps}
-use Rattle.portmap_ready.specs.Links.{IsButForRoom, IsConsistent, Links, first_at, inserted, is_paused, link_at, moved, one_at}
-use Rattle.portmap_ready.specs.Links.{state_at, put_at, removed, reported, after_resume, times, after_next, without, write_at, written}
+use Rattle.portmap_scheduler.specs.Links.{IsButForRoom, IsConsistent, Links, first_at, inserted, is_paused, link_at, moved, one_at}
+use Rattle.portmap_scheduler.specs.Links.{state_at, put_at, removed, reported, after_resume, times, after_next, without, write_at, written}
 use Rattle.std.proofs.{Math.Seq.{drop-nil, take_all}, lemmas.List.{drop-drop, Sums.fold_more}}
 use Rattle.std.proofs.lemmas.{Option.{get_or_from_slice_get, slice_get_cases, slice_get_within}}
-use Rattle.portmap_ready.{specs.Links.{is_queued, is_quiet as is_quiet_place, pushed}}
-use Rattle.portmap_ready.{specs.Runs.{Queue, PutBack, Remove}, proofs.Turns.wait_is_bounded}
-use Rattle.portmap_ready.specs.declared.LinkState.{LinkState, TheVariants.{Idle, Queued, Paused, Current}}
+use Rattle.portmap_scheduler.{specs.Links.{is_queued, is_quiet as is_quiet_place, pushed}}
+use Rattle.portmap_scheduler.{specs.Runs.{Queue, PutBack, Remove}, proofs.Turns.wait_is_bounded}
+use Rattle.portmap_scheduler.specs.declared.LinkState.{LinkState, TheVariants.{Idle, Queued, Paused, Current}}
 use Rattle.portmap_worker.specs.IdleLinks.{Ahead, AllQuiet, AreNoted, Changes, Fact, Has, Holds, IsReported, Keeps, KeepsLinks}
 use Rattle.portmap_worker.specs.IdleLinks.{Safe, Spares, Returned, Returns, ReturnsLinks, There}
 use Rattle.portmap_worker.specs.IdleLinks.{hears, is_calm, is_safe, noted_at, notes_of, place_reported}

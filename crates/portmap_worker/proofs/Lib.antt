@@ -1,6 +1,4 @@
 pub mod Asked
 pub mod Carrying
-pub mod Escaping
-pub mod Files
 pub mod Idle
 pub mod Turns

@@ -3,8 +3,8 @@ use Rattle.std.specs.Prelude.{drop, slice_get, unwrap_or, is_some, IfNone, IfSom
 use Rattle.std.proofs.Common.{◌≡◌, ◌≢◌, ◌⊎◌, inl, inr, ℕ, ◌+◌, ◌<◌, ◌≤◌, true, false, List, [], ◌∷◌, length}
 use Rattle.std.proofs.Common.{refl, sym, ap, ◌∙◌, arith, Option, Some, None}
 use Rattle.std.proofs.{lemmas.Bool.{cases_Bool, cases_eq}, lemmas.Bool.Decides.nat_tests}
-use Rattle.portmap_ready.{specs.Links.{Links, reported, times, after_next, written}}
-use Rattle.portmap_ready.{specs.Runs.{before, Next, Queue}, proofs.Turns.wait_is_bounded}
+use Rattle.portmap_scheduler.{specs.Links.{Links, reported, times, after_next, written}}
+use Rattle.portmap_scheduler.{specs.Runs.{before, Next, Queue}, proofs.Turns.wait_is_bounded}
 use Rattle.portmap_worker.specs.declared.limits.TheConstants.{TURNS_MOST}
 use Rattle.portmap_worker.specs.declared.schedule.Schedule.{Schedule}
 use Rattle.portmap_worker.specs.declared.{open_link.OpenLink.OpenLink, source.Turn.Turn}

@@ -2,8 +2,8 @@
 use Rattle.std.specs.Prelude.{◌≡◌, ◌≢◌, ℕ, ◌==◌, Bool, true, false, not, ◌&&◌, cond}
 use Rattle.std.specs.Prelude.{List, [], ◌∷◌, ◌++◌, fold, Option, Some, None, length, ◌<◌}
 use Rattle.std.specs.Prelude.{option_map, is_some}
-use Rattle.portmap_ready.specs.{Links.{Links, link_at, times}, Runs.before}
-use Rattle.portmap_ready.specs.declared.LinkState.{LinkState, TheVariants.{Idle, Queued, Paused}}
+use Rattle.portmap_scheduler.specs.{Links.{Links, link_at, times}, Runs.before}
+use Rattle.portmap_scheduler.specs.declared.LinkState.{LinkState, TheVariants.{Idle, Queued, Paused}}
 use Rattle.portmap_worker.specs.{Quiet.is_quiet, declared.open_link.OpenLink.OpenLink}
 use Rattle.portmap_worker.specs.declared.readiness.Note.{Note, TheVariants.{Reported}}
 use Rattle.portmap_worker.specs.declared.source.Turn.{Turn, TheVariants.{Fresh}}

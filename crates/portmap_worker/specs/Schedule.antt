@@ -1,7 +1,7 @@
 -- The wait of a queued link until it is served: profile.
 use Rattle.std.specs.Prelude.{◌≡◌, ◌≢◌, ◌⊎◌, ℕ, ◌+◌, ◌*◌, ◌-◌, ◌<◌, ◌≤◌, true, false, cond, nat_lt, List, [], ◌∷◌, length, Option, Some}
 use Rattle.std.specs.Prelude.{None}
-use Rattle.portmap_ready.specs.{Links.{Links, times}, Runs.before}
+use Rattle.portmap_scheduler.specs.{Links.{Links, times}, Runs.before}
 use Rattle.portmap_worker.specs.{IdleLinks.{Ahead, Holds}, Link.IsOf}
 use Rattle.portmap_worker.specs.{declared.open_link.OpenLink.OpenLink, declared.schedule.Schedule.Schedule}
 use Rattle.portmap_worker.specs.declared.limits.TheConstants.{TURNS_MOST}

@@ -6,7 +6,6 @@ ghost use Rattle.portmap_worker.specs.Peers.{is_local_by};
 ghost use Rattle.portmap_worker.specs.IdleLinks.{Keeps, Returns};
 
 use crate::Turn;
-use crate::host::Host;
 use crate::limits::{EVICTION_BACKOFF_MS, PERMIT_TIMEOUT_MS};
 use crate::link::Link;
 use crate::open_link::{Links, OpenLink};
@@ -18,7 +17,8 @@ use crate::socket_source::SocketSource;
 use crate::sockets::Sockets;
 use crate::system::{Stream, System};
 use crate::unsent::Unsent;
-use portmap_ready::LinkState;
+use portmap_operator::Host;
+use portmap_scheduler::LinkState;
 use std::net::IpAddr;
 use std::rt::Clock;
 use std::sync::Wait;

@@ -6,10 +6,10 @@
 ghost use Rattle.std.specs.Prelude.{◌≡◌, ◌↔◌, ◌-◌, ◌<◌, [], true, cond, IfSome};
 ghost use Rattle.portmap_worker.specs.IdleLinks.{Keeps};
 
-use crate::host::Host;
 use crate::shared::{Shared, WorkerState};
 use crate::socket_source::SocketSource;
 use crate::system::{System, Wake};
+use portmap_operator::Host;
 use std::rt::Clock;
 use std::sync::Wait;
 use std::sync::atomic::Ordering;

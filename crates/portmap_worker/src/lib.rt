@@ -8,10 +8,7 @@
 //! - If `Carrier::ready` returns no answer, nothing is lost, the seat is unchanged, and what is next says why. Over all
 //!   its calls the written bytes are a prefix of the replies, in order (`only_answers_are_written`).
 //! - `serve` returns the seat, whose count has risen by what it says it served.
-//! - `Recorder::begin` and `add` return true if all text was written. Otherwise a prefix of it was written, possibly
-//!   empty, and nothing is written from then on. One thread owns the file and its `Recorder`. How much of a write that
-//!   failed may stay is exact (`kept_size`).
-//! - The states of a worker's links, and FIFO order, are those of `portmap_ready`. By clauses of the source, a turn
+//! - The states of a worker's links, and FIFO order, are those of `portmap_scheduler`. By clauses of the source, a turn
 //!   serves the first link of the queue (`pop`), the last link gets its state before another one is served, and the
 //!   poll may wait only while nothing is queued (`ask`). Between two polls there is a limited number of turns
 //!   (`take_turn`), and the epoch that is passed had begun before the poll was asked (`poll_after`).
@@ -25,15 +22,12 @@
 //!     `poll_timeout`, `on_poll`, `is_held`, `acceptors_without`, `accept_error`, `starved_for`, `cause_of`.
 //!   - The times of a link: `may_move`, `since_at`, `expire`, `take_late`. How a registration waits: `immediate_turn`,
 //!     `Waiting::next`.
-//!   - When the log is drained, what waits, and when a file is full: `is_due`, `fits`, `is_full`. When a recording that
-//!     failed begins again, with what and in which file: `is_tried`, `begin_anew`, `next_number`.
-//!   - What the operator reads: `notice`, `news_of`, `Notice::line`, `Refused`, `RemoteRefused`, `shown`.
+//!   - When the log is drained, and when a recording that failed is tried again: `is_due`, `is_tried`.
 //! - `System`, `Stream` and `Wake` are what workers ask of the system. Nothing is asked of its answers, except that a
 //!   read or a write moves no more bytes than there is room for.
 //!
 //! # Tested and simulated only
-//! That `serve` continues through `ready` alone, answers every connection and ends. That a file is truncated at
-//! `kept_size`, that the files meet, and have all. That the decisions are asked.
+//! That `serve` continues through `ready` alone, answers every connection and ends. That the decisions are asked.
 //!
 //! The `README.md` of this crate shows a proved caller, and lists errors and allocation.
 #![tactic(auto)]
@@ -44,70 +38,47 @@ mod carrier;
 mod drain;
 mod ending;
 mod epochs;
-mod figures;
 mod first_piece;
 mod gate;
-mod host;
 mod laws;
 mod limits;
 mod link;
 mod listener;
 mod memory;
 mod news;
-mod notice;
 mod open_link;
-mod operator;
 mod peer;
 mod pending;
 mod polling;
-mod queue;
 mod quota;
 mod readiness;
-mod recorder;
-mod recording;
-mod recording_file;
-mod refused;
-mod remote;
 mod rounds;
 mod schedule;
 mod serving;
 mod shared;
-mod showing;
 mod socket_source;
 mod sockets;
 mod source;
 mod system;
 mod timer;
-mod times;
 mod unsent;
 mod worker_context;
-mod write_fault;
 
 pub use crate::carrier::{Carrier, Next};
-pub use crate::drain::{Drain, Drained, begin_file, drain_log};
+pub use crate::drain::{Drain, Drained, drain_log};
 pub use crate::ending::{Shutdown, ShutdownCause};
 pub use crate::gate::{Gate, Open, Point};
-pub use crate::host::{Host, RecordFile};
 pub use crate::laws::{only_answers_are_written, queued_are_served};
 pub use crate::limits::{
-    EVENTS_MOST, FILE_BYTES_MOST, PULL_BYTES_MOST, UNSENT_BYTES_MOST, numbers_are_the_profiles,
+    EVENTS_MOST, PULL_BYTES_MOST, UNSENT_BYTES_MOST, numbers_are_the_profiles,
 };
 pub use crate::link::Link;
 pub use crate::news::SharedActivity;
-pub use crate::notice::Notice;
 pub use crate::peer::is_local_peer;
-pub use crate::queue::{FilePreamble, RecordItem, RecordQueue};
-pub use crate::recorder::{Recorder, recordings_are_prefixes, recordings_are_records};
-pub use crate::recording::{RecordWriter, recordings_are_runs, write_recording};
-pub use crate::refused::Refused;
-pub use crate::remote::{LocalRequest, RemoteRefused, RemoteSlots};
 pub use crate::serving::{Outcome, Worker, serve, serve_links};
 pub use crate::shared::{Shared, WorkerState};
-pub use crate::showing::{controls_are_escaped, plain_text_stays, shown};
 pub use crate::socket_source::SocketSource;
 pub use crate::sockets::Sockets;
 pub use crate::source::{HandsOut, LinkSource, Serve, Source, Turn};
 pub use crate::system::{Interest, Report, Stream, System, Wake};
-pub use crate::times::TIMES_HEADER;
 pub use crate::worker_context::WorkerContext;
-pub use crate::write_fault::WriteFault;

@@ -1,13 +1,9 @@
 //! The numbers that tune workers. `MS` are milliseconds, `US` microseconds.
 ghost use Rattle.std.specs.Prelude.{◌≡◌, ◌+◌, ◌*◌, ◌^◌};
-ghost use Rattle.portmap_worker.specs.declared.limits.TheConstants.{ACCEPT_BACKOFF_MS, FILE_BYTES_MOST, RESERVED_SHARE};
-ghost use Rattle.portmap_worker.specs.declared.limits.TheConstants.{LATERS_MOST};
+ghost use Rattle.portmap_worker.specs.declared.limits.TheConstants.{ACCEPT_BACKOFF_MS, RESERVED_SHARE};
 ghost use Rattle.portmap_worker.specs.declared.limits.TheConstants.{UNSENT_BYTES_MOST, UNSENT_HEAVY_SHARE};
 ghost use Rattle.portmap_worker.specs.declared.limits.TheConstants.{UNSENT_SPARED_SHARE};
-ghost use Rattle.portmap_worker.specs.declared.limits.TheConstants.{LOG_BYTES_HEAVY, PULL_BYTES_MOST, QUEUE_BYTES_MOST};
-ghost use Rattle.portmap_record.specs.declared.playing.TheConstants.{SESSION_MOST};
-
-use portmap_record::SESSION_MOST;
+ghost use Rattle.portmap_worker.specs.declared.limits.TheConstants.{LOG_BYTES_HEAVY, PULL_BYTES_MOST};
 
 // ---- connections
 
@@ -90,7 +86,7 @@ pub(crate) const IDLE_REPORTS_MOST: u32 = 2;
 /// A worker that accepts and has not polled for this long counts as held.
 pub(crate) const HELD_MS: u64 = 20;
 
-// ---- the log and its recording
+// ---- the log
 
 /// The log is drained each second, each 50 milliseconds while memory is short, and at once if it is heavy. A heavy log
 /// is weighed again soon.
@@ -113,18 +109,6 @@ pub(crate) const ENTRIES_ROOM: usize = 64;
 
 pub(crate) const ENTRIES_ROOM_MOST: usize = 8192;
 
-/// The number of Laters that end a call of a recorder. Each call counts its own.
-pub(crate) const LATERS_MOST: u64 = 1000;
-
-/// The most entries that are recorded at once.
-pub(crate) const CHUNK_ENTRIES: usize = 256;
-
-/// The most bytes of entries that wait to be recorded. Beyond it the recording fails.
-pub(crate) const QUEUE_BYTES_MOST: u64 = 16_777_216;
-
-/// A file of a recording with this many bytes is full. With all that may still wait for it, it can be read back.
-pub const FILE_BYTES_MOST: u64 = SESSION_MOST as u64 - QUEUE_BYTES_MOST;
-
 /// A recording that failed begins again after this many seconds in a row in which it could.
 pub(crate) const RESUME_SECONDS: u32 = 10;
 
@@ -134,20 +118,12 @@ pub(crate) const RESUME_SECONDS: u32 = 10;
 /// heap in pieces, which retired names leave.
 pub(crate) const RESERVE_BYTES: [usize; 5] = [1_048_576, 524_288, 262_144, 131_072, 65_536];
 
-/// Memory is short if this many bytes can't be allocated.
-pub(crate) const PROBE_BYTES: usize = 65_536;
-
 /// The daemon ends after this many seconds in a row in which lack of memory let nothing through.
 pub(crate) const STARVED_SECONDS_MOST: u32 = 5;
-
-/// At least this many seconds pass between two notices of a kind.
-pub(crate) const NOTICE_SECONDS: u32 = 10;
 
 /// A law: the numbers that definitions take from the code are those of this profile.
 pub fn numbers_are_the_profiles()
     ensures serving { (PULL_BYTES_MOST ≡ 4096) × (RESERVED_SHARE ≡ 8) × (ACCEPT_BACKOFF_MS ≡ 20) }
-    ensures recording { (LATERS_MOST ≡ 1000) × (LOG_BYTES_HEAVY ≡ 2 ^ 18) × (QUEUE_BYTES_MOST ≡ 2 ^ 24)
-        × (FILE_BYTES_MOST ≡ 240 * 2 ^ 20) }
+    ensures log { LOG_BYTES_HEAVY ≡ 2 ^ 18 }
     ensures unsent { (UNSENT_BYTES_MOST ≡ 24 * 2 ^ 20) × (UNSENT_HEAVY_SHARE ≡ 1024) × (UNSENT_SPARED_SHARE ≡ 4) }
-    ensures file { FILE_BYTES_MOST + QUEUE_BYTES_MOST ≡ SESSION_MOST }
 {}

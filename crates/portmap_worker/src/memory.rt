@@ -1,9 +1,8 @@
 //! The work of the main thread while memory is short.
 ghost use Rattle.std.specs.Prelude.{◌≡◌, ◌+◌, ◌||◌, ◌&&◌, not, true, false, min};
 
-use crate::host::Host;
 use crate::limits::{RESERVE_BYTES, STARVED_SECONDS_MOST};
-use crate::news::Activity;
+use portmap_operator::{Activity, Host};
 use std::alloc::Global;
 use std::sync::atomic::{AtomicBool, Ordering};
 

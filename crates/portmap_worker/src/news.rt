@@ -2,20 +2,9 @@
 use crate::limits::WEIGH_BYTES;
 use crate::shared::Shared;
 use crate::system::Wake;
+use portmap_operator::Activity;
 use std::mem;
 use std::sync::atomic::{AtomicBool, AtomicU64, Ordering};
-
-#[derive(Clone, Copy, Default, PartialEq, Eq)]
-pub(crate) struct Activity {
-    pub(crate) answered: bool,
-    /// A connection ended to which no byte was ever written.
-    pub(crate) unanswered: bool,
-    /// A connection could not be accepted or held, for lack of descriptors or memory.
-    pub(crate) exhausted: bool,
-    /// Connections that ended unanswered while memory was short, and registrations refused for lack of memory.
-    pub(crate) refused: u64,
-    pub(crate) resets: u64,
-}
 
 /// The activity of all workers.
 #[derive(Default, Drop)]

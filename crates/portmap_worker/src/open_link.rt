@@ -1,6 +1,6 @@
 //! The links that a worker holds, each in one link state.
 ghost use Rattle.std.specs.Prelude.{◌≡◌, ◌≢◌, ℕ, [], drop, false, Some, None};
-ghost use Rattle.portmap_ready.specs.Links.{link_at};
+ghost use Rattle.portmap_scheduler.specs.Links.{link_at};
 ghost use Rattle.portmap_worker.specs.IdleLinks.{IsReported, Keeps};
 
 use crate::link::Link;
@@ -9,7 +9,7 @@ use crate::quota::Permit;
 use crate::rounds::LoopState;
 use crate::system::{Stream, System};
 use crate::unsent::Unsent;
-use portmap_ready::{LinkState, Scheduler};
+use portmap_scheduler::{LinkState, Scheduler};
 
 /// The next state of a link after its turn.
 #[derive(Clone, Copy, Debug, PartialEq, Eq)]

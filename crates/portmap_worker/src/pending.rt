@@ -3,19 +3,19 @@
 //! If a name is active when a node asks for it, the connection that owns it may have ended, or may be ending. The name
 //! is then free soon. What the machine answers after the wait is final.
 ghost use Rattle.std.specs.Prelude.{◌≡◌, ◌↔◌, ◌<◌, ◌≤◌, true, false, Some, None, IfSome};
-ghost use Rattle.portmap_ready.specs.Links.{link_at};
+ghost use Rattle.portmap_scheduler.specs.Links.{link_at};
 ghost use Rattle.portmap_worker.specs.Pending.{Awaits, StopsWaiting, GoesOn, earliest, until};
 ghost use Rattle.portmap_worker.specs.IdleLinks.{Keeps, Returns};
 ghost use Rattle.portmap_worker.specs.Link.{IsOf};
 
 use crate::Turn;
-use crate::host::Host;
 use crate::limits::{EPOCH_RETRIES_MOST, EPOCH_TIMEOUT_MS, NAME_TIMEOUT_MS};
 use crate::open_link::Links;
 use crate::rounds::LoopState;
 use crate::shared::Shared;
 use crate::socket_source::SocketSource;
 use crate::system::{Stream, System, Wake};
+use portmap_operator::Host;
 use std::rt::Clock;
 use std::sync::Wait;
 use std::sync::atomic::Ordering;

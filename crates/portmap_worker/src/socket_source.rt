@@ -8,7 +8,6 @@ ghost use Rattle.portmap_worker.specs.Schedule.{Passes, scene};
 ghost use Rattle.portmap_worker.specs.declared.limits.TheConstants.{TURNS_MOST};
 
 use crate::admission::Admission;
-use crate::host::Host;
 use crate::limits::{LOG_BYTES_HEAVY, POLLS_MOST};
 use crate::link::Link;
 use crate::news::WorkerActivity;
@@ -20,7 +19,8 @@ use crate::sockets::Sockets;
 use crate::system::System;
 use crate::{LinkSource, Next, Serve, Turn};
 use portmap_book::Desk;
-use portmap_ready::Scheduler;
+use portmap_operator::Host;
+use portmap_scheduler::Scheduler;
 use std::alloc::Global;
 use std::rt::Clock;
 use std::sync::Wait;

@@ -6,7 +6,6 @@ ghost use Rattle.portmap_worker.specs.declared.limits.TheConstants.{RESUMES_MOST
 
 use crate::Turn;
 use crate::admission::evict;
-use crate::host::Host;
 use crate::limits::{
     RESUMES_MOST, UNSENT_CROWDED_SHARE, UNSENT_HEAVY_SHARE, UNSENT_SPARED_SHARE, YOUNG_MS,
 };
@@ -14,6 +13,7 @@ use crate::open_link::Links;
 use crate::quota::{EvictionCandidate, first_of};
 use crate::socket_source::SocketSource;
 use crate::system::{Stream, System};
+use portmap_operator::Host;
 use std::mem;
 use std::rt::Clock;
 use std::sync::Wait;

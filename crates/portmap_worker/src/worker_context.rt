@@ -1,11 +1,11 @@
 //! The values that the workers of a daemon share, and the work of each worker.
-use crate::host::Host;
 use crate::shared::Shared;
 use crate::socket_source::SocketSource;
 use crate::sockets::Sockets;
 use crate::system::{System, Wake};
 use crate::{Gate, serve_links};
 use portmap_book::Desk;
+use portmap_operator::Host;
 use std::alloc::Global;
 use std::rt::Clock;
 use std::sync::Wait;

@@ -3,9 +3,8 @@ use crate::run::Case;
 use crate::scene::Scene;
 use crate::system::{SimFile, SimHost, SimThread};
 use portmap_book::{Desk, Seat};
-use portmap_worker::{
-    Drain, Drained, LinkSource, Open, RecordQueue, RecordWriter, Shared, Turn, Worker,
-};
+use portmap_recorder::{RecordQueue, RecordWriter};
+use portmap_worker::{Drain, Drained, LinkSource, Open, Shared, Turn, Worker};
 use std::alloc::Global;
 use std::sync::Wait;
 use std::sync::ledger::Ledger;

@@ -2,8 +2,8 @@
 use crate::checks::{Wrong, expect};
 use crate::world::World;
 use portmap_core::{Entry, Fate};
+use portmap_operator::LocalRequest;
 use portmap_record::{Record, RecordFault, Version, check, read_record};
-use portmap_worker::LocalRequest;
 use std::alloc::Global;
 
 /// A full file grows for at most two seconds. This many bytes are more than what arrives then, even with every permit

@@ -1,6 +1,6 @@
 //! Checks of the notices for the operator.
 use crate::checks::Wrong;
-use portmap_worker::{LocalRequest, Notice};
+use portmap_operator::{LocalRequest, Notice};
 use std::mem;
 
 /// The least time between two notices of a kind: ten seconds, less a part of a millisecond.

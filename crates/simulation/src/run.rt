@@ -14,10 +14,8 @@ use crate::weather::{Fault, FaultCounts};
 use crate::world::World;
 use portmap_book::{Book, Desk, PARTS, Seat};
 use portmap_core::Config;
-use portmap_worker::{
-    Drain, LinkSource, Open, RecordQueue, RecordWriter, Shared, SocketSource, Sockets, Worker,
-    WorkerState,
-};
+use portmap_recorder::{RecordQueue, RecordWriter};
+use portmap_worker::{Drain, LinkSource, Open, Shared, SocketSource, Sockets, Worker, WorkerState};
 use std::alloc::Global;
 use std::cell::RefCell;
 use std::mem;

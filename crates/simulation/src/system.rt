@@ -2,7 +2,8 @@
 use crate::polls::EVENTS_MOST;
 use crate::wire::Watch;
 use crate::world::{LISTENERS, World};
-use portmap_worker::{Host, Interest, Notice, RecordFile, Report, Stream, System, Wake};
+use portmap_operator::{Host, Notice, RecordFile};
+use portmap_worker::{Interest, Report, Stream, System, Wake};
 use std::alloc::Global;
 use std::cell::{RefCell, RefMut};
 use std::io;

@@ -1,11 +1,15 @@
 //! The times of a recording, as the disk of the world keeps them.
 use crate::checks::{Wrong, expect};
-use portmap_worker::TIMES_HEADER;
+use portmap_recorder::TIMES_HEADER;
 use std::alloc::Global;
 use std::io::ErrorKind;
 
 /// The bytes of a row.
 const ROW_LENGTH: usize = 16;
+/// The position in the row that says that the daemon ended in order.
+const END: u64 = u64::MAX;
+/// The least time between two rows of which the second says that the daemon is alive, in microseconds.
+const ALIVE_US: u64 = 59_000_000;
 
 /// The times of each file of a recording.
 #[derive(Drop)]
@@ -78,23 +82,25 @@ fn number(bytes: &[u8]) -> u64 {
 }
 
 /// Fails unless the rows fit a file with these positions. A row has a position of the log, and the time at which all
-/// entries before it were written.
+/// entries before it were written. If it has the position of the row before it, it says that the daemon is alive.
 fn judge_rows(rows: &[u8], first: u64, end: u64) -> Result<(), Wrong> {
     expect(rows.len() % ROW_LENGTH == 0, "times end within a row")?;
     let mut before: Option<(u64, u64)> = None;
-    let mut has_ended = false;
     for row in rows.chunks(ROW_LENGTH) {
         let (place, time) = row.split_at(8.min(row.len()));
         let (place, time) = (number(place), number(time));
         match before {
             None if place != first => return Err("times begin at another place"),
             None => {}
-            Some(_) if has_ended => return Err("times go on behind the end"),
+            Some((END, _)) => return Err("times go on behind the end"),
             Some(before) if place < before.0 || time < before.1 => return Err("times go back"),
-            Some(before) => has_ended = before.0 == place,
+            Some(before) if place == before.0 && time.saturating_sub(before.1) < ALIVE_US => {
+                return Err("a row for nothing");
+            }
+            Some(_) => {}
         }
+        expect(place <= end || place == END, "times go beyond the recording")?;
         before = Some((place, time));
     }
-    let is_within = before.is_none_or(|last| last.0 <= end);
-    expect(is_within, "times go beyond the recording")
+    Ok(())
 }

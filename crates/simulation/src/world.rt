@@ -8,7 +8,7 @@ use crate::random::Random;
 use crate::run::Case;
 use crate::scenario::Scenario;
 use crate::weather::{Fault, Weather};
-use portmap_worker::Notice;
+use portmap_operator::Notice;
 use std::alloc::Global;
 use std::io::ErrorKind;
 

@@ -7,8 +7,8 @@ use crate::words::{text, wrong, yes};
 use anyhow::{Result, ensure};
 use portmap_core::{Entry, State};
 use portmap_link::Output;
+use portmap_recorder::Recorder;
 use portmap_testing::tape::Tape;
-use portmap_worker::Recorder;
 use std::alloc::Global;
 
 /// Records the header, two entries and the other entries with the numbers of their workers. Prints the three results,

@@ -1,5 +1,5 @@
 //! A clock that a test moves forward.
-use portmap_worker::{Host, Notice};
+use portmap_operator::{Host, Notice};
 use std::alloc::{AllocError, Global};
 use std::fs::{File, Files};
 use std::io;

@@ -3,8 +3,9 @@ ghost use Rattle.std.specs.Prelude.{◌≡◌};
 
 use portmap_book::{Desk, PARTS};
 use portmap_daemon::{MioStream, MioSystem, MioWaker};
+use portmap_operator::Host;
 use portmap_testing::books::small_book;
-use portmap_worker::{Drain, Host, Interest, Report, Shared, System, UNSENT_BYTES_MOST, drain_log};
+use portmap_worker::{Drain, Interest, Report, Shared, System, UNSENT_BYTES_MOST, drain_log};
 use std::alloc::Global;
 use std::fs::File;
 use std::io::ErrorKind;

@@ -2,10 +2,10 @@
 ghost use Rattle.std.specs.Prelude.{◌≡◌};
 
 use portmap_book::{Desk, PARTS};
+use portmap_recorder::{RecordItem, RecordQueue, begin_file, write_recording};
 use portmap_testing::books::small_book;
 use portmap_testing::bytes::ALIVE_A;
 use portmap_testing::sessions::CLOSES;
-use portmap_worker::{RecordItem, RecordQueue, begin_file, write_recording};
 use std::alloc::Global;
 use std::fs::{File, Files};
 use std::marker::Brand;

@@ -8,13 +8,13 @@ use crate::clocks::Pushed;
 use crate::files::REGISTERS;
 use crate::recordings::path_of;
 use portmap_book::{Desk, PARTS};
+use portmap_operator::Host;
+use portmap_recorder::{RecordQueue, write_recording};
 use portmap_testing::books::small_book;
 use portmap_testing::bytes::ALIVE_A;
 use portmap_testing::marked;
 use portmap_testing::marks::was_refused;
-use portmap_worker::{
-    Drain, Drained, Host, RecordQueue, Shared, UNSENT_BYTES_MOST, Wake, write_recording,
-};
+use portmap_worker::{Drain, Drained, Shared, UNSENT_BYTES_MOST, Wake};
 use std::alloc::Global;
 use std::io::{PipeReader, Read, pipe};
 use std::marker::Brand;

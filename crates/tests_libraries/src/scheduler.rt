@@ -1,6 +1,6 @@
 ghost use Rattle.std.specs.Prelude.{◌≡◌, None};
 
-use portmap_ready::{LinkState, Scheduler};
+use portmap_scheduler::{LinkState, Scheduler};
 use std::rt::HostRuntime;
 
 /// What the caller does with the current link.

@@ -1,6 +1,6 @@
 use Rattle.std.proofs.Common.{refl, ap}
 use Rattle.portmap_worker.proofs.Idle.{idles, placed, seen}
-use Rattle.portmap_ready.specs.declared.LinkState.TheVariants.{Queued, Paused}
+use Rattle.portmap_scheduler.specs.declared.LinkState.TheVariants.{Queued, Paused}
 use Rattle.portmap_worker.proofs.open_link.finish_turn.Goals as goal
 
 pub returns-in-Again-clause-links : goal.returns-in-Again-clause-links

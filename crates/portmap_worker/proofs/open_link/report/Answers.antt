@@ -1,7 +1,7 @@
 use Rattle.std.proofs.Common.{◌≡◌, ◌⊎◌, inl, inr, true, Some, sym, ap, ◌∙◌, rules}
 use Rattle.std.specs.Option.{option_copied_mut}
-use Rattle.portmap_ready.specs.Links.{link_at, state_at, written}
-use Rattle.portmap_ready.specs.declared.LinkState.TheVariants.{Paused}
+use Rattle.portmap_scheduler.specs.Links.{link_at, state_at, written}
+use Rattle.portmap_scheduler.specs.declared.LinkState.TheVariants.{Paused}
 use Rattle.portmap_worker.proofs.Idle.{itself, reported_so, rests_on, rests_so, then_reported, then_written, wakes}
 use Rattle.portmap_worker.proofs.open_link.report.Goals as goal
 

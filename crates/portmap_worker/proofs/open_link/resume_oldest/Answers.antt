@@ -1,6 +1,6 @@
 use Rattle.std.proofs.Common.{sym, ap, ◌∙◌}
 use Rattle.std.specs.Option.{option_copied_mut}
-use Rattle.portmap_ready.specs.declared.LinkState.TheVariants.{Idle}
+use Rattle.portmap_scheduler.specs.declared.LinkState.TheVariants.{Idle}
 use Rattle.portmap_worker.proofs.Idle.{Alike, Stays, absent, calms, first_others, no_link, rest_over, stays, wakes}
 use Rattle.portmap_worker.proofs.open_link.resume_oldest.{Given.Over, Goals.{After-get_mut}}
 use Rattle.portmap_worker.proofs.open_link.resume_oldest.Goals as goal

@@ -1,7 +1,7 @@
 use Rattle.std.specs.Prelude.{Bool, IfSome, option_map}
 use Rattle.std.proofs.Common.{◌≡◌, Option, Some, None, refl, sym, subst, ap, ◌∙◌, inl, inr, rules}
-use Rattle.portmap_ready.specs.Links.{link_at}
-use Rattle.portmap_ready.specs.declared.LinkState.{LinkState, TheVariants.{Queued}}
+use Rattle.portmap_scheduler.specs.Links.{link_at}
+use Rattle.portmap_scheduler.specs.declared.LinkState.{LinkState, TheVariants.{Queued}}
 use Rattle.portmap_worker.specs.declared.open_link.OpenLink.{OpenLink}
 use Rattle.portmap_worker.proofs.Idle.{moved_here, seen, sent, to, with, written_here}
 use Rattle.portmap_worker.proofs.pending.resume.Goals.{in-Some, in_default}

@@ -1,5 +1,5 @@
 use Rattle.std.proofs.Common.{refl, ap, inl, inr}
-use Rattle.portmap_ready.specs.declared.LinkState.TheVariants.{Pending}
+use Rattle.portmap_scheduler.specs.declared.LinkState.TheVariants.{Pending}
 use Rattle.portmap_worker.proofs.Idle.{seen, sent}
 use Rattle.portmap_worker.proofs.pending.wait_on.Goals.{in-Some, in_default}
 use Rattle.portmap_worker.proofs.pending.wait_on.Goals as goal

@@ -1,5 +1,5 @@
 use Rattle.std.proofs.Common.{refl, ap}
-use Rattle.portmap_ready.specs.declared.LinkState.TheVariants.{Pending}
+use Rattle.portmap_scheduler.specs.declared.LinkState.TheVariants.{Pending}
 use Rattle.portmap_worker.proofs.Idle.{placed, seen}
 use Rattle.portmap_worker.specs.IdleLinks.{Holds}
 use Rattle.portmap_worker.proofs.socket_source.SocketSource.defer_registration.Goals as goal

@@ -1,5 +1,5 @@
 use Rattle.std.proofs.Common.{refl, sym, ap, ◌∙◌}
-use Rattle.portmap_ready.specs.declared.LinkState.TheVariants.{Current}
+use Rattle.portmap_scheduler.specs.declared.LinkState.TheVariants.{Current}
 use Rattle.portmap_worker.proofs.Idle.{first_goes, none_current, returns_of, current_written}
 use Rattle.portmap_worker.proofs.Turns.{passes_first}
 use Rattle.portmap_worker.specs.declared.source.Turn.TheVariants.{Ready}

@@ -1,5 +1,5 @@
 use Rattle.std.proofs.Common.{refl, ap, rules}
-use Rattle.portmap_ready.specs.declared.LinkState.TheVariants.{Current}
+use Rattle.portmap_scheduler.specs.declared.LinkState.TheVariants.{Current}
 use Rattle.portmap_worker.proofs.Idle.{seen, taken}
 use Rattle.portmap_worker.specs.IdleLinks.{Holds}
 use Rattle.portmap_worker.proofs.socket_source.SocketSource.retry_pending.Goals.{in-Some-goes_on, in-None}

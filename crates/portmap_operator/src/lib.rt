@@ -1,0 +1,32 @@
+//! What an operator reads of a running daemon: notices, in lines, and counters. The calls of the host write them.
+//!
+//! # Guarantees
+//! - These texts are exact: each notice (`Notice::line`), the names in use and the requests of other hosts that were
+//!   refused (`Refused`, `RemoteRefused`), and the reason why a write failed (`WriteFault::words`).
+//! - Text that is printed cannot control a terminal (`shown`, `plain_text_stays`, `controls_are_escaped`).
+//! - When a notice is due is an exact function of whether there is one, and of the seconds since the last (`notice`).
+//! - By which counter a reply is counted is exact (`counter_of_reply`).
+//!
+//! # Tested and simulated only
+//! That the counters are the sums. That what was noted is written, once. That the host's calls make, truncate and
+//! replace files as they say.
+#![tactic(auto)]
+
+mod activity;
+mod figures;
+mod host;
+mod notice;
+mod operator;
+mod refused;
+mod remote;
+mod showing;
+mod write_fault;
+
+pub use crate::activity::Activity;
+pub use crate::host::{Host, RecordFile};
+pub use crate::notice::{Notice, path_of};
+pub use crate::operator::Operator;
+pub use crate::refused::Refused;
+pub use crate::remote::{LocalRequest, RemoteRefused, RemoteSlots};
+pub use crate::showing::{controls_are_escaped, plain_text_stays, shown};
+pub use crate::write_fault::{WORDS_MOST, WriteFault};
