@@ -1,15 +1,18 @@
--- The agreement of names and open connections, by slots and by lists.
-use Rattle.std.specs.{Ordering.nat_cmp, Prelude.{All, IsSome}}
-use Rattle.std.proofs.Common.{◌≡◌, ℕ, Bool, true, List, [], ◌∷◌, get_or, Option, Some, refl, sym, ap, subst, ◌∙◌}
-use Rattle.std.proofs.{Common.{eq-eqb, eqb-true, inl, inr, IfSome, rules}, lemmas.Bool.cases_eq}
+-- The agreement of names and open connections, by slots, by lists and in number.
+use Rattle.std.specs.{List.{IsDistinct, list_any}, Ordering.nat_cmp, Prelude.{All, IsSome, is_some, map as list_map, ◌==◌}}
+use Rattle.std.proofs.Common.{◌≡◌, ℕ, ◌<◌, ◌≤◌, Bool, true, false, List, [], ◌∷◌, length, get_or, Option, Some, refl, sym, ap}
+use Rattle.std.proofs.Common.{subst, ◌∙◌, arith, eq-eqb, eqb-true, inl, inr, IfSome, rules}
+use Rattle.std.proofs.{lemmas.Bool.cases_eq, lemmas.Cmp.nat_eq_equiv}
 use Rattle.std.proofs.{lemmas.List.Elements.{All-head, All-tail}, lemmas.List.Folds.{Any-from_list_any, list_any_at}}
 use Rattle.std.specs.FinMap as map
-use Rattle.portmap_table.specs.{Rows.{Names, owns_name}, declared.row.Row.Row}
-use Rattle.portmap_table.proofs.Owners.{has_slot, owns}
-use Rattle.portmap_core.specs.{Connections.ConnectionMap, Fitting.IsHeldFor}
-use Rattle.portmap_core.specs.{Held.{AreHeld, HeldValue, connection_held, entries_held}, Owned.IsSlotFor}
-use Rattle.portmap_core.specs.declared.connection.Connection.{Connection}
-use Rattle.portmap_core.proofs.{HeldLaws.found, Slots.other_key}
+use Rattle.portmap_wire.specs.declared.request.Request.{Request}
+use Rattle.portmap_table.specs.{Rows.{Names, owns_name, slot_of}, declared.row.Row.Row}
+use Rattle.portmap_table.proofs.{Finding.keys_pass_not, First.any_none, Owners.{has_slot, owns}}
+use Rattle.portmap_core.specs.{Config.Configuration, Connections.ConnectionMap, Fitting.IsHeldFor}
+use Rattle.portmap_core.specs.{Held.{AreHeld, HeldValue, connection_held, entries_held}, Laws.IsReplied}
+use Rattle.portmap_core.specs.{Owned.{IsOwned, IsSlotFor}, State.State}
+use Rattle.portmap_core.specs.{declared.connection.Connection.Connection, declared.event.Fate.Fate}
+use Rattle.portmap_core.proofs.{Counts.cut_len, HeldLaws.found, Owned.waiting_free, Slots.{cut_other, other_key}}
 
 -- A property of all listed connections holds of the connection found at a slot.
 found_has : (P : ℕ → Connection → Type 0) (q : ℕ) (held : List HeldValue) → All (λ h. P h.slot (connection_held h)) held
@@ -57,3 +60,31 @@ owners_by names connections slots k d lt =
     let row = get_or names.active k d in
     is_open (owns_name row.slot names) (map.get connections row.slot)
     (owns row.slot names ∙ list_any_at (has_slot row.slot) names.active k d lt (eq-eqb row.slot row.slot refl)) (slots row.slot)
+
+-- ---- the number of active names
+
+-- Open slots, no two of which are equal, are at most as many as the open connections.
+open_most : (rows : List Row) (m : ConnectionMap) → IsDistinct ◌==◌ (list_map slot_of rows)
+    → ((q : ℕ) → list_any (has_slot q) rows ≡ true → IsSome (map.get m q)) → length rows ≤ map.len m
+unfolding IsDistinct
+open_most [] m distinct each = omega arith
+open_most (row ∷ rows) m distinct each =
+    let alone = any_none (has_slot row.slot) rows (keys_pass_not nat_eq_equiv slot_of row.slot rows distinct.0) in
+    let fewer = cut_len m row.slot _ refl (each row.slot (rw (eq-eqb row.slot row.slot refl) refl)) in
+    let rest = open_most rows (map.remove m row.slot) distinct.1 (λ q has.
+    rw (cut_other m row.slot q (λ e. let both : false ≡ true = sym alone ∙ ap (λ k. list_any (has_slot k) rows) (sym e) ∙ has in cc))
+    (each q (search rules))) in
+    omega (arith, fewer, rest)
+
+-- A waiting connection owns no name, and each active name belongs to another connection.
+pub few_are_active : {cfg : Configuration} {s s' : State} {request : Request} {reply : List ℕ} {fate : Fate}
+    → IsReplied cfg s request reply fate s' → IsOwned cfg s → length s.names.active < map.len s.connections
+few_are_active {cfg} {s} t owned =
+    let here = t.completes.is_open in
+    let free = waiting_free (owns_name t.slot s.names) (map.get s.connections t.slot) here t.completes.waits (owned.slots t.slot) in
+    let fewer = cut_len s.connections t.slot (map.get s.connections t.slot) refl (ap is_some here) in
+    let most = open_most s.names.active (map.remove s.connections t.slot) owned.names.owners (λ q has.
+    let owner : owns_name q s.names ≡ true = owns q s.names ∙ has in
+    rw (cut_other s.connections t.slot q (λ e. let both : false ≡ true = sym free ∙ ap (λ k. owns_name k s.names) (sym e) ∙ owner in cc))
+    (is_open (owns_name q s.names) (map.get s.connections q) owner (owned.slots q))) in
+    omega (arith, fewer, most)

@@ -110,8 +110,9 @@ pub ended_len : (connections : ConnectionMap) (owner : ℕ) (o : Option Connecti
     → map.len (ended_at owner o connections) ≡ map.len connections
 ended_len connections owner o e = search (rules, len_open)
 
-waiting_free : (b : Bool) (o : Option Connection) (w : WaitsAt) → o ≡ Some w.connection → IsSlotFor b o → b ≡ false
-waiting_free b o w here h = search rules
+pub waiting_free : (b : Bool) (o : Option Connection) {connection : Connection} {received : List ℕ} → o ≡ Some connection
+    → connection.stage ≡ Waiting received → IsSlotFor b o → b ≡ false
+waiting_free b o here waits h = search rules
 
 -- A waiting connection.
 module _ (w : WaitsAt) (owned : IsOwned w.config w.state) where
@@ -119,7 +120,7 @@ module _ (w : WaitsAt) (owned : IsOwned w.config w.state) where
 
   -- The connection owns no name.
   free : owns_name slot s.names ≡ false
-  free = waiting_free (owns_name slot s.names) (map.get s.connections slot) w w.is_open (owned.slots slot)
+  free = waiting_free (owns_name slot s.names) (map.get s.connections slot) w.is_open w.stage (owned.slots slot)
 
   -- The connection may take any stage that fits a slot without a name.
   stays_owned : (stage : Stage) (halted : Bool) → IsStageFor false connection.local stage

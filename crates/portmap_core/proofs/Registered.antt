@@ -13,14 +13,15 @@ use Rattle.portmap_table.specs.Rows.{registered, remembered, retired_at, retired
 use Rattle.portmap_table.specs.declared.row.Row.{Row}
 use Rattle.portmap_table.proofs.{NameEntry.has_name, NameLaws.{active_names_stay, registered_names_are_active}}
 use Rattle.portmap_core.specs.{Config.Configuration, Entry.{Closed, Connected, Entry, Faulted, Late, Piece}}
-use Rattle.portmap_core.specs.Laws.{Completes, FreeNamesRegister, IsReplied, MayEnd, NamesStay, NoneEnds}
-use Rattle.portmap_core.specs.Laws.{RegisteredAreAlone, RegisteredAreFound}
+use Rattle.portmap_core.specs.Laws.{Completes, FreeNamesHaveRoom, FreeNamesRegister, IsRegistered, IsReplied, MayEnd}
+use Rattle.portmap_core.specs.Laws.{NamesStay, NoneEnds, RegisteredAreAlone, RegisteredAreFound, RegisteredAreListed}
 use Rattle.portmap_core.specs.Run.{Run}
 use Rattle.portmap_core.specs.Serving.{Served, Serves, ServesBody, alive_served, closed, dump_served, if_local, registers, replied}
 use Rattle.portmap_core.specs.{Serving.{kill_served, served, stops}, State.State, Step.{Effect, Step, outcome_of}}
 use Rattle.portmap_core.specs.{declared.connection.Connection.Connection, declared.connection.Stage.TheVariants.Holding}
 use Rattle.portmap_core.specs.{declared.event.Fate.{Fate, TheVariants.{Close, Stay}}}
-use Rattle.portmap_core.proofs.{LocalPeers.active_names_are_taken, Shown.active_names_are_found, Waits.{WaitsAt, said, settles_at}}
+use Rattle.portmap_core.proofs.{Fitting.few_are_active, LocalPeers.active_names_are_taken}
+use Rattle.portmap_core.proofs.{Shown.{active_names_are_found, active_names_are_listed}, Waits.{WaitsAt, said, settles_at}}
 
 -- ---- an active name stays active
 
@@ -162,8 +163,7 @@ becomes_active known_max names slot g creation new =
 -- A free name registers.
 registers_so : {cfg : Configuration} {s s' : State} {g : Node} {reply : List ℕ} {fate : Fate} (t : IsReplied cfg s (Alive g) reply fate s')
     → is_active g.name s.names ≡ false → is_full_for cfg.known_max g.name s.names ≡ false
-    → (creation : ℕ) × IsLegalCreation g.high (remembered g.name s.names) creation × (reply ≡ alive_reply g.high 0 creation) × (fate ≡ Stay)
-    × (active_row g.name s'.names ≡ Some (record { reg = g; creation = creation; slot = t.slot }))
+    → IsRegistered s g t.slot reply fate s'
 registers_so {cfg} {s} {s'} {g} {reply} {fate} t new room =
     let (creation, legal, is) = serves_alive t in
     let so : alive_served cfg s.names t.slot g creation ≡ registers cfg.known_max s.names t.slot g creation =
@@ -206,16 +206,26 @@ pub free_names_register : FreeNamesRegister
 free_names_register cfg s s' g reply fate t free room =
     registers_so t (ap is_some free) (has_room cfg.known_max (length s.names.active) (is_known g.name s.names) room)
 
+pub free_names_have_room : FreeNamesHaveRoom
+free_names_have_room cfg s s' g reply fate t free owned few =
+    let room = few_are_active t owned in
+    free_names_register cfg s s' g reply fate t free (inr (omega arith))
+
+-- The registered name stays active.
+stays_active : {cfg : Configuration} {s first : State} {g : Node} {reply : List ℕ} (t : IsReplied cfg s (Alive g) reply Stay first)
+    (es : List Entry) (last : State) → Run cfg first es last → NoneEnds t.slot es
+    → active_row g.name last.names ≡ Some (record { reg = g; creation = (took t).0; slot = t.slot })
+stays_active {cfg} {s} {first} {g} t es last run none = names_stay cfg es first last g.name _ run (took t).1 none
+
 pub registered_are_found : RegisteredAreFound
 registered_are_found cfg es s first last s' g reply t asker connection body answer run none c spells =
-    let r = took t in
-    let row : Row = record { reg = g; creation = r.0; slot = t.slot } in
-    active_names_are_found cfg last s' asker connection body answer g.name row c spells
-    (names_stay cfg es first last g.name row run r.1 none)
+    active_names_are_found cfg last s' asker connection body answer g.name _ c spells (stays_active t es last run none)
+
+pub registered_are_listed : RegisteredAreListed
+registered_are_listed cfg es s first last s' g reply t asker connection body answer run none c spells =
+    active_names_are_listed cfg last s' asker connection body answer g.name _ c spells (stays_active t es last run none)
 
 pub registered_are_alone : RegisteredAreAlone
 registered_are_alone cfg es s first last s' g other reply answer fate t run none again is =
-    let r = took t in
-    let row : Row = record { reg = g; creation = r.0; slot = t.slot } in
-    active_names_are_taken cfg last s' other row answer fate again
-    (rw is (names_stay cfg es first last g.name row run r.1 none))
+    active_names_are_taken cfg last s' other _ answer fate again
+    (ap (λ (n : List ℕ). active_row n last.names) is ∙ stays_active t es last run none)

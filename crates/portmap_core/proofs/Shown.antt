@@ -1,17 +1,20 @@
--- Replies about active names for any host, and the silence to all other requests of remote peers.
-use Rattle.std.specs.{List.flat_map, Prelude.{find, option_map, map as list_map}}
-use Rattle.std.proofs.Common.{◌≡◌, ℕ, Bool, true, false, cond, List, [], ◌∷◌, ◌++◌, Option, Some, ap, ◌∙◌, append_assoc}
-use Rattle.std.proofs.{Common.{inl, inr, rules}, lemmas.Option.same_Some}
-use Rattle.portmap_wire.specs.{List.names_line, Reply.{be4, port2_reply}, Request.Spells}
-use Rattle.portmap_wire.specs.declared.request.Request.{Request, TheVariants.Port}
-use Rattle.portmap_wire.proofs.RequestLaws.{one_request}
+-- Replies about active names for any host, what is read back of them, and the silence to all other requests of remote peers.
+use Rattle.std.specs.{List.flat_map, Prelude.{All, find, option_map, slice_get, map as list_map}}
+use Rattle.std.proofs.Common.{◌≡◌, ℕ, suc, Bool, true, false, cond, List, [], ◌∷◌, ◌++◌, Option, Some, None, ap, ◌∙◌}
+use Rattle.std.proofs.Common.{append_assoc, arith, inl, inr, rules}
+use Rattle.std.proofs.lemmas.{Bool.cond_both, List.Elements.{All-append, All-drop, All-map, All-nil, All-push, All-take}, Option.same_Some}
+use Rattle.portmap_wire.specs.{List.names_line, ListReading.IsLine, Node.{IsNode, Node}, Reply.{be4, port2_reply}}
+use Rattle.portmap_wire.specs.{Request.{IsRequest, Spells}, declared.request.Request.{Request, TheVariants.{Alive, Port}}}
+use Rattle.portmap_wire.proofs.{LineLemmas.names_read_back, RequestLaws.one_request}
 use Rattle.portmap_wire.specs.declared.request.Request.TheVariants as request
-use Rattle.portmap_table.specs.{Rows.{Names, same_name}, declared.row.Row.Row}
-use Rattle.portmap_core.specs.Config.{Configuration}
-use Rattle.portmap_core.specs.Laws.{ActiveNamesAreFound, ActiveNamesAreListed, Completes, ListsAreExact}
+use Rattle.portmap_feed.specs.Stream.{Framing, Whole}
+use Rattle.portmap_table.specs.{Rows.{Names, retired_at, retired_last, same_name}, declared.row.Row.Row}
+use Rattle.portmap_table.proofs.NameLaws.{active_names_stay}
+use Rattle.portmap_core.specs.{Config.Configuration, Entry.{Closed, Entry, Faulted, Piece}}
+use Rattle.portmap_core.specs.Laws.{ActiveNamesAreFound, ActiveNamesAreListed, Completes, ListsAreExact, ListsAreReadBack}
 use Rattle.portmap_core.specs.Laws.{RemotePeersMayOnlyLookUp}
-use Rattle.portmap_core.specs.{Serving.{Served, ServesBody, names_line_of, served}, State.State}
-use Rattle.portmap_core.specs.{Step.{Effect, outcome_of}, declared.connection.Connection.Connection}
+use Rattle.portmap_core.specs.{Run.Run, Serving.{Served, ServesBody, ServesReceived, names_line_of, registers, served, stops}}
+use Rattle.portmap_core.specs.{State.{State, empty_state}, Step.{Effect, Step, outcome_of}, declared.connection.Connection.Connection}
 use Rattle.portmap_core.proofs.Waits.{WaitsAt, said, settles_at}
 
 -- ---- results of a complete request
@@ -80,6 +83,70 @@ active_names_are_listed cfg s s' slot connection body reply name row c spells ac
 
 pub lists_are_exact : ListsAreExact
 lists_are_exact cfg s s' slot connection body reply c spells = (answered c request.Names spells).1
+
+-- ---- lists that are read back
+
+abbrev IsShown : Row → Type 0
+IsShown row = IsLine (names_line_of row)
+
+-- Each active name can be written and read back.
+record AreLines (names : Names) : Type 0 where
+  each : All IsShown names.active
+
+retired_last_lines : (names : Names) (at : ℕ) (o : Option Row) → AreLines names → AreLines (retired_last at o names)
+retired_last_lines names at None lines = lines
+retired_last_lines names at (Some row) lines = record {
+  each = All-append IsShown _ _ (All-take IsShown at names.active lines.each) (All-drop IsShown (suc at) names.active lines.each);
+}
+
+retired_lines : (names : Names) (o : Option ℕ) → AreLines names → AreLines (retired_at o names)
+retired_lines names None lines = lines
+retired_lines names (Some at) lines = retired_last_lines names at (slice_get names.active at) lines
+
+module _ (cfg : Configuration) (names : Names) where
+  abbrev LinesBy : Served → Type 0
+  LinesBy o = AreLines names → AreLines o.names
+
+  cond_lines : (b : Bool) (x y : Served) → LinesBy x → LinesBy y → LinesBy (cond b x y)
+  cond_lines b x y first second = cond_both b x y LinesBy (λ _. first) (λ _. second)
+
+  registers_lines : (slot : ℕ) (g : Node) (creation : ℕ) → IsNode g → LinesBy (registers cfg.known_max names slot g creation)
+  registers_lines slot g creation is lines =
+      let before = rw (← active_names_stay cfg.known_max names g.name) at lines.each in
+      let row : Row = record { reg = g; creation = creation; slot = slot } in
+      record { each = All-push IsShown _ row before (record { name = is.name; port = is.port }) }
+
+  stops_lines : (owner : Option ℕ) → LinesBy (stops names owner)
+  stops_lines None lines = lines
+  stops_lines (Some owner) lines = retired_lines names _ lines
+
+  serves_lines : (local : Bool) (slot : ℕ) (request : Request) (creation : ℕ) → IsRequest request
+      → LinesBy (served cfg names local slot request creation)
+  serves_lines local slot (Alive g) creation is = search (rules, cond_lines, registers_lines)
+  serves_lines local slot request creation is = search (rules, cond_lines, stops_lines)
+
+  received_lines : (local : Bool) (slot : ℕ) (received : List ℕ) (sight : Framing) (o : Served)
+      → ServesReceived cfg names local slot received sight o → LinesBy o
+  received_lines local slot received (Whole body) o (inl p) =
+      rw p.serves.is (serves_lines local slot p.request p.serves.creation p.spells.request_is)
+  received_lines local slot received (Whole body) o (inr p) = rw p.is (λ lines. lines)
+  received_lines local slot received sight o is = rw is (λ lines. lines)
+
+step_lines : (cfg : Configuration) (s s' : State) (e : Entry) → Step cfg s e s' → AreLines s.names → AreLines s'.names
+step_lines cfg s s' (Piece slot piece reply fate) step lines = search (rules, received_lines)
+step_lines cfg s s' (Closed slot) step lines = rw step.moves.after (retired_lines s.names _ lines)
+step_lines cfg s s' (Faulted slot) step lines = rw step.moves.after (retired_lines s.names _ lines)
+step_lines cfg s s' e step lines = search rules
+
+run_lines : (cfg : Configuration) (es : List Entry) (s s' : State) → Run cfg s es s' → AreLines s.names → AreLines s'.names
+run_lines cfg [] s s' run lines = rw run lines
+run_lines cfg (e ∷ es) s s' run lines = run_lines cfg es run.0 s' run.2 (step_lines cfg s run.0 e run.1 lines)
+
+pub lists_are_read_back : ListsAreReadBack
+lists_are_read_back cfg es s s' slot connection body reply is run c spells =
+    let lines = run_lines cfg es empty_state s run (record { each = All-nil IsShown }) in
+    rw (lists_are_exact cfg s s' slot connection body reply c spells) (names_read_back cfg.port (list_map names_line_of s.names.active)
+    (omega (arith, is.port)) (All-map IsLine names_line_of s.names.active lines.each))
 
 -- ---- remote peers
 

@@ -1,8 +1,8 @@
 -- Laws of the machine. Each is the contract of a public function.
-use Rattle.std.specs.Prelude.{◌≡◌, ◌≢◌, ℕ, ◌<◌, ◌≤◌, ◌==◌, true, false, List, [], ◌∷◌, ◌++◌, length, map as list_map}
-use Rattle.std.specs.Prelude.{slice_index_or, ◌⊎◌, Some, None, All, codes, nat_lt, if◌then◌else◌}
+use Rattle.std.specs.Prelude.{◌≡◌, ◌≢◌, ℕ, ◌+◌, ◌<◌, ◌≤◌, ◌==◌, Bool, true, false, List, [], ◌∷◌, ◌++◌, length, filter}
+use Rattle.std.specs.Prelude.{map as list_map, slice_index_or, ◌⊎◌, Some, None, All, codes, nat_lt, if◌then◌else◌}
 use Rattle.std.specs.FinMap as map
-use Rattle.portmap_wire.specs.{List.{names_line, names_reply}, Node.Node, Reply.{alive_reply, port2_reply}}
+use Rattle.portmap_wire.specs.{List.{names_line, names_reply}, ListReading.IsReadBack, Node.Node, Reply.{alive_reply, port2_reply}}
 use Rattle.portmap_wire.specs.Request.{body_of, sent, IsRequest, IsMalformed, Spells}
 use Rattle.portmap_wire.specs.declared.request.Request.{Request}
 use Rattle.portmap_wire.specs.declared.request.Request.TheVariants as request
@@ -129,6 +129,13 @@ ListsAreExact =
     → Completes cfg s slot connection body reply s' → Spells body request.Names
     → reply ≡ names_reply cfg.port (list_map names_line_of s.names.active)
 
+-- After any run, the list is read back as the active names with their ports, in order of registration, and as nothing else.
+abbrev pub ListsAreReadBack : Type 0
+ListsAreReadBack =
+    (cfg : Configuration) (es : List Entry) (s s' : State) (slot : ℕ) (connection : Connection) (body reply : List ℕ)
+    → IsConfiguration cfg → Run cfg empty_state es s → Completes cfg s slot connection body reply s' → Spells body request.Names
+    → IsReadBack reply cfg.port (list_map names_line_of s.names.active)
+
 -- A request that any host may make: PORT_PLEASE2 or NAMES.
 abbrev pub IsLook : Request → Type 0
 IsLook (request.Alive g) = ⊥
@@ -196,13 +203,24 @@ KillsAreRefused =
 
 -- ---- how long a name stays registered
 
+-- The name is active in `s'`, with this registration, a legal creation and this slot. The reply carries the creation.
+abbrev pub IsRegistered : State → Node → ℕ → List ℕ → Fate → State → Type 0
+IsRegistered s g slot reply fate s' =
+    (creation : ℕ) × IsLegalCreation g.high (remembered g.name s.names) creation × (reply ≡ alive_reply g.high 0 creation) × (fate ≡ Stay)
+    × (active_row g.name s'.names ≡ Some (record { reg = g; creation = creation; slot = slot }))
+
 -- The registration of a name that is not active succeeds if the name is known or has room.
 abbrev pub FreeNamesRegister : Type 0
 FreeNamesRegister =
     (cfg : Configuration) (s s' : State) (g : Node) (reply : List ℕ) (fate : Fate) (t : IsReplied cfg s (request.Alive g) reply fate s')
     → active_row g.name s.names ≡ None → (is_known g.name s.names ≡ true) ⊎ (length s.names.active < cfg.known_max)
-    → (creation : ℕ) × IsLegalCreation g.high (remembered g.name s.names) creation × (reply ≡ alive_reply g.high 0 creation) × (fate ≡ Stay)
-    × (active_row g.name s'.names ≡ Some (record { reg = g; creation = creation; slot = t.slot }))
+    → IsRegistered s g t.slot reply fate s'
+
+-- It also succeeds if at most as many connections are open as names may be known.
+abbrev pub FreeNamesHaveRoom : Type 0
+FreeNamesHaveRoom =
+    (cfg : Configuration) (s s' : State) (g : Node) (reply : List ℕ) (fate : Fate) (t : IsReplied cfg s (request.Alive g) reply fate s')
+    → active_row g.name s.names ≡ None → IsOwned cfg s → map.len s.connections ≤ cfg.known_max → IsRegistered s g t.slot reply fate s'
 
 -- The entry may end the connection in `slot`, or the registration of any name.
 abbrev pub MayEnd : ℕ → Entry → Type 0
@@ -228,6 +246,14 @@ RegisteredAreFound =
     (t : IsReplied cfg s (request.Alive g) reply Stay first) (asker : ℕ) (connection : Connection) (body answer : List ℕ)
     → Run cfg first es last → NoneEnds t.slot es → Completes cfg last asker connection body answer s'
     → Spells body (request.Port g.name) → answer ≡ port2_reply (Some g)
+
+-- Until then, every list of names has the line of a registered name.
+abbrev pub RegisteredAreListed : Type 0
+RegisteredAreListed =
+    (cfg : Configuration) (es : List Entry) (s first last s' : State) (g : Node) (reply : List ℕ)
+    (t : IsReplied cfg s (request.Alive g) reply Stay first) (asker : ℕ) (connection : Connection) (body answer : List ℕ)
+    → Run cfg first es last → NoneEnds t.slot es → Completes cfg last asker connection body answer s' → Spells body request.Names
+    → (before : List ℕ) × (after : List ℕ) × (answer ≡ before ++ names_line (record { name = g.name; port = g.port }) ++ after)
 
 -- Until then, every other registration of the name is refused.
 abbrev pub RegisteredAreAlone : Type 0
@@ -287,3 +313,21 @@ LeaversAreRemembered =
     (cfg : Configuration) (s s' : State) (name : List ℕ) (row : Row) (e : Entry) → IsOwned cfg s → Step cfg s e s'
     → (e ≡ Closed row.slot) ⊎ (e ≡ Faulted row.slot) → active_row name s.names ≡ Some row
     → remembered name s'.names ≡ Some row.creation
+
+-- The connection of a chunk stays and gets a reply: only a registration does that.
+abbrev pub is_registration : Entry → Bool
+is_registration (Piece slot piece reply Stay) = nat_lt 0 (length reply)
+is_registration e = false
+
+abbrev pub registrations : List Entry → ℕ
+registrations es = length (filter is_registration es)
+
+-- A name whose connection ends gets another creation at its next registration. The names that are active after that end and the
+-- registrations until the next must together be fewer than the names that may be known.
+abbrev pub RestartsGetAnother : Type 0
+RestartsGetAnother =
+    (cfg : Configuration) (es : List Entry) (s first last s' : State) (name : List ℕ) (row other : Row) (e next : Entry)
+    → IsOwned cfg s → Step cfg s e first → (e ≡ Closed row.slot) ⊎ (e ≡ Faulted row.slot) → active_row name s.names ≡ Some row
+    → (run : Run cfg first es last) → NoneRegisters name cfg es first last run
+    → length first.names.active + registrations es < cfg.known_max
+    → Step cfg last next s' → active_row name s'.names ≡ Some other → other.creation ≢ row.creation

@@ -5,8 +5,9 @@ ghost use Rattle.portmap_core.specs.Laws.{RemotePeersMayOnlyLookUp, RunsKeepLimi
 ghost use Rattle.portmap_core.specs.Laws.{TakenCreationsAreNew};
 ghost use Rattle.portmap_core.specs.Laws.{WrittenIsWhole};
 ghost use Rattle.portmap_core.specs.Laws.{AbsentNamesAreNotFound, EndsRetire, ListsAreExact, StopsRetire};
-ghost use Rattle.portmap_core.specs.Laws.{IncompleteRequestsWait, LeaversAreRemembered};
-ghost use Rattle.portmap_core.specs.Laws.{FreeNamesRegister, NamesStay, RegisteredAreAlone, RegisteredAreFound};
+ghost use Rattle.portmap_core.specs.Laws.{IncompleteRequestsWait, LeaversAreRemembered, RestartsGetAnother};
+ghost use Rattle.portmap_core.specs.Laws.{FreeNamesHaveRoom, FreeNamesRegister, NamesStay, RegisteredAreAlone};
+ghost use Rattle.portmap_core.specs.Laws.{ListsAreReadBack, RegisteredAreFound, RegisteredAreListed};
 
 /// Law: the first request of written bytes, whatever follows them, is the request that was written.
 pub fn written_is_whole()
@@ -60,11 +61,12 @@ pub fn taken_creations_are_new()
 {}
 
 /// Law: a lookup of an active name returns its whole registration. The list of names has a line for each active name
-/// and no other, in order of registration.
+/// and no other, in order of registration. After any run, the list is read back as these names and nothing else.
 pub fn active_names_are_shown()
     ensures found { ActiveNamesAreFound }
     ensures listed { ActiveNamesAreListed }
     ensures exact { ListsAreExact }
+    ensures back { ListsAreReadBack }
 {}
 
 /// Law: a remote peer gets a reply only to PORT_PLEASE2 or NAMES.
@@ -86,12 +88,19 @@ pub fn kills_end_where_they_may()
 {}
 
 /// Law: a local registration of a free name succeeds. Until its connection ends or a name is stopped, every lookup
-/// finds the registration, and no other registration of the name succeeds.
+/// finds the registration, every list has its line, and no other registration of the name succeeds.
 pub fn registered_names_stay()
     ensures free { FreeNamesRegister }
     ensures stay { NamesStay }
     ensures found { RegisteredAreFound }
+    ensures listed { RegisteredAreListed }
     ensures alone { RegisteredAreAlone }
+{}
+
+/// Law: if at most as many connections are open as names may be known, a local registration of a free name succeeds.
+#[tactic(auto, using(crate::proofs::Registered::free_names_have_room))]
+pub fn free_names_have_room()
+    ensures { FreeNamesHaveRoom }
 {}
 
 /// Law: the end of a connection retires its name and no other, and so does a STOP with relaxed checks. A name that is
@@ -110,4 +119,11 @@ pub fn incomplete_requests_wait()
 /// Law: the creation of a name whose connection ends is remembered for it.
 pub fn leavers_are_remembered()
     ensures { LeaversAreRemembered }
+{}
+
+/// Law: a name whose connection ends gets another creation when it returns, also after a run. The active names and the
+/// registrations of the run must together be fewer than the names that may be known.
+#[tactic(auto, using(crate::proofs::Leaving::restarts_get_another))]
+pub fn restarts_get_another_creation()
+    ensures { RestartsGetAnother }
 {}
