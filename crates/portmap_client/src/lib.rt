@@ -15,7 +15,7 @@
 //! `leave`, and the error of `make`, return the stream.
 //!
 //! # Not covered
-//! The bytes of a socket: only their counts are known.
+//! Of a socket only counts of bytes are known.
 //!
 //! The `README.md` of this crate shows a proved caller, and lists errors and allocation.
 #![tactic(auto)]

@@ -23,7 +23,7 @@ mod showing;
 mod write_fault;
 
 pub use crate::activity::Activity;
-pub use crate::host::{Host, RecordFile};
+pub use crate::host::{Host, RecordFile, try_make};
 pub use crate::notice::{Notice, path_of};
 pub use crate::operator::Operator;
 pub use crate::refused::Refused;

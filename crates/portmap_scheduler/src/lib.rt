@@ -4,10 +4,10 @@
 //! - No link is lost (`no_link_is_lost`, always): each link is in exactly one state, and is idle, queued, pending,
 //!   paused (`Paused`) or current (`Current`). The queue has each queued link once and no other key. The same holds for
 //!   pending and for paused links. At most one link is current, and `current` names it.
-//! - The wait is bounded (`queue_wait_is_bounded`): a link with `n` others ahead in the queue is served within
-//!   `n + 1` turns, whatever is called in between, unless it is removed. `pending_wait_is_bounded` is the law of
-//!   pending links.
-//! - The queue is FIFO (`queue_is_fifo`): no link is served before a link that was queued earlier. The same holds for
+//! - The wait is bounded (`queue_wait_is_bounded`): a link with `n` others ahead in the queue is returned within
+//!   `n + 1` calls of `next`, whatever is called in between, unless it is removed. `pending_wait_is_bounded` is the law
+//!   of pending links.
+//! - The queue is FIFO (`queue_is_fifo`): no link is returned before a link that was queued earlier. The same holds for
 //!   pending links.
 //! - Each call leaves exactly what its clause says.
 //! - Only `insert` may allocate. If it is refused, no link changes. If `has_room` holds, it is not refused.

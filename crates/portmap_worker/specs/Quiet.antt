@@ -1,5 +1,5 @@
 -- The condition under which no event of a link can be missed: profile. Assumed of the system: a poll reports once what arrives after a call
--- that would have blocked, and what is there when it begins to watch.
+-- that would have blocked, or after it was asked to report the stream, and what is there when it is asked.
 use Rattle.std.specs.Prelude.{◌≡◌, ℕ, Bool, true, false, ◌&&◌, cond, Option, Some, None, IfSome, List, [], ◌∷◌, ◌++◌, fold, map}
 use Rattle.std.specs.Prelude.{Result, Ok, Err}
 use Rattle.std.specs.declared.io.Error.{Error}

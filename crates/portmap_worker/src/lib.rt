@@ -10,11 +10,12 @@
 //! - `serve` returns the seat, whose count has risen by what it says it served.
 //! - The states of a worker's links, and FIFO order, are those of `portmap_scheduler`. By clauses of the source, a turn
 //!   serves the first link of the queue (`pop`), the last link gets its state before another one is served, and the
-//!   poll may wait only while nothing is queued (`ask`). Between two polls there is a limited number of turns
-//!   (`take_turn`), and the epoch that is passed had begun before the poll was asked (`poll_after`).
-//! - A queued link is served or ended within a number of turns (`queued_are_served`), and no wake-up of an idle link is
-//!   lost (`AllQuiet`, `Keeps`).
-//! - A `Worker` holds a connection if and only if its source, a `LinkSource`, has its link (`Agree`).
+//!   poll may wait only while nothing is queued (`ask`). Between two polls there is a limited number of turns, but for
+//!   those of a registration that was kept back and of a peer that reads nothing (`take_turn`). The epoch that is
+//!   passed had begun before the poll was asked (`poll_after`).
+//! - A queued link is handed out or ended within a number of turns (`queued_are_served`), and no wake-up of an idle
+//!   link is lost (`AllQuiet`, `Keeps`).
+//! - A `Worker` holds a token if and only if its source, a `LinkSource`, has its link (`Agree`).
 //! - Each permit that is acquired is a `Permit`, made by `Quota::take` alone and released when it is dropped. The quota
 //!   therefore counts what links have.
 //! - These decisions are exact functions over values:
@@ -23,11 +24,15 @@
 //!   - The times of a link: `may_move`, `since_at`, `expire`, `take_late`. How a registration waits: `immediate_turn`,
 //!     `Waiting::next`.
 //!   - When the log is drained, and when a recording that failed is tried again: `is_due`, `is_tried`.
-//! - `System`, `Stream` and `Wake` are what workers ask of the system. Nothing is asked of its answers, except that a
-//!   read or a write moves no more bytes than there is room for.
+//! - `System`, `Stream` and `Wake` are what workers ask of the system. Contracts ask of its answers only that `report`
+//!   returns what the last poll reported, that `watch` shows which requests the poll accepted, and that a read or a
+//!   write moves no more bytes than there is room for.
 //!
 //! # Tested and simulated only
-//! That `serve` continues through `ready` alone, answers every connection and ends. That the decisions are asked.
+//! That a worker continues to take turns, and serves a link that was handed out through `ready` alone. That the notes
+//! of a link are its reads, its writes and all reports. That a connection that a worker lets go is closed at the desk.
+//! That `serve` answers every connection and ends. That a peer that waits for a permit gets one or is closed. That the
+//! decisions are asked.
 //!
 //! The `README.md` of this crate shows a proved caller, and lists errors and allocation.
 #![tactic(auto)]

@@ -99,7 +99,10 @@ fn judge_rows(rows: &[u8], first: u64, end: u64) -> Result<(), Wrong> {
             }
             Some(_) => {}
         }
-        expect(place <= end || place == END, "times go beyond the recording")?;
+        expect(
+            place <= end || place == END,
+            "times go beyond the recording",
+        )?;
         before = Some((place, time));
     }
     Ok(())

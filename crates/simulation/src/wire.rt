@@ -54,9 +54,9 @@ pub struct Readiness {
     /// From when on the poll reports an unreported event.
     pub news_at: Option<u64>,
     /// The poll reports only what it must report: events that are there when the watch begins, and new bytes or new
-    /// room after a call that would block.
+    /// room after the watch began or after a call that would block. A report, or a call that moves bytes, ends this.
     is_sparing: bool,
-    /// The daemon waits for bytes, or for room.
+    /// The poll has to report new bytes, or new room.
     pub is_read_due: bool,
     pub is_room_due: bool,
     /// The poll has reported the stream, and the daemon has not read it since.
