@@ -22,7 +22,7 @@ OTHERS = [CHANGELOG, "SECURITY.md"]
 COLUMNS_MOST, CODE_COLUMNS_MOST = 140, 120
 # Lines of a page, and of the README of a crate. Manual pages, changes, figures and SECURITY.md have no limit.
 LINES_MOST = {"README.md": 170, "docs/ARCHITECTURE.md": 290, "docs/CONTRIBUTING.md": 440, "docs/DECISIONS.md": 380, "docs/FORMATS.md": 310,
-              "docs/GLOSSARY.md": 145, "docs/INSTALL.md": 135, "docs/PROTOCOL.md": 125, "docs/PROVED.md": 380, "docs/TESTING.md": 180}
+              "docs/GLOSSARY.md": 145, "docs/INSTALL.md": 135, "docs/PROTOCOL.md": 125, "docs/PROVED.md": 400, "docs/TESTING.md": 180}
 CRATE_LINES_MOST = 100
 # Of the decisions, in words.
 WORDS_MOST = 6000

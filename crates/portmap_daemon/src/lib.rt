@@ -1,5 +1,5 @@
-//! The daemon over sockets: its threads, `mio`, and its start and end. Its workers are those of `portmap_worker`. It also
-//! exports calls of that crate, of `portmap_recorder` and of `portmap_operator`.
+//! The daemon over sockets: its threads, `mio`, and its start and end. Its workers are those of `portmap_worker`. It
+//! also exports calls of that crate, of `portmap_recorder` and of `portmap_operator`.
 //!
 //! # Guarantees
 //! - `run` and `run_gated` require at least one address, 1 to 64 workers, and a timeout of 1 to 86,400 seconds. They

@@ -1,8 +1,8 @@
 //! Bytes as they are printed, with escapes for what a terminal may obey.
 ghost use Rattle.std.specs.Prelude.{◌≡◌, ◌<◌, ◌≤◌, ◌^◌, ◌++◌, get_or, length, IfOk, IfSome, OnOk};
 ghost use Rattle.portmap_record.specs.Transcript.{hex_digits};
-ghost use Rattle.portmap_operator.specs.Showing.{ControlsAreEscaped, PlainTextStays, character, continues, escape, front};
-ghost use Rattle.portmap_operator.specs.Showing.{is_hidden, is_of_three, is_within, more, shown};
+ghost use Rattle.portmap_operator.specs.Showing.{ControlsAreEscaped, PlainTextStays, character, continues, escape};
+ghost use Rattle.portmap_operator.specs.Showing.{front, is_hidden, is_of_three, is_within, more, shown};
 
 use portmap_core::NoMemory;
 use std::alloc::Global;

@@ -3,7 +3,8 @@ use Rattle.std.specs.{Ordering.nat_cmp, Prelude.{◌≡◌, ℕ, ◌<◌, Bool, 
 use Rattle.std.specs.{Prelude.{map as list_map, Option, IsSome}, VecDeque.deque_capacity}
 use Rattle.std.specs.FinMap as map
 use Rattle.slab.specs.Slab.{get, slab_len, entries_from}
-use Rattle.portmap_scheduler.specs.{Tracked.{is_current_in, is_key, link_of}, Links.{Links, is_paused, is_pending, is_queued, one_at, times}}
+use Rattle.portmap_scheduler.specs.Links.{Links, is_paused, is_pending, is_queued, one_at, times}
+use Rattle.portmap_scheduler.specs.Tracked.{is_current_in, is_key, link_of}
 use Rattle.portmap_scheduler.specs.{declared.Tracked.Tracked, declared.LinkState.LinkState, declared.Scheduler.TheInside.Inside}
 
 module _ {T : Type 0} where
