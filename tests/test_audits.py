@@ -224,7 +224,7 @@ class Made(AuditCase):
     def test_the_first_file_is_a_folder(self):
         os.remove(self.first)
         os.mkdir(self.first)
-        self.is_none("epmd: {}: input or output failed", 3)
+        self.assertEqual(self.audit(), (3, b"", DEVICE + b"epmd: %s: is a directory\n" % self.first.encode()))
 
     def test_no_file_is_there(self):
         for path in os.listdir(self.folder):

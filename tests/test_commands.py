@@ -12,7 +12,7 @@ import threading
 import time
 import unittest
 
-from case import EPMD, PATIENCE, Case, eventually
+from case import EPMD, PATIENCE, TOP, Case, eventually
 from daemon import alive, ask, framed, free_port, listens, preload, read_most, register
 
 sys.path.append(os.path.join(os.path.dirname(os.path.abspath(__file__)), "..", "faults"))
@@ -143,7 +143,7 @@ class Words(CommandCase):
         self.assertEqual(self.run_epmd(*words, "-once", **how), (0, b"", b""), words)
 
     def test_a_word_that_is_unknown(self):
-        for word in ("-foo", "foo", "", "-", "--names", "-Names", "-names ", "-port=5", "-help", "-h", "--help", "-version", "--version",
+        for word in ("-foo", "foo", "", "-", "--names", "-Names", "-names ", "-port=5", "-h", "--help", "--version",
                      "-systemd", "-delay_accept", "-delay_write", "-relaxed", "-debugx", "-p"):
             with self.subTest(word=word):
                 self.refused(0, word)
@@ -151,7 +151,8 @@ class Words(CommandCase):
                 self.refused(3, "-port", "5", "-names", word)
 
     def test_a_word_that_lacks_its_value(self):
-        for word in "-port", "-address", "-packet_timeout", "-workers", "-record", "-stop", "-check", "-play", "-local", "-audit":
+        for word in ("-port", "-address", "-packet_timeout", "-workers", "-record", "-figures", "-stop", "-check", "-play", "-local",
+                     "-audit"):
             with self.subTest(word=word):
                 self.refused(0, word)
                 self.refused(1, "-debug", word)
@@ -182,8 +183,8 @@ class Words(CommandCase):
                 self.refused(1, "-stop", bad)
 
     def test_a_second_command(self):
-        for second in (["-names"], ["-kill"], ["-dump"], ["-health"], ["-once"], ["-stop", "a"], ["-check", "f"], ["-play", "f"], ["-local", "f"],
-                       ["-audit", "f"]):
+        for second in (["-names"], ["-kill"], ["-dump"], ["-health"], ["-once"], ["-help"], ["-stop", "a"], ["-check", "f"], ["-play", "f"],
+                       ["-local", "f"], ["-audit", "f"]):
             with self.subTest(second=second):
                 self.refused(1, "-names", *second)
                 self.refused(2, "-check", "f", *second)
@@ -222,6 +223,12 @@ class Words(CommandCase):
                 self.taken("-port", "1", env={"ERL_EPMD_PORT": bad})
                 self.refused(0, "-foo", env={"ERL_EPMD_PORT": bad})
         self.taken(env={"ERL_EPMD_PORT": "000000001"})
+
+    def test_version_and_help_are_the_wrappers(self):
+        for word in "-version", "-help":
+            done = subprocess.run([os.path.join(TOP, "contrib", "epmd"), word], capture_output=True, timeout=PATIENCE)
+            self.assertEqual(self.run_epmd(word), (done.returncode, done.stdout, done.stderr))
+            self.assertEqual(self.run_epmd("-port", "1", word, "-d")[0], 0)
 
     def test_addresses_of_the_environment_are_the_wrappers(self):
         self.taken(env={"ERL_EPMD_ADDRESS": "no address"})
@@ -344,7 +351,34 @@ class Asked(CommandCase):
     def test_a_port_that_is_taken(self):
         first = self.daemon()
         status, out, err = self.run_epmd("-port", str(first.port), "-address", "127.0.0.1")
-        self.assertEqual((status, out, err), (1, b"", b"epmd: cannot listen on 127.0.0.1:%d\n" % first.port))
+        self.assertEqual((status, out, err), (1, b"", b"epmd: cannot listen on 127.0.0.1:%d: Address already in use\n" % first.port))
+
+    def test_a_daemon_whose_files_can_not_be_made_does_not_go_into_the_background(self):
+        port, kept = free_port()
+        wrapper, env = os.path.join(TOP, "contrib", "epmd"), {**os.environ, "EPMD": EPMD}
+        os.symlink("none", self.path("link"))
+        self.addCleanup(kept.close)
+        for word, name, told, reason in (("-record", "none/a", "none/a", "No such file or directory"),
+                                         ("-figures", "none/a", "none/a.new", "No such file or directory"),
+                                         ("-record", "", "", "Is a directory"),
+                                         ("-record", "link", "link", "Too many levels of symbolic links")):
+            with self.subTest(word=word, name=name):
+                words = ["-daemon", "-port", str(port), "-address", "127.0.0.1", word, self.path(name)]
+                done = subprocess.run([wrapper, *words], capture_output=True, timeout=PATIENCE, env=env)
+                self.assertEqual((done.returncode, done.stdout, done.stderr), (1, b"", f"epmd: {self.path(told)}: {reason}\n".encode()))
+                self.assertFalse(listens(port))
+        self.assertEqual(os.listdir(self.folder), ["link"])
+
+    def test_a_daemon_in_the_background_leaves_what_is_there_until_it_listens(self):
+        first, file = self.daemon(), self.path("session")
+        with open(file, "w") as there:
+            there.write("mine")
+        words = ["-port", str(first.port), "-address", "127.0.0.1", "-record", file, "-figures", self.path("new")]
+        status, out, err = self.run_epmd("-daemon", *words)
+        self.assertEqual((status, out, os.listdir(self.folder)), (1, b"", ["session"]))
+        self.assertRegex(err, b"^epmd: cannot listen on ")
+        with open(file) as there:
+            self.assertEqual(there.read(), "mine")
 
 
 class Answered(CommandCase):

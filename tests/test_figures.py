@@ -1,11 +1,12 @@
 """The counters that the daemon writes once a second to the file that `-figures` names."""
+import contextlib
 import os
 import shutil
 import stat
 import unittest
 
 from case import PATIENCE, Case, eventually
-from daemon import ask, framed, preload, register
+from daemon import ask, framed, free_port, preload, register
 from wire import DUMP, NAMES, NOT_FOUND, alive, dial, port_please
 
 COUNTED = (
@@ -33,7 +34,7 @@ def reply(port, request):
         return file.read()
 
 
-class Figures(Case):
+class FiguresCase(Case):
     def setUp(self):
         super().setUp()
         self.file = self.path("epmd.prom")
@@ -42,6 +43,8 @@ class Figures(Case):
         """Waits until the counters are these."""
         eventually(lambda: samples(self.file) == values, f"{values} after {samples(self.file)}")
 
+
+class Figures(FiguresCase):
     def test_each_reply_counts_once(self):
         daemon = self.daemon("-figures", self.file)
         self.come_to(0, 0, 0, 0, 0, 0, 0, 0, 0, 0)
@@ -80,9 +83,9 @@ class Figures(Case):
 
     def test_the_file_is_whole_and_everybodys(self):
         other = self.path("other")
-        with open(other, "w") as file:
-            file.write("mine")
-        os.symlink(other, self.file)
+        for path in other, self.file:
+            with open(path, "w") as file:
+                file.write("mine")
         os.symlink(other, self.file + ".new")
         self.daemon("-figures", self.file, before=lambda: os.umask(0o077))
         self.come_to(0, 0, 0, 0, 0, 0, 0, 0, 0, 0)
@@ -97,6 +100,51 @@ class Figures(Case):
         daemon = self.daemon("-figures", file)
         eventually(lambda: daemon.lines() == [f"epmd: cannot write the counters: {file}: No such file or directory"], "a line")
         self.assertEqual(reply(daemon.port, port_please(b"beta")), NOT_FOUND)
+
+
+class Refused(FiguresCase):
+    NOT_PLAIN = "what is there is not a plain file"
+    EACH = "the recording and the counters need a file each"
+
+    def refused(self, reason, file, *words):
+        was = os.lstat(file) if os.path.lexists(file) else None
+        port, kept = free_port()
+        with kept:
+            ended = self.run_epmd("-port", str(port), "-address", "127.0.0.1", "-figures", file, *words)
+        self.assertEqual(ended, (1, b"", f"epmd: {file}: {reason}\n".encode()))
+        self.assertEqual(os.lstat(file) if os.path.lexists(file) else None, was)
+
+    def test_what_is_no_plain_file(self):
+        os.symlink(self.path("none"), self.path("link"))
+        os.mkfifo(self.path("pipe"))
+        os.mkdir(self.path("folder"))
+        made = ["link", "pipe", "folder"]
+        with contextlib.suppress(PermissionError):
+            os.mknod(self.path("device"), stat.S_IFCHR | 0o666, os.makedev(1, 3))
+            made.append("device")
+        for name in made:
+            with self.subTest(what=name):
+                self.refused(self.NOT_PLAIN, self.path(name))
+        self.assertEqual(sorted(os.listdir(self.folder)), sorted(made))
+
+    def test_the_file_of_the_recording(self):
+        self.refused(self.EACH, self.file, "-record", self.file)
+        with open(self.file, "w") as file:
+            file.write("mine")
+        for same in self.file, os.path.join(self.folder, ".", "epmd.prom"):
+            self.refused(self.EACH, self.file, "-record", same)
+        with open(self.file) as file:
+            self.assertEqual(file.read(), "mine")
+
+    def test_what_takes_the_place_of_the_file_later(self):
+        daemon = self.daemon("-figures", self.file)
+        self.come_to(0, 0, 0, 0, 0, 0, 0, 0, 0, 0)
+        os.symlink(self.path("none"), self.path("link"))
+        os.rename(self.path("link"), self.file)
+        eventually(lambda: daemon.lines() == [f"epmd: cannot write the counters: {self.file}: File exists"], "a line")
+        self.assertEqual((os.path.islink(self.file), os.path.exists(self.path("none"))), (True, False))
+        os.remove(self.file)
+        self.come_to(0, 0, 0, 0, 0, 0, 0, 0, 0, 0)
 
 
 class DiskThatStalls(Case):

@@ -25,6 +25,7 @@ if own:
     os.environ["LISTEN_PID"] = str(os.getpid()) if own == "own" else own
 os.execv(path, [path, *words])
 """
+NOT_PLAIN = "what is there is not a plain file"
 WITHOUT_EFFECT = "epmd: sockets were handed over, so port and addresses are theirs"
 RESTARTS = 6
 ASKED = 50  # Requests that each of these daemons answers at least.
@@ -81,6 +82,13 @@ class Served(HandingCase):
                         daemon = self.handed([s], "-workers", workers)
                         self.serves(daemon, [s])
                         self.assertEqual(daemon.lines(), [])
+
+    def test_figures_that_can_not_be_written_close_no_port(self):
+        s, pipe = self.listener("127.0.0.1"), self.path("pipe")
+        os.mkfifo(pipe)
+        daemon = self.handed([s], "-figures", pipe)
+        self.serves(daemon, [s])
+        self.assertEqual(daemon.lines(), [f"epmd: {pipe}: {NOT_PLAIN}"])
 
     @unittest.skipUnless(wire.has_ipv6(), "the host has no IPv6")
     def test_one_for_both_families(self):

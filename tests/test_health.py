@@ -19,9 +19,13 @@ from wire import found, node, register, rest
 
 HEALTHY = 0, b"", b""
 OTHER = "/usr/bin/epmd"
-NAME = b"epmd-health"
+NAMES = {b"epmd-health-%d" % number for number in range(16)}
 FIELDS = {"number": 1, "kind": 72}
 GRANTED, REFUSED = b"v\0\0\0\0\4", b"v\1\0\0\0\0"
+
+
+def nothing(name):
+    return wire.NOT_FOUND
 
 
 def failed(text, port, address="127.0.0.1"):
@@ -30,7 +34,7 @@ def failed(text, port, address="127.0.0.1"):
 
 class PortMapper:
     """What a server replies that knows one name. A test changes its fields: the first registrations are refused, so many, and a name that
-    is closed is found by the next look-ups, so many."""
+    is closed is found by the next look-ups, so many. What it replies to a look-up may be a function of the name."""
 
     def __init__(self):
         self.known, self.closed = None, threading.Event()
@@ -42,7 +46,7 @@ class PortMapper:
                 self.late -= 1
                 self.known = self.known if self.late >= 0 else None
             answer = b"w\0" + self.known if self.known else self.missing
-            s.sendall(answer if self.found is None else self.found)
+            s.sendall(answer if self.found is None else self.found(body[1:]))
             return
         self.refusals -= 1
         answer = REFUSED if self.refusals >= 0 else self.registered
@@ -77,8 +81,9 @@ class Healthy(HealthCase):
                 for _ in range(20):
                     self.assertEqual(self.check(daemon.port), HEALTHY)
                 self.lists(daemon)
-                left = b"old/unused name epmd-health at port 1, fd = -1\n"
-                self.assertEqual(self.ask(daemon.port, "-dump"), (0, test_commands.head(daemon.port) + left, b""))
+                status, out, err = self.ask(daemon.port, "-dump")
+                left = [line.removeprefix(b"old/unused name ").removesuffix(b" at port 1, fd = -1") for line in out.splitlines()[1:]]
+                self.assertEqual((status, set(left) - NAMES, len(left) - len(set(left)), err), (0, set(), 0, b""))
                 self.assertEqual(daemon.lines(), [])
 
     def test_the_port_of_the_environment(self):
@@ -98,12 +103,20 @@ class Healthy(HealthCase):
     def test_a_server_of_this_test(self):
         server = self.served()
         self.assertEqual(self.check(server.port), HEALTHY)
-        self.assertEqual(server.asked[:3], [b"x" + node(NAME, **FIELDS), b"z" + NAME, b"z" + NAME])
+        name = server.asked[1][1:]
+        self.assertIn(name, NAMES)
+        self.assertEqual(server.asked[:3], [b"x" + node(name, **FIELDS), b"z" + name, b"z" + name])
 
     def test_checks_at_the_same_moment(self):
         daemon = self.daemon()
-        with concurrent.futures.ThreadPoolExecutor(3) as pool:
-            self.assertEqual(set(pool.map(lambda _: self.check(daemon.port), range(12))), {HEALTHY})
+        with concurrent.futures.ThreadPoolExecutor(60) as pool:
+            self.assertEqual(set(pool.map(lambda _: self.check(daemon.port), range(60))), {HEALTHY})
+
+    def test_a_name_that_is_not_held(self):
+        daemon = self.daemon()
+        for name in {b"epmd-health", *NAMES - {b"epmd-health-9"}}:
+            self.enterContext(register(daemon.port, name))
+        self.assertEqual(self.check(daemon.port), HEALTHY)
 
     def test_a_name_that_is_in_use_for_a_while(self):
         self.assertEqual(self.check(self.served(refusals=15).port), HEALTHY)
@@ -122,10 +135,11 @@ class Unhealthy(HealthCase):
         with kept:
             self.assertEqual(self.check(port), failed("cannot connect to", port))
 
-    def test_a_name_that_stays_in_use(self):
+    def test_names_that_stay_in_use(self):
         daemon = self.daemon()
-        with register(daemon.port, NAME):
-            self.assertEqual(self.check(daemon.port), failed("cannot register epmd-health at", daemon.port))
+        for name in NAMES:
+            self.enterContext(register(daemon.port, name))
+        self.assertEqual(self.check(daemon.port), failed("cannot register epmd-health at", daemon.port))
 
     def test_registrations_are_refused(self):
         for answer in REFUSED, b"v\x02\0\0\0\0", b"y\1\0\0":
@@ -134,7 +148,9 @@ class Unhealthy(HealthCase):
     def test_so_many_registrations_are_tried(self):
         server, began = self.served(registered=REFUSED), time.monotonic()
         self.check(server.port)
-        self.assertEqual(server.asked, [b"x" + node(NAME, **FIELDS)] * 20)
+        names = [body[11:-2] for body in server.asked]
+        self.assertEqual((set(names), names[:4]), (NAMES, names[16:]))
+        self.assertEqual(server.asked, [b"x" + node(name, **FIELDS) for name in names])
         self.assertGreater(time.monotonic() - began, 19 * 0.05)
 
     def test_strange_answers_to_a_registration(self):
@@ -142,19 +158,20 @@ class Unhealthy(HealthCase):
             self.fails("strange answer from", registered=answer)
 
     def test_strange_answers_to_a_look_up(self):
-        for answer in b"", b"w", b"v\0\0\0\0\4", found(NAME, **FIELDS)[:-1]:
-            self.fails("strange answer from", found=answer)
+        for answer in b"", b"w", b"v\0\0\0\0\4":
+            self.fails("strange answer from", found=lambda name: answer)
+        self.fails("strange answer from", found=lambda name: found(name, **FIELDS)[:-1])
 
     def test_another_node_is_found(self):
         for wrong in {"number": 2}, {"kind": 77}, {"protocol": 1}, {"highest": 5}, {"lowest": 6}, {"extra": b"x"}:
-            self.fails("cannot find epmd-health at", found=found(NAME, **FIELDS | wrong))
-        self.fails("cannot find epmd-health at", found=found(b"epmd-healtH", **FIELDS))
+            self.fails("cannot find epmd-health at", found=lambda name: found(name, **FIELDS | wrong))
+        self.fails("cannot find epmd-health at", found=lambda name: found(name.upper(), **FIELDS))
 
     def test_nothing_is_found(self):
-        self.fails("cannot find epmd-health at", found=wire.NOT_FOUND)
+        self.fails("cannot find epmd-health at", found=nothing)
 
     def test_a_name_that_is_never_freed(self):
-        self.fails("cannot free epmd-health at", found=found(NAME, **FIELDS))
+        self.fails("cannot free epmd-health at", found=lambda name: found(name, **FIELDS))
         self.fails("cannot free epmd-health at", late=1000)
 
     def test_a_port_mapper_that_works_no_more_once_a_name_is_closed(self):
@@ -196,7 +213,7 @@ class Unhealthy(HealthCase):
         four = self.stand_in(PortMapper())
         self.assertEqual(self.check(four.port), failed("cannot connect to", four.port, "[::1]"))
         wrong = PortMapper()
-        wrong.found = wire.NOT_FOUND
+        wrong.found = nothing
         self.stand_in(wrong, address="::1", port=four.port)
         self.assertEqual(self.check(four.port), failed("cannot find epmd-health at", four.port, "[::1]"))
 
@@ -220,7 +237,7 @@ class WithoutIPv6(HealthCase):
 
     def test_it_has_to_pass(self):
         server = self.stand_in(PortMapper())
-        server.serve.found = wire.NOT_FOUND
+        server.serve.found = nothing
         self.assertEqual(self.check(server.port), failed("cannot find epmd-health at", server.port))
 
 

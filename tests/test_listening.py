@@ -1,4 +1,5 @@
 """Where the daemon listens: by default and by -address, beside IPv4 at IPv6, on a system without IPv6, and where an address is taken."""
+import errno
 import os
 import subprocess
 import unittest
@@ -85,11 +86,11 @@ class Addresses(Listening):
 
 
 class Taken(Listening):
-    def refused_at(self, line, *words, address=None):
+    def refused_at(self, line, *words, address=None, reason="Address already in use"):
         """Whether a daemon ends with this line and status 1."""
         port = words[1]
         words = (*words, "-address", address) if address else words
-        self.assertEqual(self.run_epmd(*words), (1, b"", f"epmd: cannot listen on {line}:{port}\n".encode()))
+        self.assertEqual(self.run_epmd(*words), (1, b"", f"epmd: cannot listen on {line}:{port}: {reason}\n".encode()))
 
     def taken(self, address, only=False):
         port, kept = free_port()
@@ -124,7 +125,7 @@ class Taken(Listening):
         with open("/proc/sys/net/ipv4/ip_nonlocal_bind") as setting:
             if setting.read().strip() != "0":
                 self.skipTest("the host lets any address be bound")
-        self.refused_at(NOBODYS, "-port", "4369", address=NOBODYS)
+        self.refused_at(NOBODYS, "-port", "4369", address=NOBODYS, reason="Cannot assign requested address")
 
     def test_a_port_of_the_systems(self):
         with open("/proc/sys/net/ipv4/ip_unprivileged_port_start") as setting:
@@ -135,7 +136,7 @@ class Taken(Listening):
             ended = self.run_epmd("-port", "7", **how)
         except PermissionError:
             self.skipTest("another user can't call the program")
-        self.assertEqual(ended, (1, b"", b"epmd: cannot listen on 0.0.0.0:7\n"))
+        self.assertEqual(ended, (1, b"", b"epmd: cannot listen on 0.0.0.0:7: Permission denied\n"))
 
     def test_it_starts_again_at_once(self):
         for address in "127.0.0.1", None:
@@ -177,7 +178,8 @@ class WithoutIPv6(Listening):
             for error in sorted(set(CALLS[call].split()) - lacking):
                 with self.subTest(call=call, error=error):
                     faults, daemon = self.started(call, error)
-                    self.assertEqual(daemon.ended(60), (1, f"epmd: cannot listen on [::1]:{daemon.port}"))
+                    line = f"epmd: cannot listen on [::1]:{daemon.port}: {os.strerror(getattr(errno, error))}"
+                    self.assertEqual(daemon.ended(60), (1, line))
                     self.assertEqual(faults.refused, 1)
 
 

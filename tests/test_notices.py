@@ -109,6 +109,20 @@ class StandardErrorThatNobodyReads(NoticeCase):
             came += os.read(reader, 65536)
         self.assertEqual(came.lstrip(b"\0"), b"epmd: name one is in use\n")
 
+    def test_lines_for_which_there_is_no_room_are_counted(self):
+        reader, writer = self.full_pipe()
+        name, file = b"\x80" * 1020, self.path("/".join(["none", *["x" * 250] * 14]))
+        daemon = self.daemon("-relaxed_command_check", "-record", file, before=lambda: os.dup2(writer, 2))
+        self.hold(daemon, name)
+        until = time.monotonic() + 2 * QUIET
+        while time.monotonic() < until:
+            self.refused(daemon, name)
+            time.sleep(0.5)
+        came = b""
+        while b" lost, " not in came or not came.endswith(b"\n"):
+            came += os.read(reader, 65536)
+        self.assertRegex(came, rb"\nepmd: [1-9]\d* more lines are lost, since standard error was not read\n")
+
 
 class NamesInUseShown(NoticeCase):
     def test_a_name_that_a_terminal_may_obey(self):

@@ -297,7 +297,8 @@ class Descriptors(Places):
                 if ended is None:
                     self.fail(daemon.how())
                 elif "error while loading shared libraries" not in ended[1]:
-                    lines = (3, "epmd: polling failed"), *((1, f"epmd: cannot listen on {a}:{daemon.port}") for a in ("127.0.0.1", "[::1]"))
+                    lines = (3, "epmd: polling failed"), *((1, f"epmd: cannot listen on {a}:{daemon.port}: Too many open files")
+                                                           for a in ("127.0.0.1", "[::1]"))
                     self.assertIn(ended, lines)
                 daemon.stop()
 

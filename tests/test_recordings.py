@@ -176,7 +176,7 @@ class Read(RecordCase):
         for word in "-check", "-play", "-local":
             none = self.path("none")
             self.assertEqual(self.run_epmd(word, none), (3, b"", DEVICE + b"epmd: %s: No such file or directory\n" % none.encode()))
-            self.assertEqual(self.run_epmd(word, self.folder), (3, b"", DEVICE + b"epmd: in %s\n" % self.folder.encode()))
+            self.assertEqual(self.run_epmd(word, self.folder), (3, b"", DEVICE + b"epmd: %s: is a directory\n" % self.folder.encode()))
             self.assertEqual(self.run_epmd(word, ""), (3, b"", DEVICE + b"epmd: : No such file or directory\n"))
 
     def test_a_pipe(self):
@@ -382,13 +382,17 @@ class Times(RecordCase):
         self.assertEqual(row[0], last[0])
         self.assertTrue(60e6 <= row[1] - last[1] + 1e6 and row[1] <= time.time_ns() // 1000, (last, row))
 
-    def test_times_that_can_not_be_written(self):
-        os.mkdir(self.file + ".times")
-        daemon = self.daemon("-record", self.file)
-        ask(daemon.port, b"n", PATIENCE)
-        self.assertEqual(self.kill(daemon), 0)
-        self.assertGreater(self.entries(self.file), 0)
-        self.assertEqual(os.listdir(self.file + ".times"), [])
+    def test_what_is_there_and_is_no_plain_file_is_left_and_holds_nothing(self):
+        path = self.file + ".times"
+        for make in os.mkdir, os.mkfifo, lambda path: os.symlink(self.path("none"), path), lambda path: os.symlink("/dev/full", path):
+            make(path)
+            was = os.lstat(path)
+            daemon = self.daemon("-record", self.file)
+            ask(daemon.port, b"n", PATIENCE)
+            self.assertEqual(self.kill(daemon), 0)
+            self.assertGreater(self.entries(self.file), 0)
+            self.assertEqual((daemon.lines(), os.lstat(path), os.path.exists(self.path("none"))), ([], was, False))
+            os.rmdir(path) if make is os.mkdir else os.remove(path)
 
     def test_a_pipe_has_none(self):
         os.mkfifo(self.file)

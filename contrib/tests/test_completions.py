@@ -152,6 +152,14 @@ class Completions:
             self.assertEqual(taking, {*FILES.get(command, []), *VALUES.get(command, [])}, command)
 
 
+class Manual(unittest.TestCase):
+    def test_the_synopsis_has_each_word_of_the_help_and_no_other(self):
+        with open(os.path.join(CONTRIB, "..", "docs", "epmd.1"), encoding="utf-8") as page:
+            synopsis = re.search(r"\.Sh SYNOPSIS\n([\s\S]*?)\n\.Sh ", page.read())[1]
+        words = re.findall(r"(?:\bFl|\|) ([a-z_]+)", synopsis)
+        self.assertEqual({f"-{word}" for word in words}, set().union(*told("epmd")))
+
+
 class Bash(Completions, unittest.TestCase):
     NAME = "bash"
 

@@ -16,7 +16,7 @@ OWNING = {"Vec", "String", "VecDeque", "BTreeMap", "IndexMap", "Slab", "Box", "A
 DERIVED = {"Lines", "Reg", "Replica", "Said", "Scheduler", "Segment", "Settings", "StartParts"}
 # Structs of more fields, which are to become fewer.
 FIELDS_MOST = 10
-WIDE = {"Link": 14, "SocketSource": 12}
+WIDE = {"Command": 11, "Link": 14, "SocketSource": 12}
 STRUCT = re.compile(r"((?:#\[.*\]\n)*)(?:pub(?:\(crate\))? )?struct (\w+)(?:<[^{;]*>)? \{\n((?:.*\n)*?)\}\n")
 OPENING, CLOSING = "({[", ")}]"
 HEAD = re.compile(r"( *)(?:abbrev )?(?:pub )?([^\s(){}:,.]+) : (.*)")

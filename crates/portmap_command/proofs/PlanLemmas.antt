@@ -7,7 +7,7 @@ use Rattle.std.proofs.lemmas.List.Sums.{sum_by_push}
 use Rattle.portmap_command.specs.{Meaning.{Holds, Adds}, Words.{Begins, Spells, last_by, is_action}}
 use Rattle.portmap_command.specs.{declared.items.Word.{Word, TheVariants.Act}}
 use Rattle.portmap_command.specs.Words.{action_of, port_of, addresses_of, timeout_of, workers_of, recording_of, figures_of, is_relaxed}
-use Rattle.portmap_command.specs.{Words.is_debug, declared.plan.Plan.Plan, declared.words.Action.Action}
+use Rattle.portmap_command.specs.{Words.{is_daemon, is_debug}, declared.plan.Plan.Plan, declared.words.Action.Action}
 
 -- ---- one item more
 
@@ -61,6 +61,7 @@ holds_more items item old new h a first = record {
   workers = set_last workers_of items item old.workers new.workers a.workers h.workers;
   relaxed = a.relaxed ∙ ap (λ (b : Bool). b || is_relaxed item) h.relaxed ∙ sym (any_push is_relaxed items item);
   debug = a.debug ∙ ap (λ (b : Bool). b || is_debug item) h.debug ∙ sym (any_push is_debug items item);
+  daemon = a.daemon ∙ ap (λ (b : Bool). b || is_daemon item) h.daemon ∙ sym (any_push is_daemon items item);
   recording = set_last recording_of items item old.recording new.recording a.recording h.recording;
   figures = set_last figures_of items item old.figures new.figures a.figures h.figures;
 }

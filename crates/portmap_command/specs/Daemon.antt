@@ -37,8 +37,8 @@ pub record SetsAs (command : Command) (now : Option Duration) (settings : Settin
 
 abbrev pub status_of_end : Result RunEnd RunFault → ℕ
 status_of_end (Ok end) = if end.recorded then actions.DONE else actions.FAILED
-status_of_end (Err (Listen index)) = actions.NOT_DONE
-status_of_end (Err (ListenBeside index)) = actions.NOT_DONE
+status_of_end (Err (Listen index error)) = actions.NOT_DONE
+status_of_end (Err (ListenBeside index error)) = actions.NOT_DONE
 status_of_end (Err Poll) = actions.FAILED
 status_of_end (Err NoMemory) = actions.FAILED
 
@@ -52,25 +52,28 @@ abbrev pub served_lines : ℕ → List ℕ → List ℕ
 served_lines worker [] = []
 served_lines worker (count ∷ counts) = served_line worker count ++ served_lines (worker + 1) counts
 
-abbrev pub cannot_listen_line : List ℕ → ℕ → List ℕ
-cannot_listen_line address port =
+abbrev pub cannot_listen_line : List ℕ → ℕ → List ℕ → List ℕ
+cannot_listen_line address port reason =
     let number = λ (index : ℕ). decimal (slice_index address index) in
     concat (the.CANNOT_LISTEN.now ∷ number 0 ∷ codes "." ∷ number 1 ∷ codes "." ∷ number 2 ∷ codes "." ∷ number 3 ∷ codes ":"
-    ∷ decimal port ∷ (10 ∷ []) ∷ [])
+    ∷ decimal port ∷ codes ": " ∷ reason ∷ (10 ∷ []) ∷ [])
 
 -- The IPv6 address that goes with an IPv4 address: every address of the host, or the host itself.
 abbrev pub beside : List ℕ → List ℕ
 beside address = if slice_index address 0 == 0 then the.EVERYWHERE.now else the.ITSELF.now
 
-abbrev pub without_ipv6_line : List ℕ → ℕ → List ℕ
-without_ipv6_line address port = concat (the.CANNOT_LISTEN.now ∷ beside address ∷ decimal port ∷ (10 ∷ []) ∷ [])
+abbrev pub refused_line : List ℕ → List ℕ → List ℕ → List ℕ
+refused_line address port reason = concat (the.CANNOT_LISTEN.now ∷ address ∷ port ∷ codes ": " ∷ reason ∷ (10 ∷ []) ∷ [])
 
--- With debug output, what each worker served. For a daemon that did not serve, the reason.
-abbrev pub text_of_end : Command → Result RunEnd RunFault → Option (List ℕ)
-text_of_end command (Ok end) = if command.debug then Some (served_lines 1 end.served.items) else None
-text_of_end command (Err (Listen index)) =
-    option_map (λ address. cannot_listen_line address command.port) (slice_get command.addresses.items index)
-text_of_end command (Err (ListenBeside index)) =
-    option_map (λ address. without_ipv6_line address command.port) (slice_get command.addresses.items index)
-text_of_end command (Err Poll) = Some (line_of Polling)
-text_of_end command (Err NoMemory) = Some (line_of Memory)
+abbrev pub without_ipv6_line : List ℕ → ℕ → List ℕ → List ℕ
+without_ipv6_line address port reason = refused_line (beside address) (decimal port) reason
+
+-- With debug output, what each worker served. For a daemon that did not serve, why, with the system's reason for a refused address.
+abbrev pub text_of_end : Command → Result RunEnd RunFault → List ℕ → Option (List ℕ)
+text_of_end command (Ok end) reason = if command.debug then Some (served_lines 1 end.served.items) else None
+text_of_end command (Err (Listen index error)) reason =
+    option_map (λ address. cannot_listen_line address command.port reason) (slice_get command.addresses.items index)
+text_of_end command (Err (ListenBeside index error)) reason =
+    option_map (λ address. without_ipv6_line address command.port reason) (slice_get command.addresses.items index)
+text_of_end command (Err Poll) reason = Some (line_of Polling)
+text_of_end command (Err NoMemory) reason = Some (line_of Memory)

@@ -1,6 +1,6 @@
 -- The health check: its steps, its end, and what is printed. Profile: epmd(1) has no such command.
 use Rattle.std.specs.{Fmt.decimal, List.concat}
-use Rattle.std.specs.Prelude.{◌≡◌, ◌≢◌, ◌⊎◌, ℕ, ◌<◌, zero, suc, Bool, true, false, not, List, [], ◌∷◌, ◌++◌, codes}
+use Rattle.std.specs.Prelude.{◌≡◌, ◌≢◌, ◌⊎◌, ℕ, ◌<◌, zero, suc, Bool, true, false, not, List, [], ◌∷◌, ◌++◌, ◌%◌, codes}
 use Rattle.std.specs.Prelude.{Option, Some, None, Result, Ok, Err}
 use Rattle.portmap_wire.specs.Node.{Node, are_same}
 use Rattle.portmap_link.specs.declared.adapters.writer.Writing.{Writing}
@@ -9,11 +9,19 @@ use Rattle.portmap_command.specs.{Actions.line_of, Commands.failure_of_client, E
 use Rattle.portmap_command.specs.declared.actions.Failure.{Failure, TheVariants.{Memory, NoConnection}}
 use Rattle.portmap_command.specs.declared.actions.TheConstants.{DONE, FAILED, NOT_DONE}
 use Rattle.portmap_command.specs.declared.health.Step.{Step, TheVariants.{Close, LookUp, Pause, Register}}
-use Rattle.portmap_command.specs.declared.health.TheConstants.{TRIES}
+use Rattle.portmap_command.specs.declared.health.TheConstants.{NAMES, TRIES}
 
--- The node that a check registers: hidden, at a port where nothing listens, and of versions 5 to 6.
-abbrev pub health_node : Node
-health_node = record { port = 1; kind = 72; proto = 0; high = 6; low = 5; name = codes "epmd-health"; extra = [] }
+-- A node that a check registers: hidden, at a port where nothing listens, of versions 5 to 6, and with one of a few names.
+abbrev pub health_node : ℕ → Node
+health_node number = record {
+  port = 1;
+  kind = 72;
+  proto = 0;
+  high = 6;
+  low = 5;
+  name = codes "epmd-health-" ++ decimal (number % NAMES);
+  extra = [];
+}
 
 -- ---- outcomes of steps
 

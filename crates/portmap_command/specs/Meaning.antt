@@ -4,7 +4,7 @@ use Rattle.std.specs.Prelude.{[], ◌∷◌, ◌++◌, if◌then◌else◌, ◌|
 use Rattle.std.specs.{Prelude.{count_by, unwrap_or}, declared.io.ErrorKind.{ErrorKind, TheVariants.OutOfMemory}}
 use Rattle.portmap_command.specs.{Addresses.{anywhere, AreListening}, Numbers.{IsWithin, WritesWithin}, declared.items.Word.Word}
 use Rattle.portmap_command.specs.Words.{action_of, port_of, addresses_of, timeout_of, workers_of, recording_of, figures_of}
-use Rattle.portmap_command.specs.{Words.{is_relaxed, is_debug, is_action, last_by, Spells}, declared.plan.Plan.Plan}
+use Rattle.portmap_command.specs.{Words.{is_relaxed, is_debug, is_daemon, is_action, last_by, Spells}, declared.plan.Plan.Plan}
 use Rattle.portmap_command.specs.{declared.plan.TheConstants.{TIMEOUT, WORKERS}, declared.words.Command.Command}
 use Rattle.portmap_command.specs.{declared.words.Action.TheVariants.Serve, declared.words.Env.Env, declared.words.WordFault.WordFault}
 use Rattle.portmap_command.specs.declared.words.WordFault.TheVariants.{BadEnvPort, BadValue, MissingValue, NoMemory, TwoCommands}
@@ -24,6 +24,7 @@ pub record Holds (items : List Word) (plan : Plan) : Type 0 where
   pub workers : plan.workers ≡ last_by workers_of items
   pub relaxed : plan.relaxed ≡ list_any is_relaxed items
   pub debug : plan.debug ≡ list_any is_debug items
+  pub daemon : plan.daemon ≡ list_any is_daemon items
   pub recording : plan.recording ≡ last_by recording_of items
   pub figures : plan.figures ≡ last_by figures_of items
 
@@ -36,6 +37,7 @@ pub record Adds (item : Word) (old new : Plan) : Type 0 where
   pub workers : new.workers ≡ option_or (workers_of item) old.workers
   pub relaxed : new.relaxed ≡ (old.relaxed || is_relaxed item)
   pub debug : new.debug ≡ (old.debug || is_debug item)
+  pub daemon : new.daemon ≡ (old.daemon || is_daemon item)
   pub recording : new.recording ≡ option_or (recording_of item) old.recording
   pub figures : new.figures ≡ option_or (figures_of item) old.figures
 
@@ -57,6 +59,7 @@ pub record Completes (plan : Plan) (env : Env) (command : Command) : Type 0 wher
   pub timeout : command.timeout ≡ unwrap_or plan.timeout TIMEOUT
   pub workers : command.workers ≡ unwrap_or plan.workers WORKERS
   pub debug : command.debug ≡ plan.debug
+  pub daemon : command.daemon ≡ plan.daemon
   pub recording : command.recording ≡ plan.recording
   pub figures : command.figures ≡ plan.figures
 

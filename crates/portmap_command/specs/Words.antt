@@ -1,5 +1,5 @@
--- The words of the command: the options of epmd(1). Profile: -workers, -record, -figures, -dump, -health, -once, -check, -play, -local and
--- -audit.
+-- The words of the command: the options of epmd(1). Profile: -workers, -record, -figures, -dump, -health, -once, -check, -play, -local,
+-- -audit, -version and -help.
 use Rattle.std.specs.Option.{option_or}
 use Rattle.std.specs.Prelude.{◌≡◌, ℕ, List, [], ◌∷◌, Bool, true, false, codes, string_bytes, Option, Some, None, ◌⊎◌}
 use Rattle.std.specs.{Prelude.String, declared.alloc.Global.Global, declared.vec.Vec.Vec}
@@ -32,6 +32,8 @@ Begins (Act (action.Ask (ask.Stop name))) words rest = (words ≡ codes "-stop" 
 Begins (Act (action.Ask ask.Dump)) words rest = words ≡ codes "-dump" ∷ rest
 Begins (Act action.Health) words rest = words ≡ codes "-health" ∷ rest
 Begins (Act action.Once) words rest = words ≡ codes "-once" ∷ rest
+Begins (Act action.Version) words rest = words ≡ codes "-version" ∷ rest
+Begins (Act action.Help) words rest = words ≡ codes "-help" ∷ rest
 Begins (Act (action.Inspect text.Verdict path)) words rest = words ≡ codes "-check" ∷ string_bytes path ∷ rest
 Begins (Act (action.Inspect text.Transcript path)) words rest = words ≡ codes "-play" ∷ string_bytes path ∷ rest
 Begins (Act (action.Inspect text.LocalRecord path)) words rest = words ≡ codes "-local" ∷ string_bytes path ∷ rest
@@ -79,6 +81,10 @@ is_relaxed item = false
 abbrev pub is_debug : Word → Bool
 is_debug Debug = true
 is_debug item = false
+
+abbrev pub is_daemon : Word → Bool
+is_daemon Daemon = true
+is_daemon item = false
 
 abbrev pub is_action : Word → Bool
 is_action (Act action) = true

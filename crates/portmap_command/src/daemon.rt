@@ -2,7 +2,7 @@
 ghost use Rattle.std.specs.Prelude.{◌≡◌, false, IfOk, IfSome, None};
 ghost use Rattle.portmap_link.specs.Adapters.{writing_inner};
 ghost use Rattle.portmap_command.specs.Daemon.{SetsAs, beside, first_by, status_of_end, served_line, served_lines};
-ghost use Rattle.portmap_command.specs.Daemon.{without_ipv6_line};
+ghost use Rattle.portmap_command.specs.Daemon.{refused_line, without_ipv6_line};
 ghost use Rattle.portmap_command.specs.Daemon.{cannot_listen_line, text_of_end};
 ghost use Rattle.portmap_command.specs.Errors.{IsWritten, IsSpent, IsPrinted};
 
@@ -89,8 +89,13 @@ fn report_served<E: Write>(errors: &mut Writing<E>, served: &[u64])
     }
 }
 
-fn report_cannot_listen<E: Write>(errors: &mut Writing<E>, address: [u8; 4], port: u16)
-    ensures { IsPrinted E.contents (cannot_listen_line address port) errors.old errors.new }
+fn report_cannot_listen<E: Write>(
+    errors: &mut Writing<E>,
+    address: [u8; 4],
+    port: u16,
+    reason: &[u8],
+)
+    ensures { IsPrinted E.contents (cannot_listen_line address port reason.now) errors.old errors.new }
 {
     let [a, b, c, d] = address;
     let _ = say_all(
@@ -106,6 +111,8 @@ fn report_cannot_listen<E: Write>(errors: &mut Writing<E>, address: [u8; 4], por
             Buffer::new().format(d).as_bytes(),
             b":",
             Buffer::new().format(port).as_bytes(),
+            b": ",
+            reason,
             b"\n",
         ],
     );
@@ -118,16 +125,25 @@ fn beside(address: [u8; 4]) -> &'static [u8]
     if address[0] == 0 { EVERYWHERE } else { ITSELF }
 }
 
+fn print_refused<E: Write>(errors: &mut Writing<E>, address: &[u8], port: &[u8], reason: &[u8])
+    ensures { IsPrinted E.contents (refused_line address.now port.now reason.now) errors.old errors.new }
+{
+    let _ = say_all(
+        errors,
+        &[CANNOT_LISTEN, address, port, b": ", reason, b"\n"],
+    );
+}
+
 /// Prints that the daemon cannot listen at the IPv6 address that goes with `address`.
-fn print_without_ipv6<E: Write>(errors: &mut Writing<E>, address: [u8; 4], port: u16)
-    ensures { IsPrinted E.contents (without_ipv6_line address port) errors.old errors.new }
+fn print_without_ipv6<E: Write>(errors: &mut Writing<E>, address: [u8; 4], port: u16, reason: &[u8])
+    ensures { IsPrinted E.contents (without_ipv6_line address port reason.now) errors.old errors.new }
 {
     let mut digits = Buffer::new();
     let port = digits.format(port).as_bytes();
-    let _ = say_all(errors, &[CANNOT_LISTEN, beside(address), port, b"\n"]);
+    print_refused(errors, beside(address), port, reason);
 }
 
-/// Prints how the daemon ended. Returns:
+/// Prints how the daemon ended. If it cannot listen, `reason` is the system's text for the error. Returns:
 /// - `DONE` if it was stopped and its recording, if any, is complete.
 /// - `NOT_DONE` if it cannot listen.
 /// - `FAILED` if it was stopped and its recording failed, if the system cannot report the readiness of sockets, or if
@@ -139,12 +155,13 @@ pub fn end_daemon<E: Write>(
     errors: &mut Writing<E>,
     command: &Command,
     ended: &Result<RunEnd, RunFault>,
+    reason: &[u8],
 ) -> u8
     ensures status { result ≡ status_of_end ended.now }
     ensures silent { IfOk ended.now (λ _. command.now.debug ≡ false → errors.new ≡ errors.old) }
-    ensures line { IfSome (text_of_end command.now ended.now)
+    ensures line { IfSome (text_of_end command.now ended.now reason.now)
         (λ text. IsPrinted E.contents text errors.old errors.new) }
-    ensures none { text_of_end command.now ended.now ≡ None → errors.new ≡ errors.old }
+    ensures none { text_of_end command.now ended.now reason.now ≡ None → errors.new ≡ errors.old }
 {
     match ended {
         Ok(end) => {
@@ -153,15 +170,15 @@ pub fn end_daemon<E: Write>(
             }
             if end.recorded { DONE } else { FAILED }
         }
-        Err(RunFault::Listen(index)) => {
+        Err(RunFault::Listen(index, _)) => {
             if let Some(address) = command.addresses.get(*index) {
-                report_cannot_listen(errors, *address, command.port);
+                report_cannot_listen(errors, *address, command.port, reason);
             }
             NOT_DONE
         }
-        Err(RunFault::ListenBeside(index)) => {
+        Err(RunFault::ListenBeside(index, _)) => {
             if let Some(address) = command.addresses.get(*index) {
-                print_without_ipv6(errors, *address, command.port);
+                print_without_ipv6(errors, *address, command.port, reason);
             }
             NOT_DONE
         }

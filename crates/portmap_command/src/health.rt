@@ -21,6 +21,9 @@ use portmap_wire::{Name, Reg};
 use std::alloc::Global;
 use std::io::Write;
 
+/// The number of names that checks register, so that checks at once rarely meet.
+const NAMES: u32 = 16;
+
 /// The limit on tries of a registration, and of a look-up of a closed name.
 const TRIES: u32 = 20;
 
@@ -40,11 +43,13 @@ pub type Outcome = Result<bool, Failure>;
 
 pub type Made = (Step, Outcome);
 
-/// Returns the node that a check registers. Nothing listens at its port.
-pub fn health_node(alloc: Global) -> Result<Reg, NoMemory>
-    ensures { IfOk result (λ node. node ≡ health_node) }
+/// Returns the node that a check registers. `number` modulo `NAMES` ends its name. Nothing listens at its port.
+pub fn health_node(alloc: Global, number: u32) -> Result<Reg, NoMemory>
+    ensures { IfOk result (λ node. node ≡ health_node number) }
 {
-    let name = Name::read(alloc, b"epmd-health").map_err(|_| NoMemory)?;
+    let mut name = Vec::from_slice(alloc, b"epmd-health-")?;
+    name.extend_from_slice(Buffer::new().format(number % NAMES).as_bytes())?;
+    let name = Name::read(alloc, &name).map_err(|_| NoMemory)?;
     Reg::new(alloc, 1, b'H', 0, 6, 5, name, &[]).map_err(|_| NoMemory)
 }
 

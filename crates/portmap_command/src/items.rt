@@ -53,6 +53,8 @@ fn read_plain(word: &str) -> Option<Word>
         "-dump" => Word::Act(Action::Ask(Ask::Dump)),
         "-health" => Word::Act(Action::Health),
         "-once" => Word::Act(Action::Once),
+        "-version" => Word::Act(Action::Version),
+        "-help" => Word::Act(Action::Help),
         _ => return None,
     };
     Some(item)

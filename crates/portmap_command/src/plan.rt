@@ -26,6 +26,7 @@ pub struct Plan {
     pub workers: Option<u32>,
     pub relaxed: bool,
     pub debug: bool,
+    pub daemon: bool,
     pub recording: Option<String>,
     pub figures: Option<String>,
 }
@@ -40,6 +41,7 @@ impl Drop for Plan {
             workers: _,
             relaxed: _,
             debug: _,
+            daemon: _,
             recording: _,
             figures: _,
         } = self;
@@ -83,6 +85,7 @@ impl Plan {
             workers: None,
             relaxed: false,
             debug: false,
+            daemon: false,
             recording: None,
             figures: None,
         }
@@ -105,7 +108,7 @@ impl Plan {
             Word::Workers(number) => self.workers = Some(number),
             Word::Relaxed => self.relaxed = true,
             Word::Debug => self.debug = true,
-            Word::Daemon => {}
+            Word::Daemon => self.daemon = true,
             Word::Recording(path) => self.recording = Some(path),
             Word::Figures(path) => self.figures = Some(path),
             Word::Act(action) => self.action = Some(action),
@@ -125,6 +128,7 @@ impl Plan {
             workers,
             relaxed,
             debug,
+            daemon,
             recording,
             figures,
         } = self;
@@ -142,6 +146,7 @@ impl Plan {
             timeout: timeout.unwrap_or(TIMEOUT),
             workers: workers.unwrap_or(WORKERS),
             debug,
+            daemon,
             recording,
             figures,
         })

@@ -9,18 +9,22 @@ ghost use Rattle.portmap_command.specs.Meaning.{CanServe};
 ghost use Rattle.portmap_command.specs.declared.program.TheConstants.{CONNECTING};
 ghost use Rattle.portmap_command.specs.declared.actions.TheConstants.{DONE};
 
-use crate::actions::{Failure, do_file, do_once, fail};
+use crate::actions::{DONE, Failure, NOT_DONE, do_file, do_once, fail};
 use crate::auditing::{
     PREFIX_LENGTH, RecordingFile, do_audit, fail_at, files_of, first_position, folder_of, number_of,
 };
-use crate::commands::do_client;
+use crate::commands::{do_client, print};
 use crate::daemon::{end_daemon, settings};
 use crate::errors::{name_file, say_reason};
+use crate::files::{can_make, figures_fault, is_folder, print_reason, reason_of};
 use crate::handing::{FIRST, handed_count, refuse_handed, report_without_effect};
 use crate::health::{Checked, Outcome, PAUSE_MS, Step, do_health, health_node, look_up, register};
+use crate::help::{HELP, VERSION};
 use crate::words::{Action, Ask, Command, Env, WordFault, read_words};
 use portmap_client::Registration;
-use portmap_daemon::{FILE_BYTES_MOST, HandedFault, Host, Open, handed_over, run, run_over};
+use portmap_daemon::{
+    FILE_BYTES_MOST, HandedFault, Host, Open, RunEnd, RunFault, handed_over, run, run_over,
+};
 use portmap_link::{Both, GhostList, NoMemory, Reading, Writing};
 use portmap_record::Text;
 use std::alloc::Global;
@@ -99,6 +103,33 @@ fn handed(rt: &HostRuntime) -> Result<Vec<TcpListener>, HandedFault> {
     handed_over(rt.alloc(), FIRST, count)
 }
 
+/// Runs the daemon until it ends, unless the file for the counters cannot be used. Over passed sockets it serves
+/// without that file then. With `-daemon` it does not begin if a file cannot be made, since nobody would read that.
+fn do_daemon<
+    R: Net + Host<File = File> + Threads + Wait + Clock + Clone + Drop + Send + Sync + 'static,
+    E: Write,
+>(rt: &HostRuntime, host: &R, command: &Command, errors: &mut Writing<E>) -> u8
+    requires { CanServe command.now }
+{
+    let listening = match handed(rt) {
+        Ok(listening) => listening,
+        Err(fault) => return refuse_handed(errors, fault),
+    };
+    report_without_effect(errors, command, &listening);
+    let fault = figures_fault(rt, command);
+    if let (Some(reason), Some(path)) = (fault, &command.figures) {
+        say_reason(errors, path.as_bytes(), reason);
+        if listening.is_empty() {
+            return NOT_DONE;
+        }
+    }
+    if command.daemon && listening.is_empty() && !can_make(rt, command, errors) {
+        return NOT_DONE;
+    }
+    let has_figures = fault.is_none();
+    do_serve(host, rt.alloc(), command, listening, errors, has_figures)
+}
+
 /// Runs the daemon until it ends. Passed sockets replace the port and the addresses of the command.
 fn do_serve<
     R: Net + Host<File = File> + Threads + Wait + Clock + Clone + Drop + Send + Sync + 'static,
@@ -109,27 +140,35 @@ fn do_serve<
     command: &Command,
     listening: Vec<TcpListener>,
     errors: &mut Writing<E>,
+    has_figures: bool,
 ) -> u8
     requires { CanServe command.now }
     ensures silent { result ≡ DONE → command.now.debug ≡ false → errors.new ≡ errors.old }
 {
-    let Ok(settings) = settings(alloc, command, since_1970(rt)) else {
+    let Ok(mut settings) = settings(alloc, command, since_1970(rt)) else {
         return fail(errors, Failure::Memory);
     };
+    if !has_figures {
+        settings.figures = None;
+    }
     let ended = if listening.is_empty() {
         run(rt, alloc, settings)
     } else {
         run_over(rt, alloc, settings, &Open, listening, FILE_BYTES_MOST)
     };
-    end_daemon(errors, command, &ended)
+    match reason_of_end(alloc, &ended) {
+        Ok(reason) => end_daemon(errors, command, &ended, reason.as_bytes()),
+        Err(_) => fail(errors, Failure::Memory),
+    }
 }
 
-/// Returns the system's text for an error, such as "Permission denied".
-fn reason_of(alloc: Global, error: &io::Error) -> Result<String, NoMemory> {
-    let text = format!(in alloc; "{error}")?;
-    match text.as_str().split_once(" (os error ") {
-        Some((reason, _)) => String::from_str(alloc, reason),
-        None => Ok(text),
+/// Returns the system's text for the error with which a daemon cannot listen. Any other end has none.
+fn reason_of_end(alloc: Global, ended: &Result<RunEnd, RunFault>) -> Result<String, NoMemory> {
+    match ended {
+        Err(RunFault::Listen(_, number) | RunFault::ListenBeside(_, number)) => {
+            reason_of(alloc, &io::Error::from_raw_os_error(*number))
+        }
+        _ => Ok(String::new(alloc)),
     }
 }
 
@@ -144,10 +183,7 @@ fn fail_for<E: Write>(
     ensures { result ≡ status_of failure }
 {
     let status = fail(errors, failure);
-    match reason_of(alloc, error) {
-        Ok(reason) => say_reason(errors, path.as_bytes(), reason.as_bytes()),
-        Err(_) => name_file(errors, path.as_bytes(), status, true),
-    }
+    print_reason(alloc, errors, path, error);
     status
 }
 
@@ -376,6 +412,8 @@ struct Local<'a> {
     rt: &'a HostRuntime,
     ip: IpAddr,
     port: u16,
+    /// Says which name is registered. It grows if that name is refused.
+    number: u32,
     held: Option<Registration<Both<TcpStream>>>,
     steps: GhostList<(Step, Outcome)>,
 }
@@ -386,6 +424,7 @@ impl<'a> Local<'a> {
             rt,
             ip,
             port,
+            number: process::id(rt.process()),
             held: None,
             steps: GhostList::new(),
         }
@@ -394,13 +433,16 @@ impl<'a> Local<'a> {
     fn request(&mut self, step: Step) -> Outcome
         ensures { self.new.steps ≡ self.old.steps }
     {
-        let node = health_node(self.rt.alloc())?;
+        let node = health_node(self.rt.alloc(), self.number)?;
         let stream = connect_to(self.rt, self.ip, self.port).map_err(|error| unconnected(&error))?;
         let mut stream = Both::new(stream);
         if !matches!(step, Step::Register) {
             return look_up(self.rt.alloc(), &mut stream, &node);
         }
         self.held = register(self.rt.alloc(), stream, &node)?;
+        if self.held.is_none() {
+            self.number = self.number.wrapping_add(1);
+        }
         Ok(self.held.is_some())
     }
 }
@@ -452,16 +494,16 @@ pub fn perform<
     ensures silent { IsQuiet command.now.action → result ≡ DONE → errors.new ≡ errors.old }
 {
     match &command.action {
-        Action::Serve => match handed(rt) {
-            Ok(listening) => {
-                report_without_effect(errors, command, &listening);
-                do_serve(host, rt.alloc(), command, listening, errors)
-            }
-            Err(fault) => refuse_handed(errors, fault),
-        },
+        Action::Serve => do_daemon(rt, host, command, errors),
         Action::Health => do_checked(rt, command.port, errors),
         Action::Once => do_once(rt.alloc(), input, output, errors),
         Action::Ask(asked) => do_asked(rt, asked, command.port, output, errors),
+        Action::Version => print(output, errors, VERSION, DONE),
+        Action::Help => print(output, errors, HELP, DONE),
+        Action::Inspect(_, path) | Action::Audit(path) if is_folder(rt, path.as_str()) => {
+            let error = io::Error::from(ErrorKind::IsADirectory);
+            fail_for(rt.alloc(), errors, Failure::Device, path.as_str(), &error)
+        }
         Action::Inspect(text, path) => do_path(rt, *text, path.as_str(), output, errors),
         Action::Audit(path) => do_recording(rt, path.as_str(), output, errors),
     }

@@ -43,6 +43,8 @@ pub enum Action {
     Health,
     /// To serve one request from standard input.
     Once,
+    Version,
+    Help,
     /// To check the recorded session in the file at this path, and to write this text of it.
     Inspect(Text, String),
     /// To check the recording whose first file is at this path, as one session.
@@ -71,6 +73,8 @@ pub struct Command {
     /// 1 to 64.
     pub workers: u32,
     pub debug: bool,
+    /// Whether nobody reads what the daemon prints after its start.
+    pub daemon: bool,
     /// The path of the file that the daemon records to.
     pub recording: Option<String>,
     /// The path of the file for counters.
@@ -88,6 +92,7 @@ impl Drop for Command {
             timeout: _,
             workers: _,
             debug: _,
+            daemon: _,
             recording: _,
             figures: _,
         } = self;

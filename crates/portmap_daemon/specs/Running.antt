@@ -6,8 +6,8 @@ use Rattle.portmap_daemon.specs.declared.daemon.RunFault.{RunFault, TheVariants.
 
 -- The index of a refused address is below `count`.
 abbrev pub IsOfAddresses : ℕ → RunFault → Type 0
-IsOfAddresses count (Listen place) = place < count
-IsOfAddresses count (ListenBeside place) = place < count
+IsOfAddresses count (Listen place error) = place < count
+IsOfAddresses count (ListenBeside place error) = place < count
 IsOfAddresses count Poll = Unit {0}
 IsOfAddresses count NoMemory = Unit {0}
 

@@ -30,6 +30,6 @@ pub use crate::daemon::{RunEnd, RunFault, Settings, run, run_gated, run_over};
 pub use crate::limits::{TIMEOUT_SECONDS_MOST, numbers_are_the_profiles};
 pub use crate::listening::{HandedFault, beside, handed_over, lacks_ipv6};
 pub use crate::mio_system::{MioStream, MioSystem, MioWaker};
-pub use portmap_operator::{Host, Notice, RecordFile, Refused, shown};
+pub use portmap_operator::{Host, Notice, RecordFile, Refused, shown, try_make};
 pub use portmap_recorder::{FILE_BYTES_MOST, Recorder};
 pub use portmap_worker::{Carrier, Gate, Next, Open, Outcome, Point, Source, Turn, serve};

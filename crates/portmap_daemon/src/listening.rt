@@ -58,18 +58,22 @@ pub(crate) fn listen<R: Net>(
 {
     let mut listening = Vec::new(alloc);
     for (place, address) in addresses.iter().enumerate() {
-        let Ok(listener) = TcpListener::bind(rt, address_at(*address, port)) else {
-            return Err(RunFault::Listen(place));
-        };
-        listening.push(net::TcpListener::from(listener))?;
+        match TcpListener::bind(rt, address_at(*address, port)) {
+            Ok(listener) => listening.push(net::TcpListener::from(listener))?,
+            Err(error) => return Err(RunFault::Listen(place, error_number(&error))),
+        }
         match beside(*address).map(|ipv6| listen_alone(ipv6, port)) {
             None => {}
             Some(Ok(listener)) => listening.push(listener)?,
             Some(Err(error)) if lacks_ipv6(error.raw_os_error()) => {}
-            Some(Err(_)) => return Err(RunFault::ListenBeside(place)),
+            Some(Err(error)) => return Err(RunFault::ListenBeside(place, error_number(&error))),
         }
     }
     Ok(listening)
+}
+
+fn error_number(error: &io::Error) -> i32 {
+    error.raw_os_error().unwrap_or(libc::EIO)
 }
 
 fn address_at(address: [u8; 4], port: u16) -> SocketAddr

@@ -148,13 +148,16 @@ fn what_fails_is_printed_with_its_address(rt: HostRuntime) -> Result<(), Fail> {
 }
 
 /// An ALIVE2_REQ of a hidden node on port 1 that speaks versions 5 to 6, and a PORT_PLEASE2_REQ of its name.
-const ALIVE: Bytes = b"\x00\x18x\x00\x01H\x00\x00\x06\x00\x05\x00\x0Bepmd-health\x00\x00";
+const ALIVE: Bytes = b"\x00\x1Bx\x00\x01H\x00\x00\x06\x00\x05\x00\x0Eepmd-health-15\x00\x00";
 
-const PORT: Bytes = b"\x00\x0Czepmd-health";
+const PORT: Bytes = b"\x00\x0Fzepmd-health-15";
+
+/// 15, modulo 16.
+const NUMBER: u32 = 4_294_967_295;
 
 /// Returns the outcome of a registration over this stream, and the request.
 fn registered(alloc: Global, tape: Tape<'_>) -> Result<(Outcome, Vec<u8>), Fail> {
-    Ok(match register(alloc, tape, &health_node(alloc)?) {
+    Ok(match register(alloc, tape, &health_node(alloc, NUMBER)?) {
         Ok(Some(held)) => (Ok(true), held.leave().sink),
         Ok(None) => (Ok(false), ALIVE.to_vec(alloc)?),
         Err(failure) => (Err(failure), ALIVE.to_vec(alloc)?),
@@ -164,7 +167,7 @@ fn registered(alloc: Global, tape: Tape<'_>) -> Result<(Outcome, Vec<u8>), Fail>
 /// Returns the outcome of a look-up over this stream, and the request.
 fn looked_up(alloc: Global, tape: Tape<'_>) -> Result<(Outcome, Vec<u8>), Fail> {
     let mut tape = tape;
-    let outcome = look_up(alloc, &mut tape, &health_node(alloc)?);
+    let outcome = look_up(alloc, &mut tape, &health_node(alloc, NUMBER)?);
     Ok((outcome, tape.sink))
 }
 
@@ -202,11 +205,11 @@ fn each_request_is_that_of_the_protocol(rt: HostRuntime) -> Result<(), Fail> {
         register v\0\0 -> Err(StrangeAnswer)
         register w\0\0\0\0\x04 -> Err(StrangeAnswer)
         register -> Err(StrangeAnswer)
-        find w\0\0\x01H\0\0\x06\0\x05\0\x0Bepmd-health\0\0 -> Ok(true)
-        find w\0\0\x02H\0\0\x06\0\x05\0\x0Bepmd-health\0\0 -> Ok(false)
-        find w\0\0\x01M\0\0\x06\0\x05\0\x0Bepmd-health\0\0 -> Ok(false)
-        find w\0\0\x01H\0\0\x06\0\x05\0\x0Bepmd-healtH\0\0 -> Ok(false)
-        find w\0\0\x01H\0\0\x06\0\x05\0\x0Bepmd-health\0\x01x -> Ok(false)
+        find w\0\0\x01H\0\0\x06\0\x05\0\x0Eepmd-health-15\0\0 -> Ok(true)
+        find w\0\0\x02H\0\0\x06\0\x05\0\x0Eepmd-health-15\0\0 -> Ok(false)
+        find w\0\0\x01M\0\0\x06\0\x05\0\x0Eepmd-health-15\0\0 -> Ok(false)
+        find w\0\0\x01H\0\0\x06\0\x05\0\x0Eepmd-health-14\0\0 -> Ok(false)
+        find w\0\0\x01H\0\0\x06\0\x05\0\x0Eepmd-health-15\0\x01x -> Ok(false)
         find w\x01 -> Ok(false)
         find w\0\0\x01H -> Err(StrangeAnswer)
         find -> Err(StrangeAnswer)

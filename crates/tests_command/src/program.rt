@@ -183,7 +183,12 @@ fn a_file_is_judged_at_its_path(rt: HostRuntime) -> Result<(), Fail> {
 
 #[test]
 fn a_folder_is_no_record(rt: HostRuntime) -> Result<(), Fail> {
-    let table = "epmd -check . -> 3 err epmd: input or output failed|epmd: in .|";
+    let table = "
+        epmd -check . -> 3 err epmd: input or output failed|epmd: .: is a directory|
+        epmd -play . -> 3 err epmd: input or output failed|epmd: .: is a directory|
+        epmd -local . -> 3 err epmd: input or output failed|epmd: .: is a directory|
+        epmd -audit . -> 3 err epmd: input or output failed|epmd: .: is a directory|
+    ";
     assert!(rt; end_so(&rt, &rt, table));
     Ok(())
 }

@@ -80,8 +80,8 @@ fn a_daemon_records_where_its_command_says(rt: HostRuntime) -> Result<(), Fail> 
 fn end_of(alloc: Global, words: &str) -> Result<Result<RunEnd, RunFault>, Fail> {
     let (end, rest) = words.split_once(' ').unwrap_or((words, ""));
     Ok(match end {
-        "listen" => Err(RunFault::Listen(rest.parse::<usize>()?)),
-        "beside" => Err(RunFault::ListenBeside(rest.parse::<usize>()?)),
+        "listen" => Err(RunFault::Listen(rest.parse::<usize>()?, 98)),
+        "beside" => Err(RunFault::ListenBeside(rest.parse::<usize>()?, 98)),
         "poll" => Err(RunFault::Poll),
         "memory" => Err(RunFault::NoMemory),
         _ => {
@@ -97,7 +97,7 @@ fn end_of(alloc: Global, words: &str) -> Result<Result<RunEnd, RunFault>, Fail> 
 
 fn ended(alloc: Global, command: &Command, end: &str) -> Result<String, Fail> {
     let mut errors = Writing::new(Vec::new(alloc));
-    let status = end_daemon(&mut errors, command, &end_of(alloc, end)?);
+    let status = end_daemon(&mut errors, command, &end_of(alloc, end)?, b"Why");
     Ok(ending(alloc, status, b"", &errors.into_inner())?)
 }
 
@@ -136,10 +136,10 @@ fn a_daemon_whose_recording_failed_has_status_3(rt: HostRuntime) -> Result<(), F
 #[test]
 fn a_daemon_that_fails_prints_why(rt: HostRuntime) -> Result<(), Fail> {
     let table = "
-        -d -record x ends listen 0 -> 1 err epmd: cannot listen on 10.0.0.1:4370|
-        -d -record x ends listen 1 -> 1 err epmd: cannot listen on 127.0.0.1:4370|
-        -d -record x ends beside 1 -> 1 err epmd: cannot listen on [::1]:4370|
-        -address 0.0.0.0 ends beside 0 -> 1 err epmd: cannot listen on [::]:4370|
+        -d -record x ends listen 0 -> 1 err epmd: cannot listen on 10.0.0.1:4370: Why|
+        -d -record x ends listen 1 -> 1 err epmd: cannot listen on 127.0.0.1:4370: Why|
+        -d -record x ends beside 1 -> 1 err epmd: cannot listen on [::1]:4370: Why|
+        -address 0.0.0.0 ends beside 0 -> 1 err epmd: cannot listen on [::]:4370: Why|
         -d -record x ends poll -> 3 err epmd: polling failed|
         -d -record x ends memory -> 3 err epmd: out of memory|
     ";

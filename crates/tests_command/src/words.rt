@@ -25,6 +25,8 @@ fn show_action<W: fmt::Write>(action: &Action, f: &mut fmt::Formatter<W>) -> fmt
         Action::Ask(Ask::Dump) => f.write_str("dump"),
         Action::Health => f.write_str("health"),
         Action::Once => f.write_str("once"),
+        Action::Version => f.write_str("version"),
+        Action::Help => f.write_str("help"),
         Action::Inspect(Text::Verdict, path) => write!(f, "check <{path}>"),
         Action::Inspect(Text::Transcript, path) => write!(f, "play <{path}>"),
         Action::Inspect(Text::LocalRecord, path) => write!(f, "local <{path}>"),
@@ -58,7 +60,11 @@ impl fmt::Display for Shown<'_> {
                 write!(f, " {name} {number}")?;
             }
         }
-        for (name, is_set) in [("relaxed", command.relaxed), ("debug", command.debug)] {
+        for (name, is_set) in [
+            ("relaxed", command.relaxed),
+            ("debug", command.debug),
+            ("daemon", command.daemon),
+        ] {
             if is_set {
                 write!(f, " {name}")?;
             }
@@ -98,6 +104,8 @@ fn an_action_is_asked_for(rt: HostRuntime) -> Result<(), Fail> {
         epmd -dump -> dump
         epmd -health -> health
         epmd -once -> once
+        epmd -version -> version
+        epmd -help -d -> help debug
         epmd -check a -> check <a>
         epmd -check -play -> check <-play>
         epmd -play /tmp/session -> play </tmp/session>
@@ -112,9 +120,9 @@ fn an_action_is_asked_for(rt: HostRuntime) -> Result<(), Fail> {
         epmd -port 4370 -names -> names port 4370
         epmd -names -port 4370 -> names port 4370
         epmd -health -port 4370 -> health port 4370
-        epmd -once -d -workers 2 -daemon -> once workers 2 debug
+        epmd -once -d -workers 2 -daemon -> once workers 2 debug daemon
         epmd -relaxed_command_check -check a -debug -> check <a> relaxed debug
-        epmd -daemon -d -> serve debug
+        epmd -daemon -d -> serve debug daemon
     ";
     all_come(&rt, &Asks, table)
 }
@@ -139,8 +147,8 @@ fn an_option_has_its_last_value(rt: HostRuntime) -> Result<(), Fail> {
         epmd -d -debug -d -> serve debug
         epmd -figures a -> serve figures <a>
         epmd -figures a -figures -d -> serve figures <-d>
-        epmd -daemon -> serve
-        epmd -daemon -daemon -> serve
+        epmd -daemon -> serve daemon
+        epmd -daemon -daemon -> serve daemon
         epmd -d -workers 8 -names -port 1024 -packet_timeout 5 -> names port 1024 timeout 5 workers 8 debug
     ";
     all_come(&rt, &Asks, table)

@@ -12,6 +12,8 @@ const PORT: u16 = 14_443;
 
 const TAKEN_PORT: u16 = 14_441;
 
+const EADDRINUSE: i32 = 98;
+
 /// Looks a name up at this address of the host.
 fn looked_up(rt: &HostRuntime, last: u8) -> Result<bool, ErrorKind> {
     answered_at(rt, IpAddr::from([127, 0, 0, last]), PORT, PORT_A, NOT_FOUND)
@@ -47,6 +49,6 @@ fn an_address_in_use_is_reported(rt: HostRuntime) -> Result<(), Fail> {
     let mut settings = settings_at(rt.alloc(), TAKEN_PORT, 60, 1, None)?;
     settings.addresses.push([127, 0, 0, 1])?;
     let ended = run(&rt, rt.alloc(), settings);
-    assert!(rt; matches!(ended, Err(RunFault::Listen(1))));
+    assert!(rt; matches!(ended, Err(RunFault::Listen(1, EADDRINUSE))));
     Ok(())
 }

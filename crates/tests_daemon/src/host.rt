@@ -1,6 +1,8 @@
 //! The file of a recording as the host creates it, and the texts that an operator reads.
 use portmap_core::Fate;
-use portmap_operator::{Host, LocalRequest, Notice, RecordFile, Refused, RemoteRefused, RemoteSlots};
+use portmap_operator::{
+    Host, LocalRequest, Notice, RecordFile, Refused, RemoteRefused, RemoteSlots,
+};
 use portmap_testing::bytes::{ALIVE_A, ALIVE_B, DUMP, FOURTH, KILL, NOT_FOUND, PORT_A, STOP_A};
 use portmap_testing::entries::{SampleEntry, entry};
 use std::alloc::Global;

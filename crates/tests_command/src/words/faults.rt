@@ -114,6 +114,8 @@ const ACTIONS: &[(&str, usize)] = &[
     ("-dump", 1),
     ("-health", 1),
     ("-once", 1),
+    ("-version", 1),
+    ("-help", 1),
     ("-check a", 2),
     ("-play a", 2),
     ("-local a", 2),
