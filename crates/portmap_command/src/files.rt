@@ -16,7 +16,7 @@ const NOT_PLAIN: &[u8] = b"what is there is not a plain file";
 const RECORDED_TO: &[u8] = b"the recording and the counters need a file each";
 
 /// Returns the system's text for an error, such as "Permission denied".
-pub fn reason_of(alloc: Global, error: &io::Error) -> Result<String, NoMemory> {
+pub(crate) fn reason_of(alloc: Global, error: &io::Error) -> Result<String, NoMemory> {
     let text = format!(in alloc; "{error}")?;
     match text.as_str().split_once(" (os error ") {
         Some((reason, _)) => String::from_str(alloc, reason),
@@ -25,7 +25,7 @@ pub fn reason_of(alloc: Global, error: &io::Error) -> Result<String, NoMemory> {
 }
 
 /// Writes a line that names `path` and says why it cannot be used, or only names it if there is no memory for that.
-pub fn print_reason<E: Write>(
+pub(crate) fn print_reason<E: Write>(
     alloc: Global,
     errors: &mut Writing<E>,
     path: &str,
@@ -38,12 +38,12 @@ pub fn print_reason<E: Write>(
 }
 
 /// Returns whether a folder is at the path. It could be opened, but not be read.
-pub fn is_folder(rt: &HostRuntime, path: &str) -> bool {
+pub(crate) fn is_folder(rt: &HostRuntime, path: &str) -> bool {
     metadata(rt, path).is_ok_and(|there| there.is_dir())
 }
 
 /// Returns why the file for the counters cannot be used, if so.
-pub fn figures_fault(rt: &HostRuntime, command: &Command) -> Option<&'static [u8]> {
+pub(crate) fn figures_fault(rt: &HostRuntime, command: &Command) -> Option<&'static [u8]> {
     let figures = command.figures.as_deref()?;
     let there = symlink_metadata(rt, figures).ok();
     if there.as_ref().is_some_and(|there| !there.is_file()) {
@@ -58,7 +58,11 @@ pub fn figures_fault(rt: &HostRuntime, command: &Command) -> Option<&'static [u8
 }
 
 /// Prints why a file of the command cannot be made, if so. Returns whether each can.
-pub fn can_make<E: Write>(rt: &HostRuntime, command: &Command, errors: &mut Writing<E>) -> bool {
+pub(crate) fn can_make<E: Write>(
+    rt: &HostRuntime,
+    command: &Command,
+    errors: &mut Writing<E>,
+) -> bool {
     let mut new = None;
     if let Some(path) = &command.figures {
         new = format!(in rt.alloc(); "{path}.new").ok();
