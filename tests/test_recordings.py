@@ -373,14 +373,14 @@ class Times(RecordCase):
     def test_a_minute_without_entries_has_a_row(self):
         daemon = self.daemon("-record", self.file)
         self.asked_until(daemon, 10)
-        before = len(self.rows(self.file))
-        time.sleep(58)
-        *rows, last = self.rows(self.file)
-        self.assertEqual(len(rows) + 1, before)
-        eventually(lambda: len(self.rows(self.file)) > before, "the row")
-        *_, row = self.rows(self.file)
-        self.assertEqual(row[0], last[0])
-        self.assertTrue(60e6 <= row[1] - last[1] + 1e6 and row[1] <= time.time_ns() // 1000, (last, row))
+        time.sleep(3)  # The last batch is written.
+        before = self.rows(self.file)
+        time.sleep(54)
+        self.assertEqual(self.rows(self.file), before)
+        eventually(lambda: self.rows(self.file) != before, "the row")
+        *rows, alive_row = self.rows(self.file)
+        self.assertEqual((rows, alive_row[0]), (before, before[-1][0]))
+        self.assertTrue(before[-1][1] + 59e6 <= alive_row[1] <= time.time_ns() // 1000, (before[-1], alive_row))
 
     def test_what_is_there_and_is_no_plain_file_is_left_and_holds_nothing(self):
         path = self.file + ".times"
