@@ -115,7 +115,8 @@ ROWS = {
         "Install": ["WantedBy=timers.target"],
     },
     "epmd-proved-prune.service": {
-        "Unit": [],
+        # epmd-prune ends with 1 where a recording has no file, which is no failure of a timer.
+        "Unit": ["ConditionPathExistsGlob=/var/lib/epmd-proved/session*"],
         "Service": [
             "Type=oneshot",
             "Environment=EPMD_KEEP=8",
