@@ -114,7 +114,7 @@ class StandardErrorThatNobodyReads(NoticeCase):
         name, file = b"\x80" * 1020, self.path("/".join(["none", *["x" * 250] * 14]))
         daemon = self.daemon("-relaxed_command_check", "-record", file, before=lambda: os.dup2(writer, 2))
         self.hold(daemon, name)
-        until = time.monotonic() + 2 * QUIET
+        until = time.monotonic() + 2 * QUIET + 3
         while time.monotonic() < until:
             self.refused(daemon, name)
             time.sleep(0.5)
