@@ -56,7 +56,7 @@ if __name__ == "__main__":
     sys.exit(main(sys.argv[1:]))
 """
 # Of ours, what crates.txt has the program and the client stand on, themselves among them.
-OF_PROGRAM, OF_CLIENT = 13, 6
+OF_PROGRAM, OF_CLIENT = 15, 6
 NO_RT = "there is no rt on the path, the command of the Rattle toolchain: README.md names its kit under Install"
 
 
