@@ -1,7 +1,11 @@
-# `make epmd`, `make run`, `make try` and `make test` need `rt`, the command of the Rattle toolchain, on the path, and nothing else.
-# `make install` and `make deb` take what is in build, and need no toolchain; the latter needs `dpkg-deb` and `strip`. `make bench` needs
-# `cc`, and another port mapper; `make client` needs `cc` and binutils too. `make faults` needs `gcc` and `python3`, `make check-contrib`
-# and `make check-program` `python3` alone.
+# What each target needs:
+#
+# - `epmd`, `run`, `try`, `test`: `rt`, the command of the Rattle toolchain, on the path, and nothing else
+# - `client`: `rt`, `cc` and binutils
+# - `install`, `deb`: what is in build, and no toolchain; `deb` also `dpkg-deb` and `strip`
+# - `bench`: `cc`, and another port mapper
+# - `faults`: `rt`, `gcc` and `python3`
+# - `check-contrib`, `check-program`: `python3` alone
 
 PREFIX = /usr/local
 
@@ -15,7 +19,7 @@ WORDS =
 # The crates of tests that refuse memory.
 REFUSING = tests_libraries tests_daemon
 
-# Ends a target that calls `rt` where there is none.
+# Ends a target that calls `rt`, if there is no `rt` on the path.
 toolchain = $(if $(shell command -v rt 2> /dev/null),,$(error there is no rt on the path, the command of the Rattle toolchain: README.md \
     names its kit under Install))
 
@@ -26,23 +30,23 @@ toolchain = $(if $(shell command -v rt 2> /dev/null),,$(error there is no rt on 
 run: epmd
 	./build/epmd
 
-# Builds the program with nothing proved, and serves at PORT of this host until it is interrupted. WORDS are further options of the daemon.
+# Builds the program with nothing proved, and serves at PORT of this host until interrupted. WORDS are further options of the daemon.
 try:
 	$(toolchain)@contrib/try $(PORT) $(WORDS)
 
-# Proves the program and all below it, and leaves it at build/epmd. What `rt` prints is in build/log.
+# Proves the program and every crate below it, and puts it at build/epmd. The output of `rt` is in build/log.
 epmd:
 	$(toolchain)@contrib/build
 
-# A program that is there is taken as it is; where there is none it is made.
+# Makes the program unless it is there.
 build/epmd:
 	@$(MAKE) --no-print-directory epmd
 
-# Proves the client for C, and leaves the archive, the shared library and the header in build.
+# Proves the client for C, and puts the archive, the shared library and the header into build.
 client:
 	$(toolchain)@contrib/build-client
 
-# Where things lie below DESTDIR and PREFIX.
+# The folders below DESTDIR and PREFIX.
 BIN = $(PREFIX)/bin
 LIB = $(PREFIX)/lib/epmd-proved
 UNITS = $(PREFIX)/lib/systemd/system
@@ -53,30 +57,30 @@ LIBRARIES = $(PREFIX)/lib
 TOOLS = epmd-log epmd-metrics epmd-prune epmd-report
 COMMANDS = epmd $(TOOLS)
 PAGES = $(addsuffix .1,$(COMMANDS))
-# By default where zsh itself looks below /usr/local; a package has a folder of its own.
+# The default is the folder in which zsh looks below /usr/local. A package has a folder of its own.
 ZSH_COMPLETIONS = $(PREFIX)/share/zsh/site-functions
 BASH_COMPLETIONS = $(PREFIX)/share/bash-completion/completions
 SERVICES = epmd-proved.socket epmd-proved.service epmd-proved-away.target epmd-proved-pause@.service epmd-proved-prune.service \
     epmd-proved-prune.timer epmd-proved-metrics.service epmd-proved-metrics.timer
-# What is added to units of erlang-base and to ours: an operator's own additions come after it.
+# Additions to the units of erlang-base and to ours. The number makes the operator's own additions follow them.
 ADDED = $(addsuffix /10-proved.conf,epmd.socket.d epmd.service.d epmd-proved.service.d)
 
-# The client is there once `make client` has made it. Nothing is proved for an installation or a package: they may be root's.
+# The client is installed if `make client` has made it. An installation and a package prove nothing, since root may make them.
 CLIENT = $(and $(wildcard build/libepmd_client.a),$(wildcard build/libepmd_client.so))
 built = $(if $(shell ls build/epmd 2> /dev/null),,$(error there is no build/epmd: `make epmd` first))
 
-# The commit of this checkout, and whether it was changed since. It is empty where this is no checkout.
+# The commit of this checkout, and if files were changed since. Empty if this is not a checkout.
 GIT = git --no-optional-locks -c safe.directory='*'
 COMMIT = $(shell test -e .git && $(GIT) describe --always --exclude='*' --abbrev=7 --dirty=', changed' 2> /dev/null)
 
-# Says in files that are in place which version they are of, where they lie, and what runs them.
+# Writes into installed files their version, their folders and their interpreter.
 fill = sed -i 's|/usr/local/lib/systemd/system|$(UNITS)|g; s|/usr/local/share/zsh/site-functions|$(ZSH_COMPLETIONS)|g; \
     1s|^\#!/usr/bin/env python3$$|\#!$(LIB)/python|; s|/usr/local|$(PREFIX)|g; s|@LIBRARIES@|$(LIBRARIES)|; s|@VERSION@|$(shell cat VERSION)|; \
     s|@COMMIT@|$(if $(COMMIT), (commit $(COMMIT)))|' $(addprefix $(DESTDIR),$(1))
 
-# Puts the program, the wrapper that is called `epmd`, the tools, the manual pages, the units and what shells complete in their places, and
-# the client for C with its header, its manual page and its file for pkg-config. How to start it is told where this is the machine that it
-# is for.
+# Installs the program, the wrapper that is called `epmd`, the tools, the manual pages, the units and the completions. If the client for C
+# is in build, installs it too, with its header, its manual page and its file for pkg-config. An installation on this machine prints how
+# to start the port mapper.
 install: install-program $(if $(CLIENT),install-client)
 ifeq ($(DESTDIR),)
 	@echo 'To start it where erlang-base is installed, whose epmd.socket stays open:'
@@ -114,8 +118,8 @@ install-client:
 	install -D -m 644 -t $(DESTDIR)$(MAN)/man3 docs/epmd_client.3
 	@$(call fill,$(LIBRARIES)/pkgconfig/epmd_client.pc)
 
-# Removes what `install` puts there. On the machine itself the units end first, with what enables them, and then erlang-base's port mapper
-# has its socket back. That is unmasked, as the units of the first version were started by masking it.
+# Removes what `install` has installed. On this machine the units are disabled and stopped first, and the port mapper of erlang-base then
+# gets its socket back. That socket is unmasked, since the first version was started by masking it.
 MANAGED = $(if $(DESTDIR),,$(shell command -v systemctl 2> /dev/null))
 
 uninstall:
@@ -139,16 +143,16 @@ ifneq ($(MANAGED),)
 	    echo 'To have the port mapper of erlang-base back, where that is installed:'; echo '    systemctl enable --now epmd.socket'; fi
 endif
 
-# Packages for Debian, in build: the program, and the client for C.
+# Makes packages for Debian in build: of the program, and of the client for C.
 deb:
 	$(built)@contrib/deb
 
-# Tests what is in contrib, with python3 and no port mapper: packages where dpkg-deb and strip are there, and the client for C where it is in
-# build, with cc, rustc and a port mapper where they are there.
+# Tests contrib and the pages, with python3 and no port mapper. Packages need dpkg-deb and strip. The client for C is tested if it is in
+# build, with `cc`, `rustc` and a port mapper if they are there.
 check-contrib:
 	tests/run contrib/tests
 
-# Tests the program from end to end, with python3: over sockets, files, signals and limits of this machine.
+# Tests the program from end to end, with python3: over sockets, files and signals, and at limits of this machine.
 check-program: build/epmd
 	tests/run tests
 
@@ -157,25 +161,26 @@ bench: build/epmd
 	cc -O2 -Wall -Wextra -pthread -o build/bench bench/bench.c
 	./build/bench $(OTHER) build/epmd
 
-# A first look, in minutes: stories, tests and cases of the simulation, with nothing proved.
+# A first check in minutes: stories, tests, cases of the simulation and tests of the pages, with nothing proved.
 quick:
 	$(toolchain)@tests/quick
 
-# Tries the wrong bodies that the gate leaves out, in some twenty minutes once all is proved: before a contract of their crate changes.
+# Tries the wrong bodies that the gate leaves out. It takes twenty minutes after all proofs. Run it before a contract of their crate
+# changes.
 attack:
 	$(toolchain)contrib/attack
 
-# The gate: `rt ci`, which makes every proof from nothing, tries the must-fail edits, and runs the tests, and the program as two compilers
-# build it; then `make check-contrib`, `make check-program` and half of the failing calls. The last line is the sum.
+# The gate. `rt ci` makes every proof from nothing, tries the must-fail edits, and runs the tests and the programs as two compilers build
+# them. Then `make check-contrib`, `make check-program` and half of the failing calls run. The last line has the sums.
 test:
 	$(toolchain)tests/gate
 
-# What takes minutes, or wants root, strace or valgrind: each script of `tests`, one after another.
+# Tests of the program that take minutes, or need root, strace or valgrind, one class after another.
 test-long: build/epmd
-	tests/long
+	tests/run -jobs 1 -seconds 3600 tests/slow
 
-# Refuses each request for memory, and has each call of the system fail, one in each run: in the tests of `refusals` and in the
-# stories, and in the daemon. It takes minutes once all are built.
+# Refuses each request for memory, one in each run, in the stories and in the tests of `refusals`. Makes each call of the system fail, one
+# in each run, in the daemon. It takes minutes after the build.
 faults: epmd
 	(cd crates/stories && rt run) && python3 faults/rows.py crates/stories/out/stories crates/stories
 	for crate in $(REFUSING); do \

@@ -2,10 +2,10 @@
  *
  *     bench OTHER OURS          each is the path of a port mapper
  *
- * It starts each with -port N -address 127.0.0.1, on a free port of its own, measures them in turn, round by round, and ends
- * both by their process ids, also where it is interrupted. A figure is the median of its rounds. Only ratios within one run say
- * anything: the machine and the client are the same for both. The status is 0, 1 where an answer was wrong, or 2 where it
- * couldn't measure.
+ * It starts each with -port N -address 127.0.0.1, on a free port of its own, and measures them alternately, round by round. At
+ * the end, and if it is interrupted, it ends both by their process ids. A figure is the median of its rounds. Compare figures
+ * only by their ratios within one run: machine and client are then the same for both. The status is 0, 1 if a reply was wrong, or
+ * 2 if it could not measure.
  */
 #define _GNU_SOURCE
 #include <arpa/inet.h>
@@ -32,7 +32,7 @@ enum {
     FEW = 10,           /* names held */
     MANY = 900,
     NAME_LENGTH = 9,    /* of a name that is held */
-    RING = 64,          /* names that a client registers in turn, so that none comes back at once */
+    RING = 64,          /* names that a client registers in rotation, so that no name returns at once */
     SECONDS_MOST = 170, /* for the whole run */
     NOISY_SPREAD = 30,  /* per cent between the fastest and the slowest round, of the median */
     NOISY_OTHERS = 10,  /* per cent of the processors that other programs took */
@@ -107,8 +107,8 @@ static struct sockaddr_in loopback(unsigned last, int port)
     return at;
 }
 
-/* A connection, or -1. `from` is the lower part of the loopback address that it comes from: who closes first keeps the pair of
- * addresses for a minute, so registrations, which the client ends, come from many. */
+/* Returns a connection, or -1. `from` is the lower part of its loopback address. The peer that closes first keeps the pair of
+ * addresses for a minute. The client ends registrations, so these come from many addresses. */
 static int dial(const struct mapper *mapper, unsigned from)
 {
     struct timeval patience = {.tv_sec = 5};
@@ -174,7 +174,7 @@ static void start(struct mapper *mapper, int first_port)
     give_up("%s doesn't listen", mapper->path);
 }
 
-/* The memory that it has resident, in kB. */
+/* Returns the resident memory of a port mapper, in kB. */
 static double memory_of(const struct mapper *mapper)
 {
     char line[256];
@@ -189,7 +189,7 @@ static double memory_of(const struct mapper *mapper)
     return (double)kb;
 }
 
-/* ---- requests and their answers ---- */
+/* ---- requests and their replies ---- */
 
 static size_t put_length(uint8_t *to, size_t length)
 {
@@ -220,7 +220,7 @@ static size_t make_registration(uint8_t *to, const char *name, int port)
     return 15 + length;
 }
 
-/* Reads to the end of the connection, or `most` bytes. How many came, or -1. */
+/* Reads to the end of the connection, or `most` bytes. Returns the number of bytes, or -1. */
 static ssize_t read_all(int fd, uint8_t *to, size_t most)
 {
     size_t have = 0;
@@ -244,7 +244,7 @@ static int held_port(int number) { return 10000 + number; }
 
 static void held_name(char *to, int number) { snprintf(to, NAME_LENGTH + 1, "held-%04d", number); }
 
-/* Each of these makes one request, and tells whether its answer was right. */
+/* Each of these makes one request, and returns if the reply was right. */
 
 static int look_up(const struct mapper *mapper, unsigned client, unsigned turn)
 {
@@ -293,7 +293,7 @@ static int ask_list(const struct mapper *mapper, unsigned client, unsigned turn)
     return is_right;
 }
 
-/* Registers names until so many are held. */
+/* Registers names until the port mapper holds `names` of them. */
 static void hold(struct mapper *mapper, int names)
 {
     while (mapper->names < names) {
@@ -332,7 +332,7 @@ static void *work(void *given)
     return NULL;
 }
 
-/* What one round gave: right answers a second, and processor seconds for 100,000 of them. */
+/* The result of one round: right replies in a second, and processor seconds for 100,000 of them. */
 struct round {
     double rate, processor;
 };
@@ -359,7 +359,7 @@ static struct round run_round(const struct mapper *mapper, Request request, doub
     rest_for(0.05);
     used = seconds_of(mapper->clock) - used;
     if (right == 0)
-        give_up("%s gave no right answer", mapper->path);
+        give_up("%s sent no right reply", mapper->path);
     return (struct round){(double)right / took, used * 100000 / (double)right};
 }
 
@@ -369,7 +369,7 @@ static int compare(const void *one, const void *other)
     return (a > b) - (a < b);
 }
 
-/* The median of the rounds; `spread` becomes the distance of the outer ones in per cent of it, where that is more. */
+/* Returns the median of the rounds. Raises `spread` to the distance of the outer rounds in per cent of the median. */
 static double median(double *values, int *spread)
 {
     qsort(values, ROUNDS, sizeof *values, compare);
@@ -424,7 +424,7 @@ static void print_memory(const char *what)
     print_row(what, memory_of(&mappers[0]), memory_of(&mappers[1]), -1);
 }
 
-/* The processor time of the whole machine that was used or stolen, in seconds. */
+/* Returns the processor time of the whole machine that was used or stolen, in seconds. */
 static double machine_time(void)
 {
     unsigned long long part[8] = {0}, used = 0;
@@ -468,7 +468,7 @@ int main(int count, char **words)
 
     long processors = sysconf(_SC_NPROCESSORS_ONLN);
     double begun = seconds_of(CLOCK_MONOTONIC), machine = machine_time(), own = own_time();
-    printf("other: %s\nours:  %s\n%d rounds of %d ms for each, in turn; %d clients, a connection for each request; %ld processors\n\n",
+    printf("other: %s\nours:  %s\n%d rounds of %d ms for each, alternately; %d clients, a connection for each request; %ld processors\n\n",
            words[1], words[2], ROUNDS, ROUND_MS, CLIENTS, processors);
     printf("%-46s %10s %10s %8s %7s\n", "", "other", "ours", "ratio", "spread");
     print_memory("memory at the start, kB");
@@ -486,10 +486,10 @@ int main(int count, char **words)
     double took = seconds_of(CLOCK_MONOTONIC) - begun;
     double others = 100 * ((machine_time() - machine) - (own_time() - own)) / (took * (double)processors);
     unsigned long wrong = atomic_load(&wrong_answers);
-    printf("\n%lu answers were wrong or missing; other programs took %.0f %% of the processors; %.0f seconds\n", wrong,
+    printf("\n%lu replies were wrong or missing; other programs took %.0f %% of the processors; %.0f seconds\n", wrong,
            others < 0 ? 0 : others, took);
     if (noisy_rows > 0 || others > NOISY_OTHERS)
-        printf("TOO NOISY TO BE BELIEVED: %d figures spread by more than %d %%%s. Run it again on a quiet machine.\n", noisy_rows,
+        printf("TOO NOISY: %d figures spread by more than %d %%%s. Run it again on a quiet machine.\n", noisy_rows,
                NOISY_SPREAD, others > NOISY_OTHERS ? ", and other programs ran beside it" : "");
     end_all();
     return wrong > 0;

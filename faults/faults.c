@@ -1,7 +1,7 @@
-// Has calls of the C library fail: to be preloaded. The file of the environment's FAULT_PAGE is shared with who injects. While `on`
-// is set the calls of each kind are counted, and those of the wanted kind numbered nth to nth + run - 1 fail with `error` before
-// anything is done. Requests for memory of the sizes BEGIN, END and ASK, which are no others, are not counted: the first two set `on` and
-// take it away, and the third can't be had exactly where one was refused since the last of these.
+// Has calls of the C library fail: to be preloaded. The file of the environment's FAULT_PAGE is shared with the test. While `on` is set the
+// calls of each kind are counted, and those of the wanted kind numbered nth to nth + run - 1 fail with `error` before anything is done.
+// Requests for memory of the sizes BEGIN, END and ASK are not counted; no other request has these sizes. The first two set and reset `on`.
+// The third fails if and only if a request was refused since the last of these.
 #define _GNU_SOURCE
 #include <dlfcn.h>
 #include <errno.h>
@@ -80,7 +80,7 @@ static void note(volatile char *of, int fd) {
     if (fd >= 0 && fd < FILES) of[fd] = 1;
 }
 
-// The same of a call on a socket. EAGAIN says that the poll will tell when there is more, so it is made to.
+// Whether this call on a socket fails. EAGAIN says that the poll will report more, so it is made to.
 static int fails_at(enum kind kind, int fd) {
     if (!fails(kind)) return 0;
     if (errno == EAGAIN && fd >= 0 && fd < FILES && watched[fd].poll) {
@@ -101,7 +101,7 @@ int accept4(int fd, struct sockaddr *a, socklen_t *n, int flags) {
 ssize_t recv(int fd, void *p, size_t n, int f) { return fails_at(RECEIVE, fd) ? -1 : REAL(recv)(fd, p, n, f); }
 ssize_t send(int fd, const void *p, size_t n, int f) { return fails_at(SEND, fd) ? -1 : REAL(send)(fd, p, n, f); }
 int epoll_create1(int flags) { return fails(POLL_MAKE) ? -1 : REAL(epoll_create1)(flags); }
-// EEXIST says that the poll tells of it already, so it is made to.
+// EEXIST says that the poll has it already, so it is made to.
 int epoll_ctl(int fd, int what, int of, struct epoll_event *e) {
     int error = what != EPOLL_CTL_DEL && fails(POLL_CHANGE) ? errno : 0;
     if (error && error != EEXIST) return -1;

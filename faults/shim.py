@@ -2,8 +2,8 @@
 import errno, mmap, os, struct, sys, tempfile
 
 HERE = os.path.dirname(os.path.abspath(__file__))
-sys.path.append(os.path.join(HERE, "..", "tests"))
-from daemon import built
+sys.path.append(os.path.join(HERE, "..", "tests", "helpers"))
+from daemon import preload
 
 # The kinds of calls, in the order of faults.c: the call, and the errors that its manual page lists.
 CALLS = {
@@ -54,7 +54,7 @@ class Faults:
 
     @property
     def env(self):
-        return {"LD_PRELOAD": shim(), "FAULT_PAGE": self.path}
+        return {"LD_PRELOAD": preload("faults", HERE), "FAULT_PAGE": self.path}
 
     def __getattr__(self, name):
         return struct.unpack_from("i", self.page, 4 * FIELDS.index(name))[0]
@@ -71,5 +71,7 @@ class Faults:
         return dict(zip(KINDS, struct.unpack_from(f"{len(KINDS)}i", self.page, 4 * len(FIELDS))))
 
 
-def shim():
-    return built("faults", "-shared", "-fPIC", folder=HERE)
+def say(ok, *words):
+    """Prints the line of a case. Whether it was as expected."""
+    print(*words, "OK" if ok else "BAD", flush=True)
+    return ok

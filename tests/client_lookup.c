@@ -1,5 +1,5 @@
 // Looks a name up, over and over: client_lookup PORT NAME ROUNDS. With EI the call is the one that ei_connect of erl_interface makes, and
-// without it that of the client for C. Tells how many were found, and how many nanoseconds a look-up took.
+// without it that of the client for C. Prints how many were found, and how many nanoseconds a look-up took.
 #include <arpa/inet.h>
 #include <stdio.h>
 #include <stdlib.h>

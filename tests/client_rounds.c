@@ -1,6 +1,6 @@
 // Makes each call of the client for C, over and over: client_rounds PORT ROUNDS. Every buffer is one of its own and has just the bytes
 // that it needs, or one fewer, so that valgrind sees each access beside it. Calls over a socket have a port mapper that is played here;
-// each hundredth round asks the one at PORT too. Tells how many calls were made and how many told anything but what was wanted.
+// each hundredth round asks the one at PORT too. Prints how many calls were made and how many returned a wrong result.
 #include "epmd_client.h"
 
 #include <arpa/inet.h>
@@ -17,7 +17,7 @@ static void check(int ok, const char *what) {
     if (!ok && wrong++ < 10) printf("wrong: %s\n", what);
 }
 
-// So many bytes of their own, and never NULL.
+// A copy of that many bytes, and never NULL.
 static uint8_t *own(const void *bytes, size_t size) {
     uint8_t *copy = malloc(size ? size : 1);
     if (bytes) memcpy(copy, bytes, size);
@@ -26,7 +26,7 @@ static uint8_t *own(const void *bytes, size_t size) {
 
 static const struct epmd_node NODE = {5000, 6, 5, 77, 0};
 
-// Writes one request into room for just so many bytes, and into one byte fewer.
+// Writes one request into room for exactly its bytes, and into one byte fewer.
 #define WRITE(call, wanted, ...)                                                     \
     do {                                                                             \
         for (size_t room = sizeof(wanted) - 2; room < sizeof(wanted); room++) {      \

@@ -3,6 +3,7 @@ daemon, or a server of the test's own that answers what no port mapper does."""
 import contextlib
 import fcntl
 import os
+import re
 import shutil
 import socket
 import struct
@@ -23,7 +24,8 @@ REFUSALS_MOST = 1000
 LIST_MOST = 16_777_216
 STRANGE = 1, b"", b"epmd: strange answer\n"
 NOBODY = 1, b"", b"epmd: Cannot connect to local epmd\n"
-NO_KILL, NO_STOP = (1, b"", b"epmd: kill not allowed\n"), (1, b"", b"epmd: stop not allowed\n")
+NO_KILL = 1, b"", b"epmd: kill not allowed: names are registered, and the port mapper runs without -relaxed_command_check\n"
+NO_STOP = 1, b"", b"epmd: stop not allowed: the port mapper runs without -relaxed_command_check\n"
 DEVICE = b"epmd: input or output failed\n"
 COMMANDS = ["-names"], ["-kill"], ["-stop", "a"], ["-dump"]
 
@@ -132,38 +134,74 @@ class CommandCase(Case):
             return self.ask(server.port, *words), server.asked
 
 
+# What the value of each word has to be, and a value that is not so. Any word is the path of a file.
+NEEDED = {"-port": "a number from 1 to 65535", "-address": "IPv4 addresses separated by commas", "-workers": "a number from 1 to 64",
+          "-packet_timeout": "a number of seconds from 1 to 86400", "-stop": "a name of 1 to 1020 bytes without control characters",
+          **dict.fromkeys(("-record", "-figures", "-check", "-play", "-local", "-audit"), "the path of a file")}
+WRONG = {"-port": "0", "-address": "1.2.3", "-workers": "-names", "-packet_timeout": "86401", "-stop": ""}
+
+
 class Words(CommandCase):
     """Words and the environment. Commands that ask nobody show whether words are taken."""
 
-    def refused(self, place, *words, **how):
-        self.assertEqual(self.run_epmd(*words, **how), (2, b"", b"epmd: bad word %d\n" % place), words)
+    def refused(self, line, *words, **how):
+        self.assertEqual(self.run_epmd(*words, **how), (2, b"", f"epmd: {line}; see epmd -help\n".encode()), words)
+
+    def unknown(self, word, *words, **how):
+        self.refused(f'unknown word "{word}"', *words, **how)
+
+    def lacks(self, word, *words):
+        self.refused(f"{word} lacks its value, {NEEDED[word]}", *words, word)
+
+    def wrong(self, word, value, *words, shown=None):
+        """With this value behind the word, and with more words behind both."""
+        self.refused(f'{word} needs {NEEDED[word]}, not "{value if shown is None else shown}"', word, value, *words)
 
     def taken(self, *words, **how):
-        """With these words a request is answered that is not whole: by nothing."""
+        """With these words an incomplete request is answered by nothing."""
         self.assertEqual(self.run_epmd(*words, "-once", **how), (0, b"", b""), words)
 
     def test_a_word_that_is_unknown(self):
         for word in ("-foo", "foo", "", "-", "--names", "-Names", "-names ", "-port=5", "-h", "--help", "--version",
                      "-systemd", "-delay_accept", "-delay_write", "-relaxed", "-debugx", "-p"):
             with self.subTest(word=word):
-                self.refused(0, word)
-                self.refused(1, "-d", word)
-                self.refused(3, "-port", "5", "-names", word)
+                self.unknown(word, word)
+                self.unknown(word, "-d", word)
+                self.unknown(word, "-port", "5", "-names", word)
+
+    def test_each_word_with_a_value_is_tried(self):
+        """The words with a value are those of the help."""
+        values = dict(re.findall(r"(-\w+) ([A-Z]+)", self.run_epmd("-help")[1].decode()))
+        self.assertEqual(set(values), set(NEEDED))
+        self.assertEqual({word for word, value in values.items() if value != "FILE"}, set(WRONG))
 
     def test_a_word_that_lacks_its_value(self):
-        for word in ("-port", "-address", "-packet_timeout", "-workers", "-record", "-figures", "-stop", "-check", "-play", "-local",
-                     "-audit"):
+        for word in NEEDED:
             with self.subTest(word=word):
-                self.refused(0, word)
-                self.refused(1, "-debug", word)
+                self.lacks(word)
+                self.lacks(word, "-debug")
+
+    def test_a_word_with_a_wrong_value(self):
+        for word, value in WRONG.items():
+            with self.subTest(word=word):
+                self.wrong(word, value)
+                self.wrong(word, value, "-d", "-foo")
+
+    def test_words_and_values_are_escaped(self):
+        for word, shown in ("-\x1b[31m", r"-\x1b[31m"), ("\u202e\u00e9", "\\u202e\u00e9"):
+            with self.subTest(word=word):
+                self.unknown(shown, word)
+                self.wrong("-workers", word, shown=shown)
+        self.wrong("-stop", "a\x1f", shown=r"a\x1f")
 
     def test_numbers(self):
         bounds = {"-port": (1, 65535), "-packet_timeout": (1, 86400), "-workers": (1, 64)}
         for word, (least, most) in bounds.items():
+            self.assertIn(f" from {least} to {most}", NEEDED[word])
             bad = (0, most + 1, f"+{least}", f"-{least}", "", " 1", "1 ", "1x", "x", "0x1", "1.0", "0000000001", "999999999", 2**32 + least)
             for number in bad:
                 with self.subTest(word=word, number=number):
-                    self.refused(1, word, str(number), "-once")
+                    self.wrong(word, str(number), "-once")
             for number in (least, most, f"{least:09}"):
                 with self.subTest(word=word, number=number):
                     self.taken(word, str(number))
@@ -172,31 +210,31 @@ class Words(CommandCase):
         for bad in ("", "1", "1.2.3", "1.2.3.4.5", "1.2.3.256", "1.2.3.0004", "1.2.3.-4", "a.b.c.d", "localhost", "::1", "1.2.3.4,",
                     ",1.2.3.4", "1.2.3.4,,5.6.7.8", "1.2.3.4 ", "1.2.3.4;5.6.7.8", "1..2.3"):
             with self.subTest(list=bad):
-                self.refused(1, "-address", bad, "-once")
+                self.wrong("-address", bad, "-once")
         for good in "1.2.3.4", "001.020.000.255", "1.2.3.4,1.2.3.4", "0.0.0.0,127.0.0.1":
             with self.subTest(list=good):
                 self.taken("-address", good)
 
     def test_names(self):
-        for bad in "", "a\nb", "a\x1f", "a\x7f", "a" * 1021:
+        for bad in "", "a\nb", "a" * 1021:
             with self.subTest(name=bad):
-                self.refused(1, "-stop", bad)
+                self.wrong("-stop", bad)
+        self.wrong("-stop", "a\x7f", shown=r"a\x7f")
 
     def test_a_second_command(self):
         for second in (["-names"], ["-kill"], ["-dump"], ["-health"], ["-once"], ["-help"], ["-stop", "a"], ["-check", "f"], ["-play", "f"],
                        ["-local", "f"], ["-audit", "f"]):
             with self.subTest(second=second):
-                self.refused(1, "-names", *second)
-                self.refused(2, "-check", "f", *second)
-                self.refused(3, "-stop", "a", "-d", *second)
-                self.refused(1, "-once", second[0])
-        self.refused(1, "-names", "-stop", "")
+                for first in ["-names"], ["-check", "f"], ["-stop", "a", "-d"]:
+                    self.refused(f"{second[0]} is a second command", *first, *second)
+                self.refused(f"{second[0]} is a second command", "-once", second[0])
+        self.refused("-stop is a second command", "-names", "-stop", "")
 
     def test_the_first_fault_counts(self):
-        self.refused(1, "-port", "0", "-foo")
-        self.refused(0, "-foo", "-port", "0")
-        self.refused(2, "-port", "1", "-workers")
-        self.refused(3, "-port", "1", "-workers", "0", "-names", "-names")
+        self.wrong("-port", "0", "-foo")
+        self.unknown("-foo", "-foo", "-port", "0")
+        self.lacks("-workers", "-port", "1")
+        self.refused(f'-workers needs {NEEDED["-workers"]}, not "0"', "-port", "1", "-workers", "0", "-names", "-names")
 
     def test_a_value_begins_with_anything(self):
         self.taken("-record", "-names")
@@ -212,16 +250,17 @@ class Words(CommandCase):
         self.assertEqual(self.run_epmd("-port", "1", "-names", "-port", str(daemon.port)), (0, head(daemon.port), b""))
 
     def test_a_word_that_is_not_utf_8(self):
-        self.refused(0, "-port", "1", b"\xff")
-        self.refused(0, b"-stop", b"\xc3")
+        for words in ["-port", "1", b"\xff"], [b"-stop", b"\xc3"], [b"\xff", "-foo"]:
+            self.refused("a word is not UTF-8", *words)
 
     def test_the_port_of_the_environment(self):
+        refused = 2, b"", b"epmd: ERL_EPMD_PORT needs a number from 1 to 65535\n"
         for bad in "0", "65536", "", "abc", " 1", "+1", "0000000001", b"\xff":
             with self.subTest(port=bad):
                 for words in (["-names"], ["-once"], ["-check", "/none"], []):
-                    self.assertEqual(self.run_epmd(*words, env={"ERL_EPMD_PORT": bad}), (2, b"", b"epmd: bad port in environment\n"), words)
+                    self.assertEqual(self.run_epmd(*words, env={"ERL_EPMD_PORT": bad}), refused, words)
                 self.taken("-port", "1", env={"ERL_EPMD_PORT": bad})
-                self.refused(0, "-foo", env={"ERL_EPMD_PORT": bad})
+                self.unknown("-foo", "-foo", env={"ERL_EPMD_PORT": bad})
         self.taken(env={"ERL_EPMD_PORT": "000000001"})
 
     def test_version_and_help_are_the_wrappers(self):
@@ -667,6 +706,11 @@ class WantOfMemory(CommandCase):
         list(self.held(daemon, b"a", b"b"))
         told = 0, head(daemon.port) + b"name a at port 5000\nname b at port 5000\n", b""
         self.assertGreater(self.refused(told, "-names", env={"ERL_EPMD_PORT": str(daemon.port)}), 5)
+
+    def test_a_bad_word(self):
+        self.assertGreater(self.refused((2, b"", b'epmd: unknown word "-foo"; see epmd -help\n'), "-foo"), 2)
+        told = 2, b"", b'epmd: -workers needs a number from 1 to 64, not "x"; see epmd -help\n'
+        self.assertGreater(self.refused(told, "-workers", "x"), 3)
 
     def test_a_name(self):
         daemon = self.daemon("-relaxed_command_check")

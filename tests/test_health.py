@@ -1,21 +1,10 @@
 """The health check: `epmd -health` at port mappers that work, at none, and at servers of the test's own that fail in one way each."""
-import concurrent.futures
-import contextlib
-import ctypes
-import errno
-import os
-import socket
-import struct
-import subprocess
-import threading
-import time
-import unittest
+import concurrent.futures, contextlib, ctypes, errno, functools, os, socket, struct, subprocess, threading, time, unittest
 
 import test_commands
-import wire
-from case import PATIENCE, eventually
-from daemon import free_port, listens
-from wire import found, node, register, rest
+from daemon import listens
+from system import PATIENCE, drop_address, eventually, has_ipv6, listening_at, needs_ipv6, own_network
+from wire import NOT_FOUND, found, node, register, rest
 
 HEALTHY = 0, b"", b""
 OTHER = "/usr/bin/epmd"
@@ -25,7 +14,7 @@ GRANTED, REFUSED = b"v\0\0\0\0\4", b"v\1\0\0\0\0"
 
 
 def nothing(name):
-    return wire.NOT_FOUND
+    return NOT_FOUND
 
 
 def failed(text, port, address="127.0.0.1"):
@@ -33,12 +22,12 @@ def failed(text, port, address="127.0.0.1"):
 
 
 class PortMapper:
-    """What a server replies that knows one name. A test changes its fields: the first registrations are refused, so many, and a name that
-    is closed is found by the next look-ups, so many. What it replies to a look-up may be a function of the name."""
+    """The replies of a server that knows one name. A test changes its fields: the number of registrations that are refused first, and the
+    number of look-ups that still find a closed name. The reply to a look-up may be a function of the name."""
 
     def __init__(self):
         self.known, self.closed = None, threading.Event()
-        self.registered, self.found, self.missing, self.refusals, self.late = GRANTED, None, wire.NOT_FOUND, 0, 0
+        self.registered, self.found, self.missing, self.refusals, self.late = GRANTED, None, NOT_FOUND, 0, 0
 
     def __call__(self, s, body):
         if body[:1] == b"z":
@@ -68,7 +57,7 @@ class HealthCase(test_commands.CommandCase):
         mapper = PortMapper()
         vars(mapper).update(fields)
         server = self.stand_in(mapper)
-        if wire.has_ipv6():
+        if has_ipv6():
             self.stand_in(mapper, address="::1", port=server.port)
         return server
 
@@ -92,10 +81,10 @@ class Healthy(HealthCase):
 
     @unittest.skipUnless(os.access(OTHER, os.X_OK), f"no {OTHER}")
     def test_the_port_mapper_of_another_project(self):
-        port, kept = free_port()
-        with kept, subprocess.Popen([OTHER, "-port", str(port)], stdin=subprocess.DEVNULL) as process:
+        port = self.free_port()
+        with subprocess.Popen([OTHER, "-port", str(port)], stdin=subprocess.DEVNULL) as process:
             self.addCleanup(process.kill)
-            eventually(lambda: listens(port) or wire.listening_at(process.pid), "the port")
+            eventually(lambda: listens(port) or listening_at(process.pid), "the port")
             for _ in range(5):
                 self.assertEqual(self.check(port), HEALTHY)
             process.kill()
@@ -114,15 +103,12 @@ class Healthy(HealthCase):
 
     def test_a_name_that_is_not_held(self):
         daemon = self.daemon()
-        for name in {b"epmd-health", *NAMES - {b"epmd-health-9"}}:
-            self.enterContext(register(daemon.port, name))
+        self.hold(daemon, b"epmd-health", *NAMES - {b"epmd-health-9"})
         self.assertEqual(self.check(daemon.port), HEALTHY)
 
-    def test_a_name_that_is_in_use_for_a_while(self):
-        self.assertEqual(self.check(self.served(refusals=15).port), HEALTHY)
-
-    def test_a_name_that_is_freed_late(self):
-        self.assertEqual(self.check(self.served(late=15).port), HEALTHY)
+    def test_a_name_that_is_in_use_for_a_while_or_freed_late(self):
+        for fields in {"refusals": 15}, {"late": 15}:
+            self.assertEqual(self.check(self.served(**fields).port), HEALTHY, fields)
 
 
 class Unhealthy(HealthCase):
@@ -131,51 +117,37 @@ class Unhealthy(HealthCase):
         self.assertEqual(self.check(server.port), failed(text, server.port), fields)
 
     def test_nobody_listens(self):
-        port, kept = free_port()
-        with kept:
-            self.assertEqual(self.check(port), failed("cannot connect to", port))
+        port = self.free_port()
+        self.assertEqual(self.check(port), failed("cannot connect to", port))
 
     def test_names_that_stay_in_use(self):
         daemon = self.daemon()
-        for name in NAMES:
-            self.enterContext(register(daemon.port, name))
+        self.hold(daemon, *NAMES)
         self.assertEqual(self.check(daemon.port), failed("cannot register epmd-health at", daemon.port))
 
-    def test_registrations_are_refused(self):
+    def test_each_wrong_reply(self):
         for answer in REFUSED, b"v\x02\0\0\0\0", b"y\1\0\0":
             self.fails("cannot register epmd-health at", registered=answer)
+        for answer in b"", b"v\0", b"v\0\0\0\0", b"w\0\0\0\0\4", b"OK":
+            self.fails("strange answer from", registered=answer)
+        for answer in b"", b"w", b"v\0\0\0\0\4":
+            self.fails("strange answer from", found=lambda name: answer)
+        self.fails("strange answer from", found=lambda name: found(name, **FIELDS)[:-1])
+        for wrong in {"number": 2}, {"kind": 77}, {"protocol": 1}, {"highest": 5}, {"lowest": 6}, {"extra": b"x"}:
+            self.fails("cannot find epmd-health at", found=lambda name: found(name, **FIELDS | wrong))
+        self.fails("cannot find epmd-health at", found=lambda name: found(name.upper(), **FIELDS))
+        self.fails("cannot find epmd-health at", found=nothing)
+        self.fails("cannot free epmd-health at", found=lambda name: found(name, **FIELDS))
+        self.fails("cannot free epmd-health at", late=1000)
+        self.fails("strange answer from", missing=b"")  # Once a name is closed the port mapper works no more.
 
-    def test_so_many_registrations_are_tried(self):
+    def test_twenty_registrations_are_tried(self):
         server, began = self.served(registered=REFUSED), time.monotonic()
         self.check(server.port)
         names = [body[11:-2] for body in server.asked]
         self.assertEqual((set(names), names[:4]), (NAMES, names[16:]))
         self.assertEqual(server.asked, [b"x" + node(name, **FIELDS) for name in names])
         self.assertGreater(time.monotonic() - began, 19 * 0.05)
-
-    def test_strange_answers_to_a_registration(self):
-        for answer in b"", b"v\0", b"v\0\0\0\0", b"w\0\0\0\0\4", b"OK":
-            self.fails("strange answer from", registered=answer)
-
-    def test_strange_answers_to_a_look_up(self):
-        for answer in b"", b"w", b"v\0\0\0\0\4":
-            self.fails("strange answer from", found=lambda name: answer)
-        self.fails("strange answer from", found=lambda name: found(name, **FIELDS)[:-1])
-
-    def test_another_node_is_found(self):
-        for wrong in {"number": 2}, {"kind": 77}, {"protocol": 1}, {"highest": 5}, {"lowest": 6}, {"extra": b"x"}:
-            self.fails("cannot find epmd-health at", found=lambda name: found(name, **FIELDS | wrong))
-        self.fails("cannot find epmd-health at", found=lambda name: found(name.upper(), **FIELDS))
-
-    def test_nothing_is_found(self):
-        self.fails("cannot find epmd-health at", found=nothing)
-
-    def test_a_name_that_is_never_freed(self):
-        self.fails("cannot free epmd-health at", found=lambda name: found(name, **FIELDS))
-        self.fails("cannot free epmd-health at", late=1000)
-
-    def test_a_port_mapper_that_works_no_more_once_a_name_is_closed(self):
-        self.fails("strange answer from", missing=b"")
 
     def test_all_places_are_taken(self):
         daemon = self.daemon(limits={"RLIMIT_NOFILE": 64})
@@ -190,25 +162,21 @@ class Unhealthy(HealthCase):
         eventually(lambda: self.check(daemon.port) == HEALTHY)
 
     def test_silence(self):
-        """A request is given up after 10 to 20 seconds, which holds a check with that of one address."""
+        """A request is aborted after 10 to 20 seconds, and so is a check at one address."""
         ended = threading.Event()
         self.addCleanup(ended.set)
 
-        def never(s, body):
+        def silent(granted, s, body):
+            s.sendall(granted if body[:1] == b"x" else b"")
             ended.wait(PATIENCE)
-
-        def never_found(s, body):
-            if body[:1] == b"x":
-                s.sendall(GRANTED)
-            ended.wait(PATIENCE)
-        servers = self.stand_in(never), self.stand_in(never_found)
+        servers = [self.stand_in(functools.partial(silent, granted)) for granted in (b"", GRANTED)]
         began = time.monotonic()
         with concurrent.futures.ThreadPoolExecutor() as pool:
-            told = list(pool.map(lambda server: self.check(server.port), servers))
-        self.assertEqual(told, [failed("strange answer from", server.port) for server in servers])
+            results = list(pool.map(lambda server: self.check(server.port), servers))
+        self.assertEqual(results, [failed("strange answer from", server.port) for server in servers])
         self.assertGreater(time.monotonic() - began, 9)
 
-    @unittest.skipUnless(wire.has_ipv6(), "the host has no IPv6")
+    @needs_ipv6
     def test_ipv6_alone_fails(self):
         four = self.stand_in(PortMapper())
         self.assertEqual(self.check(four.port), failed("cannot connect to", four.port, "[::1]"))
@@ -217,7 +185,7 @@ class Unhealthy(HealthCase):
         self.stand_in(wrong, address="::1", port=four.port)
         self.assertEqual(self.check(four.port), failed("cannot find epmd-health at", four.port, "[::1]"))
 
-    @unittest.skipUnless(wire.has_ipv6(), "the host has no IPv6")
+    @needs_ipv6
     def test_ipv6_does_not_stand_for_ipv4(self):
         six = self.stand_in(PortMapper(), address="::1")
         self.assertEqual(self.check(six.port), failed("cannot connect to", six.port))
@@ -226,24 +194,24 @@ class Unhealthy(HealthCase):
 class WithoutIPv6(HealthCase):
     @classmethod
     def setUpClass(cls):
-        wire.own_network()
-        if wire.has_ipv6():
-            wire.drop_address("::1")
+        own_network()
+        if has_ipv6():
+            drop_address("::1")
 
-    def test_ipv4_alone_passes(self):
+    def test_ipv4_alone_has_to_pass(self):
+        self.assertFalse(has_ipv6())
         daemon = self.daemon()
-        self.assertEqual(wire.listening_at(daemon.pid), {("127.0.0.1", daemon.port)})
+        self.assertEqual(listening_at(daemon.pid), {("127.0.0.1", daemon.port)})
         self.assertEqual(self.check(daemon.port), HEALTHY)
-
-    def test_it_has_to_pass(self):
-        server = self.stand_in(PortMapper())
+        server, port = self.stand_in(PortMapper()), self.free_port()
         server.serve.found = nothing
         self.assertEqual(self.check(server.port), failed("cannot find epmd-health at", server.port))
+        self.assertEqual(self.check(port), failed("cannot connect to", port))
 
 
 def refuse_ipv6():
-    """Has the system refuse sockets of IPv6 to this process and to those that it starts, as one does that has no IPv6. A class does so before
-    its tests, and is skipped where that is not permitted."""
+    """Has the system refuse sockets of IPv6 to this process and its children, as a system without IPv6 does. A class calls it before its
+    tests, and is skipped if that is not permitted."""
     call = {"x86_64": 41, "aarch64": 198}.get(os.uname().machine)
     if call is None:
         raise unittest.SkipTest(f"the number of the call socket on {os.uname().machine}")
@@ -256,22 +224,7 @@ def refuse_ipv6():
         raise unittest.SkipTest(f"no filter of calls: {os.strerror(ctypes.get_errno())}")
 
 
-class WithoutTheFamily(HealthCase):
+class WithoutTheFamily(WithoutIPv6):
     @classmethod
     def setUpClass(cls):
         refuse_ipv6()
-
-    def test_ipv4_alone_passes(self):
-        with self.assertRaises(OSError) as refused:
-            socket.socket(socket.AF_INET6)
-        self.assertEqual(refused.exception.errno, errno.EAFNOSUPPORT)
-        self.assertEqual(self.check(self.daemon().port), HEALTHY)
-
-    def test_it_has_to_pass(self):
-        port, kept = free_port()
-        with kept:
-            self.assertEqual(self.check(port), failed("cannot connect to", port))
-
-
-if __name__ == "__main__":
-    unittest.main()

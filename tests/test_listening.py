@@ -1,16 +1,12 @@
-"""Where the daemon listens: by default and by -address, beside IPv4 at IPv6, on a system without IPv6, and where an address is taken."""
-import errno
-import os
-import subprocess
-import unittest
+"""Where the daemon listens: by default and by -address, at IPv6 beside IPv4, on a system without IPv6, and where an address is taken."""
+import errno, os, subprocess, unittest
 
-import wire
-from case import EPMD, Case, eventually
-from daemon import free_port
-from shim import CALLS, Faults
-from wire import NAMES, ask, dial, listed, listener, listening_at, loopbacks, register, stopped
+from case import EPMD, Case
+from shim import CALLS
+from system import (add_address, backlog_most, backlogs, drop_address, eventually, has_ipv6, listener, listening_at, loopbacks, needs_ipv6,
+                    own_network)
+from wire import DUMP, KILL, NAMES, NOT_FOUND, alive, ask, dial, ending_of, found, is_open, listed, port_please, register, stop
 
-BURST = 100
 NOBODYS = "198.51.100.1"  # An address for documentation (RFC 5737), which no host has.
 WITH = {"0.0.0.0": "::", "127.0.0.1": "::1"}  # The IPv6 address at which it listens beside that of IPv4.
 
@@ -23,120 +19,102 @@ def reached_at(address):
 class Listening(Case):
     def serves_at(self, daemon, wanted):
         """Whether it listens at these addresses and no others, and serves at each."""
-        beside = [WITH[address] for address in wanted if address in WITH and wire.has_ipv6()]
+        beside = [WITH[address] for address in wanted if address in WITH and has_ipv6()]
         wanted = {(address, daemon.port) for address in [*wanted, *beside]}
         eventually(lambda: not daemon.runs() or len(listening_at(daemon.pid)) >= len(wanted), f"{sorted(wanted)}")
         self.assertEqual(listening_at(daemon.pid), wanted, daemon.how())
         places = [place for address, _ in sorted(wanted) for place in reached_at(address)]
         for number, place in enumerate(places):
-            with register(daemon.port, b"node%d" % number, place):
+            name = b"node%d" % number
+            with register(daemon.port, name, place):
                 for other in places:
-                    rows = listed(daemon.port, (b"node%d" % number, 5000))
-                    self.assertEqual(ask(daemon.port, NAMES, other), rows, (place, other))
-            eventually(lambda: ask(daemon.port, NAMES, place) == listed(daemon.port), "that the name left")
+                    self.assertEqual(ask(daemon.port, NAMES, other), listed(daemon.port, name), (place, other))
+            self.leaves(daemon, name, place)
         self.assertEqual(daemon.lines(), [])
+
+    def everywhere(self, *words, **how):
+        """A daemon that listens at both families already."""
+        daemon = self.daemon(*words, address=None, **how)
+        eventually(lambda: len(listening_at(daemon.pid)) == len(loopbacks()))
+        return daemon
 
 
 class Addresses(Listening):
-    def test_without_an_address_it_listens_at_all(self):
-        self.serves_at(self.daemon(address=None), ["0.0.0.0"])
+    def test_addresses(self):
+        for given, wanted in (
+                (None, ["0.0.0.0"]), ("127.0.0.1", ["127.0.0.1"]),
+                ("127.0.0.2", ["127.0.0.2", "127.0.0.1"]),  # Loopback is beside any other.
+                *((given, ["127.0.0.1", "127.0.0.2", "127.0.0.3"]) for given in (
+                    "127.0.0.2,127.0.0.3", "127.0.0.3,127.0.0.1,127.0.0.2", "127.0.0.2,127.0.0.3,127.0.0.2", "127.000.00.2,127.0.0.003")),
+                *((given, ["0.0.0.0"]) for given in ("0.0.0.0", "127.0.0.2,0.0.0.0", "0.0.0.0,127.0.0.1"))):
+            for words in ((), ("-workers", "1")) if given in (None, "127.0.0.2") else ((),):
+                with self.subTest(given=given, words=words):
+                    self.serves_at(self.daemon(*words, address=given), wanted)
+        self.serves_at(self.daemon("-address", "127.0.0.3", address="127.0.0.2"), ["127.0.0.3", "127.0.0.1"])  # The last list counts.
 
-    def test_loopback(self):
-        self.serves_at(self.daemon(address="127.0.0.1"), ["127.0.0.1"])
-
-    def test_loopback_comes_beside_any_other(self):
-        self.serves_at(self.daemon(address="127.0.0.2"), ["127.0.0.2", "127.0.0.1"])
-
-    def test_several(self):
-        for given in "127.0.0.2,127.0.0.3", "127.0.0.3,127.0.0.1,127.0.0.2", "127.0.0.2,127.0.0.3,127.0.0.2", "127.000.00.2,127.0.0.003":
-            with self.subTest(given=given):
-                self.serves_at(self.daemon(address=given), ["127.0.0.1", "127.0.0.2", "127.0.0.3"])
-
-    def test_all_stands_alone(self):
-        for given in "0.0.0.0", "127.0.0.2,0.0.0.0", "0.0.0.0,127.0.0.1":
-            with self.subTest(given=given):
-                self.serves_at(self.daemon(address=given), ["0.0.0.0"])
-
-    def test_one_worker_serves_at_all(self):
-        self.serves_at(self.daemon("-workers", "1", address=None), ["0.0.0.0"])
-        self.serves_at(self.daemon("-workers", "1", address="127.0.0.2"), ["127.0.0.2", "127.0.0.1"])
-
-    def test_of_two_lists_the_last_one_counts(self):
-        self.serves_at(self.daemon("-address", "127.0.0.3", address="127.0.0.2"), ["127.0.0.3", "127.0.0.1"])
-
-    def test_what_is_no_address_is_told_by_its_place(self):
+    def test_lists_that_are_refused(self):
         for given in ("", ",", "127.0.0.1,", ",127.0.0.1", "127.0.0.2,,127.0.0.1", "127.0.0", "127.0.0.1.1", "256.0.0.1",
                       "127.0.0.1000", "0127.0.0.1", "+127.0.0.1", " 127.0.0.1", "127.0.0.1 ", "127.0.0.1:80", "127.0.0.x", "localhost",
                       "::1", "[::1]", "::", "127..0.1"):
             with self.subTest(given=given):
-                # Places are counted from 0, so that of the list is 3.
-                self.assertEqual(self.run_epmd("-port", "1", "-address", given), (2, b"", b"epmd: bad word 3\n"))
+                line = f'epmd: -address needs IPv4 addresses separated by commas, not "{given}"; see epmd -help\n'
+                self.assertEqual(self.run_epmd("-port", "1", "-address", given), (2, b"", line.encode()))
 
     def test_a_burst_before_it_accepts(self):
         daemon = self.daemon()
         for address in loopbacks():
             eventually(lambda: (address, daemon.port) in listening_at(daemon.pid))
-            with self.subTest(address=address), stopped(daemon.pid):
-                burst = [dial(daemon.port, address) for _ in range(BURST)]
-            for s in burst:
-                s.sendall(NAMES)
-            for s in burst:
-                with s:
-                    self.assertEqual(wire.rest(s), listed(daemon.port))
+            with self.subTest(address=address):
+                self.answers_a_burst(daemon, address)
+        self.assertEqual(backlogs(daemon.port), [backlog_most()] * len(loopbacks()))
 
 
 class Taken(Listening):
-    def refused_at(self, line, *words, address=None, reason="Address already in use"):
+    def refused_at(self, line, port, *words, address=None, reason="Address already in use", **how):
         """Whether a daemon ends with this line and status 1."""
-        port = words[1]
-        words = (*words, "-address", address) if address else words
-        self.assertEqual(self.run_epmd(*words), (1, b"", f"epmd: cannot listen on {line}:{port}: {reason}\n".encode()))
+        words = ("-port", str(port), *words, *(("-address", address) if address else ()))
+        self.assertEqual(self.run_epmd(*words, **how), (1, b"", f"epmd: cannot listen on {line}:{port}: {reason}\n".encode()))
 
-    def taken(self, address, only=False):
-        port, kept = free_port()
-        self.addCleanup(kept.close)
-        return listener(address, port, only)
+    def refused_beside(self, only, *rows):
+        """The same where another program has an address, for each address with the list and the address in the line."""
+        for taken, given, line in rows:
+            with self.subTest(taken=taken, given=given), listener(taken, self.free_port(), only) as other:
+                self.refused_at(line, other.getsockname()[1], address=given)
 
-    def test_an_address_that_another_program_has(self):
-        for taken, words, line in (("127.0.0.1", "127.0.0.1", "127.0.0.1"), ("127.0.0.2", "127.0.0.3,127.0.0.2", "127.0.0.2"),
-                                   ("0.0.0.0", None, "0.0.0.0"), ("0.0.0.0", "127.0.0.1", "127.0.0.1")):
-            with self.subTest(taken=taken, words=words), self.taken(taken) as other:
-                self.refused_at(line, "-port", str(other.getsockname()[1]), address=words)
+    def test_an_address_of_another_program(self):
+        self.refused_beside(False, ("127.0.0.1", "127.0.0.1", "127.0.0.1"), ("127.0.0.2", "127.0.0.3,127.0.0.2", "127.0.0.2"),
+                            ("0.0.0.0", None, "0.0.0.0"), ("0.0.0.0", "127.0.0.1", "127.0.0.1"))
 
-    @unittest.skipUnless(wire.has_ipv6(), "the host has no IPv6")
-    def test_an_ipv6_address_that_another_program_has(self):
-        for taken, words, line in (("::1", "127.0.0.1", "[::1]"), ("::1", "127.0.0.2", "[::1]"), ("::", None, "[::]"),
-                                   ("::", "127.0.0.2,0.0.0.0", "[::]")):
-            with self.subTest(taken=taken, words=words), self.taken(taken, only=True) as other:
-                self.refused_at(line, "-port", str(other.getsockname()[1]), address=words)
+    @needs_ipv6
+    def test_an_ipv6_address_of_another_program(self):
+        self.refused_beside(True, ("::1", "127.0.0.1", "[::1]"), ("::1", "127.0.0.2", "[::1]"), ("::", None, "[::]"),
+                            ("::", "127.0.0.2,0.0.0.0", "[::]"))
 
-    def test_the_other_port_mapper_is_left_alone(self):
+    def test_another_port_mapper_is_not_disturbed(self):
         file = self.path("session")
         first = self.daemon("-record", file)
         with register(first.port, b"one"):
-            self.refused_at("127.0.0.1", "-port", str(first.port), "-record", file, address="127.0.0.1")
-            self.refused_at("0.0.0.0", "-port", str(first.port), "-record", file)
-            self.assertEqual(ask(first.port, NAMES), listed(first.port, (b"one", 5000)))
-        eventually(lambda: ask(first.port, wire.KILL) == b"OK")
-        self.assertEqual(first.ended(60), (0, ""))
+            self.refused_at("127.0.0.1", first.port, "-record", file, address="127.0.0.1")
+            self.refused_at("0.0.0.0", first.port, "-record", file)
+            self.assertEqual(ask(first.port, NAMES), listed(first.port, b"one"))
+        self.leaves(first, b"one")
+        self.ends(first)
         self.assertEqual(self.run_epmd("-check", file)[0], 0)
 
-    def test_an_address_that_is_not_the_hosts(self):
+    def test_an_address_of_another_host(self):
         with open("/proc/sys/net/ipv4/ip_nonlocal_bind") as setting:
             if setting.read().strip() != "0":
                 self.skipTest("the host lets any address be bound")
-        self.refused_at(NOBODYS, "-port", "4369", address=NOBODYS, reason="Cannot assign requested address")
+        self.refused_at(NOBODYS, 4369, address=NOBODYS, reason="Cannot assign requested address")
 
-    def test_a_port_of_the_systems(self):
+    def test_a_port_of_the_system(self):
         with open("/proc/sys/net/ipv4/ip_unprivileged_port_start") as setting:
             if int(setting.read()) <= 7:
                 self.skipTest("the host lets anybody listen at any port")
-        how = {"preexec_fn": lambda: os.setuid(65534)} if os.getuid() == 0 else {}
         try:
-            ended = self.run_epmd("-port", "7", **how)
+            self.refused_at("0.0.0.0", 7, reason="Permission denied", **{"preexec_fn": lambda: os.setuid(65534)} if os.getuid() == 0 else {})
         except PermissionError:
             self.skipTest("another user can't call the program")
-        self.assertEqual(ended, (1, b"", b"epmd: cannot listen on 0.0.0.0:7: Permission denied\n"))
 
     def test_it_starts_again_at_once(self):
         for address in "127.0.0.1", None:
@@ -157,30 +135,23 @@ class Taken(Listening):
 class WithoutIPv6(Listening):
     """A system refuses the second socket, or its address: that of IPv6."""
 
-    def started(self, call, error):
-        faults = self.enterContext(Faults())
-        faults.refuse(call, 2, error)
-        faults.on = 1
-        return faults, self.daemon(env=faults.env)
-
-    def test_it_serves_ipv4_without_a_word(self):
-        for call, error in ("socket", "EAFNOSUPPORT"), ("bind", "EADDRNOTAVAIL"):
-            with self.subTest(call=call, error=error):
-                faults, daemon = self.started(call, error)
-                with register(daemon.port, b"one"):
-                    self.assertEqual(ask(daemon.port, NAMES), listed(daemon.port, (b"one", 5000)))
-                self.assertEqual((faults.refused, listening_at(daemon.pid)), (1, {("127.0.0.1", daemon.port)}))
-                self.assertEqual(daemon.lines(), [])
-
-    def test_any_other_refusal_is_told(self):
+    def test_each_refusal(self):
+        """It serves IPv4 without a line if there is no IPv6. Any other refusal ends it."""
         lacking = {"EAFNOSUPPORT", "EADDRNOTAVAIL"}
-        for call in "socket", "bind":
-            for error in sorted(set(CALLS[call].split()) - lacking):
-                with self.subTest(call=call, error=error):
-                    faults, daemon = self.started(call, error)
+        rows = [("socket", "EAFNOSUPPORT"), ("bind", "EADDRNOTAVAIL")]
+        rows += [(call, error) for call in ("socket", "bind") for error in sorted(set(CALLS[call].split()) - lacking)]
+        for call, error in rows:
+            with self.subTest(call=call, error=error):
+                faults = self.faults(call, 2, error)
+                daemon = self.daemon(env=faults.env)
+                if error in lacking:
+                    with register(daemon.port, b"one"):
+                        self.assertEqual(ask(daemon.port, NAMES), listed(daemon.port, b"one"))
+                    self.assertEqual((listening_at(daemon.pid), daemon.lines()), ({("127.0.0.1", daemon.port)}, []))
+                else:
                     line = f"epmd: cannot listen on [::1]:{daemon.port}: {os.strerror(getattr(errno, error))}"
                     self.assertEqual(daemon.ended(60), (1, line))
-                    self.assertEqual(faults.refused, 1)
+                self.assertEqual(faults.refused, 1)
 
 
 class OwnNetwork(Listening):
@@ -191,80 +162,56 @@ class OwnNetwork(Listening):
 
     @classmethod
     def setUpClass(cls):
-        wire.own_network()
-        if not wire.has_ipv6():
+        own_network()
+        if not has_ipv6():
             raise unittest.SkipTest("the host has no IPv6")
         for place, address in enumerate((*cls.OWN, *cls.OTHERS), 1):
-            wire.add_address(address, place)
-
-    def start(self, *words, env=None):
-        """A daemon with no words but these."""
-        place = {key: value for key, value in os.environ.items() if not key.startswith("ERL_EPMD")}
-        process = subprocess.Popen([EPMD, *words], stdin=subprocess.DEVNULL, env={**place, **(env or {})})
-        self.addCleanup(process.wait)
-        self.addCleanup(process.kill)
-        return process
+            add_address(address, place)
 
     def test_the_port(self):
+        place = {key: value for key, value in os.environ.items() if not key.startswith("ERL_EPMD")}
         for words, env, port in (((), {}, 4369), ((), {"ERL_EPMD_PORT": "4370"}, 4370),
                                  (("-port", "4371"), {"ERL_EPMD_PORT": "4370"}, 4371), (("-port", "4370", "-port", "004372"), {}, 4372)):
-            with self.subTest(words=words, env=env):
-                process = self.start(*words, env=env)
-                eventually(lambda: listening_at(process.pid) == {("0.0.0.0", port), ("::", port)}, f"port {port}")
-                for address in (*wire.LOOPBACKS, *self.OWN):
-                    self.assertEqual(ask(port, NAMES, address), listed(port))
-                process.kill()
-                process.wait()
+            with subprocess.Popen([EPMD, *words], stdin=subprocess.DEVNULL, env={**place, **env}) as process, self.subTest(words=words, env=env):
+                try:
+                    eventually(lambda: listening_at(process.pid) == {("0.0.0.0", port), ("::", port)}, f"port {port}")
+                    for address in (*loopbacks(), *self.OWN):
+                        self.assertEqual(ask(port, NAMES, address), listed(port))
+                finally:
+                    process.kill()
 
-    def test_loopback_is_not_the_hosts_other_addresses(self):
+    def test_loopback_is_not_the_other_addresses_of_the_host(self):
         daemon = self.daemon()
         self.serves_at(daemon, ["127.0.0.1"])
         for address in self.OWN:
             with self.assertRaises(ConnectionRefusedError):
                 dial(daemon.port, address)
-
-    def test_an_address_of_the_host(self):
         self.serves_at(self.daemon(address=self.OWN[0]), [self.OWN[0], "127.0.0.1"])
 
-    def test_who_comes_by_another_address_of_the_host_is_local(self):
-        daemon = self.daemon(address=None)
-        eventually(lambda: len(listening_at(daemon.pid)) == 2)
+    def test_a_peer_at_another_address_of_the_host_is_local(self):
+        daemon = self.everywhere()
         for address in (*self.OWN, *self.OTHERS):
-            with register(daemon.port, b"one", address, source=address):
-                self.assertEqual(ask(daemon.port, NAMES, address), listed(daemon.port, (b"one", 5000)))
-            eventually(lambda: not wire.is_registered(daemon.port, b"one"))
+            with register(daemon.port, b"one", address, address):
+                self.assertEqual(ask(daemon.port, NAMES, address), listed(daemon.port, b"one"))
+            self.leaves(daemon, b"one")
 
-    def test_other_hosts_may_look_up_and_list_alone(self):
-        daemon = self.daemon("-relaxed_command_check", address=None)
-        eventually(lambda: len(listening_at(daemon.pid)) == 2)
+    def test_other_hosts_may_only_look_up_and_list(self):
+        daemon = self.everywhere("-relaxed_command_check")
         with register(daemon.port, b"one") as own:
             for here, there in zip(self.OWN, self.OTHERS):
-                far = {"address": here, "source": there}
-                self.assertEqual(ask(daemon.port, NAMES, **far), listed(daemon.port, (b"one", 5000)))
-                self.assertEqual(ask(daemon.port, wire.port_please(b"one"), **far), wire.found(b"one"))
-                self.assertEqual(ask(daemon.port, wire.port_please(b"two"), **far), wire.NOT_FOUND)
-                for request in wire.alive(b"two"), wire.DUMP, wire.KILL, wire.framed(b"sone"):
-                    self.assertEqual(wire.unanswered(daemon.port, request, **far), b"", request)
-            self.assertEqual(ask(daemon.port, NAMES), listed(daemon.port, (b"one", 5000)))
-            own.setblocking(False)
-            self.assertRaises(BlockingIOError, own.recv, 1)
+                for request, reply in ((NAMES, listed(daemon.port, b"one")), (port_please(b"one"), found(b"one")),
+                                       (port_please(b"two"), NOT_FOUND), (alive(b"two"), b""), (DUMP, b""), (KILL, b""), (stop(b"one"), b"")):
+                    self.assertEqual(ending_of(daemon.port, request, here, there), reply, request)
+            self.assertEqual(ask(daemon.port, NAMES), listed(daemon.port, b"one"))
+            self.assertTrue(is_open(own))
         self.assertTrue(daemon.runs())
 
-    def test_a_refusal_of_another_host_is_told(self):
-        for request, words in ((wire.alive(b"two"), "a registration"), (wire.DUMP, "a DUMP"), (wire.KILL, "a KILL"),
-                               (wire.framed(b"sone"), "a STOP")):
-            with self.subTest(words=words):
-                daemon = self.daemon(address=None)
-                self.assertEqual(wire.unanswered(daemon.port, request, self.OWN[0], self.OTHERS[0]), b"")
-                eventually(daemon.lines, "a line")
-                self.assertEqual(daemon.lines(), [f"epmd: {words} from another host was refused"])
-
     def test_ipv6_is_switched_off(self):
-        wire.drop_address("::1")
+        drop_address("::1")
         try:
             self.serves_at(self.daemon(), ["127.0.0.1"])
         finally:
-            wire.add_address("::1")
+            add_address("::1")
 
     def test_ipv6_is_switched_off_for_all(self):
         name = "/proc/sys/net/ipv6/conf/all/disable_ipv6"
@@ -282,10 +229,6 @@ class OwnNetwork(Listening):
         finally:
             with open(name, "w") as setting:
                 setting.write("0")
-            eventually(wire.has_ipv6, "loopback of IPv6")
+            eventually(has_ipv6, "loopback of IPv6")
             for address in self.OWN[1], self.OTHERS[1]:
-                wire.add_address(address)
-
-
-if __name__ == "__main__":
-    unittest.main()
+                add_address(address)

@@ -1,19 +1,15 @@
-"""Names that are taken and freed: a node that closes its connection gets its name again at once, a name in use is refused and told, and of
-many who wait for one name one gets it."""
-import multiprocessing
-import socket
-import subprocess
-import sys
-import time
-import unittest
+"""Names that are taken and freed: a node that closes its connection gets its name again at once, a name in use is refused, and of many that
+wait for one name one gets it. The line of a name in use is in test_notices.py."""
+import contextlib, multiprocessing, socket, subprocess, time
 
-import wire
-from case import PATIENCE, Case, eventually
+from case import Case
 from daemon import built
-from wire import NAMES, TAKEN, TAKEN_SHORT, alive, ask, dial, found, listed, port_please, register, rest
+from load import looking_up
+from system import eventually, listening_at, loopbacks, stopped
+from wire import (NAMES, TAKEN, TAKEN_SHORT, alive, ask, dial, exactly, found, is_registered, listed, port_please, register, reset, rest,
+                  result)
 
-PROGRAMS, ROUNDS = 4, 500  # So many programs come back so often each.
-HELD = 200
+PROGRAMS, ROUNDS = 4, 500  # Each program comes back in each round.
 ASKING = 50
 
 
@@ -22,33 +18,29 @@ class ComesBack(Case):
 
     workers = "1"
 
-    def comes_back(self, way, load=False):
+    def comes_back(self, way, body=None):
         daemon = self.daemon("-workers", self.workers)
-        held = [self.enterContext(register(daemon.port, b"held%d" % number)) for number in range(HELD)]
-        if load:
-            words = [built("asker"), str(daemon.port), "4", "1000000000", b"zheld0".hex()]
-            asker = subprocess.Popen(words, stdout=subprocess.DEVNULL)
-            self.addCleanup(asker.wait)
-            self.addCleanup(asker.kill)
+        names = [b"held%d" % number for number in range(200)]
+        self.hold(daemon, *names)
         words = [built("again"), str(daemon.port)]
-        programs = [
-            subprocess.Popen([*words, f"own{number}", str(ROUNDS), way], stdout=subprocess.PIPE, text=True) for number in range(PROGRAMS)]
-        for program in programs:
-            self.addCleanup(program.kill)
-        told = [program.communicate()[0].split()[:2] for program in programs]
-        # Each prints how many rounds were refused, and how many had no answer.
-        self.assertEqual(told, [["0", "0"]] * PROGRAMS, daemon.how())
-        eventually(lambda: ask(daemon.port, NAMES) == listed(daemon.port, *((b"held%d" % number, 5000) for number in range(len(held)))))
-        self.assertEqual(daemon.lines(), [])
+        with self.flood(daemon, body) if body else contextlib.nullcontext():
+            programs = [
+                subprocess.Popen([*words, f"own{number}", str(ROUNDS), way], stdout=subprocess.PIPE, text=True) for number in range(PROGRAMS)]
+            for program in programs:
+                self.addCleanup(program.kill)
+            # Each prints how many rounds were refused, and how many had no reply.
+            self.assertEqual([program.communicate()[0].split()[:2] for program in programs], [["0", "0"]] * PROGRAMS, daemon.how())
+            eventually(lambda: ask(daemon.port, NAMES) == listed(daemon.port, *names))
+            self.assertEqual(daemon.lines(), [])
 
-    def test_who_closes_and_then_connects(self):
+    def test_a_close_before_the_connect(self):
         self.comes_back("a")
 
-    def test_who_connects_and_then_closes(self):
+    def test_a_connect_before_the_close(self):
         self.comes_back("b")
 
     def test_beside_look_ups(self):
-        self.comes_back("b", load=True)
+        self.comes_back("b", b"zheld0")
 
 
 class ComesBackToFour(ComesBack):
@@ -58,22 +50,20 @@ class ComesBackToFour(ComesBack):
 class Freed(Case):
     def test_a_name_is_free_once_its_connection_is_closed(self):
         daemon = self.daemon()
-        child = (
-            "import os, socket, sys, time\n"
-            "s = socket.create_connection(('127.0.0.1', int(sys.argv[1])))\n"
-            "s.sendall(bytes.fromhex(sys.argv[2]))\n"
-            "s.recv(6)\n"
-            "print('up', flush=True)\n"
-            "time.sleep(1000)\n")
+
+        def holds(writer):
+            with register(daemon.port, b"one"):
+                writer.send(True)
+                time.sleep(1000)
 
         def killed():
-            words = [sys.executable, "-I", "-S", "-c", child, str(daemon.port), alive(b"one").hex()]
-            process = subprocess.Popen(words, stdout=subprocess.PIPE)
-            self.assertEqual(process.stdout.readline(), b"up\n")
-            process.stdout.close()
+            reader, writer = multiprocessing.Pipe(False)
+            process = multiprocessing.Process(target=holds, args=(writer,))
+            process.start()
+            self.assertTrue(reader.recv())
             yield
             process.kill()
-            process.wait()
+            process.join()
 
         def by(close):
             s = register(daemon.port, b"one")
@@ -81,10 +71,8 @@ class Freed(Case):
             close(s)
             s.close()
 
-        ways = {"a close": by(socket.socket.close), "a reset": by(wire.reset),
-                "the end of what it sends": by(lambda s: s.shutdown(1)),
-                "the end of both directions": by(lambda s: s.shutdown(2)),
-                "the end of its process": killed()}
+        ways = {"a close": by(socket.socket.close), "a reset": by(reset), "a half-close": by(lambda s: s.shutdown(1)),
+                "the end of both directions": by(lambda s: s.shutdown(2)), "the end of its process": killed()}
         for name, way in ways.items():
             with self.subTest(name):
                 next(way)
@@ -92,12 +80,12 @@ class Freed(Case):
                 next(way, None)
                 with register(daemon.port, b"one"):  # At once, as a node that comes back.
                     pass
-                eventually(lambda: not wire.is_registered(daemon.port, b"one"))
+                self.leaves(daemon, b"one")
 
     def test_a_node_comes_back_by_the_other_family(self):
         daemon = self.daemon()
-        places = wire.loopbacks()
-        eventually(lambda: len(wire.listening_at(daemon.pid)) == len(places))
+        places = loopbacks()
+        eventually(lambda: len(listening_at(daemon.pid)) == len(places))
         for number in range(100):
             register(daemon.port, b"one", places[number % len(places)]).close()
 
@@ -106,9 +94,8 @@ class InUse(Case):
     def test_a_name_in_use_is_refused(self):
         daemon = self.daemon()
         with register(daemon.port, b"one"):
-            for _ in range(5):
-                self.assertEqual(ask(daemon.port, alive(b"one", number=1)), TAKEN)
-                self.assertEqual(ask(daemon.port, alive(b"one", highest=5)), TAKEN_SHORT)
+            for request, reply in 5 * ((alive(b"one", number=1), TAKEN), (alive(b"one", highest=5), TAKEN_SHORT)):
+                self.assertEqual(ask(daemon.port, request), reply)
             self.assertEqual(ask(daemon.port, port_please(b"one")), found(b"one"))
             with dial(daemon.port) as s:  # In two parts.
                 s.sendall(alive(b"one")[:5])
@@ -117,95 +104,62 @@ class InUse(Case):
                 self.assertEqual(rest(s), TAKEN)
         register(daemon.port, b"one").close()
 
-    def test_the_line_names_it(self):
-        for name, shown in ((b"one", "one"), ("caf\u00e9".encode(), "caf\u00e9"), (b"\xff\xfe", r"\xff\xfe"),
-                            ("\u200b".encode(), r"\u200b"), (b"name one is in use", "name one is in use")):
-            with self.subTest(name=name):
-                daemon = self.daemon()
-                with register(daemon.port, name):
-                    self.assertEqual(ask(daemon.port, alive(name)), TAKEN)
-                    eventually(daemon.lines, "a line")
-                self.assertEqual(daemon.lines(), [f"epmd: name {shown} is in use"])
-
-
-class Told(Case):
-    """The line of a name in use comes once in ten seconds, with the number of times."""
-
-    def test_it_comes_once_in_ten_seconds(self):
-        daemon = self.daemon()
-        self.enterContext(register(daemon.port, b"one"))
-        begins = time.monotonic()
-        self.assertEqual(ask(daemon.port, alive(b"one")), TAKEN)
-        eventually(daemon.lines, "a line")
-        self.assertEqual(daemon.lines(), ["epmd: name one is in use"])
-        for _ in range(4):
-            self.assertEqual(ask(daemon.port, alive(b"one")), TAKEN)
-        eventually(lambda: len(daemon.lines()) > 1, "a second line")
-        # The first line came later than `begins`, and the second one ten seconds behind it.
-        self.assertGreater(time.monotonic() - begins, 9.0)
-        self.assertEqual(daemon.lines(), ["epmd: name one is in use", "epmd: name one is in use, and 3 more"])
-
 
 class Many(Case):
-    def ask_all(self, port, name, count=ASKING, first=lambda: None):
-        """Many ask for a name from connections that are open already. `first` is done just before they ask. The replies."""
-        asking = [self.enterContext(dial(port)) for _ in range(count)]
-        first()
+    def results(self, asking):
+        """The result of each registration: those that are refused are closed."""
+        results = []
         for s in asking:
-            s.sendall(alive(name))
-        replies = []
-        for s in asking:
-            reply = wire.exactly(s, 6)
+            reply = exactly(s, 6)
             self.assertIn(reply[:2], (b"v\0", b"v\1"))
             if reply[1]:
                 self.assertEqual((reply, rest(s)), (TAKEN, b""))
-            replies.append(reply[1])
-        return replies, asking
+            results.append(reply[1])
+        return results
 
-    def test_of_many_that_ask_once_it_is_free_one_gets_it(self):
+    def all_ask(self, daemon, name, count=ASKING, first=lambda: None):
+        """That many connections, on which a name is asked for after `first`."""
+        asking = [self.enterContext(dial(daemon.port)) for _ in range(count)]
+        first()
+        for s in asking:
+            s.sendall(alive(name))
+        return asking
+
+    def one_has(self, daemon, name, asking):
+        """Exactly one gets the name, and loses it by its close."""
+        results = self.results(asking)
+        self.assertEqual(results.count(0), 1, results)
+        self.assertTrue(is_registered(daemon.port, name))
+        asking[results.index(0)].close()
+        register(daemon.port, name).close()
+
+    def test_one_of_many_gets_a_free_name(self):
         for workers in "1", "4":
             with self.subTest(workers=workers):
                 daemon = self.daemon("-workers", workers)
                 for number in range(5):
                     name = b"one%d" % number
                     owner = register(daemon.port, name)
-                    replies, asking = self.ask_all(daemon.port, name, first=owner.close)
-                    self.assertEqual(replies.count(0), 1, replies)
-                    self.assertTrue(wire.is_registered(daemon.port, name))
-                    asking[replies.index(0)].close()
-                    register(daemon.port, name).close()
+                    self.one_has(daemon, name, self.all_ask(daemon, name, first=owner.close))
 
-    def test_of_many_that_wait_for_it_one_gets_it_at_most(self):
-        daemon = self.daemon()
-        for number in range(5):
-            name = b"one%d" % number
-            owner = register(daemon.port, name)
-            asking = [self.enterContext(dial(daemon.port)) for _ in range(ASKING)]
-            for s in asking:
-                s.sendall(alive(name))
-            owner.close()
-            results = [wire.result(s) for s in asking]
-            self.assertLessEqual(set(results), {0, 1})
-            self.assertLessEqual(results.count(0), 1)
-            self.assertEqual(wire.is_registered(daemon.port, name), 0 in results)
+    def test_one_of_many_that_wait_gets_the_name(self):
+        """The requests come before the owner's close, and the daemon sees all at the same time."""
+        for workers in "1", "4":
+            with self.subTest(workers=workers):
+                daemon = self.daemon("-workers", workers)
+                for number in range(5):
+                    name = b"one%d" % number
+                    owner = register(daemon.port, name)
+                    with stopped(daemon.pid):
+                        asking = self.all_ask(daemon, name)
+                        owner.close()
+                    self.one_has(daemon, name, asking)
 
-    def test_all_are_refused_beside_who_looks_it_up(self):
+    def test_all_are_refused_beside_look_ups(self):
         daemon = self.daemon()
-        with register(daemon.port, b"one"):
-            ears, mouth = multiprocessing.Pipe(False)
-            done = multiprocessing.Event()
-            client = multiprocessing.Process(target=look_ups, args=(daemon.port, b"one", mouth, done))
-            client.start()
-            try:
-                replies, _ = self.ask_all(daemon.port, b"one", 100)
-            finally:
-                done.set()
-                self.assertTrue(ears.poll(PATIENCE))
-                right, wrong = ears.recv()
-                client.join()
-            self.assertEqual(replies, [1] * 100)
-            self.assertGreater(right, 0)
-            self.assertEqual(wrong, [])
+        with register(daemon.port, b"one"), looking_up(daemon.port, b"one") as looks:
+            self.assertEqual(self.results(self.all_ask(daemon, b"one", 100)), [1] * 100)
+        self.assertEqual({is_found for _, _, is_found in looks}, {True})
         register(daemon.port, b"one").close()
 
     def test_each_of_many_names_goes_to_one(self):
@@ -213,20 +167,6 @@ class Many(Case):
         asking = [(b"name%d" % (number % 20), self.enterContext(dial(daemon.port))) for number in range(100)]
         for name, s in asking:
             s.sendall(alive(name))
-        results = [(name, wire.result(s)) for name, s in asking]
+        results = [(name, result(s)) for name, s in asking]
         self.assertEqual(sorted(name for name, result in results if result == 0), sorted(b"name%d" % number for number in range(20)))
         self.assertEqual(sum(result == 1 for _, result in results), 80)
-
-
-def look_ups(port, name, mouth, done):
-    """Looks a name up until it is told to end: how often it was found, and any other answer."""
-    right, wrong = 0, []
-    while not done.is_set() or not right:
-        answer = ask(port, port_please(name))
-        right += answer == found(name)
-        wrong += [answer] * (answer != found(name))
-    mouth.send((right, wrong))
-
-
-if __name__ == "__main__":
-    unittest.main()

@@ -1,81 +1,67 @@
-"""The lines that an operator reads of a daemon that runs: their text, on standard error, each kind at most once in ten seconds with how
-often it came to it since the line before."""
-import contextlib
-import os
-import random
-import resource
-import shutil
-import socket
-import sys
-import time
-import unittest
+"""The lines that an operator reads of a daemon that runs: their text, on standard error, each kind at most once in ten seconds with the
+number of times since the line before."""
+import contextlib, os, random, resource, shutil, time, unittest
 
-import wire
-from case import PATIENCE, Case, eventually
-from daemon import CANNOT_ACCEPT, alive, ask, connect, framed, look_up, read_most, register
+from case import FAR, Case, OwnNetwork
+from daemon import CANNOT_ACCEPT
+from recorded import content
 from records import local_part, transcript
-
-sys.path.append(os.path.join(os.path.dirname(os.path.abspath(__file__)), "..", "faults"))
-from shim import FOR_EVER, Faults
+from shim import FOR_EVER
+from system import eventually
+from wire import (DUMP, KILL, NAMES, NOT_FOUND, TAKEN, TAKEN_SHORT, alive, ask, dial, ending_of, found, framed, listed, port_please, rest,
+                  stop)
 
 QUIET = 10  # Seconds between two lines of a kind, at least.
-IN_USE = b"v\1\0\0\0\0"
-HERE, THERE = "10.77.0.1", "10.77.0.2"
+RELAXED = "-relaxed_command_check"
+IN_USE = "epmd: name one is in use"
 
 
 class NoticeCase(Case):
-    """A daemon of which the test sees both streams."""
-
-    def setUp(self):
-        super().setUp()
-        self.out = open(self.path("out"), "w+b")
-        self.addCleanup(self.out.close)
-
-    def start(self, *words, **how):
-        return self.daemon(*words, **{"before": lambda: os.dup2(self.out.fileno(), 1), **how})
-
-    def told(self, daemon, *lines):
-        """Waits until the daemon has printed so many lines. They are these, and standard output has none."""
-        eventually(lambda: len(daemon.lines()) >= len(lines), f"line {len(lines)}")
-        self.assertEqual(daemon.lines(), list(lines))
-        self.assertEqual(os.fstat(self.out.fileno()).st_size, 0)
-
-    def hold(self, daemon, *names):
-        for name in names:
-            s = register(daemon.port, name, seconds=PATIENCE)
-            self.assertTrue(s, name)
-            self.addCleanup(s.close)
-
     def refused(self, daemon, *names):
         """Asks for names that are in use."""
         for name in names:
-            self.assertEqual(ask(daemon.port, alive(name), PATIENCE), IN_USE)
-
-    def ends(self, daemon, status=0):
-        """The daemon ends by a request, and prints nothing more."""
-        lines = daemon.lines()
-        self.assertEqual(ask(daemon.port, b"k", PATIENCE), b"OK")
-        self.assertEqual(daemon.process.wait(PATIENCE), status)
-        self.assertEqual(daemon.lines(), lines)
+            self.assertEqual(ask(daemon.port, alive(name)), TAKEN)
 
 
 class NamesInUse(NoticeCase):
     def test_the_line_comes_again_after_ten_seconds(self):
-        daemon = self.start("-relaxed_command_check")
+        daemon = self.daemon(RELAXED)
         self.hold(daemon, b"one", b"two")
         began = time.monotonic()
         self.refused(daemon, b"one")
-        first = "epmd: name one is in use"
-        self.told(daemon, first)
-        self.refused(daemon, b"two", b"one", b"two")
-        self.told(daemon, first, "epmd: name two is in use, and 2 more")
+        self.prints(daemon, IN_USE)
+        self.refused(daemon, b"two", b"one", b"two", b"one")
+        self.prints(daemon, IN_USE, "epmd: name two is in use, and 3 more")
+        # The first line came later than `began`, and the second one ten seconds after it.
         self.assertGreater(time.monotonic() - began, QUIET - 0.1)
-        self.ends(daemon)
+        self.ends(daemon, 0, " / ".join(daemon.lines()))
+
+    def test_the_name_in_the_line(self):
+        for name, shown, taken, *request in (
+                (b"one", "name one", TAKEN), ("caf\u00e9".encode(), "name caf\u00e9", TAKEN), (b"\xff\xfe", r"name \xff\xfe", TAKEN),
+                ("\u200b".encode(), r"name \u200b", TAKEN), (b"name one is in use", "name name one is in use", TAKEN),
+                ("turn\u202eback \u00e9".encode() + b"\xff", "name turn\\u202eback \u00e9\\xff", TAKEN),
+                (b"one", "name one", TAKEN_SHORT, alive(b"one", highest=5)), (b"one", "a name", TAKEN, alive(b"one")[:5], alive(b"one")[5:])):
+            with self.subTest(shown=shown, taken=taken):
+                daemon = self.daemon(RELAXED)
+                self.hold(daemon, name)
+                for other, reply in (port_please(b"none"), NOT_FOUND), (framed(b"q"), b""), (stop(b"none"), b"NOEXIST"):
+                    self.assertEqual(ask(daemon.port, other), reply)  # These print no line.
+                with dial(daemon.port) as s:
+                    for part in request or [alive(name)]:
+                        s.sendall(part)
+                        time.sleep(0.2)
+                    self.assertEqual(rest(s), taken)
+                line = f"epmd: {shown} is in use"
+                self.prints(daemon, line)
+                self.ends(daemon, 0, line)
 
 
-class StandardErrorThatNobodyReads(NoticeCase):
-    def full_pipe(self):
-        """Both ends of a pipe that takes no byte more."""
+class StandardError(NoticeCase):
+    """Standard error is full, closed or without a reader: the daemon serves."""
+
+    def piped(self, *words):
+        """A daemon with a name that is in use, whose line waits; and the other end of the pipe."""
         reader, writer = os.pipe()
         self.addCleanup(os.close, reader)
         self.addCleanup(os.close, writer)
@@ -84,253 +70,51 @@ class StandardErrorThatNobodyReads(NoticeCase):
             while True:
                 os.write(writer, bytes(4096))
         os.set_blocking(writer, True)
-        return reader, writer
+        return self.daemon(RELAXED, *words, before=lambda: os.dup2(writer, 2)), reader
 
-    def test_it_holds_neither_the_log_nor_the_end(self):
-        reader, writer = self.full_pipe()
-        daemon = self.daemon("-relaxed_command_check", before=lambda: os.dup2(writer, 2))
+    def read(self, reader, word):
+        """All bytes up to the end of a line with this word."""
+        got = b""
+        while word not in got or not got.endswith(b"\n"):
+            got += os.read(reader, 65536)
+        return got
+
+    def test_a_full_pipe_delays_neither_the_log_nor_the_end(self):
+        daemon, _ = self.piped()
         self.hold(daemon, b"one")
         self.refused(daemon, b"one")
         time.sleep(2)
-        before = daemon.kb("VmRSS")
-        daemon.busy()
-        self.assertLess(daemon.kb("VmRSS") - before, 6000)
-        self.assertEqual(ask(daemon.port, b"k", PATIENCE), b"OK")
-        eventually(lambda: not daemon.listens(), "the port is free")
-        self.assertEqual(daemon.process.wait(PATIENCE), 0)
+        self.log_is_drained(daemon)
 
     def test_lines_come_once_it_is_read(self):
-        reader, writer = self.full_pipe()
-        daemon = self.daemon("-relaxed_command_check", before=lambda: os.dup2(writer, 2))
+        daemon, reader = self.piped()
         self.hold(daemon, b"one")
         self.refused(daemon, b"one")
-        came = b""
-        while not came.endswith(b"\n"):
-            came += os.read(reader, 65536)
-        self.assertEqual(came.lstrip(b"\0"), b"epmd: name one is in use\n")
+        self.assertEqual(self.read(reader, b"epmd").lstrip(b"\0"), IN_USE.encode() + b"\n")
 
-    def test_lines_for_which_there_is_no_room_are_counted(self):
-        reader, writer = self.full_pipe()
+    def test_lines_without_room_are_counted(self):
         name, file = b"\x80" * 1020, self.path("/".join(["none", *["x" * 250] * 14]))
-        daemon = self.daemon("-relaxed_command_check", "-record", file, before=lambda: os.dup2(writer, 2))
+        daemon, reader = self.piped("-record", file)
         self.hold(daemon, name)
         until = time.monotonic() + 2 * QUIET + 3
         while time.monotonic() < until:
             self.refused(daemon, name)
             time.sleep(0.5)
-        came = b""
-        while b" lost, " not in came or not came.endswith(b"\n"):
-            came += os.read(reader, 65536)
-        self.assertRegex(came, rb"\nepmd: [1-9]\d* more lines are lost, since standard error was not read\n")
-
-
-class NamesInUseShown(NoticeCase):
-    def test_a_name_that_a_terminal_may_obey(self):
-        daemon = self.start("-relaxed_command_check")
-        name = "turn\u202eback \u00e9".encode() + b"\xff"
-        self.hold(daemon, name)
-        self.refused(daemon, name)
-        self.told(daemon, "epmd: name turn\\u202eback \u00e9\\xff is in use")
-        self.ends(daemon)
-
-    def test_a_request_in_parts(self):
-        daemon = self.start("-relaxed_command_check")
-        self.hold(daemon, b"one")
-        with connect(daemon.port, PATIENCE) as s:
-            request = framed(alive(b"one"))
-            s.sendall(request[:5])
-            time.sleep(0.2)
-            s.sendall(request[5:])
-            self.assertEqual(read_most(s), IN_USE)
-        self.told(daemon, "epmd: a name is in use")
-        self.ends(daemon)
-
-    def test_a_node_of_an_older_version(self):
-        daemon = self.start("-relaxed_command_check")
-        self.hold(daemon, b"one")
-        old = alive(b"one")
-        old = old[:5] + b"\0\5\0\5" + old[9:]
-        self.assertEqual(ask(daemon.port, old, PATIENCE), b"y\1\0\0")
-        self.told(daemon, "epmd: name one is in use")
-        self.ends(daemon)
-
-    def test_what_is_no_such_refusal(self):
-        daemon = self.start("-relaxed_command_check")
-        self.hold(daemon, b"one")
-        self.assertEqual(ask(daemon.port, b"znone", PATIENCE), b"w\1")
-        self.assertEqual(ask(daemon.port, b"q", PATIENCE), b"")
-        self.assertEqual(ask(daemon.port, b"snone", PATIENCE), b"NOEXIST")
-        self.refused(daemon, b"one")
-        self.told(daemon, "epmd: name one is in use")
-
-
-class PeersOfOtherHosts(NoticeCase):
-    @classmethod
-    def setUpClass(cls):
-        wire.own_network(HERE, THERE)
-
-    def asked(self, daemon, body):
-        """What a peer of another host is answered."""
-        return wire.ask(daemon.port, framed(body), HERE, THERE)
-
-    def test_each_request(self):
-        for body, words in ((alive(b"far"), "a registration"), (b"d", "a DUMP"), (b"k", "a KILL"), (b"snear", "a STOP")):
-            with self.subTest(words=words):
-                daemon = self.start("-relaxed_command_check", address=None)
-                self.assertEqual(self.asked(daemon, body), b"")
-                self.told(daemon, f"epmd: {words} from another host was refused")
-                self.ends(daemon)
-
-    def test_the_line_comes_again_after_ten_seconds(self):
-        daemon = self.start("-relaxed_command_check", address=None)
-        self.hold(daemon, b"near")
-        self.assertEqual(self.asked(daemon, b"znear"), b"w\0" + alive(b"near")[1:])
-        self.assertEqual(self.asked(daemon, b"n")[4:], b"name near at port 5000\n")
-        self.assertEqual(self.asked(daemon, b"q"), b"")
-        began = time.monotonic()
-        self.assertEqual(self.asked(daemon, b"snear"), b"")
-        first = "epmd: a STOP from another host was refused"
-        self.told(daemon, first)
-        self.assertEqual([self.asked(daemon, body) for body in (b"d", alive(b"near"), b"k")], [b""] * 3)
-        self.told(daemon, first, "epmd: a DUMP from another host was refused, and 2 more")
-        self.assertGreater(time.monotonic() - began, QUIET - 0.1)
-        self.assertEqual(self.asked(daemon, b"znear"), b"w\0" + alive(b"near")[1:])
-        self.ends(daemon)
-
-    def test_what_local_peers_were_told_is_left_of_a_recording(self):
-        file = self.path("session")
-        daemon = self.start("-relaxed_command_check", "-record", file, address=None)
-        self.hold(daemon, b"near")
-        for body in b"znear", b"n", b"d", alive(b"far"), b"q":
-            self.asked(daemon, body)
-            self.assertEqual(ask(daemon.port, b"zfar", PATIENCE), b"w\1")
-        self.assertEqual(ask(daemon.port, b"k", PATIENCE), b"OK")
-        self.assertEqual(daemon.process.wait(PATIENCE), 0)
-        with open(file, "rb") as lines:
-            record = lines.read()
-        self.assertEqual(transcript(record).count(b" remote\n"), 5)
-        self.assertEqual(self.run_epmd("-play", file), (0, transcript(record), b""))
-        self.assertEqual(self.run_epmd("-local", file), (0, local_part(record), b""))
-
-
-@unittest.skipUnless(shutil.which("gcc"), "no gcc")
-class ShortMemory(NoticeCase):
-    """Each request for memory fails for a moment."""
-
-    def test_requests_that_were_refused(self):
-        with Faults() as faults:
-            faults.refuse("memory", 1, run=FOR_EVER)
-            daemon = self.start("-relaxed_command_check", env=faults.env)
-            self.hold(daemon, b"one")
-
-            def short():
-                """A moment without memory, in which a node comes, and then a second with it: the line takes memory too."""
-                faults.on = 1
-                ask(daemon.port, alive(b"two"), 1.0)
-                time.sleep(0.05)
-                faults.on = 0
-                time.sleep(1 + random.random())
-                return daemon.lines()
-            line, = eventually(short, "the line")
-            self.assertRegex(line, r"^epmd: memory is short, ([1-9]\d* )?requests were refused$")
-            self.assertIs(look_up(daemon.port, b"one", PATIENCE), True)
-            eventually(lambda: isinstance(register(daemon.port, b"two", seconds=PATIENCE), socket.socket), "a registration")
-            self.ends(daemon)
-            self.assertEqual(os.fstat(self.out.fileno()).st_size, 0)
-
-
-@unittest.skipUnless(shutil.which("gcc"), "no gcc")
-class UnreadReplies(NoticeCase):
-    """Peers that ask for lists and read nothing. The system takes little of a reply, so the rest waits in the daemon."""
-
-    LIST = 400 * 1019
-
-    def test_peers_that_do_not_read(self):
-        with Faults() as faults, contextlib.ExitStack() as peers:
-            faults.room = 4096
-            daemon = self.start("-relaxed_command_check", env=faults.env)
-            self.hold(daemon, *(b"%01000d" % number for number in range(400)))
-            for _ in range(150):
-                peers.enter_context(connect(daemon.port, PATIENCE, room=4096)).sendall(framed(b"n"))
-            eventually(daemon.lines, "the line")
-            line, = daemon.lines()
-            self.assertRegex(line, r"^epmd: [1-9]\d* connections that did not read their replies were reset$")
-            self.assertLess(int(line.split()[1]), 150 - 32 * 1024 * 1024 // self.LIST + 20)
-            peers.close()
-            eventually(lambda: len(ask(daemon.port, b"n", PATIENCE)) == 4 + self.LIST, "a list")
-        self.assertEqual(os.fstat(self.out.fileno()).st_size, 0)
-
-    def test_fewer_bytes_may_wait(self):
-        with Faults() as faults, contextlib.ExitStack() as peers:
-            faults.room = 4096
-            daemon = self.start("-relaxed_command_check", env=faults.env)
-            self.hold(daemon, *(b"%01000d" % number for number in range(400)))
-            waiting = [peers.enter_context(connect(daemon.port, PATIENCE, room=4096)) for _ in range(60)]
-            for s in waiting:
-                s.sendall(framed(b"n"))
-            time.sleep(2)
-            for s in waiting:
-                self.assertEqual(len(read_most(s)), 4 + self.LIST)
-            self.ends(daemon)
-            self.assertEqual(daemon.lines(), [])
-
-
-class FewPlaces(NoticeCase):
-    def test_a_limit_of_descriptors(self):
-        daemon = self.start("-workers", "2", limits={"RLIMIT_NOFILE": 100})
-        eventually(daemon.lines, "the line")
-        line, = daemon.lines()
-        self.assertRegex(line, r"^epmd: at most \d+ connections, since the limit of descriptors is 100$")
-        places = int(line.split()[3])
-        self.assertGreater(places, 50)
-        self.hold(daemon, *(b"node%d" % number for number in range(places)))
-        self.assertIn(register(daemon.port, b"more", seconds=PATIENCE), (b"", None))
-        self.assertEqual(daemon.lines(), [line])
-        self.assertEqual(os.fstat(self.out.fileno()).st_size, 0)
-
-    def test_a_limit_that_is_high_enough(self):
-        if resource.getrlimit(resource.RLIMIT_NOFILE)[1] < 2000:
-            self.skipTest("the limit of descriptors can't be so high")
-        daemon = self.start(limits={"RLIMIT_NOFILE": 2000})
-        self.assertEqual(ask(daemon.port, b"n", PATIENCE)[:2], b"\0\0")
-        self.assertEqual(ask(daemon.port, b"k", PATIENCE), b"OK")
-        self.assertEqual(daemon.ended(PATIENCE), (0, ""))
-
-
-class CanNotAccept(NoticeCase):
-    def test_no_descriptor_is_left(self):
-        daemon = self.start("-workers", "1")
-        self.hold(daemon, b"one")
-        used = len(os.listdir(f"/proc/{daemon.pid}/fd"))
-        _, most = resource.prlimit(daemon.pid, resource.RLIMIT_NOFILE)
-        began = time.monotonic()
-        resource.prlimit(daemon.pid, resource.RLIMIT_NOFILE, (used, most))
-        with connect(daemon.port, PATIENCE) as waits:
-            waits.sendall(framed(b"zone"))
-            self.told(daemon, CANNOT_ACCEPT)
-            self.told(daemon, CANNOT_ACCEPT, CANNOT_ACCEPT)
-            self.assertGreater(time.monotonic() - began, QUIET - 0.1)
-            resource.prlimit(daemon.pid, resource.RLIMIT_NOFILE, (used + 50, most))
-            self.assertEqual(read_most(waits), b"w\0" + alive(b"one")[1:])
-        self.assertIs(look_up(daemon.port, b"one", PATIENCE), True)
-        self.assertLessEqual(len(daemon.lines()), 3)
-
-
-class NobodyReads(NoticeCase):
-    """Standard error is closed, full, or a pipe whose reader went: the daemon serves on."""
+        self.assertRegex(self.read(reader, b" lost, "), rb"\nepmd: [1-9]\d* more lines are lost, since standard error was not read\n")
 
     def serves(self, prepare):
-        daemon = self.daemon("-relaxed_command_check", "-record", self.path("none/session"), before=prepare)
+        daemon = self.daemon(RELAXED, "-record", self.path("none/session"), before=prepare)
         self.hold(daemon, b"one")
         self.refused(daemon, b"one")
         began = time.monotonic()
-        while time.monotonic() < began + 2.5:
-            self.assertIs(look_up(daemon.port, b"one", PATIENCE), True)
+        while time.monotonic() < began + 2.5:  # Its lines are due within a second.
+            self.assertEqual(ask(daemon.port, port_please(b"one")), found(b"one"))
             time.sleep(0.05)
-        self.assertEqual(ask(daemon.port, b"k", PATIENCE), b"OK")
-        self.assertEqual(daemon.process.wait(PATIENCE), 3)
+        self.hold(daemon, b"two")
+        self.assertEqual(ask(daemon.port, NAMES), listed(daemon.port, b"one", b"two"))
+        self.ends(daemon, 3)
 
-    def test_a_reader_that_went(self):
+    def test_a_pipe_without_a_reader(self):
         reader, writer = os.pipe()
         os.close(reader)
         self.addCleanup(os.close, writer)
@@ -343,5 +127,91 @@ class NobodyReads(NoticeCase):
         self.serves(lambda: os.close(2))
 
 
-if __name__ == "__main__":
-    unittest.main()
+class PeersOfOtherHosts(OwnNetwork):
+    def refused(self, daemon, *requests):
+        for request in requests:
+            self.assertEqual(ending_of(daemon.port, request, *FAR), b"")
+
+    def test_each_request(self):
+        for request, what in (alive(b"far"), "a registration"), (DUMP, "a DUMP"), (KILL, "a KILL"), (stop(b"near"), "a STOP"):
+            for words in (), (RELAXED,):
+                with self.subTest(what=what, words=words):
+                    daemon = self.daemon(*words, address=None)
+                    self.refused(daemon, request)
+                    line = f"epmd: {what} from another host was refused"
+                    self.prints(daemon, line)
+                    self.ends(daemon, 0, line)
+
+    def test_the_line_comes_again_after_ten_seconds(self):
+        daemon = self.daemon(RELAXED, address=None)
+        self.hold(daemon, b"near")
+        self.assertEqual(ask(daemon.port, port_please(b"near"), *FAR), found(b"near"))
+        self.assertEqual(ask(daemon.port, NAMES, *FAR), listed(daemon.port, b"near"))
+        self.refused(daemon, framed(b"q"))
+        began = time.monotonic()
+        self.refused(daemon, stop(b"near"))
+        first = "epmd: a STOP from another host was refused"
+        self.prints(daemon, first)
+        self.refused(daemon, DUMP, alive(b"near"), KILL)
+        self.prints(daemon, first, "epmd: a DUMP from another host was refused, and 2 more")
+        self.assertGreater(time.monotonic() - began, QUIET - 0.1)
+        self.assertEqual(ask(daemon.port, port_please(b"near"), *FAR), found(b"near"))
+        self.ends(daemon, 0, " / ".join(daemon.lines()))
+
+    def test_the_local_part_of_a_recording(self):
+        file = self.path("session")
+        daemon = self.daemon(RELAXED, "-record", file, address=None)
+        self.hold(daemon, b"near")
+        for request, reply in ((port_please(b"near"), found(b"near")), (NAMES, listed(daemon.port, b"near")), (port_please(b"none"), NOT_FOUND),
+                               *((request, b"") for request in (DUMP, KILL, alive(b"far"), stop(b"near"), framed(b"q"), b"\0\0", b"\xff\xff"))):
+            self.assertEqual(ending_of(daemon.port, request, *FAR), reply)
+            with dial(daemon.port, *FAR) as s:
+                s.sendall(request[:-1])
+            self.assertEqual(ask(daemon.port, port_please(b"far")), NOT_FOUND)
+        self.assertEqual(ask(daemon.port, KILL), b"OK")
+        self.assertEqual(daemon.process.wait(60), 0)
+        record = content(file)
+        self.assertEqual(transcript(record).count(b" remote\n"), 20)
+        self.assertEqual(self.run_epmd("-play", file), (0, transcript(record), b""))
+        self.assertEqual(self.run_epmd("-local", file), (0, local_part(record), b""))
+
+
+class OutOfMemoryOrDescriptors(Case):
+    @unittest.skipUnless(shutil.which("gcc"), "no gcc")
+    def test_refused_requests(self):
+        """Each request for memory fails for a moment, in which a node comes."""
+        faults = self.faults("memory", 1, run=FOR_EVER, on=False)
+        daemon = self.daemon(RELAXED, env=faults.env)
+        self.hold(daemon, b"one")
+
+        def lines():
+            faults.on = 1
+            with contextlib.suppress(OSError), dial(daemon.port, seconds=1.0) as s:
+                s.sendall(alive(b"two"))
+                rest(s)
+            time.sleep(0.05)
+            faults.on = 0
+            time.sleep(1 + random.random())
+            return daemon.lines()
+        line, = eventually(lines, "the line")
+        self.assertRegex(line, r"^epmd: memory is short, [1-9]\d* requests were refused$")
+        self.assertEqual(ask(daemon.port, port_please(b"one")), found(b"one"))
+        self.registers(daemon, b"three")
+        self.ends(daemon, 0, line)
+
+    def test_no_descriptor_is_left(self):
+        daemon = self.daemon("-workers", "1")
+        self.hold(daemon, b"one")
+        used = len(os.listdir(f"/proc/{daemon.pid}/fd"))
+        _, most = resource.prlimit(daemon.pid, resource.RLIMIT_NOFILE)
+        began = time.monotonic()
+        resource.prlimit(daemon.pid, resource.RLIMIT_NOFILE, (used, most))
+        with dial(daemon.port) as waits:
+            waits.sendall(port_please(b"one"))
+            self.prints(daemon, CANNOT_ACCEPT)
+            self.prints(daemon, CANNOT_ACCEPT, CANNOT_ACCEPT)
+            self.assertGreater(time.monotonic() - began, QUIET - 0.1)
+            resource.prlimit(daemon.pid, resource.RLIMIT_NOFILE, (used + 50, most))
+            self.assertEqual(rest(waits), found(b"one"))
+        self.assertEqual(ask(daemon.port, port_please(b"one")), found(b"one"))
+        self.assertLessEqual(len(daemon.lines()), 3)

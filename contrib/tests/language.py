@@ -1,8 +1,13 @@
-"""Measures the language of pages, manual pages and the heads of crates: sentences that are too long, and banned words.
+"""Measures the language of pages, manual pages, comments and printed texts: sentences that are too long, and banned words.
 
 A text is split into paragraphs, each a list item or some lines of running text. Headings, tables, code, displays, the synopsis of a manual
-page and the targets of links are left out. A code span or a macro of a manual page counts as one word."""
+page and the targets of links are left out. A code span or a macro of a manual page counts as one word.
+
+Of a program its comments are read, and its texts in quotes, which a user may read. Of a text in quotes only the words are checked."""
+import html.parser
+import io
 import re
+import tokenize
 
 WORDS_MOST = 40  # Of a sentence.
 TELL_MOST = 1.0  # In 1,000 words of one kind of text.
@@ -42,6 +47,13 @@ class Paragraph:
                 begin = end.end()
         if WORD.search(text[begin:]):
             yield text[begin:].strip()
+
+
+class Quoted(Paragraph):
+    """A text in quotes. It has words, and no sentences."""
+
+    def sentences(self):
+        return ()
 
 
 class Paragraphs:
@@ -124,12 +136,126 @@ def head(text):
     return markdown("\n".join(line[4:] for line in lines))
 
 
+# ---- programs
+
+PROSE = re.compile(r"[A-Za-z]{2,}[,.:;]? [a-z]{2,}")
+# In a text in quotes: a variable or an expression, whose value is printed.
+VALUE = re.compile(r"\$?\{[^{}]*\}|\$\w+")
+# An indented word or some words, and blanks before their meaning.
+MEANING = re.compile(r"^ +\S+(?: \S+)* {2,}(?=\S)")
+# What ends a statement of Python, and may precede the text at the top of a definition.
+BETWEEN = tokenize.NEWLINE, tokenize.NL, tokenize.INDENT, tokenize.DEDENT, tokenize.COMMENT
+QUOTES = re.compile(r"""^\w*("{3}|'{3}|"|')|("{3}|'{3}|"|')$""")
+# A comment or a text in quotes, of C, of Rust and of the script of a page.
+C_TEXT = re.compile(r"""/\*+(?P<block>.*?)\*/|//[/!]?[ ]?(?P<line>[^\n]*)|"(?P<quoted>(?:[^"\\\n]|\\.)*)"
+                     |`(?P<template>(?:[^`\\]|\\.)*)`""", re.S | re.X)
+
+
+def numbered(lines):
+    """The paragraphs of lines by their numbers. Adjacent lines are one text, but a word and what it means is an item of a list."""
+    return markdown("\n".join(MEANING.sub("- ", lines.get(number, "")) for number in range(1, max(lines, default=0) + 1)))
+
+
+def quoted(number, text):
+    """A list of the text without its values, or an empty list if no two words follow each other in it."""
+    text = VALUE.sub("`x`", text)
+    return [Quoted(number, text)] if PROSE.search(text) else []
+
+
+def unindented(body):
+    first, *rest = body.split("\n")
+    depth = min((len(line) - len(line.lstrip()) for line in rest if line.strip()), default=0)
+    return "\n".join([first.lstrip(), *(line[depth:] for line in rest)])
+
+
+def python(text):
+    """Comments, the texts at the top of definitions, other texts in quotes, and the names of tests."""
+    lines, found, depth, is_first = {}, [], 0, True
+    for token in tokenize.generate_tokens(io.StringIO(text).readline):
+        number, body = token.start[0], token.string
+        if token.type == tokenize.COMMENT and token.line.lstrip().startswith("#"):
+            lines[number] = re.sub("^#!?[ ]?", "", body)
+        elif token.type == tokenize.COMMENT:
+            found.append(Paragraph(number, body.lstrip("# ")))
+        elif token.type == tokenize.STRING and is_first:
+            found += [Paragraph(number + each.line - 1, each.text) for each in markdown(unindented(QUOTES.sub("", body)))]
+        elif token.type in (tokenize.STRING, getattr(tokenize, "FSTRING_MIDDLE", None)):
+            found += quoted(number, QUOTES.sub("", body))
+        elif token.type == tokenize.NAME and body.startswith("test_"):
+            found.append(Quoted(number, body.replace("_", " ")))
+        depth += token.type == tokenize.OP and (body in "([{") - (body in ")]}")
+        is_first = token.type in BETWEEN and depth == 0
+    return numbered(lines) + found
+
+
+def script(text):
+    """Comments, of the shell, of `make`, of units and of YAML. Any other line is read as a text in quotes: it may be printed."""
+    lines, found = {}, []
+    for number, line in enumerate(text.split("\n"), 1):
+        comment = re.match(r"(.*?)(?:^|(?<=\s))#(!?) ?(.*)$", line)
+        if not comment:
+            found += quoted(number, line)
+        elif comment[1].strip():
+            found += [*quoted(number, comment[1]), Paragraph(number, comment[3])]
+        elif not comment[2]:
+            lines[number] = comment[3]
+    return numbered(lines) + found
+
+
+def c(text, first=1):
+    """Comments and texts in quotes. The text begins at this line of its file."""
+    lines, found = {}, []
+    for each in C_TEXT.finditer(text):
+        number, body = first + text.count("\n", 0, each.start()), each[each.lastgroup]
+        rows = [re.sub(r"^\s*\* ?", "", row) for row in body.split("\n")]
+        if each.lastgroup in ("quoted", "template"):
+            found += quoted(number, body)
+        elif text[text.rfind("\n", 0, each.start()) + 1:each.start()].strip():
+            found.append(Paragraph(number, " ".join(rows)))
+        else:
+            lines.update({number + line: row if line else row.lstrip() for line, row in enumerate(rows)})
+    return numbered(lines) + found
+
+
+class Shown(html.parser.HTMLParser):
+    """What a page shows, with its comments and those of its script."""
+
+    def __init__(self, text):
+        super().__init__()
+        self.found, self.is_code = [], False
+        self.feed(text)
+
+    def handle_starttag(self, tag, attrs):
+        self.is_code = tag in ("script", "style")
+        self.found += [each for _, value in attrs for each in quoted(self.getpos()[0], value or "")]
+
+    def handle_endtag(self, tag):
+        self.is_code = False
+
+    def handle_comment(self, data):
+        self.found.append(Paragraph(self.getpos()[0], data))
+
+    def handle_data(self, data):
+        number = self.getpos()[0]
+        self.found += c(data, number) if self.is_code else [Paragraph(number, data)] if data.strip() else []
+
+
+def page(text):
+    return Shown(text).found
+
+
+def values(text):
+    """The texts of JSON."""
+    found = re.finditer(r'"((?:[^"\\]|\\.)*)"', text)
+    return [text_of for each in found for text_of in quoted(1 + text.count("\n", 0, each.start()), each[1])]
+
+
 def banned(page):
-    """The words of the table under the heading `Banned words` of a page, each as a pattern."""
+    """The words of the table under the heading `Banned words` of a page, each as a pattern. An option such as `-word` is not the word."""
     table = re.search(r"(?m)^#+ Banned words$([\s\S]*?)(?=^#|\Z)", page)
     rows = re.findall(r"(?m)^\|([^|]*)\|", table[1]) if table else []
     words = [word.strip(" `") for row in rows[2:] for word in row.split(",")]
-    return {word: re.compile(r"\b" + r"\s+".join(map(re.escape, word.split())) + r"\b", re.I) for word in words if word}
+    return {word: re.compile(r"(?<![\w-])" + r"\s+".join(map(re.escape, word.split())) + r"\b", re.I) for word in words if word}
 
 
 def too_long(paragraphs):

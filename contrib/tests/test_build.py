@@ -4,7 +4,8 @@ import re
 import shutil
 import socket
 
-from test_install import TOP, Checkout, read, uses, write
+from programs import TOP, read, write
+from test_install import Checkout, uses
 
 # Notes its words and the folder. As `ci` it proves the crates of crates.txt, lowest first, but those that $KEPT has from earlier runs, and
 # leaves a library or a program of each. As `try` it prints that nothing is proved. As a module it has what marks libraries as up to date.
@@ -76,7 +77,7 @@ class Build(Checkout):
     def setUp(self):
         super().setUp()
         self.stand_in("rt", RT)
-        self.kept, self.kit = os.path.join(self.folder, "kept"), os.path.join(self.folder, "kit")
+        self.kept, self.kit = self.inside("kept"), self.inside("kit")
         os.mkdir(self.kept)
         write(os.path.join(self.kit, "bin", "rt"), RT)
         shutil.copy(os.path.join(TOP, "HANDLES"), self.top)
@@ -86,9 +87,12 @@ class Build(Checkout):
         for name in ("ld", "objcopy", "ar", "cc"):
             self.stand_in(name, f'#!/bin/sh\necho {name} >> "$NOTES"\ntouch build/client.o\n')
 
+    def env(self, **more):
+        return super().env(**{"KEPT": self.kept, "KIT": self.kit, **more})
+
     def lines(self, target, **env):
         """The crate, what became of it, the number and the sum of each line."""
-        text = self.made(target, KEPT=self.kept, KIT=self.kit, **env)
+        text = self.made(target, **env)
         return [(name, word, int(at), int(of)) for name, word, at, of in re.findall(r"(?m)^(\w+): (proved|kept) \((\d+) of (\d+)\), \d+ s$", text)]
 
     def test_each_crate_of_the_program_has_one_line_that_says_how_far_it_is(self):
@@ -104,7 +108,7 @@ class Build(Checkout):
         self.assertEqual(self.noted()[1:], ["portmap_client_c: lib", "ld", "objcopy", "ar", "cc"])
         self.assertEqual(os.readlink(os.path.join(self.top, "build", "libepmd_client.so.0")), "libepmd_client.so")
         for crate in reached("portmap_client"):
-            self.assertEqual(read(os.path.join(self.top, "crates", crate, "out", "rlib", "stamp")), crate)
+            self.assertEqual(read(self.top, "crates", crate, "out", "rlib", "stamp"), crate)
 
     def test_what_is_kept_from_an_earlier_run_is_called_kept(self):
         for name in reached("portmap_core"):
@@ -114,13 +118,13 @@ class Build(Checkout):
         self.assertEqual(proved, {"portmap_link", "portmap_client"})
 
     def test_what_has_not_changed_is_proved_once(self):
-        self.made("epmd", KEPT=self.kept, KIT=self.kit)
+        self.made("epmd")
         calls = len(self.noted())
-        self.assertEqual(self.made("epmd", KEPT=self.kept, KIT=self.kit), "epmd: proved before, and nothing has changed\n")
+        self.assertEqual(self.made("epmd"), "epmd: proved before, and nothing has changed\n")
         self.assertEqual(len(self.noted()), calls)
         for path in ("crates/portmap_wire/src/lib.rt", "HANDLES", "crates/epmd/stdout"):
-            with open(os.path.join(self.top, path), "a", encoding="utf-8") as file:
-                file.write("\n")
+            path = os.path.join(self.top, path)
+            write(path, (read(path) if os.path.exists(path) else "") + "\n")
             self.assertEqual(len(self.lines("epmd")), OF_PROGRAM, path)
             self.assertEqual(self.lines("epmd"), [], path)
         # A crate that the program does not use has no part in it.
@@ -128,16 +132,15 @@ class Build(Checkout):
         self.assertEqual(self.lines("epmd"), [])
 
     def test_a_copy_is_left_nowhere(self):
-        temporary = os.path.join(self.folder, "temporary")
-        os.mkdir(temporary)
-        self.lines("epmd", TMPDIR=temporary)
-        self.lines("client", TMPDIR=temporary)
-        self.assertEqual(os.listdir(temporary), [])
+        os.mkdir(self.inside("temporary"))
+        for target in ("epmd", "client"):
+            self.lines(target, TMPDIR=self.inside("temporary"))
+        self.assertEqual(os.listdir(self.inside("temporary")), [])
 
-    def test_a_failure_is_told_and_leaves_the_program_that_was_there(self):
+    def test_a_failure_is_printed_and_leaves_the_program_that_was_there(self):
         before = os.stat(os.path.join(self.top, "build", "epmd"))
         for target, crate, log in (("epmd", "portmap_record", "epmd"), ("client", "portmap_client_c", "portmap_client_c")):
-            done = self.make(target, KEPT=self.kept, KIT=self.kit, FAILS=crate)
+            done = self.make(target, FAILS=crate)
             self.assertEqual(done.returncode, 2)
             self.assertIn("fn link: not proved\n", done.stdout)
             self.assertIn(f"\n{log}: failed, all of it is in build/log/{log}\n", done.stdout)
@@ -150,14 +153,14 @@ class Build(Checkout):
             done = self.make(target)
             self.assertEqual((done.returncode, done.stdout), (2, ""), target)
             self.assertRegex(done.stderr, rf"^Makefile:\d+: \*\*\* {NO_RT}\.  Stop\.\n$")
-        install = read(os.path.join(TOP, "README.md")).split("\n## Install\n")[1]
+        install = read(TOP, "README.md").split("\n## Install\n")[1]
         self.assertIn("\nThe toolchain is kit `rattle-kit-", install.split("\n## ")[0])
 
-    def test_a_try_says_that_it_is_not_proved_and_serves_where_it_is_told_to(self):
+    def test_a_try_says_that_it_is_not_proved_and_serves_at_its_port(self):
         for words, rest in (["PORT=24400"], ""), (["PORT=24400", "WORDS=-record s"], " -record s"):
             done = self.make("try", *words)
-            told = "serves on 127.0.0.1:24400 in a minute or two, for 1,000 seconds at most"
-            self.assertEqual(done.stderr.splitlines()[:2], [f"epmd: this program is NOT proved, and {told}", "proved=no"])
+            said = "serves on 127.0.0.1:24400 in a minute or two, for 1,000 seconds at most"
+            self.assertEqual(done.stderr.splitlines()[:2], [f"epmd: this program is NOT proved, and {said}", "proved=no"])
             self.assertEqual(done.stdout, "")
             self.assertEqual(self.noted(), [f"epmd: try --seconds 1000 -- -port 24400 -address 127.0.0.1{rest}"])
             os.remove(self.notes)
@@ -172,6 +175,6 @@ class Build(Checkout):
         self.assertEqual(self.noted(), [])
 
     def test_a_port_of_the_environment_is_not_that_of_a_try(self):
-        self.assertIn("PORT = 4369\n", read(os.path.join(TOP, "Makefile")))
+        self.assertIn("PORT = 4369\n", read(TOP, "Makefile"))
         self.make("try", PORT="24403")
         self.assertNotIn("24403", "".join(self.noted()))

@@ -7,20 +7,19 @@ import re
 import select
 import shutil
 import struct
-import sys
 import tempfile
 import termios
 import time
 import unittest
 
 import programs
-from programs import CONTRIB
+from programs import CONTRIB, TOOLS, TOP, needs, python, read, write
 
 COMPLETIONS = os.path.join(CONTRIB, "completions")
-COMMANDS = "epmd", "epmd-log", "epmd-metrics", "epmd-prune", "epmd-report"
+COMMANDS = "epmd", *TOOLS
 STAND_IN = '#!/bin/sh\nprintf "called"\nfor word in "$@"; do printf " <%s>" "$word"; done\necho\n'
 TAB, LINE_AWAY = "\t", "\x15"
-# What takes a file, and what takes a value that is none, of each command.
+# Of each command the words that take a file, and those that take another value.
 FILES = {"epmd": ["-record", "-figures", "-check", "-play", "-local", "-audit"],
          "epmd-metrics": ["-recording", "-state", "-figures"], "epmd-report": ["-epmd"]}
 VALUES = {"epmd": ["-port", "-address", "-packet_timeout", "-workers", "-stop"], "epmd-log": ["-n", "-event", "-since", "-until"],
@@ -28,12 +27,11 @@ VALUES = {"epmd": ["-port", "-address", "-packet_timeout", "-workers", "-stop"],
 
 
 def help_of(command):
-    path = os.path.join(CONTRIB, command)
-    words = [path, "-help"] if command == "epmd" else [sys.executable, "-B", path, "--help"]
+    words = [os.path.join(CONTRIB, command), "-help"] if command == "epmd" else python(command, "--help")
     return programs.run(words, env=programs.environment(EPMD=shutil.which("true"))).stdout
 
 
-def told(command):
+def words_of(command):
     """The words that the help of a command has, in sets of those of one meaning."""
     if command == "epmd":
         return [{word} for word in re.findall(r"(?<![\w(-])-\w+", help_of(command))]
@@ -89,19 +87,15 @@ class Completions:
     def setUpClass(cls):
         folder = tempfile.TemporaryDirectory()
         cls.addClassCleanup(folder.cleanup)
-        for name in ("bin", "work", "work/sessions"):
-            os.mkdir(os.path.join(folder.name, name))
         for name in COMMANDS:
-            with open(os.path.join(folder.name, "bin", name), "w", encoding="utf-8") as file:
-                file.write(STAND_IN)
-            os.chmod(file.name, 0o755)
+            write(os.path.join(folder.name, "bin", name), STAND_IN, 0o755)
         for name in ("recorded", "sessions/other"):
-            open(os.path.join(folder.name, "work", name), "w", encoding="utf-8").close()
+            write(os.path.join(folder.name, "work", name), "")
         cls.shell = Shell(cls.NAME, folder.name)
         cls.addClassCleanup(cls.shell.end)
 
     def listed(self, typed):
-        """The words that are offered where so much is typed."""
+        """The words that are offered after this was typed."""
         shown = re.sub(" -- .*", "", self.shell.press(typed + TAB).partition("\n")[2].rpartition("echo end")[0])
         return set(re.findall(r"(?<!\S)--?[a-z_]+(?!\S)", shown))
 
@@ -112,15 +106,15 @@ class Completions:
     def test_each_word_of_the_help_is_offered_and_no_other(self):
         for command in COMMANDS:
             with self.subTest(command=command):
-                wanted, offered = told(command), self.listed(f"{command} -")
+                wanted, offered = words_of(command), self.listed(f"{command} -")
                 self.assertGreaterEqual(len(wanted), 3)
                 self.assertEqual([words for words in wanted if not words & offered], [])
                 self.assertEqual(offered - set().union(*wanted), set())
 
     def test_the_help_of_the_wrapper_has_its_options_and_its_commands(self):
         some = {"-port", "-systemd", "-packet_timeout", "-d", "-debug", "-names", "-stop", "-audit", "-once", "-version"}
-        self.assertLessEqual(some, set().union(*told("epmd")))
-        self.assertEqual(told("epmd-prune"), [{"-h", "--help"}, {"-version", "--version"}, {"-keep"}])
+        self.assertLessEqual(some, set().union(*words_of("epmd")))
+        self.assertEqual(words_of("epmd-prune"), [{"-h", "--help"}, {"-version", "--version"}, {"-keep"}])
 
     def test_behind_a_command_no_other_is_offered(self):
         offered = self.listed("epmd -names -")
@@ -131,7 +125,7 @@ class Completions:
         self.assertEqual(self.called("epmd -port 5000 -rel"), ["-port", "5000", "-relaxed_command_check"])
         self.assertEqual(self.called("epmd-log -f -j"), ["-f", "-json"])
 
-    def test_a_file_is_completed_where_one_is_wanted(self):
+    def test_a_file_is_completed_where_one_is_expected(self):
         rows = [(command, [word]) for command, words in FILES.items() for word in words]
         for command, words in [*rows, ("epmd-log", []), ("epmd-log", ["-f"]), ("epmd-prune", ["-keep", "8"]), ("epmd-metrics", []), ("epmd-report", []),
                                ("epmd-report", ["recorded"])]:
@@ -139,7 +133,7 @@ class Completions:
                 self.assertEqual(self.called(" ".join([command, *words, "rec"])), [*words, "recorded"])
                 self.assertEqual(self.called(" ".join([command, *words, "sessions/o"])), [*words, "sessions/other"])
 
-    def test_neither_a_file_nor_a_word_is_completed_where_another_value_is_wanted(self):
+    def test_neither_a_file_nor_a_word_is_completed_where_another_value_is_expected(self):
         for command, words in VALUES.items():
             for word in words:
                 with self.subTest(command=command, word=word):
@@ -154,20 +148,15 @@ class Completions:
 
 class Manual(unittest.TestCase):
     def test_the_synopsis_has_each_word_of_the_help_and_no_other(self):
-        with open(os.path.join(CONTRIB, "..", "docs", "epmd.1"), encoding="utf-8") as page:
-            synopsis = re.search(r"\.Sh SYNOPSIS\n([\s\S]*?)\n\.Sh ", page.read())[1]
+        synopsis = re.search(r"\.Sh SYNOPSIS\n([\s\S]*?)\n\.Sh ", read(TOP, "docs", "epmd.1"))[1]
         words = re.findall(r"(?:\bFl|\|) ([a-z_]+)", synopsis)
-        self.assertEqual({f"-{word}" for word in words}, set().union(*told("epmd")))
+        self.assertEqual({f"-{word}" for word in words}, set().union(*words_of("epmd")))
 
 
 class Bash(Completions, unittest.TestCase):
     NAME = "bash"
 
 
-@unittest.skipIf(not shutil.which("zsh"), "no zsh")
+@needs("zsh")
 class Zsh(Completions, unittest.TestCase):
     NAME = "zsh"
-
-
-if __name__ == "__main__":
-    unittest.main()

@@ -4,7 +4,8 @@ import os
 import re
 import unittest
 
-TOP = os.path.join(os.path.dirname(os.path.abspath(__file__)), "..", "..")
+from programs import TOP, read
+
 DIAGRAM = re.compile(r"(?ms)^```mermaid\n(.*?)^```$")
 # Words that Mermaid reads as its own where the name of a node stands.
 RESERVED = ("alt|and|as|class|classDef|click|default|direction|else|end|flowchart|graph|loop|note|opt|over|par|participant|scale|state|"
@@ -47,8 +48,7 @@ class Diagrams(unittest.TestCase):
     def test_each_is_of_the_small_part(self):
         found = []
         for path in sorted(glob.glob(os.path.join(TOP, "*.md")) + glob.glob(os.path.join(TOP, "docs", "*.md"))):
-            with open(path, encoding="utf-8") as file:
-                page = file.read()
+            page = read(path)
             found += [(path, diagram) for diagram in DIAGRAM.findall(page)]
             self.assertEqual(len(DIAGRAM.findall(page)), page.count("```mermaid"), path)
         self.assertGreater(len(found), 3)
@@ -71,7 +71,3 @@ class Diagrams(unittest.TestCase):
             (state + 'state "a" as c {\nA --> B', ["stateDiagram-v2"]), (state, ["stateDiagram-v2"]),
         ):
             self.assertEqual(list(faults(diagram)), wrong, diagram)
-
-
-if __name__ == "__main__":
-    unittest.main()

@@ -1,18 +1,17 @@
 """`make install`, `uninstall`, `deb` and `client`, and what is told of the program's parts: in a copy of the checkout, with stand-ins for the
 program, the client for C, the toolchain and the service manager."""
 import glob
+import gzip
 import hashlib
 import json
 import os
 import re
 import shutil
 import sys
-import tempfile
-import unittest
 
 import programs
+from programs import TOP, Case, needs, read, write
 
-TOP = os.path.join(os.path.dirname(os.path.abspath(__file__)), "..", "..")
 PARTS = ["Makefile", "VERSION", "README.md", "CHANGELOG.md", "crates.txt", "contrib", "docs", "include"]
 # A small program, and a library, as good as any.
 PROGRAM = shutil.which("true")
@@ -45,32 +44,10 @@ esac
 """
 
 
-def write(path, text, mode=0o644):
-    os.makedirs(os.path.dirname(path), exist_ok=True)
-    with open(path, "w", encoding="utf-8") as file:
-        file.write(text)
-    os.chmod(path, mode)
-
-
-def read(path):
-    with open(path, encoding="utf-8") as file:
-        return file.read()
-
-
-def needs(*programs):
-    absent = [program for program in programs if not shutil.which(program)]
-    return unittest.skipIf(absent, f"no {', '.join(absent)}")
-
-
-class Checkout(unittest.TestCase):
+class Checkout(Case):
     def setUp(self):
-        folder = tempfile.TemporaryDirectory()
-        self.addCleanup(folder.cleanup)
-        self.folder = folder.name
+        super().setUp()
         self.top = self.copy("top")
-        self.notes = os.path.join(self.folder, "notes")
-        self.bin = os.path.join(self.folder, "bin")
-        os.mkdir(self.bin)
 
     def copy(self, name):
         """A checkout with the program made, and nothing else."""
@@ -84,9 +61,6 @@ class Checkout(unittest.TestCase):
         os.mkdir(os.path.join(top, "build"))
         shutil.copy(PROGRAM, os.path.join(top, "build", "epmd"))
         return top
-
-    def stand_in(self, name, text):
-        write(os.path.join(self.bin, name), text, 0o755)
 
     def with_client(self, top=None):
         for name in ["libepmd_client.a", "libepmd_client.so"]:
@@ -107,9 +81,6 @@ class Checkout(unittest.TestCase):
         done = self.make(*words, **more)
         self.assertEqual((done.returncode, done.stderr), (0, ""))
         return done.stdout
-
-    def noted(self):
-        return read(self.notes).splitlines() if os.path.exists(self.notes) else []
 
 
 def below(root):
@@ -383,6 +354,19 @@ class Package(Checkout):
         sizes = [1 if os.path.islink(path) else -(-os.path.getsize(path) // 1024) for path in paths]
         self.assertIn(f"\nInstalled-Size: {sum(sizes) + sum(1 for _ in os.walk(tree))}\n", control)
 
+    def test_its_changes_are_those_of_its_version(self):
+        self.made("deb")
+        tree = os.path.join(self.folder, "tree")
+        package, = glob.glob(os.path.join(self.top, "build", "*.deb"))
+        self.run_in("/", "dpkg-deb", "--extract", package, tree)
+        with gzip.open(os.path.join(tree, "usr/share/doc/epmd-proved/changelog.gz"), "rt", encoding="utf-8") as file:
+            told = file.read()
+        version = read(os.path.join(TOP, "VERSION")).strip()
+        entries = re.search(rf"(?ms)^## {re.escape(version)} \(.*?(?=^## )", read(os.path.join(TOP, "CHANGELOG.md")))[0]
+        self.assertTrue(told.startswith(f"epmd-proved ({version}) unstable; "))
+        self.assertEqual(told.count("\n  * "), entries.count("\n- "))
+        self.assertGreater(entries.count("\n- "), 0)
+
     def test_the_program_and_the_library_are_stripped(self):
         self.with_client()
         self.stand_in("strip", '#!/bin/sh\necho "strip $*" >> "$NOTES"\n')
@@ -393,7 +377,7 @@ class Package(Checkout):
         self.assertEqual([path for each, path in zip(words, paths) if each[-1].endswith(path)], paths)
 
     def test_without_a_toolchain_it_takes_what_was_told_or_says_that_nothing_is(self):
-        self.assertIn("does not tell of what it is made", self.made("deb"))
+        self.assertIn("does not list what it is made of", self.made("deb"))
         write(os.path.join(self.top, "build", "epmd-proved.spdx.json"), "{}")
         self.assertNotIn("does not tell", self.made("deb"))
         self.assertIn("./usr/share/doc/epmd-proved/epmd-proved.spdx.json", self.listed("epmd-proved"))
@@ -416,7 +400,7 @@ class Parts(Checkout):
     PAGES = {"slab": "Keys. A port of the Rust crate `slab` 0.4.12 (MIT, `LICENSE`).",
              "itoa": "Text, after the API of the Rust crate `itoa` 1.0.18 (MIT or Apache-2.0, `LICENSE`).",
              "indexmap": "Maps, after the module `map` of the Rust crate `indexmap` 2.0 (MIT or Apache-2.0, taken under MIT, `LICENSE`).",
-             "thiserror": "Errors, ported from the Rust crate `this-error` 2.0 (MIT or Apache-2.0; both are here).", "mio": "New code."}
+             "libc": "Calls, ported from the Rust crate `lib-c` 2.0 (MIT or Apache-2.0; both are here).", "mio": "New code."}
 
     def document(self, **env):
         done = self.run_in(self.top, "contrib/sbom", SOURCE_DATE_EPOCH="1700000000", **env)
@@ -483,14 +467,14 @@ class Parts(Checkout):
         self.assertEqual(told["slab"], ("MIT", "Copyright (c) 2019 Carl Lerche", "After the Rust crate slab 0.4.12"))
         self.assertEqual(told["itoa"], ("MIT OR Apache-2.0", "NOASSERTION", "After the API of the Rust crate itoa 1.0.18"))
         self.assertEqual(told["indexmap"], ("MIT", "NOASSERTION", "After the module map of the Rust crate indexmap 2.0"))
-        self.assertEqual(told["thiserror"], ("MIT OR Apache-2.0", "NOASSERTION", "After the Rust crate this-error 2.0"))
+        self.assertEqual(told["libc"], ("MIT OR Apache-2.0", "NOASSERTION", "After the Rust crate lib-c 2.0"))
         self.assertEqual((told["mio"], told["std"]), (("NOASSERTION", "NOASSERTION", None),) * 2)
         self.assertEqual((packages["slab"]["versionInfo"], packages["rattle-kit"]["versionInfo"]), ("rattle-kit-7", "rattle-kit-7 logic 0123"))
         version = read(os.path.join(TOP, "VERSION")).strip()
         self.assertEqual({(packages[name]["versionInfo"], packages[name]["licenseDeclared"]) for name in [*self.OWN, "epmd-proved"]}, {(version, "NONE")})
 
     @needs("rt")
-    def test_the_notices_of_the_kit_stand_in_the_packages_copyright(self):
+    def test_the_copyright_of_the_package_has_the_notices_of_the_kit(self):
         done = programs.run([os.path.join(TOP, "contrib", "sbom")], check=True, env=programs.environment(SOURCE_DATE_EPOCH="1700000000"))
         notices = re.sub(r"\s+", " ", read(os.path.join(TOP, "contrib", "debian", "copyright")))
         for name, package in self.judged(json.loads(done.stdout)).items():
@@ -498,7 +482,3 @@ class Parts(Checkout):
                 self.assertIn(package["copyrightText"], notices)
             if "sourceInfo" in package or package["copyrightText"].startswith("Copyright"):
                 self.assertRegex(notices, rf"\b{name}\b")
-
-
-if __name__ == "__main__":
-    unittest.main()

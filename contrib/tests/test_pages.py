@@ -5,7 +5,10 @@ import functools
 import glob
 import os
 import re
+import shutil
 import unittest
+
+import programs
 
 TOP = os.path.join(os.path.dirname(os.path.abspath(__file__)), "..", "..")
 README, DECISIONS, CHANGELOG = "README.md", "docs/DECISIONS.md", "CHANGELOG.md"
@@ -13,10 +16,9 @@ README, DECISIONS, CHANGELOG = "README.md", "docs/DECISIONS.md", "CHANGELOG.md"
 NAMES = "ARCHITECTURE", "CONTRIBUTING", "DECISIONS", "FORMATS", "GLOSSARY", "PROTOCOL", "PROVED", "TESTING"
 OF_CODE = [f"docs/{name}.md" for name in NAMES]
 PAGES = [README, "docs/INSTALL.md", *OF_CODE]
-# One for each crate of the product, and for those of which it is made.
 CRATES = sorted(os.path.relpath(path, TOP) for path in glob.glob(os.path.join(TOP, "crates/*/README.md")))
 FIGURES = "bench/RESULTS.md"
-# These come and go with versions.
+# Pages with names that a later version may remove.
 OTHERS = [CHANGELOG, "SECURITY.md"]
 # Of a line, and of a line of the code.
 COLUMNS_MOST, CODE_COLUMNS_MOST = 140, 120
@@ -29,16 +31,16 @@ WORDS_MOST = 6000
 # Of a picture.
 PICTURE_BYTES_MOST = 150_000
 
-FOLDERS = ["crates", "contrib", "docs", "bench", "faults", "include", "tests", ".ci"]
-# Where a name has to stand as a word of the code. This file is left out: what it names itself would be found in it.
+FOLDERS = ["crates", "contrib", "docs", "bench", "faults", "include", "tests", ".ci", ".github"]
+# A name of a page has to be a word of the code in these folders. This file is left out, since its own texts would count.
 CODE = ["crates", "contrib", "faults", "tests"]
-# What is a name, and of none of our code: one is of Erlang/OTP, the other of the comments that say where a choice comes from.
+# Names that are not in our code: one is of Erlang/OTP, the other marks choices of this project in comments.
 FOREIGN = {"net_kernel", "profile"}
-# What looks as a path, and is a text of the protocol.
+# Texts of the protocol that look like a path.
 TEXTS = {"old/unused"}
 # The folders of a crate.
 PARTS = "src/", "specs/", "proofs/"
-# Comments, by the endings of files; of all others those of the shell. Texts that are no code have none.
+# Comments, by the endings of files. Any other file has those of the shell. Texts without code count as comments.
 COMMENTS = {
     (".rt", ".rs", ".c", ".h"): r"/\*[\s\S]*?\*/|//.*",
     (".antt",): r"\{-[\s\S]*?-\}|(?:(?<=\s)|^)--(?=\s|$).*",
@@ -46,7 +48,7 @@ COMMENTS = {
     (".story", ".edit", ".md"): r"[\s\S]+",
 }
 OF_SHELL = r"(?:(?<=\s)|^)#.*"
-# What a build leaves, and what a page says for any name.
+# Folders that a build makes, and words of a page for any name.
 MADE, ANY = ("build", "out", "__pycache__"), ("NAME", "PLAIN_WORDS")
 ENDING = re.compile(r"\.(antt|c|conf|edit|h|md|pc|py|rs|rt|story|txt)$|[a-z]\.[13]$")
 NAME = re.compile(r"[A-Za-z_]\w*(::\w+)*(\(\))?")
@@ -54,7 +56,7 @@ MEMBER = re.compile(r"\b([A-Z]\w*[a-z]\w*)::(\w+)")
 CRATE = re.compile(r"\b(portmap_\w+|tests_\w+|epmd|stories|simulation)\b")
 LINK = re.compile(r"\]\(([^)#\s]*)(?:#([^)\s]*))?\)")
 RUST = re.compile(r"(?ms)^ *```rust\n(.*?)^ *```$")
-# The first line of an item of code, or the end of one. A quotation may leave out what is between two items.
+# The first line of an item of code, or its last line. A quotation may leave out lines between two items.
 BEGINS = re.compile(r"(pub|fn|impl|trait|struct|enum|type|const|use|ghost|///?|#\[|\})")
 
 
@@ -70,7 +72,7 @@ def code_of(path, text):
 
 
 def below(folders):
-    """Every file and folder below these, but what a build has left."""
+    """Every file and folder below these, except those that a build makes."""
     for folder in folders:
         for here, inner, files in os.walk(os.path.join(TOP, folder)):
             inner[:] = [name for name in inner if name not in MADE]
@@ -79,7 +81,7 @@ def below(folders):
 
 
 def spans(page):
-    """What stands in backquotes, with the number of its line, and its paragraph or item."""
+    """The texts in backquotes, with the numbers of their lines, and their paragraphs or items."""
     number = 1
     page = re.sub(r"^```.*?^```$", lambda block: "\n" * block[0].count("\n"), page, flags=re.S | re.M)
     for part in re.split(r"(?m)(?=^\s*$|^ *(?:[-*]|\d+\.) |^\|)", page):
@@ -89,7 +91,7 @@ def spans(page):
 
 
 class Checkout:
-    """What the pages may name."""
+    """The files, targets and words that pages may name."""
 
     def __init__(self):
         self.paths = ["/" + path for path in [*below(FOLDERS), *FOLDERS, *os.listdir(TOP)]]
@@ -103,7 +105,7 @@ class Checkout:
         self.sources = [read(path) for path in files if path.endswith(".rt")]
 
     def has(self, path, crates):
-        """Whether a path is there. One of a part of a crate has to be so in one of these crates."""
+        """Whether a path is there. A path that begins with a part of a crate has to be in one of these crates."""
         for word in ANY:
             path = re.sub(rf"(?<![A-Z]){word}(?![A-Z])", "*", path)
         if f"$(PREFIX)/{path}" in self.makefile:
@@ -135,7 +137,7 @@ class Checkout:
                 yield from ((number, word) for word in re.findall(r"\w+", span) if word not in self.words)
 
     def missing_members(self, page):
-        """Of a type and what is its own, as `Desk::close`: functions and variants, in a file that is of the type."""
+        """Functions and variants of a type, as `Desk::close`, that no file of the type has."""
         for found in MEMBER.finditer(page):
             if not self.has_member(found[1], found[2]):
                 yield 1 + page.count("\n", 0, found.start()), found[0]
@@ -148,7 +150,7 @@ class Checkout:
 
 
 def without_removed(changes):
-    """The changes without the sections of what is gone: names in these are in no file any more. Lines keep their numbers."""
+    """The changes without the sections `Removed`, whose names are in no file any more. Lines keep their numbers."""
     return re.sub(r"(?m)^### Removed$[\s\S]*?(?=^##|\Z)", lambda part: "\n" * part[0].count("\n"), changes)
 
 
@@ -158,7 +160,7 @@ def flat(code):
 
 
 def unquoted(block, sources):
-    """The first line of a block at which it leaves all sources; none if the block is made of quotations that begin with an item each."""
+    """The first line of a block that is not quoted from a source. None if the block consists of quotations that begin with an item."""
     lines = flat(block).strip("\n").split("\n")
     while lines:
         most = 0
@@ -214,7 +216,7 @@ class Pages(unittest.TestCase):
         ):
             self.assertEqual(list(self.CHECKOUT.missing_paths(page)), missing, page)
 
-    def test_a_word_of_a_comment_is_none_of_the_code(self):
+    def test_a_word_of_a_comment_is_not_a_word_of_the_code(self):
         for path, text in {
             "a.rt": "one(); // two\n/// two\nthree /* two\n two */ four", "a.c": "one\n//two\nthree /*two*/ four",
             "a.antt": "one -- two\nthree {- two\n two -} four",
@@ -229,7 +231,7 @@ class Pages(unittest.TestCase):
     def test_each_target_is_one_of_the_makefile(self):
         self.none(self.CHECKOUT.missing_targets, *PAGES, *CRATES, *OTHERS, FIGURES)
 
-    def test_each_name_stands_in_the_code(self):
+    def test_each_name_is_in_the_code(self):
         self.none(self.CHECKOUT.missing_names, *OF_CODE, *CRATES, FIGURES)
         self.none(self.CHECKOUT.missing_members, *PAGES, *CRATES)
         changes = without_removed(read(CHANGELOG))
@@ -275,11 +277,22 @@ class Pages(unittest.TestCase):
         files = [[span for _, span, _ in spans(item) if "/" in span or ENDING.search(span) or span == "Makefile"] for item in items]
         self.assertEqual([item for item, named in zip(items, files) if not named], [])
 
+    def test_one_version_is_everywhere(self):
+        """VERSION, the program, the newest changes that have a date, and the packages that pages name."""
+        version = read("VERSION").strip()
+        heads = re.findall(r"(?m)^## (.*)$", read(CHANGELOG))
+        self.assertEqual(heads[0], "Unreleased")
+        self.assertRegex(heads[1], rf"^{re.escape(version)} \(20\d\d-\d\d-\d\d\)$")
+        self.assertIn(f'b"epmd-proved {version}\\n"', read("crates/portmap_command/src/help.rt"))
+        packages = [name for page in PAGES for name in re.findall(r"epmd-proved_([\d.]+)_", read(page))]
+        self.assertGreater(len(packages), 1)
+        self.assertEqual(set(packages), {version})
+
     def test_no_line_is_too_wide(self):
         self.none(too_wide, *PAGES, *CRATES, *OTHERS, FIGURES)
 
     def test_no_line_of_the_crates_is_too_wide(self):
-        """Of the code, rows of tests are left out: a case is one line."""
+        """Tests are code too, but a case is one line and may be as wide as a page."""
         for ending, most in (".antt", COLUMNS_MOST), (".rt", CODE_COLUMNS_MOST):
             files = [path for path in below(["crates"]) if path.endswith(ending)]
             self.assertGreater(len(files), 0)
@@ -290,6 +303,22 @@ class Pages(unittest.TestCase):
         self.assertEqual([page for page in PAGES if read(page).count("\n") > LINES_MOST[page]], [])
         self.assertEqual([page for page in CRATES if read(page).count("\n") > CRATE_LINES_MOST], [])
         self.assertLessEqual(len(read(DECISIONS).split()), WORDS_MOST)
+
+
+class Commits(unittest.TestCase):
+    """Subjects of commits are short from this time on."""
+
+    SINCE = "2026-12-02T00:00:00Z"
+    COLUMNS_MOST = 72
+
+    def test_subjects_are_short(self):
+        if not os.path.exists(os.path.join(TOP, ".git")) or not shutil.which("git"):
+            self.skipTest("no history")
+        words = ["git", "-c", "safe.directory=*", "-C", TOP, "log", "--no-merges", "--format=%h %s", f"--since={self.SINCE}"]
+        done = programs.run(words)
+        self.assertEqual((done.returncode, done.stderr), (0, ""))
+        subjects = [line.partition(" ") for line in done.stdout.splitlines()]
+        self.assertEqual([(commit, subject) for commit, _, subject in subjects if len(subject) > self.COLUMNS_MOST], [])
 
 
 if __name__ == "__main__":

@@ -72,7 +72,3 @@ class Poll(unittest.TestCase):
         while left:
             left -= len(peer.recv(65536))
         self.is_reported(poll, select.EPOLLOUT)
-
-
-if __name__ == "__main__":
-    unittest.main()

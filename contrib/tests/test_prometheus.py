@@ -2,25 +2,24 @@
 import json
 import os
 import re
-import tempfile
-import unittest
 
 import programs
-from programs import CONTRIB
-from test_install import TOP, needs, read
-from test_log import Written, start
-from test_metrics import DUMP, Played, counters_of_the_daemon, figures, printed
+from programs import CONTRIB, TOP, Case, needs, read, write
+from recorded import start
+from test_metrics import Measured, Played, counters_of_the_daemon, figures
 
 RULES = os.path.join(CONTRIB, "prometheus", "epmd.rules.yml")
 DASHBOARD = os.path.join(CONTRIB, "grafana", "epmd.json")
 FIGURE = re.compile(r"\bepmd_\w+")
-ALERTS = {"EpmdDown": "epmd_up", "EpmdFiguresAreOld": "epmd_figures_age_seconds", "EpmdRecordingStandsStill": "epmd_recording_moves",
-          "EpmdRefusalsRise": "epmd_refusals_total", "EpmdNamesNearLimit": "epmd_names",
-          "EpmdConnectionsNearLimit": "epmd_connections"}
+ALERTS = {"EpmdDown": "epmd_up == 0", "EpmdRecordingStandsStill": "epmd_recording_moves == 0 and epmd_up == 1",
+          "EpmdFiguresAreOld": 'time() - node_textfile_mtime_seconds{file=~".*epmd[.]prom"} > 300 or epmd_figures_age_seconds > 300',
+          "EpmdRefusalsRise": "increase(epmd_refusals_total[10m]) > 10", "EpmdNamesNearLimit": "sum without (state) (epmd_names) >= ",
+          "EpmdConnectionsNearLimit": "epmd_connections >= "}
+MINUTES = {2: "two", 5: "five", 10: "ten"}
 
 
 def alerts():
-    """The expression of each alert, which stands in one line."""
+    """The expression of each alert, which is one line."""
     return dict(re.findall(r"(?m)^      - alert: (\w+)\n        expr: (.*)$", read(RULES)))
 
 
@@ -33,23 +32,29 @@ def queries():
     return [target["expr"].replace("$instance", ".+") for panel in panels() for target in panel["targets"]]
 
 
-def promtool(*words):
-    done = programs.run(["promtool", *words])
-    return done.returncode, done.stdout + done.stderr
+class Promtool(Case):
+    """Tests that may ask promtool, which takes JSON for YAML."""
+
+    def takes(self, *words, value=None, **more):
+        """promtool ends well with these words, and with a file that holds a value behind them. Returns what it prints."""
+        if value is not None:
+            write(self.inside("value.yml"), json.dumps(value))
+            words = *words, self.inside("value.yml")
+        done = programs.run(["promtool", *words], **more)
+        self.assertEqual(done.returncode, 0, done.stdout + done.stderr)
+        return done.stdout + done.stderr
 
 
-class Figures(Written, unittest.TestCase):
+class Figures(Measured, Promtool):
     def setUp(self):
         super().setUp()
         self.write(start())
-        played = Played(DUMP, does=lambda: self.add(b"\0"))
-        self.text = printed(played.port, "-recording", self.path, "-state", os.path.join(self.folder.name, "state"))
-        played.end()
         self.write("".join(f"{name} 1\n" for name in counters_of_the_daemon()).encode(), ".figures")
-        played = Played(DUMP)
-        self.published = printed(played.port, "-figures", self.path + ".figures")
-        played.end()
-        self.series = figures(self.text) | figures(self.published)
+        self.texts = []
+        for words in self.recorded, ("-figures", self.path + ".figures"):
+            with Played(does=lambda: self.add(b"\0")) as played:
+                self.texts.append(self.printed(*words, port=played.port))
+        self.series = figures(self.texts[0]) | figures(self.texts[1])
         self.names = {re.sub("{.*", "", each) for each in self.series}
 
     def test_each_figure_of_an_alert_or_a_panel_is_printed_and_each_that_is_printed_is_shown(self):
@@ -58,15 +63,14 @@ class Figures(Written, unittest.TestCase):
         self.assertEqual(set(FIGURE.findall(" ".join(queries()))), self.names)
 
     def test_the_manual_page_has_each_figure(self):
-        page = read(os.path.join(TOP, "docs", "epmd-metrics.1"))
+        page = read(TOP, "docs", "epmd-metrics.1")
         listed = re.findall(r"(?m)^\.It (epmd_.*)$", page)
         self.assertEqual(set(FIGURE.findall(" ".join(listed))), self.names)
 
     @needs("promtool")
     def test_promtool_takes_what_is_printed(self):
-        for text in self.text, self.published:
-            done = programs.run(["promtool", "check", "metrics"], input=text)
-            self.assertEqual((done.returncode, done.stdout + done.stderr), (0, ""))
+        for text in self.texts:
+            self.assertEqual(self.takes("check", "metrics", input=text), "")
 
     def labelled(self, series):
         """A series as it is stored once a node exporter was asked for it."""
@@ -80,56 +84,38 @@ class Figures(Written, unittest.TestCase):
             figure, = set(FIGURE.findall(query))
             count = 1 if query.startswith("sum ") else sum(each.split("{")[0] == figure for each in self.series)
             self.assertGreater(count, 0)
-            wanted = [{"labels": "{}", "value": count}]
-            checks.append({"expr": f"count({query})", "eval_time": "30m", "exp_samples": wanted})
+            checks.append({"expr": f"count({query})", "eval_time": "30m", "exp_samples": [{"labels": "{}", "value": count}]})
         stored = [{"series": self.labelled(each), "values": f"{value:f}x30"} for each, value in self.series.items()]
-        test = {"interval": "1m", "input_series": stored, "promql_expr_test": checks}
-        # What is JSON is YAML too.
-        with open(os.path.join(self.folder.name, "test.yml"), "w", encoding="utf-8") as file:
-            json.dump({"tests": [test]}, file)
-        status, said = promtool("test", "rules", file.name)
-        self.assertEqual(status, 0, said)
+        self.takes("test", "rules", value={"tests": [{"interval": "1m", "input_series": stored, "promql_expr_test": checks}]})
 
 
-class Alerts(unittest.TestCase):
+class Alerts(Promtool):
     def test_there_are_six_and_each_is_tried(self):
-        self.assertEqual({name: FIGURE.findall(query)[0] for name, query in alerts().items()}, ALERTS)
+        self.assertEqual({name: re.sub(r"(?<=>= )\d+$", "", query) for name, query in alerts().items()}, ALERTS)
         tried = read(RULES.replace(".rules.", ".test."))
         for name in ALERTS:
             self.assertRegex(tried, rf"- alertname: {name}\n +eval_time: \w+\n +exp_alerts:\n +- exp_labels: ")
             self.assertRegex(tried, rf"{{alertname: {name}, eval_time: \w+, exp_alerts: \[\]}}")
 
     def test_the_manual_page_has_each_with_its_number(self):
-        page = read(os.path.join(TOP, "docs", "epmd-metrics.1"))
+        page = read(TOP, "docs", "epmd-metrics.1")
         self.assertEqual(set(re.findall(r"(?m)^\.It (Epmd\w+)$", page)), set(ALERTS))
+        for name, minutes in re.findall(r"- alert: (\w+)\n.*\n +for: (\d+)m\n", read(RULES)):
+            self.assertRegex(page, rf"\n\.It {name}\n(?:For|.* for) {MINUTES[int(minutes)]} minutes\b")
         for name in ("EpmdNamesNearLimit", "EpmdConnectionsNearLimit"):
             number = int(alerts()[name].rpartition(" ")[2])
             self.assertRegex(page, rf"\n\.It {name}\nFor \w+ minutes {number:,} ")
 
-    def test_near_a_limit_is_what_other_hosts_may_have_of_it(self):
-        actions = read(os.path.join(TOP, "crates", "portmap_command", "src", "actions.rt"))
-        most = {name: int(number) for name, number in re.findall(r"pub const (\w+_MOST): u32 = (\d+);", actions)}
-        limits = read(os.path.join(TOP, "crates", "portmap_worker", "src", "limits.rt"))
-        share = int(re.search(r"RESERVED_SHARE: u64 = (\d+);", limits)[1])
-        near = {name: limit - limit // share for name, limit in most.items()}
-        self.assertRegex(alerts()["EpmdNamesNearLimit"], rf" >= {near['NAMES_MOST']}$")
-        self.assertRegex(alerts()["EpmdConnectionsNearLimit"], rf" >= {near['CONNECTIONS_MOST']}$")
-        shown = [panel["fieldConfig"]["defaults"].get("thresholds") for panel in panels()]
-        steps = [[step["value"] for step in each["steps"]] for each in shown if each]
-        self.assertEqual(steps, [[None, near[name], most[name]] for name in ("NAMES_MOST", "CONNECTIONS_MOST")])
-
     @needs("promtool")
     def test_promtool_takes_them(self):
-        status, said = promtool("check", "rules", RULES)
-        self.assertEqual((status, f" {len(ALERTS)} rules found" in said), (0, True), said)
+        self.assertIn(f" {len(ALERTS)} rules found", self.takes("check", "rules", RULES))
 
     @needs("promtool")
     def test_each_fires_and_an_hour_of_normal_life_is_quiet(self):
-        status, said = promtool("test", "rules", RULES.replace(".rules.", ".test."))
-        self.assertEqual(status, 0, said)
+        self.takes("test", "rules", RULES.replace(".rules.", ".test."))
 
 
-class Dashboard(unittest.TestCase):
+class Dashboard(Promtool):
     def test_panels_have_numbers_of_their_own_and_none_covers_another(self):
         self.assertEqual([panel["id"] for panel in panels()], list(range(1, len(panels()) + 1)))
         for panel in panels():
@@ -150,12 +136,4 @@ class Dashboard(unittest.TestCase):
     @needs("promtool")
     def test_promtool_takes_each_query(self):
         rules = [{"record": f"of:query:{number}", "expr": query} for number, query in enumerate(queries())]
-        with tempfile.NamedTemporaryFile("w", suffix=".yml") as file:
-            json.dump({"groups": [{"name": "queries", "rules": rules}]}, file)
-            file.flush()
-            status, said = promtool("check", "rules", file.name)
-        self.assertEqual((status, f" {len(queries())} rules found" in said), (0, True), said)
-
-
-if __name__ == "__main__":
-    unittest.main()
+        self.assertIn(f" {len(rules)} rules found", self.takes("check", "rules", value={"groups": [{"name": "queries", "rules": rules}]}))

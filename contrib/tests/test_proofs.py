@@ -1,13 +1,14 @@
 """What makes code and proofs long: structs of many fields, lemmas with many arguments in a row, and structs that are dropped vector by
-vector."""
+vector. And that each wrong body, of the gate and beside it, still fits the code that it changes."""
 import glob
 import os
 import re
 import unittest
 
-TOP = os.path.join(os.path.dirname(os.path.abspath(__file__)), "..", "..")
+from programs import TOP, read
+
 ARGUMENTS_MOST = 7
-# How many declarations of these crates take more. There are none in the others, and these are to become fewer.
+# How many declarations of these crates take more. The others have no such declaration, and these are to become fewer.
 MANY_MOST = {"portmap_command": 10, "portmap_client": 6, "portmap_client_c": 3, "portmap_link": 9, "portmap_recorder": 3, "portmap_scheduler": 5,
              "portmap_wire": 9, "portmap_worker": 5}
 # Types whose values have memory or a descriptor of their own.
@@ -37,7 +38,7 @@ def signatures(text):
 
 
 def outside(text, mark):
-    """The parts between these marks that stand in no brackets."""
+    """The parts between these marks outside all brackets."""
     parts, depth = [""], 0
     for character in text:
         depth += (character in OPENING) - (character in CLOSING)
@@ -64,9 +65,8 @@ def arguments(signature):
 def structs():
     """Of each struct of the libraries: its name, whether its drop is derived, and the types of its fields."""
     for path in glob.glob(f"{TOP}/crates/portmap_*/src/**/*.rt", recursive=True):
-        with open(path, encoding="utf-8") as file:
-            for marks, name, body in STRUCT.findall(file.read()):
-                yield name, bool(re.search(r"derive\([^)]*\bDrop\b", marks)), re.findall(r"(?m)^    (?:pub(?:\(crate\))? )?\w+: (.*),$", body)
+        for marks, name, body in STRUCT.findall(read(path)):
+            yield name, bool(re.search(r"derive\([^)]*\bDrop\b", marks)), re.findall(r"(?m)^    (?:pub(?:\(crate\))? )?\w+: (.*),$", body)
 
 
 def owned(fields, owning):
@@ -103,8 +103,7 @@ class Proofs(unittest.TestCase):
         many, seen = {}, set()
         for path in glob.glob(f"{TOP}/crates/*/proofs/**/*.antt", recursive=True):
             crate, *name = os.path.relpath(path, os.path.join(TOP, "crates")).split(os.sep)
-            with open(path, encoding="utf-8") as file:
-                counts = [("/".join(name), declared, arguments(type)) for declared, type in signatures(file.read())]
+            counts = [("/".join(name), declared, arguments(type)) for declared, type in signatures(read(path))]
             if counts:
                 seen.add(crate)
             many.setdefault(crate, []).extend(found for found in counts if found[-1] > ARGUMENTS_MOST)
@@ -112,5 +111,34 @@ class Proofs(unittest.TestCase):
         self.assertEqual({crate: found for crate, found in many.items() if len(found) > MANY_MOST.get(crate, 0)}, {})
 
 
-if __name__ == "__main__":
-    unittest.main()
+def pairs_of(path):
+    """The texts that an edit takes out and puts in, each with its file."""
+    file, pairs = None, []
+    for line in read(path).split("\n"):
+        key, _, text = line.partition(": ")
+        if key == "file":
+            file = os.path.join(os.path.dirname(os.path.dirname(path)), text)
+        elif key == "old":
+            pairs.append((file, text, ""))
+        elif key.startswith("new"):
+            pairs[-1] = file, pairs[-1][1], text
+    return pairs
+
+
+class Edits(unittest.TestCase):
+    def test_each_old_text_is_there_once(self):
+        paths = glob.glob(f"{TOP}/crates/*/must-fail/*.edit") + glob.glob(f"{TOP}/crates/*/attack/*.edit")
+        self.assertGreater(len(paths), 0)
+        for path in paths:
+            made = {}
+            self.assertGreater(len(pairs_of(path)), 0, path)
+            for file, old, new in pairs_of(path):
+                if file not in made:
+                    made[file] = read(file)
+                self.assertEqual(made[file].count(old), 1, f"{path}: {old}")
+                made[file] = made[file].replace(old, new)
+
+    def test_the_gate_has_few(self):
+        paths = glob.glob(f"{TOP}/crates/*/must-fail/*.edit")
+        self.assertLessEqual(len(paths), 20)
+        self.assertLessEqual(len({os.path.dirname(path) for path in paths}), 3)

@@ -1,6 +1,6 @@
-"""The scripts of the package in each order in which dpkg calls them, each also stopped before each of the commands by which it changes something,
-as where the machine stops: in a folder that stands for the root, with dpkg's own list of diversions and stand-ins for the service manager. And
-dpkg itself there, stopped before each of its own renames and deletions."""
+"""The scripts of the package in each order in which dpkg calls them, in a folder in place of the root, with dpkg's own list of diversions and
+stand-ins for the service manager. Each is also stopped before each command that changes something, as where the machine stops. And dpkg
+itself there, stopped before each of its own renames and deletions."""
 import collections
 import glob
 import os
@@ -10,25 +10,19 @@ import shutil
 import socket
 import subprocess
 import time
-import unittest
 
 import programs
-from test_install import TOP, Checkout, needs, read, write
+from programs import CONTRIB, Case, needs, noting, read, write
+from test_install import Checkout
 
-# Notes its words. A socket is active unless $CLOSED says otherwise, enabled unless $DISABLED does, and was so unless $WAS_DISABLED does.
-SYSTEMCTL = """#!/bin/sh
-echo "$(basename "$0") $*" >> "$NOTES"
-case "$*" in
-    *is-active*) [ -z "$CLOSED" ] ;;
-    *is-enabled*) [ -z "$DISABLED" ] ;;
-    *was-enabled*) [ -z "$WAS_DISABLED" ] ;;
-    enable\ epmd-proved.socket) echo 'Created symlink' >&2 ;;
-esac
-"""
+# A socket is active unless $CLOSED says otherwise, enabled unless $DISABLED does, and was so unless $WAS_DISABLED does.
+SYSTEMCTL = noting({"*is-active*": '[ -z "$CLOSED" ]', "*is-enabled*": '[ -z "$DISABLED" ]', "*was-enabled*": '[ -z "$WAS_DISABLED" ]',
+                    r"enable\ epmd-proved.socket": "echo 'Created symlink' >&2"})
 RENEW = """#!/bin/sh
 echo renew >> "$NOTES"
-if [ -n "$IGNORED" ]; then echo 'epmd: bad word 0: -a: no option counts'; exit 1; fi
+if [ -n "$IGNORED" ]; then echo 'epmd: -port lacks its value, a number from 1 to 65535; see epmd -help: no option counts'; exit 1; fi
 """
+FAILS = "#!/bin/sh\nexit 1\n"
 # Notes itself in $CHANGES, and stops the script that calls it where it is the change of number $AT.
 STOPS = """#!/bin/sh
 if [ -n "$CHANGES" ]; then
@@ -36,7 +30,7 @@ if [ -n "$CHANGES" ]; then
     if [ "$(wc -l < "$CHANGES")" = "$AT" ]; then kill -KILL $PPID; exit 1; fi
 fi
 """
-# Ends with 1 at a change of the list where $FULL says that the disk is full. The list has paths below $ROOT, and the scripts whole ones.
+# Ends with 1 at a change of the list where $FULL says that the disk is full. The list has paths below $ROOT, and the scripts have whole paths.
 DIVERT = """#!/bin/sh
 for word in "$@"; do shift; set -- "$@" "${word#"$ROOT"}"; done
 case "$*" in
@@ -48,7 +42,7 @@ PLACE, PAGE, LIB = "usr/bin/epmd", "usr/share/man/man1/epmd", "usr/lib/epmd-prov
 ADDED, STAND_IN = "lib/systemd/system/epmd.service.d/10-proved.conf", LIB + "stand-in"
 SAYS = '#!/bin/sh\necho {} "$@"\n'
 WRAPPER = f'#!/bin/sh\n[ -x /{LIB}epmd ] && echo ours "$@"\n'
-OPTIONS = ["-record", "a b"]
+OPTIONS, SCRIPTS = ["-record", "a b"], ("preinst", "postinst", "prerm", "postrm")
 # Of each file that matters here what is in it, but for two that are those of the package, in the order of a package's files.
 OURS = {ADDED: None, LIB + "epmd": SAYS.format("none"), STAND_IN: None, LIB + "wrapper/epmd": WRAPPER, PAGE + ".1.gz": "ours"}
 
@@ -58,14 +52,11 @@ class Packaged(Checkout):
 
     def setUp(self):
         super().setUp()
-        self.root, self.admin = os.path.join(self.folder, "root"), os.path.join(self.folder, "admin")
+        self.root, self.admin, self.tree, self.changes = map(self.inside, ("root", "admin", "tree", "changes"))
         self.made("deb")
         package, = glob.glob(os.path.join(self.top, "build", "*.deb"))
-        self.tree = os.path.join(self.folder, "tree")
         self.run_in("/", "dpkg-deb", "--raw-extract", package, self.tree)
-        self.scripts = os.path.join(self.tree, "DEBIAN")
-        self.changes = os.path.join(self.folder, "changes")
-        for path in [os.path.join(self.scripts, name) for name in ("preinst", "postinst", "prerm", "postrm")] + [os.path.join(self.tree, STAND_IN)]:
+        for path in [*(f"{self.tree}/DEBIAN/{name}" for name in SCRIPTS), os.path.join(self.tree, STAND_IN)]:
             self.assertFalse(re.search("(?m)^@", read(path)), path)
             write(path, self.rooted(read(path)), 0o755)
         for path, text in OURS.items():
@@ -87,11 +78,9 @@ class Packaged(Checkout):
     def begin(self, with_erlang=True):
         for folder in (self.root, self.admin):
             shutil.rmtree(folder, ignore_errors=True)
-        for folder in ("info", "updates"):
-            os.makedirs(os.path.join(self.admin, folder))
+        for folder in ("admin/info", "admin/updates", "root/run/systemd/system", "root/usr/share/man/man1", "root/etc"):
+            os.makedirs(self.inside(folder))
         write(os.path.join(self.admin, "status"), "")
-        for folder in ("run/systemd/system", "usr/share/man/man1", "etc"):
-            os.makedirs(os.path.join(self.root, folder))
         write(self.at("usr/bin/other"), "")
         write(self.at("usr/lib/epmd-proved/renew"), RENEW, 0o755)
         if with_erlang:
@@ -118,11 +107,10 @@ class Packaged(Checkout):
             os.remove(old + ".erlang" if os.path.lexists(old + ".erlang") else old)
 
     def call(self, name, *words, at=0, **env):
-        """Calls a script, which is stopped before its change of this number where it has so many: then it gives none."""
-        if os.path.exists(self.changes):
-            os.remove(self.changes)
+        """Calls a script. Returns None if it is stopped, which is before its change of this number."""
+        self.forget(self.changes)
         counted = {"CHANGES": self.changes, "AT": str(at)} if at else {}
-        done = programs.run(["sh", os.path.join(self.scripts, name), *words], env=self.env(**counted, **env))
+        done = programs.run(["sh", f"{self.tree}/DEBIAN/{name}", *words], env=self.env(**counted, **env))
         return None if done.returncode == -9 else done
 
     def well(self, name, *words, **env):
@@ -151,17 +139,33 @@ class Packaged(Checkout):
             elif is_cut:
                 os.remove(self.at(path))
 
-    def install(self, each=lambda: None):
-        self.well("preinst", "install")
-        self.unpack(each=each)
+    def unpacked(self, *words, **how):
+        self.well("preinst", *(words or ["install"]))
+        self.unpack(**how)
+
+    def install(self, *words, each=lambda: None):
+        self.unpacked(*words, each=each)
         self.well("postinst", "configure", "")
 
-    def remove(self, each=lambda: None):
+    def delete(self, each=lambda: None):
         self.well("prerm", "remove")
         for path in reversed(OURS):
             os.remove(self.at(path))
             each()
+
+    def remove(self, **how):
+        self.delete(**how)
         self.well("postrm", "remove")
+
+    def comes_and_goes(self, *words):
+        self.install(*words)
+        self.goes()
+
+    def goes(self):
+        """It is installed, and is removed."""
+        self.is_ours()
+        self.remove()
+        self.is_theirs()
 
     def who(self, path=PLACE, *words):
         """What is called there, or what a page says."""
@@ -178,7 +182,7 @@ class Packaged(Checkout):
         return self.run_in("/", *words[:words.index("$EPMD_OPTIONS")], *OPTIONS).stdout.strip()
 
     def is_served(self):
-        """Whoever starts a port mapper finds one, and it knows the words with which it is started."""
+        """Each caller that starts a port mapper finds one, and it knows the words with which it is started."""
         self.assertIn((self.who(), self.runtime(), self.service()), [
             (own, runtime, service) for own in ("ours", "theirs") for runtime in ("ours", "theirs")
             for service in ("theirs -systemd", "ours -systemd", "ours -systemd " + " ".join(OPTIONS))])
@@ -191,7 +195,7 @@ class Packaged(Checkout):
         self.assertEqual(self.who(PAGE + ".erlang.1.gz"), "theirs")
 
     def is_theirs(self):
-        """Theirs stands at all places, as it did at first, and of ours nothing is left."""
+        """Theirs is at each place, unchanged, and of ours nothing is left."""
         self.assertEqual([self.who(), self.who(PAGE + ".1.gz"), self.runtime()], ["theirs"] * 3)
         self.assertEqual(os.readlink(self.at(PLACE)), "../lib/erlang/bin/epmd")
         self.is_clean()
@@ -235,56 +239,55 @@ class Scripts(Packaged):
                     return
         self.fail("it does not end")
 
+    def is_mended(self, script, prepare, then, ends, seen=None):
+        """Once the script was stopped a port mapper is there, or what is to be seen, and the next call leads to this end."""
+        def after():
+            (seen or self.is_served)()
+            if then:
+                self.well(*shlex.split(then))
+            ends()
+        self.stopped(*shlex.split(script), prepare=prepare, after=after)
+
     def test_it_comes_and_goes(self):
-        self.install(self.is_served)
+        self.install(each=self.is_served)
         self.is_ours()
-        self.remove(self.is_served)
+        self.remove(each=self.is_served)
         self.is_theirs()
         self.assertIn("systemctl kill epmd.service", self.noted())
 
     def test_it_says_where_it_serves_or_what_is_wrong(self):
-        self.well("preinst", "install")
-        self.unpack()
+        self.unpacked()
         self.assertEqual(self.well("postinst", "configure", ""), "epmd: this port mapper serves at epmd-proved.socket: ask it by `epmd -names`, "
                          "look at it by `systemctl status epmd-proved`\n")
         done = self.call("postinst", "configure", "", IGNORED="yes")
         self.assertEqual((done.returncode, done.stdout), (0, ""))
-        self.assertRegex(done.stderr, "^epmd: bad word 0: -a: no option counts\nepmd: call .*/renew once that is mended\n$")
+        self.assertRegex(done.stderr, "^epmd: -port lacks its value, a number from 1 to 65535; see epmd -help: no option counts\nepmd: call .*/renew once that is mended\n$")
         for words in (["triggered", "/usr/lib/erlang"], ["abort-upgrade", "2"]):
             self.assertEqual(self.well("postinst", *words), "")
 
     def noted_of(self, name, *words, **env):
         """What a script of a package that is installed calls of the service manager and of `renew`."""
         self.begin()
-        if (name, words[0]) != ("postinst", "configure"):
-            self.install()
-        else:
-            self.well("preinst", "install")
-            self.unpack()
-        if os.path.exists(self.notes):
-            os.remove(self.notes)
+        self.unpacked() if words[0] == "configure" else self.install()
+        self.forget(self.notes)
         self.well(name, *words, **env)
         return [line for line in self.noted() if "is-" not in line and "was-" not in line]
 
-    def test_the_port_is_served_anew_where_its_socket_is_enabled_or_active(self):
+    def test_the_port_is_served_again_where_its_socket_is_enabled_or_active(self):
         enabled, reload, renew = "deb-systemd-helper enable epmd-proved.socket", "systemctl daemon-reload", "renew"
         stop, start = "systemctl stop epmd-proved.socket epmd-proved.service", "deb-systemd-invoke start epmd-proved.socket"
-        self.assertEqual(self.noted_of("postinst", "configure", ""), [enabled, reload, renew])
-        self.assertEqual(self.noted_of("postinst", "configure", "", DISABLED="yes"), [enabled, reload, renew])
-        self.assertEqual(self.noted_of("postinst", "configure", "", CLOSED="yes"), [enabled, reload, renew, stop, start])
-        self.assertEqual(self.noted_of("postinst", "configure", "", CLOSED="yes", DISABLED="yes"), [enabled, reload])
-        self.assertEqual(self.noted_of("postinst", "triggered", "/usr/lib/erlang"), [reload])
-        # An operator's `disable` outlasts an update.
         state = "deb-systemd-helper update-state epmd-proved.socket"
-        self.assertEqual(self.noted_of("postinst", "configure", "", CLOSED="yes", DISABLED="yes", WAS_DISABLED="yes"), [state, reload])
+        for env, wanted in (("", [enabled, reload, renew]), ("DISABLED", [enabled, reload, renew]), ("CLOSED", [enabled, reload, renew, stop, start]),
+                            ("CLOSED DISABLED", [enabled, reload]),
+                            ("CLOSED DISABLED WAS_DISABLED", [state, reload])):  # An operator's `disable` outlasts an update.
+            self.assertEqual(self.noted_of("postinst", "configure", "", **dict.fromkeys(env.split(), "yes")), wanted, env)
+        self.assertEqual(self.noted_of("postinst", "triggered", "/usr/lib/erlang"), [reload])
 
     def test_the_socket_of_erlang_base_is_the_one_that_serves_where_it_is_there(self):
-        self.begin()
-        self.well("preinst", "install")
-        self.unpack()
+        self.unpacked()
         write(self.at("lib/systemd/system/epmd.socket"), "")
         self.assertIn("serves at epmd.socket: ", self.well("postinst", "configure", ""))
-        os.remove(self.notes)
+        self.forget(self.notes)
         self.well("postinst", "configure", "", CLOSED="yes")
         self.assertEqual([line for line in self.noted() if "start" in line or "stop" in line],
                          ["systemctl stop epmd-proved.socket epmd-proved.service", "deb-systemd-invoke start epmd.socket"])
@@ -298,20 +301,18 @@ class Scripts(Packaged):
                               (["upgrade", "2"], [])):
             self.assertEqual(self.noted_of("postrm", *words), wanted, words)
 
-    def test_where_the_service_manager_fails_a_removal_goes_on(self):
+    def test_where_the_service_manager_fails_a_removal_continues(self):
         self.install()
         for name in ("systemctl", "deb-systemd-invoke"):
-            self.stand_in(name, "#!/bin/sh\nexit 1\n")
-        self.remove()
-        self.is_theirs()
+            self.stand_in(name, FAILS)
+        self.goes()
 
     def test_where_no_service_manager_runs_none_is_called(self):
         for name, *words in ("postinst", "configure", ""), ("prerm", "remove"), ("postrm", "remove"):
             self.begin()
             self.unpack()
             shutil.rmtree(self.at("run/systemd"))
-            if os.path.exists(self.notes):
-                os.remove(self.notes)
+            self.forget(self.notes)
             self.well(name, *words)
             self.assertEqual([line for line in self.noted() if line.startswith(("systemctl", "deb-systemd-invoke", "renew"))], [], name)
 
@@ -329,66 +330,32 @@ class Scripts(Packaged):
         self.well("postrm", "purge")
         self.assertEqual([path for path in kept + others if os.path.exists(self.at(path))], others)
         self.assertIn("deb-systemd-helper purge epmd-proved.socket", self.noted())
-        self.stand_in("deb-systemd-helper", "#!/bin/sh\nexit 127\n")
+        self.stand_in("deb-systemd-helper", FAILS)
         self.well("postrm", "purge")
 
     def test_an_installation_that_is_stopped_leaves_theirs(self):
-        def after():
-            self.assertEqual(self.who(), "theirs")
-            self.assertEqual(self.runtime(), "theirs")
-            self.well("postrm", "abort-install")
-            self.is_theirs()
-        self.stopped("preinst", "install", prepare=lambda: None, after=after)
+        self.is_mended("preinst install", lambda: None, "postrm abort-install", self.is_theirs,
+                       seen=lambda: self.assertEqual((self.who(), self.runtime()), ("theirs", "theirs")))
 
     def test_one_that_is_cut_off_leaves_theirs(self):
-        def prepare():
-            self.well("preinst", "install")
-            self.unpack(is_cut=True)
+        def seen():
             self.assertEqual(self.who(), "theirs")
-
-        def after():
-            self.assertEqual(self.who(), "theirs")
-            # It is called again, or the package comes and goes for good.
-            if self.again:
-                self.well("postrm", "abort-install")
-            else:
-                self.well("preinst", "upgrade", "1.0.0")
-                self.unpack()
-                self.well("postinst", "configure", "")
-                self.is_ours()
-                self.remove()
-            self.is_theirs()
-        for self.again in (True, False):
-            self.stopped("postrm", "abort-install", prepare=prepare, after=after)
+        # It is called again, or the package is installed and removed.
+        for then, ends in (("postrm abort-install", self.is_theirs), (None, lambda: self.comes_and_goes("upgrade", "1.0.0"))):
+            self.is_mended("postrm abort-install", lambda: (self.unpacked(is_cut=True), seen()), then, ends, seen)
 
     def test_on_a_full_disk_theirs_stays_and_is_kept_for_later(self):
         self.assertEqual(self.call("preinst", "install", FULL="yes").returncode, 1)
         self.well("postrm", "abort-install")
         self.is_theirs()
-        self.well("preinst", "install")
-        self.unpack(is_cut=True)
+        self.unpacked(is_cut=True)
         self.assertEqual(self.call("postrm", "abort-install", FULL="yes").returncode, 1)
         self.assertEqual((self.who(), self.who(PAGE + ".1.gz")), ("theirs", "theirs"))
-        # What could not be cleared up is there when the package comes, and goes, for good.
-        self.well("preinst", "upgrade", "1.0.0")
-        self.unpack()
-        self.well("postinst", "configure", "")
-        self.is_ours()
-        self.remove()
-        self.is_theirs()
+        # What could not be cleared up is there when the package is installed and removed.
+        self.comes_and_goes("upgrade", "1.0.0")
 
     def test_a_configuration_that_is_stopped_leaves_a_port_mapper(self):
-        def prepare():
-            self.well("preinst", "install")
-            self.unpack()
-
-        def after():
-            self.is_served()
-            self.well("postinst", "configure", "")
-            self.is_ours()
-            self.remove()
-            self.is_theirs()
-        self.stopped("postinst", "configure", "", prepare=prepare, after=after)
+        self.is_mended("postinst configure ''", self.unpacked, "postinst configure ''", self.goes)
 
     def test_an_update_from_one_that_has_the_place_among_its_files(self):
         """dpkg deletes what the former version has and the new one has not, but what it finds among the new files by another name."""
@@ -418,9 +385,7 @@ class Scripts(Packaged):
             self.is_served()
             self.well("postinst", "configure", "1.1.0")
             self.assertFalse(os.path.islink(self.at(LIB + "wrapper")) or os.path.lexists(self.at(LIB + "wrapper.new")))
-            self.is_ours()
-            self.remove()
-            self.is_theirs()
+            self.goes()
         for self.goes_on in (True, False):
             self.stopped("preinst", "upgrade", "1.1.0", "2", prepare=self.former, after=broken, least=1)
         self.stopped("postinst", "configure", "1.1.0", prepare=unpacked, after=after)
@@ -428,7 +393,7 @@ class Scripts(Packaged):
     def test_a_release_that_is_packed_beside_it_starts_elsewhere(self):
         """`mix release` copies the folder of the runtime's programs as it is."""
         self.install()
-        packed = os.path.join(self.folder, "release", "erts-13")
+        packed = self.inside("release", "erts-13")
         shutil.copytree(os.path.dirname(os.path.dirname(self.at("usr/lib/erlang/erts-13/bin/epmd"))), packed, symlinks=True)
         program = os.path.join(packed, "bin", "epmd")
         self.assertEqual(self.run_in("/", program, "-daemon").stdout, "ours -daemon\n")
@@ -444,7 +409,7 @@ class Scripts(Packaged):
         runtime = self.at("usr/lib/erlang/" + os.path.basename(theirs))
         shutil.copytree(theirs + "/bin", runtime + "/bin")
         self.install()
-        work = os.path.join(self.folder, "work")
+        work = self.inside("work")
         write(work + "/mix.exs", f"""defmodule One.MixProject do
   use Mix.Project
   def project, do: [app: :one, version: "1.0.0", releases: [one: [include_erts: "{runtime}"]]]
@@ -469,19 +434,16 @@ end
         self.assertEqual(programs.run([*ask[:1], "-kill"], env=own).stdout, "Killed\n")
 
     def test_an_update_that_breaks_off_keeps_ours(self):
-        for breaks in ([("prerm", "upgrade", "2"), ("prerm", "failed-upgrade", "1", "2"), ("postinst", "abort-upgrade", "2")],
-                       [("preinst", "upgrade", "1", "2"), ("postrm", "abort-upgrade", "1", "2"), ("postinst", "abort-upgrade", "2")],
-                       [("postrm", "upgrade", "2"), ("postrm", "failed-upgrade", "1", "2"), ("preinst", "abort-upgrade", "2"),
-                        ("postrm", "abort-upgrade", "1", "2"), ("postinst", "abort-upgrade", "2")],
-                       [("prerm", "deconfigure", "in-favour", "a", "1", "removing", "b", "1"), ("postinst", "abort-deconfigure", "in-favour", "a", "1")],
-                       [("postinst", "triggered", "/usr/lib/erlang")]):
+        for breaks in ("prerm upgrade 2; prerm failed-upgrade 1 2; postinst abort-upgrade 2",
+                       "preinst upgrade 1 2; postrm abort-upgrade 1 2; postinst abort-upgrade 2",
+                       "postrm upgrade 2; postrm failed-upgrade 1 2; preinst abort-upgrade 2; postrm abort-upgrade 1 2; postinst abort-upgrade 2",
+                       "prerm deconfigure in-favour a 1 removing b 1; postinst abort-deconfigure in-favour a 1", "postinst triggered /usr/lib/erlang"):
             self.begin()
             self.install()
-            for name, *words in breaks:
-                self.well(name, *words)
+            for call in breaks.split("; "):
+                self.well(*call.split())
                 self.is_ours()
-            self.remove()
-            self.is_theirs()
+            self.goes()
 
     def test_version_1_0_0_finds_the_runtimes_as_erlang_base_has_them(self):
         self.install()
@@ -492,13 +454,7 @@ end
         self.is_ours()
 
     def test_a_removal_that_is_stopped_leaves_a_port_mapper_and_is_taken_back(self):
-        def after():
-            self.is_served()
-            self.well("postinst", "abort-remove")
-            self.is_ours()
-            self.remove()
-            self.is_theirs()
-        self.stopped("prerm", "remove", prepare=self.install, after=after)
+        self.is_mended("prerm remove", self.install, "postinst abort-remove", self.goes)
 
     def test_a_removal_leaves_no_figures_for_a_node_exporter_and_an_update_does(self):
         folder = "var/lib/prometheus/node-exporter/"
@@ -514,37 +470,22 @@ end
         self.begin(with_erlang=False)
         self.install()
         self.well("prerm", "remove")
-        os.remove(self.notes)
+        self.forget(self.notes)
         self.well("postinst", "abort-remove", CLOSED="yes")
-        self.assertIn("deb-systemd-invoke start epmd-proved.socket", self.noted())
-        for timer in ("epmd-proved-prune.timer", "epmd-proved-metrics.timer"):
-            self.assertIn(f"deb-systemd-invoke start {timer}", self.noted())
+        for unit in ("epmd-proved.socket", "epmd-proved-prune.timer", "epmd-proved-metrics.timer"):
+            self.assertIn(f"deb-systemd-invoke start {unit}", self.noted())
         self.assertFalse([line for line in self.noted() if "helper" in line or "renew" in line])
 
     def test_the_end_of_a_removal_that_is_stopped_can_be_done_again(self):
-        def prepare():
-            self.install()
-            self.well("prerm", "remove")
-            for path in OURS:
-                os.remove(self.at(path))
-
-        def after():
-            self.is_served()
-            self.well("postrm", "remove")
-            self.is_theirs()
-        self.stopped("postrm", "remove", prepare=prepare, after=after)
+        self.is_mended("postrm remove", lambda: (self.install(), self.delete()), "postrm remove", self.is_theirs)
 
     def test_where_another_package_has_taken_all_its_files_theirs_is_back(self):
-        def after():
-            self.assertIn(self.who(), ("ours", "theirs"))
-            self.well("postrm", "disappear", "other", "1")
-            self.is_theirs()
-        self.stopped("postrm", "disappear", "other", "1", prepare=self.install, after=after)
+        self.is_mended("postrm disappear other 1", self.install, "postrm disappear other 1", self.is_theirs,
+                       seen=lambda: self.assertIn(self.who(), ("ours", "theirs")))
 
     def test_without_erlang_nothing_is_left(self):
         self.begin(with_erlang=False)
-        self.well("preinst", "install")
-        self.unpack(is_cut=True)
+        self.unpacked(is_cut=True)
         self.well("postrm", "abort-install")
         self.is_clean()
         self.install()
@@ -569,7 +510,7 @@ end
         self.is_clean()
 
     def test_what_an_installation_of_the_first_version_left_is_mended(self):
-        for way in (lambda: self.well("postrm", "abort-install"), lambda: (self.install(), self.is_ours(), self.remove())):
+        for way in (lambda: self.well("postrm", "abort-install"), self.comes_and_goes):
             self.begin()
             for path, kept in ((PLACE, PLACE + ".erlang"), (PAGE + ".1.gz", PAGE + ".erlang.1.gz")):
                 self.divert(path, kept)
@@ -596,9 +537,7 @@ end
             self.assertEqual("systemctl --quiet --no-reload enable epmd.socket epmd.service" in self.noted(), has_socket)
             self.unpack()
             self.well("postinst", "configure", "0.9")
-            self.is_ours()
-            self.remove()
-            self.is_theirs()
+            self.goes()
 
 
 @needs("dpkg", "dpkg-deb", "dpkg-divert", "strip", "strace")
@@ -606,9 +545,8 @@ class Cuts(Packaged):
     """dpkg itself, killed before each rename and each deletion that it makes of what is looked at here, and behind it, and called again."""
 
     def pack(self, tree):
-        package = os.path.join(self.folder, os.path.basename(tree) + ".deb")
-        done = self.run_in("/", "dpkg-deb", "--root-owner-group", "-Znone", "--build", tree, package)
-        self.assertEqual(done.returncode, 0, done.stderr)
+        package = self.inside(os.path.basename(tree) + ".deb")
+        self.ends(["dpkg-deb", "--root-owner-group", "-Znone", "--build", tree, package], out=re.compile(""))
         return package
 
     def dpkg(self, *words, trace="none", at=""):
@@ -616,7 +554,7 @@ class Cuts(Packaged):
         kill = ["-e", f"inject={trace}:signal=KILL:when={at}"] if at else []
         how = ["--instdir", self.root, "--admindir", self.admin, "--log=/dev/null",
                *(f"--force-{what}" for what in ("script-chrootless", "not-root", "depends", "downgrade", "unsafe-io"))]
-        done = self.run_in("/", "strace", "-qq", "-o", os.path.join(self.folder, "trace"), "-e", f"trace={trace}", *kill, "dpkg", *how, *words,
+        done = self.run_in("/", "strace", "-qq", "-o", self.inside("trace"), "-e", f"trace={trace}", *kill, "dpkg", *how, *words,
                            PATH=f"{self.bin}:{os.environ['PATH']}:/usr/sbin:/sbin")
         if not at:
             self.assertEqual(done.returncode, 0, done.stdout + done.stderr)
@@ -624,14 +562,14 @@ class Cuts(Packaged):
 
     def cut(self, *words, prepare, after):
         prepare()
-        kept = os.path.join(self.folder, "kept")
+        kept = self.inside("kept")
         shutil.rmtree(kept, ignore_errors=True)
         os.mkdir(kept)
         self.run_in("/", "cp", "-a", self.root, self.admin, kept)
         self.dpkg(*words, trace="rename,unlink,rmdir")
         after()
         number, calls, is_near = collections.Counter(), [], True
-        for line in read(os.path.join(self.folder, "trace")).splitlines():
+        for line in read(self.inside("trace")).splitlines():
             call = line.partition("(")[0]
             number[call] += 1
             if line.endswith(" = 0"):
@@ -650,9 +588,9 @@ class Cuts(Packaged):
 
     def former_package(self):
         """Version 1.1.0: the place is among its files. What its scripts have done is done by `former`, and at an update they do nothing."""
-        tree = os.path.join(self.folder, "former")
+        tree = self.inside("former")
         shutil.copytree(self.tree, tree, symlinks=True)
-        for name in ("preinst", "postinst", "prerm", "postrm"):
+        for name in SCRIPTS:
             os.remove(os.path.join(tree, "DEBIAN", name))
         shutil.rmtree(os.path.join(tree, LIB, "wrapper"))
         os.remove(os.path.join(tree, STAND_IN))
@@ -676,15 +614,15 @@ class Cuts(Packaged):
         self.cut("-r", "epmd-proved", prepare=is_new, after=self.is_theirs)
 
 
-class Pause(Checkout):
+class Pause(Case):
     """What runs between a start that failed and the next one."""
 
     def test_it_is_short_behind_a_signal_and_says_what_to_do_behind_all_else(self):
-        self.stand_in("sleep", '#!/bin/sh\necho "sleep $1" >> "$NOTES"\n')
+        self.stand_in("sleep", {})
         self.stand_in("logger", '#!/bin/sh\ncat >> "$NOTES"\n')
         for result, seconds in ("signal", "0.15"), ("core-dump", "0.15"), ("exit-code", "1"), ("timeout", "1"), ("", "1"):
             write(self.notes, "")
-            self.assertEqual(self.run_in("/", os.path.join(TOP, "contrib", "pause"), "epmd", MONITOR_SERVICE_RESULT=result).stderr, "")
+            self.ends([os.path.join(CONTRIB, "pause"), "epmd"], env=self.stood_in(MONITOR_SERVICE_RESULT=result))
             *line, pause = self.noted()
             self.assertEqual(pause, f"sleep {seconds}")
             self.assertEqual(sorted(field for field in line if "SYSTEMD_UNIT" in field or "PRIORITY" in field),
@@ -692,65 +630,70 @@ class Pause(Checkout):
             self.assertEqual("systemctl stop epmd.socket" in "".join(line), seconds == "1")
 
 
-class StateFolder(Checkout):
+class StateFolder(Case):
     """The folder of recordings, which the service makes before a start. Who calls is the service's user here, but for one test."""
 
     def setUp(self):
         super().setUp()
-        self.lib = os.path.join(self.folder, "var", "lib")
-        os.makedirs(os.path.join(self.lib, "private"))
-        self.at = os.path.join(self.lib, "epmd-proved")
-        self.users = os.path.join(self.folder, "run", "systemd", "dynamic-uid")
-        os.makedirs(self.users)
-        script = read(os.path.join(TOP, "contrib", "state-folder")).replace("/var/lib", self.lib).replace("/run/", f"{self.folder}/run/")
-        write(os.path.join(self.folder, "script"), script)
+        self.own, self.former = self.inside("var", "lib", "epmd-proved"), self.inside("var", "lib", "private", "epmd-proved")
+        self.users = self.inside("run", "systemd", "dynamic-uid")
+        for folder in (self.users, os.path.dirname(self.former)):
+            os.makedirs(folder)
+        script = read(CONTRIB, "state-folder").replace("/var/lib", os.path.dirname(self.own)).replace("/run/", f"{self.folder}/run/")
+        write(self.inside("script"), script)
 
-    def call(self, user=str(os.getuid())):
-        done = self.run_in("/", "sh", os.path.join(self.folder, "script"), USER=user)
-        return done.returncode, done.stderr
+    def call(self, user=str(os.getuid()), **how):
+        self.ends(["sh", self.inside("script")], env=self.stood_in(USER=user), **how)
 
     def test_it_is_given_to_the_services_user_and_no_link_in_it_is_followed(self):
-        self.stand_in("chown", '#!/bin/sh\necho "chown $*" >> "$NOTES"\n')
-        self.assertEqual(self.call(), (0, ""))
+        self.stand_in("chown", {})
+        self.call()
         self.assertEqual(self.noted(), [])
         os.symlink("61234", os.path.join(self.users, "direct:epmd-proved"))
         for user, number in ("61235", "61235"), ("epmd-proved", "61234"):
-            self.assertEqual(self.call(user), (0, ""))
-            self.assertEqual(self.noted(), [f"chown -R -h {number}:root {self.at}/"])
+            self.call(user)
+            self.assertEqual(self.noted(), [f"chown -R -h {number}:root {self.own}/"])
             os.remove(self.notes)
 
-    def test_what_is_there_is_not_written_over(self):
-        for folder, text in (os.path.join(self.lib, "private", "epmd-proved"), "old"), (self.at, "new"):
+    def test_what_is_there_is_not_overwritten(self):
+        for folder, text in (self.former, "old"), (self.own, "new"):
             write(os.path.join(folder, "session"), text)
-        self.assertEqual(self.call(), (0, ""))
-        self.assertEqual(read(os.path.join(self.at, "session")), "new")
-        self.assertEqual(read(os.path.join(self.lib, "private", "epmd-proved", "session")), "old")
+        self.call()
+        self.assertEqual([read(folder, "session") for folder in (self.own, self.former)], ["new", "old"])
 
     def test_it_is_made_for_its_user_alone(self):
         for _ in range(2):
-            self.assertEqual(self.call(), (0, ""))
-            self.assertEqual((os.stat(self.at).st_mode & 0o7777, os.listdir(self.at)), (0o700, []))
-            os.chmod(self.at, 0o700)
+            self.call()
+            self.assertEqual((os.stat(self.own).st_mode & 0o7777, os.listdir(self.own)), (0o700, []))
+            os.chmod(self.own, 0o700)
 
     def test_recordings_of_the_first_version_are_moved_into_it(self):
-        write(os.path.join(self.lib, "private", "epmd-proved", "session"), "a")
-        os.symlink("private/epmd-proved", self.at)
+        write(os.path.join(self.former, "session"), "a")
+        os.symlink("private/epmd-proved", self.own)
         for _ in range(2):
-            self.assertEqual(self.call(), (0, ""))
-            self.assertFalse(os.path.islink(self.at))
-            self.assertEqual((os.listdir(self.at), os.listdir(os.path.join(self.lib, "private"))), (["session"], []))
+            self.call()
+            self.assertEqual((os.path.islink(self.own), os.listdir(self.own), os.listdir(os.path.dirname(self.former))), (False, ["session"], []))
 
     def test_a_link_of_the_operators_stays(self):
-        os.mkdir(os.path.join(self.folder, "disk"))
-        os.symlink(os.path.join(self.folder, "disk"), self.at)
-        self.assertEqual(self.call(), (0, ""))
-        self.assertEqual(os.readlink(self.at), os.path.join(self.folder, "disk"))
+        os.mkdir(self.inside("disk"))
+        os.symlink(self.inside("disk"), self.own)
+        self.call()
+        self.assertEqual(os.readlink(self.own), self.inside("disk"))
 
     def test_where_it_cannot_be_made_that_is_said(self):
-        write(self.at, "")
-        self.assertEqual(self.call()[0], 1)
-        self.assertEqual(read(self.at), "")
+        write(self.own, "")
+        self.call(status=1, err=re.compile("."))
+        self.assertEqual(read(self.own), "")
 
 
-if __name__ == "__main__":
-    unittest.main()
+class TryDebian(Case):
+    def test_wrong_words_are_answered_with_the_usage_before_anything_is_made(self):
+        self.stand_in("debootstrap", "#!/bin/sh\nexit 1\n")
+        script, box, package = os.path.join(CONTRIB, "try-debian"), self.inside("box"), self.inside("a.deb")
+        write(package, "")
+        for words, parts in (([], ""), (["-help"], ""), ([package, "sid"], ""), (["absent.deb"], ""), ([package, "absent.deb"], ""),
+                             ([package], "nodes absent")):
+            self.ends([script, *words], 2, err=re.compile("\nusage: try-debian PACKAGE.deb "), env=self.stood_in(BOX=box, PARTS=parts))
+            self.assertFalse(os.path.exists(box), words)
+        done = programs.run([script, package, "trixie"], env=self.stood_in(BOX=box, PARTS="nodes alone"))
+        self.assertEqual((done.returncode, os.listdir(box)), (1, ["made"]))

@@ -4,15 +4,11 @@ import os
 import re
 import unittest
 
-TOP = os.path.join(os.path.dirname(os.path.abspath(__file__)), "..", "..")
+from programs import TOP, read
+
 # A public function, up to its body. With clauses, the body begins on a line of its own.
 PUBLIC = re.compile(r'(?ms)^( *)pub (?:const )?(?:extern "C" )?fn (\w+)(.*?)(?: \{\}?|^\1\{\}?)$')
 UNPROVED = re.compile(r"(?m)^//! # (Not covered|Tested.* only)\n((?://! .+\n)+)")
-
-
-def read(path):
-    with open(os.path.join(TOP, path), encoding="utf-8") as file:
-        return file.read()
 
 
 def flat(text):
@@ -21,12 +17,12 @@ def flat(text):
 
 def sources(pattern):
     """The texts of files of the crates, by their paths."""
-    return {path: read(path) for path in glob.glob(os.path.join("crates", pattern), root_dir=TOP, recursive=True)}
+    return {path: read(TOP, path) for path in glob.glob(os.path.join("crates", pattern), root_dir=TOP, recursive=True)}
 
 
 def part(head):
     """The text of PROVED.md from a head to the next one of its rank."""
-    return re.search(rf"(?ms)^## {head}\n(.*?)(?=^## |\Z)", read("docs/PROVED.md"))[1]
+    return re.search(rf"(?ms)^## {head}\n(.*?)(?=^## |\Z)", read(TOP, "docs/PROVED.md"))[1]
 
 
 class Trust(unittest.TestCase):
@@ -47,7 +43,7 @@ class Trust(unittest.TestCase):
         self.assertEqual([path for path, text in files.items() if re.search(r"(?i)axiom|postulate", text)], [])
 
     def test_libraries_callers_and_handles_are_named(self):
-        lines = [line.partition(":") for line in read("crates.txt").splitlines() if not line.startswith("#")]
+        lines = [line.partition(":") for line in read(TOP, "crates.txt").splitlines() if not line.startswith("#")]
         used = {name for _, _, uses in lines for name in uses.split()} - {name.split()[0] for name, _, _ in lines}
         self.named(*(f"`{name}`" for name in used | {"std", "std_alloc", "std_collections", "std_heap", "std_io"}))
         exports = sum(text.count("no_mangle") for text in sources("*/src/*.rt").values())
@@ -60,7 +56,7 @@ class Contracts(unittest.TestCase):
                  if "_testing/" not in path and "/tests" not in path for _, name, clauses in PUBLIC.findall(text)]
         bare = {(file, name) for file, name, has_one in found if not has_one}
         counted = f"{len(bare)} of {len(found)} public functions"
-        self.assertIn(counted, flat(read("README.md")))
+        self.assertIn(counted, flat(read(TOP, "README.md")))
         listed = re.search(rf"- What {counted} return or change\. (.*?) - ", flat(part("Not proved")))[1]
         groups = re.findall(r"([^()]+) \(`([\w.]+)`\)", listed)
         self.assertEqual({(file, name) for names, file in groups for name in re.findall(r"`(\w+)`", names)}, bare)
@@ -70,7 +66,3 @@ class Contracts(unittest.TestCase):
                 for path, head in sources("*/src/lib.rt").items() for title, text in UNPROVED.findall(head)}
         self.assertGreater(len(said), 7)
         self.assertEqual({flat(item) for item in re.findall(r"(?m)^- (`portmap_.+(?:\n  .+)*)", part("Not proved"))}, said)
-
-
-if __name__ == "__main__":
-    unittest.main()

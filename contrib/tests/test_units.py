@@ -3,7 +3,7 @@ import os
 import re
 import unittest
 
-from programs import CONTRIB
+from programs import CONTRIB, read
 
 UNITS = os.path.join(CONTRIB, "units")
 
@@ -68,7 +68,7 @@ ROWS = {
     "epmd-proved-pause@.service": {
         "Unit": ["StartLimitIntervalSec=0"],
         "Service": [
-            "Type=oneshot",  # Whoever comes after it waits for its end.
+            "Type=oneshot",  # What starts after it waits for its end.
             "ExecStart=-/usr/local/lib/epmd-proved/pause %i",
             "LogRateLimitIntervalSec=60",
             "LogRateLimitBurst=1",
@@ -148,16 +148,15 @@ class Units(unittest.TestCase):
     def test_each_unit_says_what_it_must_and_nothing_else(self):
         self.assertEqual(sorted(os.listdir(UNITS)), sorted(ROWS))
         for name, wanted in ROWS.items():
-            with self.subTest(unit=name), open(os.path.join(UNITS, name), encoding="utf-8") as file:
-                found = sections(file.read())
+            with self.subTest(unit=name):
+                found = sections(read(UNITS, name))
                 told = {head: sorted(line for line in lines if not line.startswith(TELLING)) for head, lines in found.items()}
                 self.assertEqual(told, {head: sorted(lines) for head, lines in wanted.items()})
 
     def test_the_order_of_lines_that_add_to_one_another(self):
         """An empty line takes away those before it, and a later file of settings counts more than an earlier line."""
         for name, rows in ROWS.items():
-            with open(os.path.join(UNITS, name), encoding="utf-8") as file:
-                lines = sections(file.read()).get("Service", [])
+            lines = sections(read(UNITS, name)).get("Service", [])
             for key in ("ExecStart", "Environment", "SystemCallFilter"):
                 of_key = [line for line in lines if line.startswith(key)]
                 self.assertEqual(of_key, [line for line in rows.get("Service", []) if line.startswith(key)], name)
@@ -165,11 +164,6 @@ class Units(unittest.TestCase):
     def test_there_is_no_restart(self):
         """A restart by the service manager restarts what requires the service. And the port is served where no folder can be made."""
         for name in ROWS:
-            with open(os.path.join(UNITS, name), encoding="utf-8") as file:
-                text = file.read()
+            text = read(UNITS, name)
             self.assertIsNone(re.search(r"(?m)^Restart\w*=", text), name)
             self.assertEqual("\nStateDirectory=" in text, name == "epmd-proved-metrics.service", name)
-
-
-if __name__ == "__main__":
-    unittest.main()

@@ -4,24 +4,27 @@ import re
 import shutil
 import signal
 import subprocess
-import tempfile
 import time
-import unittest
 
 import programs
+from programs import CONTRIB, TOP, Case, read, write
 
-WRAPPER = os.path.join(os.path.dirname(os.path.abspath(__file__)), "..", "epmd")
+WRAPPER = os.path.join(CONTRIB, "epmd")
 
-# Tells the place of a word that it does not know, does nothing with -once in front, and notes its words. With -names it ends well once it is
-# up, or was asked $UP_AT times; else it says what it is told to say, and ends or stays.
+# Names a word that it does not know and an address that is wrong, does nothing with -once, and notes its words. With -names it ends
+# well once it is up, or was asked $UP_AT times. Else it prints what the test has set, and ends or stays.
 STAND_IN = """#!/bin/sh
-place=0
+is_once=no
 for word in "$@"; do
-    case $word in -bogus | *.300) echo "epmd: bad word $place" >&2; exit 2 ;; esac
-    place=$((place + 1))
+    case $word in
+        -bogus) echo "epmd: unknown word \\"-bogus\\"; see epmd -help" >&2; exit 2 ;;
+        *.300) echo "epmd: -address needs IPv4 addresses separated by commas, not \\"$word\\"; see epmd -help" >&2; exit 2 ;;
+        -port) is_port_given=yes ;;
+        -once) is_once=yes ;;
+    esac
 done
-if [ "$ERL_EPMD_PORT" = x ]; then echo "epmd: bad port in environment" >&2; exit 2; fi
-if [ "$1" = -once ]; then exit 0; fi
+if [ -z "$is_port_given" ] && [ "$ERL_EPMD_PORT" = x ]; then echo "epmd: ERL_EPMD_PORT needs a number from 1 to 65535" >&2; exit 2; fi
+if [ $is_once = yes ]; then exit 0; fi
 echo "$@" >> "$FOLDER/words"
 for word in "$@"; do
     if [ "$word" = -names ]; then
@@ -42,24 +45,18 @@ fi
 """
 
 
-class Wrapper(unittest.TestCase):
+class Wrapper(Case):
     def setUp(self):
-        folder = tempfile.TemporaryDirectory()
-        self.addCleanup(folder.cleanup)
-        self.folder = folder.name
-        self.program = os.path.join(self.folder, "program")
-        with open(self.program, "w") as file:
-            file.write(STAND_IN)
-        os.chmod(self.program, 0o755)
-        self.temporary = os.path.join(self.folder, "temporary")
+        super().setUp()
+        self.program, self.temporary = self.inside("program"), self.inside("temporary")
+        write(self.program, STAND_IN, 0o755)
         os.mkdir(self.temporary)
 
     def staying(self):
         """The process of a program that stays, which ends with the test."""
         while not os.path.exists(os.path.join(self.folder, "pid")):
             time.sleep(0.01)
-        with open(os.path.join(self.folder, "pid")) as file:
-            pid = int(file.read())
+        pid = int(read(self.inside("pid")))
         self.addCleanup(os.kill, pid, signal.SIGKILL)
         return pid
 
@@ -70,8 +67,7 @@ class Wrapper(unittest.TestCase):
         return programs.run([wrapper, *words], env=self.env(**env))
 
     def words(self):
-        with open(os.path.join(self.folder, "words")) as file:
-            return file.read().splitlines()
+        return read(self.inside("words")).splitlines()
 
     def test_words_are_passed_on(self):
         self.assertEqual(self.call("-port", "5000", "-stop", "a b").returncode, 0)
@@ -87,23 +83,32 @@ class Wrapper(unittest.TestCase):
         self.assertEqual((done.returncode, done.stdout, done.stderr), (2, "", f"epmd: {line}\n"))
         self.assertFalse(os.path.exists(os.path.join(self.folder, "words")))
 
-    def test_a_bad_word_is_told_itself_at_its_place(self):
-        self.refused("bad word 1: -bogus: see epmd -help", "-d", "-bogus")
-        self.refused("bad word 1: -bogus: see epmd -help", "-d", "-bogus", ERL_EPMD_ADDRESS="10.0.0.5")
-        self.refused("bad word 0: -bogus: see epmd -help", "-bogus", "-daemon")
-        self.refused("bad word 2: -bogus: see epmd -help", "-port", "1", "-bogus", "-names")
-        self.refused("bad word 1: -bogus: see epmd -help", "-names", "-bogus", ERL_EPMD_ADDRESS="10.0.0.5")
+    BOGUS = 'unknown word "-bogus"; see epmd -help'
+    BAD_PORT = 'ERL_EPMD_PORT needs a number from 1 to 65535, not "x"'
+
+    def test_a_bad_word_is_told_as_the_program_tells_it(self):
+        self.refused(self.BOGUS, "-d", "-bogus")
+        self.refused(self.BOGUS, "-d", "-bogus", ERL_EPMD_ADDRESS="10.0.0.5")
+        self.refused(self.BOGUS, "-bogus", "-daemon")
+        self.refused(self.BOGUS, "-port", "1", "-bogus", "-names")
+        self.refused(self.BOGUS, "-names", "-bogus", ERL_EPMD_ADDRESS="10.0.0.5")
 
     def test_what_is_bad_in_the_environment_is_told(self):
-        self.refused("bad address in environment: 10.0.0.300", "-d", ERL_EPMD_ADDRESS="10.0.0.300")
+        for words in [["-d"], ["-names"], ["-address", "10.0.0.5"], ["-address", "10.0.0.300"], ["-bogus"]]:
+            for env in {}, {"ERL_EPMD_PORT": "x"}:
+                line = 'ERL_EPMD_ADDRESS needs addresses separated by commas, not "10.0.0.300"'
+                self.refused(line, *words, ERL_EPMD_ADDRESS="10.0.0.300", **env)
+        for env in {}, {"ERL_EPMD_ADDRESS": "10.0.0.5"}, {"ERL_EPMD_ADDRESS": "10.0.0.5", "ERL_EPMD_PORT": "x"}:
+            for words in ["-address", "10.0.0.300"], ["-names", "-address", "10.0.0.300"]:
+                self.refused('-address needs IPv4 addresses separated by commas, not "10.0.0.300"; see epmd -help', *words, **env)
         for words in ([], ["-names"]):
-            self.refused("bad port in environment: x", *words, ERL_EPMD_PORT="x")
+            self.refused(self.BAD_PORT, *words, ERL_EPMD_PORT="x")
 
     def test_sockets_of_another_process_are_not_its_own(self):
         path = os.path.join(self.folder, "session")
         for process in ("1", ""):
             self.left("session")
-            self.refused("bad word 2: -bogus: see epmd -help", "-record", path, "-bogus", LISTEN_PID=process, LISTEN_FDS="1")
+            self.refused(self.BOGUS, "-record", path, "-bogus", LISTEN_PID=process, LISTEN_FDS="1")
             self.assertEqual(self.call("-record", path, LISTEN_PID=process, LISTEN_FDS="1").returncode, 0)
             self.assertEqual(self.files(), ["session"])
             os.remove(os.path.join(self.folder, "words"))
@@ -116,8 +121,8 @@ class Wrapper(unittest.TestCase):
         return done.stderr, self.words()
 
     def test_with_sockets_that_are_handed_over_it_serves_whatever_the_words(self):
-        self.assertEqual(self.handed("-systemd", "-d", "-bogus"), ("epmd: bad word 1: -bogus: see epmd -help: no option counts\n", [""]))
-        self.assertEqual(self.handed("-d", ERL_EPMD_PORT="x"), ("epmd: bad port in environment: x: no option counts\n", ["", ""]))
+        self.assertEqual(self.handed("-systemd", "-d", "-bogus"), (f"epmd: {self.BOGUS}: no option counts\n", [""]))
+        self.assertEqual(self.handed("-d", ERL_EPMD_PORT="x"), (f"epmd: {self.BAD_PORT}: no option counts\n", ["", ""]))
         self.assertEqual(self.handed("-d"), ("", ["", "", "-d"]))
 
     def test_where_no_option_counts_the_process_says_so(self):
@@ -245,20 +250,17 @@ class Wrapper(unittest.TestCase):
 
     def paused(self, **env):
         """The status of a start, and how many seconds of pauses it took: `sleep` ends at once, and notes for how long it was called."""
-        with open(os.path.join(self.folder, "sleep"), "w") as file:
-            file.write('#!/bin/sh\necho "$1" >> "$FOLDER/pauses"\n')
-        os.chmod(os.path.join(self.folder, "sleep"), 0o755)
-        done = self.call("-daemon", STAYS="yes", PATH=f"{self.folder}:{os.environ['PATH']}", **env)
+        self.stand_in("sleep", '#!/bin/sh\necho "$1" >> "$FOLDER/pauses"\n')
+        done = self.call("-daemon", STAYS="yes", PATH=f"{self.bin}:{os.environ['PATH']}", **env)
         self.staying()
-        with open(os.path.join(self.folder, "pauses")) as file:
-            return done.returncode, sum(map(float, file))
+        return done.returncode, sum(map(float, read(self.inside("pauses")).splitlines()))
 
     def test_a_start_may_take_its_time(self):
         status, seconds = self.paused(UP_AT="90")
         self.assertEqual(status, 0)
         self.assertGreater(seconds, 4)
 
-    def test_one_that_never_answers_is_given_up_after_five_seconds(self):
+    def test_the_wait_for_one_that_never_answers_ends_after_five_seconds(self):
         status, seconds = self.paused(UP_AT="100000")
         self.assertEqual((status, round(seconds)), (3, 5))
 
@@ -269,10 +271,8 @@ class Wrapper(unittest.TestCase):
         self.assertEqual(os.listdir(self.temporary), [])
 
     def test_where_nothing_can_be_written_its_status_is_told(self):
-        with open(os.path.join(self.folder, "mktemp"), "w") as file:
-            file.write("#!/bin/sh\nexit 1\n")
-        os.chmod(os.path.join(self.folder, "mktemp"), 0o755)
-        path = f"{self.folder}:{os.environ['PATH']}"
+        self.stand_in("mktemp", "#!/bin/sh\nexit 1\n")
+        path = f"{self.bin}:{os.environ['PATH']}"
         done = self.call("-daemon", FAILS="polling failed", PATH=path)
         self.assertEqual((done.returncode, done.stderr), (3, "epmd: the start failed with status 3\n"))
         self.assertEqual(self.call("-daemon", STAYS="yes", PATH=path).returncode, 0)
@@ -297,9 +297,7 @@ class Wrapper(unittest.TestCase):
         self.assertEqual(self.words(), ["-daemon -kill"])
 
     def test_it_knows_each_command_of_the_program(self):
-        with open(os.path.join(os.path.dirname(WRAPPER), "..", "crates", "portmap_command", "src", "items.rt")) as source:
-            text = source.read()
-        arms = re.findall(r'(.*) => (?:Word::Act\(|Some\(Use::Action\))', text)
+        arms = re.findall(r'(.*) => (?:Word::Act\(|Some\(Use::Action\))', read(TOP, "crates", "portmap_command", "src", "items.rt"))
         acts = re.findall(r'"(-\w+)"', " ".join(arms))
         self.assertLessEqual({"-names", "-audit"}, set(acts))
         for word in acts:
@@ -307,11 +305,8 @@ class Wrapper(unittest.TestCase):
             self.assertEqual(self.call(word, "x", ERL_EPMD_ADDRESS="fe80::1").stderr, "", word)
 
     def test_it_does_not_call_itself(self):
-        copy = os.path.join(self.folder, "epmd")
-        with open(WRAPPER) as own, open(copy, "w") as file:
-            file.write(own.read())
-        os.chmod(copy, 0o755)
-        self.program = copy
+        self.program = copy = self.inside("epmd")
+        write(copy, read(WRAPPER), 0o755)
         for words in ([], ["-daemon"], ["-names"]):
             done = self.call(*words)
             self.assertEqual(done.returncode, 3, words)
@@ -323,8 +318,7 @@ class Wrapper(unittest.TestCase):
         self.assertEqual((done.returncode, done.stderr), (3, f"epmd: no port mapper at {self.program}\n"))
 
     def test_it_tells_its_version_and_its_words(self):
-        with open(os.path.join(os.path.dirname(WRAPPER), "..", "VERSION")) as file:
-            version = file.read().strip()
+        version = read(TOP, "VERSION").strip()
         for word in ("-version", "--version"):
             self.assertEqual(self.call(word).stdout, f"epmd-proved {version}\n")
         for word in ("-help", "--help", "-h"):
@@ -339,7 +333,3 @@ class Wrapper(unittest.TestCase):
     def test_a_command_without_an_output_ends_as_the_program_does(self):
         done = programs.run(["sh", "-c", f"{WRAPPER} -kill >&-"], env=self.env(FAILS="is closed"))
         self.assertEqual((done.returncode, done.stderr), (3, "epmd: is closed\n"))
-
-
-if __name__ == "__main__":
-    unittest.main()

@@ -1,13 +1,15 @@
 -- What the command does as a client of the running port mapper: epmd(1) for `-names`, `-kill`, `-stop` and what they print. Profile:
 -- `-dump`, lines for refusals and strange answers, and each status.
 use Rattle.std.specs.{Fmt.decimal, List.flat_map}
-use Rattle.std.specs.Prelude.{◌≡◌, ◌≢◌, ℕ, List, [], ◌∷◌, ◌++◌, codes, Bool, true, false, Option, Result, Ok, Err, ◌⊎◌}
+use Rattle.std.specs.Prelude.{◌≡◌, ◌≢◌, ℕ, List, [], ◌∷◌, ◌++◌, codes, map, Bool, true, false, Option, Result, Ok, Err, ◌⊎◌}
 use Rattle.std.specs.{declared.alloc.Global.Global, declared.io.ErrorKind.ErrorKind}
 use Rattle.std.specs.declared.io.ErrorKind.TheVariants.{AddrNotAvailable, ConnectionRefused, HostUnreachable, NetworkDown}
 use Rattle.std.specs.declared.io.ErrorKind.TheVariants.{NetworkUnreachable, OutOfMemory}
 use Rattle.std.specs.declared.vec.Vec.{Vec}
-use Rattle.portmap_wire.specs.{List.names_line, declared.list.Line.Line}
+use Rattle.portmap_wire.specs.{List.names_line, Request.Spells, declared.list.Line.Line}
 use Rattle.portmap_wire.specs.declared.request.Request.TheVariants as request
+use Rattle.portmap_core.specs.{Config.{Configuration, IsConfiguration}, Entry.Entry, Laws.Completes, Run.Run, Serving.names_line_of}
+use Rattle.portmap_core.specs.{State.{State, empty_state}, declared.connection.Connection.Connection}
 use Rattle.portmap_link.specs.{Once.WritesReply, declared.single.OnceFault.OnceFault}
 use Rattle.portmap_operator.specs.Showing.{shown}
 use Rattle.portmap_client.specs.{Answer.{SaysNames, SaysDump, SaysKill, SaysStop}, Exchange.{StreamView, Calls}}
@@ -104,3 +106,15 @@ abbrev pub PrintsPage : Result Page Failure → ℕ → Option (List ℕ) → Op
 PrintsPage (Ok page) status old new broken untouched silent fails = Prints page.text.items page.status status old new broken silent fails
     × (status ≢ the.FAILED → silent)
 PrintsPage (Err failure) status old new broken untouched silent fails = (status ≡ status_of failure) × untouched × fails failure
+
+-- ---- laws
+
+-- After any run, `-names` prints the reply as the port mapper's port and the active names with their ports, in order of registration and
+-- escaped, and as nothing else.
+abbrev pub NamesArePrinted : Type 0
+NamesArePrinted =
+    (cfg : Configuration) (es : List Entry) (s s' : State) (slot : ℕ) (connection : Connection) (body reply : List ℕ)
+    (list : ℕ × Vec Line Global)
+    → IsConfiguration cfg → Run cfg empty_state es s → Completes cfg s slot connection body reply s' → Spells body request.Names
+    → SaysNames reply (Ok list)
+    → answer_text (answer.Names list) ≡ Ok (shown (names_text cfg.port (map names_line_of s.names.active)), the.DONE)

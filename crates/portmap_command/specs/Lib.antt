@@ -4,6 +4,7 @@ pub mod Numbers
 pub mod Addresses
 pub mod Words
 pub mod Meaning
+pub mod Faults
 pub mod Daemon
 pub mod Handing
 pub mod Commands

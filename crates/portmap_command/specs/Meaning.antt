@@ -1,16 +1,15 @@
 -- The command that items and the environment make: profile, with the environment's variables of epmd(1).
-use Rattle.std.specs.{Fmt.decimal, List.list_any, Option.option_or, Prelude.{◌≡◌, ℕ, ◌+◌, Bool, true, ◌<◌, List}}
-use Rattle.std.specs.Prelude.{[], ◌∷◌, ◌++◌, if◌then◌else◌, ◌||◌, string_bytes, Option, Some, None, option_map, is_some}
+use Rattle.std.specs.{List.list_any, Option.option_or, Prelude.{◌≡◌, ℕ, ◌+◌, Bool, true, ◌<◌, List}}
+use Rattle.std.specs.Prelude.{[], ◌∷◌, if◌then◌else◌, ◌||◌, string_bytes, Option, Some, None, option_map, is_some}
 use Rattle.std.specs.{Prelude.{count_by, unwrap_or}, declared.io.ErrorKind.{ErrorKind, TheVariants.OutOfMemory}}
 use Rattle.portmap_command.specs.{Addresses.{anywhere, AreListening}, Numbers.{IsWithin, WritesWithin}, declared.items.Word.Word}
 use Rattle.portmap_command.specs.Words.{action_of, port_of, addresses_of, timeout_of, workers_of, recording_of, figures_of}
 use Rattle.portmap_command.specs.{Words.{is_relaxed, is_debug, is_daemon, is_action, last_by, Spells}, declared.plan.Plan.Plan}
 use Rattle.portmap_command.specs.{declared.plan.TheConstants.{TIMEOUT, WORKERS}, declared.words.Command.Command}
 use Rattle.portmap_command.specs.{declared.words.Action.TheVariants.Serve, declared.words.Env.Env, declared.words.WordFault.WordFault}
-use Rattle.portmap_command.specs.declared.words.WordFault.TheVariants.{BadEnvPort, BadValue, MissingValue, NoMemory, TwoCommands}
-use Rattle.portmap_command.specs.declared.words.WordFault.TheVariants.{Unknown}
+use Rattle.portmap_command.specs.declared.words.WordFault.TheVariants.{BadEnvPort, BadValue, MissingValue, NoMemory, NotUtf8}
+use Rattle.portmap_command.specs.declared.words.WordFault.TheVariants.{TwoCommands, Unknown}
 use Rattle.portmap_command.specs.declared.actions.TheConstants as actions
-use Rattle.portmap_command.specs.declared.words.TheConstants as words
 
 -- ---- plans
 
@@ -79,6 +78,7 @@ IsFaultAt index behind has_action (Unknown at) = at ≡ index
 IsFaultAt index behind has_action (MissingValue at) = (at ≡ index) × (behind ≡ 0)
 IsFaultAt index behind has_action (BadValue at) = (at ≡ index + 1) × (0 < behind)
 IsFaultAt index behind has_action (TwoCommands at) = (at ≡ index) × (has_action ≡ true)
+IsFaultAt index behind has_action NotUtf8 = ⊥
 IsFaultAt index behind has_action BadEnvPort = ⊥
 IsFaultAt index behind has_action NoMemory = Unit {0}
 
@@ -88,25 +88,11 @@ NamesWord count (Unknown at) = at < count
 NamesWord count (MissingValue at) = at + 1 ≡ count
 NamesWord count (BadValue at) = (0 < at) × (at < count)
 NamesWord count (TwoCommands at) = at < count
+NamesWord count NotUtf8 = Unit {0}
 NamesWord count BadEnvPort = Unit {0}
 NamesWord count NoMemory = Unit {0}
-
-abbrev pub status_of_fault : WordFault → ℕ
-status_of_fault NoMemory = actions.FAILED
-status_of_fault fault = actions.REFUSED
-
-abbrev bad_word : ℕ → List ℕ
-bad_word index = words.BAD_WORD.now ++ decimal index ++ 10 ∷ []
-
-abbrev pub line_of_fault : WordFault → List ℕ
-line_of_fault (Unknown index) = bad_word index
-line_of_fault (MissingValue index) = bad_word index
-line_of_fault (BadValue index) = bad_word index
-line_of_fault (TwoCommands index) = bad_word index
-line_of_fault BadEnvPort = words.BAD_PORT.now
-line_of_fault NoMemory = actions.MEMORY_RAN_OUT.now
 
 -- The fault of an error in reading the system's words: memory ran out, or a word is not UTF-8.
 abbrev pub fault_of_words : ErrorKind → WordFault
 fault_of_words OutOfMemory = NoMemory
-fault_of_words kind = Unknown 0
+fault_of_words kind = NotUtf8

@@ -64,9 +64,11 @@ const NO_CONNECTION: &[u8] = b"epmd: Cannot connect to local epmd\n";
 
 const STRANGE_ANSWER: &[u8] = b"epmd: strange answer\n";
 
-const KILL_REFUSED: &[u8] = b"epmd: kill not allowed\n";
+const KILL_REFUSED: &[u8] =
+    b"epmd: kill not allowed: names are registered, and the port mapper runs without -relaxed_command_check\n";
 
-const STOP_REFUSED: &[u8] = b"epmd: stop not allowed\n";
+const STOP_REFUSED: &[u8] =
+    b"epmd: stop not allowed: the port mapper runs without -relaxed_command_check\n";
 
 /// The reason for which an action is not done.
 #[derive(Clone, Copy, PartialEq, Eq)]

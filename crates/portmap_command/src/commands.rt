@@ -5,7 +5,7 @@ ghost use Rattle.portmap_client.specs.Exchange.{view};
 ghost use Rattle.portmap_client.specs.declared.fault.ClientFault.{ClientFault};
 ghost use Rattle.portmap_command.specs.Actions.{Fails};
 ghost use Rattle.portmap_command.specs.Commands.{Asks, head_line, names_text, dump_text};
-ghost use Rattle.portmap_command.specs.Commands.{answer_text, IsPage, IsPageOf, Prints, PrintsPage};
+ghost use Rattle.portmap_command.specs.Commands.{answer_text, IsPage, IsPageOf, NamesArePrinted, Prints, PrintsPage};
 ghost use Rattle.portmap_command.specs.declared.actions.Failure.{Failure};
 ghost use Rattle.portmap_command.specs.declared.commands.ClientAnswer.{ClientAnswer};
 ghost use Rattle.portmap_command.specs.declared.commands.Page.{Page};
@@ -200,3 +200,9 @@ pub fn do_client<S: Input + Output, W: Write, E: Write>(
         Err(failure) => fail(errors, failure),
     }
 }
+
+/// Law: after any run, what `-names` prints of the port mapper's reply is each active name with its port, in order of
+/// registration, escaped.
+pub fn names_are_printed()
+    ensures { NamesArePrinted }
+{}

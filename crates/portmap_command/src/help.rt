@@ -1,7 +1,7 @@
 //! The version of the program and its help.
 
 /// The line of `-version`, with the version of the file `VERSION`.
-pub const VERSION: &[u8] = b"epmd-proved 1.1.0\n";
+pub const VERSION: &[u8] = b"epmd-proved 1.2.0\n";
 
 /// The text of `-help`, which is that of the wrapper.
 pub const HELP: &[u8] = b"\

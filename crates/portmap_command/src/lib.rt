@@ -24,6 +24,7 @@ pub mod auditing;
 pub mod commands;
 pub mod daemon;
 pub mod errors;
+pub mod faults;
 pub mod figures;
 pub mod files;
 pub mod handing;

@@ -49,13 +49,15 @@ const CONNECTING: u64 = 10;
 /// timeouts.
 const TURN: u64 = 10;
 
-/// Returns the words after the program's own name.
-fn own_words<R: env::Env + AllocGlobal>(rt: &R, alloc: Global) -> io::Result<Vec<String>> {
-    let mut words = Vec::new(alloc);
+/// The system's number of the error that a file is not there.
+const NO_SUCH_FILE: i32 = 2;
+
+/// Appends the words after the program's own name.
+fn put_words<R: env::Env + AllocGlobal>(rt: &R, words: &mut Vec<String>) -> io::Result<()> {
     for word in env::args(rt)?.skip(1) {
         words.push(word)?;
     }
-    Ok(words)
+    Ok(())
 }
 
 /// Returns the text of an environment variable, or `None` if it is not set. A text that is not UTF-8 becomes empty.
@@ -78,13 +80,17 @@ fn own_env<R: env::Env + Alloc<A = Global>>(rt: &R) -> Result<Env, WordFault> {
     Ok(Env { port, relaxed })
 }
 
-/// Reads the words and the environment of this process.
-pub fn asked<R: env::Env + AllocGlobal>(rt: &R, alloc: Global) -> Result<Command, WordFault>
+/// Reads the environment of this process and its words, which `words` gets. A fault names one of them.
+pub fn asked<R: env::Env + AllocGlobal>(
+    rt: &R,
+    alloc: Global,
+    words: &mut Vec<String>,
+) -> Result<Command, WordFault>
     ensures { IfOk result (λ command. CanServe command) }
 {
-    let words = own_words(rt, alloc)?;
+    put_words(rt, words)?;
     let env = own_env(rt)?;
-    read_words(alloc, &words, &env)
+    read_words(alloc, words.as_slice(), &env)
 }
 
 /// Returns the time since 1970, or `None` if the clock cannot be read or is set before 1970.
@@ -337,9 +343,8 @@ fn do_recording<W: Write, E: Write>(
     if let Some(oldest) = files.first() {
         return do_files(rt, &files, oldest, output, errors);
     }
-    let status = fail(errors, Failure::Device);
-    name_file(errors, path.as_bytes(), status, true);
-    status
+    let error = io::Error::from_raw_os_error(NO_SUCH_FILE);
+    fail_for(rt.alloc(), errors, Failure::Device, path, &error)
 }
 
 fn connecting() -> Duration

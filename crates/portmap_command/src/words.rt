@@ -1,27 +1,18 @@
 //! Reads the words of the command.
 ghost use Rattle.std.specs.Prelude.{◌≡◌, ◌≤◌, List, [], length, map, string_bytes, IfOk, IfErr};
 ghost use Rattle.portmap_command.specs.Numbers.{IsWithin};
-ghost use Rattle.portmap_command.specs.Errors.{IsPrinted};
-ghost use Rattle.portmap_command.specs.Meaning.{CanServe, SaysCommand, Holds, NamesWord, status_of_fault};
-ghost use Rattle.portmap_command.specs.Meaning.{line_of_fault};
+ghost use Rattle.portmap_command.specs.Meaning.{CanServe, SaysCommand, Holds, NamesWord};
 ghost use Rattle.portmap_command.specs.Words.{Spells};
 ghost use Rattle.portmap_command.specs.declared.items.Word.{Word};
 
-use crate::actions::{Failure, REFUSED, fail};
-use crate::errors::{say, say_number};
 use crate::items::read_word;
 use crate::plan::Plan;
-use portmap_link::{NoMemory, Writing};
+use portmap_link::NoMemory;
 use portmap_record::Text;
 use portmap_wire::Name;
 use std::alloc::Global;
 use std::io;
-use std::io::{ErrorKind, Write};
-use thiserror::Error;
-
-const BAD_WORD: &[u8] = b"epmd: bad word ";
-
-const BAD_PORT: &[u8] = b"epmd: bad port in environment\n";
+use std::io::ErrorKind;
 
 /// A request to the daemon on this host.
 #[derive(Drop)]
@@ -100,24 +91,19 @@ impl Drop for Command {
 }
 
 /// The reason for which words are not a command. Words are numbered from 0.
-#[derive(Clone, Copy, Debug, PartialEq, Eq, Error)]
+#[derive(Clone, Copy, Debug, PartialEq, Eq)]
 pub enum WordFault {
-    /// An unknown word. A word that is not UTF-8 is reported as word 0.
-    #[error("bad word {0}")]
     Unknown(usize),
     /// The last word, which needs a value.
-    #[error("bad word {0}")]
     MissingValue(usize),
     /// A value that the word before it does not take.
-    #[error("bad word {0}")]
     BadValue(usize),
     /// The word of a second action.
-    #[error("bad word {0}")]
     TwoCommands(usize),
+    /// A word that is not UTF-8.
+    NotUtf8,
     /// The environment's port is invalid, and no word gives a port.
-    #[error("bad port in environment")]
     BadEnvPort,
-    #[error("out of memory")]
     NoMemory,
 }
 
@@ -143,29 +129,8 @@ impl From<io::Error> for WordFault {
     fn from(error: io::Error) -> WordFault {
         match error.kind() {
             ErrorKind::OutOfMemory => WordFault::NoMemory,
-            _ => WordFault::Unknown(0),
+            _ => WordFault::NotUtf8,
         }
-    }
-}
-
-/// Reports why words are not a command. Returns the status. A failure of `errors` changes nothing else.
-pub fn refuse<E: Write>(errors: &mut Writing<E>, fault: WordFault) -> u8
-    ensures status { result ≡ status_of_fault fault }
-    ensures line { IsPrinted E.contents (line_of_fault fault) errors.old errors.new }
-{
-    match fault {
-        WordFault::Unknown(index)
-        | WordFault::MissingValue(index)
-        | WordFault::BadValue(index)
-        | WordFault::TwoCommands(index) => {
-            let _ = say_number(errors, BAD_WORD, index as u64, b"\n");
-            REFUSED
-        }
-        WordFault::BadEnvPort => {
-            let _ = say(errors, BAD_PORT);
-            REFUSED
-        }
-        WordFault::NoMemory => fail(errors, Failure::Memory),
     }
 }
 

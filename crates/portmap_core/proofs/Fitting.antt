@@ -12,7 +12,7 @@ use Rattle.portmap_core.specs.{Config.Configuration, Connections.ConnectionMap, 
 use Rattle.portmap_core.specs.{Held.{AreHeld, HeldValue, connection_held, entries_held}, Laws.IsReplied}
 use Rattle.portmap_core.specs.{Owned.{IsOwned, IsSlotFor}, State.State}
 use Rattle.portmap_core.specs.{declared.connection.Connection.Connection, declared.event.Fate.Fate}
-use Rattle.portmap_core.proofs.{Counts.cut_len, HeldLaws.found, Owned.waiting_free, Slots.{cut_other, other_key}}
+use Rattle.portmap_core.proofs.{Counts.cut_len, HeldLaws.found, Owned.{AreSlotsFor, waiting_free}, Slots.{cut_other, other_key}}
 
 -- A property of all listed connections holds of the connection found at a slot.
 found_has : (P : ℕ → Connection → Type 0) (q : ℕ) (held : List HeldValue) → All (λ h. P h.slot (connection_held h)) held
@@ -32,9 +32,6 @@ is_open owns o e has = search rules
 
 abbrev AreOpen : ConnectionMap → List Row → Type 0
 AreOpen connections rows = All (λ row. IsSome (map.get connections row.slot)) rows
-
-abbrev AreSlotsFor : Names → ConnectionMap → Type 0
-AreSlotsFor names connections = (slot : ℕ) → IsSlotFor (owns_name slot names) (map.get connections slot)
 
 -- Names and connections agree at every slot if and only if they agree for each listed connection and all owners are
 -- open.

@@ -1,32 +1,27 @@
 -- Names that become inactive, lookups of inactive names, and their next creations.
 use Rattle.std.specs.{Cmp.Lexicographic.same_text, List.{AllByRecursion, IsDistinct, position_or_len}}
-use Rattle.std.specs.Prelude.{find, is_some, map as list_map, nat_le, not, option_map, position, remove, slice_get, ◌==◌, ◌&&◌, ◌⊎◌}
+use Rattle.std.specs.Prelude.{filter, find, is_some, map as list_map, nat_le, not, option_map, position, remove, slice_get}
+use Rattle.std.specs.Prelude.{◌==◌, ◌&&◌, ◌⊎◌}
 use Rattle.std.proofs.Common.{◌≡◌, ◌≢◌, ℕ, zero, suc, ◌+◌, ◌<◌, ◌≤◌, Bool, true, false, cond, List, [], ◌∷◌, ◌++◌, length, drop}
 use Rattle.std.proofs.Common.{Option, Some, None, refl, sym, ap, subst, ◌∙◌, arith, inl, inr, rules}
 use Rattle.std.proofs.lemmas.{Bool.{and_parts, cases_Bool, cond_both, eq-eqb, false_from_ne_true, leb-true, or_parts}}
 use Rattle.std.proofs.lemmas.{Bool.Decides.nat_tests, List.{length-append, length-drop}, List.Edits.length-remove}
 use Rattle.std.proofs.lemmas.{List.Folds.{find-append, position_or_len_push}, List.Quantifiers.position-Some}
 use Rattle.std.proofs.lemmas.{List.Sums.prefix_len-le-length, Option.{same_Some, slice_get_within}}
-use Rattle.portmap_wire.specs.{Node.Node, Reply.{alive_reply, port2_reply}, Request.Spells}
-use Rattle.portmap_wire.specs.declared.request.Request.{Request, TheVariants.{Alive, Dump, Kill, Port, Stop}}
-use Rattle.portmap_wire.specs.declared.request.Request.TheVariants as request
-use Rattle.portmap_feed.specs.Stream.{Framing, More, Zero, TooLarge, Whole, first_request}
-use Rattle.portmap_table.specs.{Laws.row_of, Rows.{AreKept, Names, RetiredName, active_row, is_active, is_full_for, is_known, known_len}}
-use Rattle.portmap_table.specs.Rows.{old_name, registered, remembered, retired_at, retired_last, retired_of, retired_row, same_name}
-use Rattle.portmap_table.specs.{Rows.{slot_of, with_room, without_at, without_oldest}, declared.row.Row.Row}
+use Rattle.portmap_wire.specs.{Node.Node, Reply.port2_reply, declared.request.Request.TheVariants.{Alive, Port}}
+use Rattle.portmap_table.specs.{Laws.row_of, Rows.{AreKept, Names, RetiredName, active_row, is_known, known_len, old_name, registered}}
+use Rattle.portmap_table.specs.Rows.{remembered, retired_at, retired_last, retired_of, retired_row, same_name, slot_of, with_room}
+use Rattle.portmap_table.specs.{Rows.{without_at, without_oldest}, declared.row.Row.Row}
 use Rattle.portmap_table.proofs.Finding.{find-push_other, is_none, parts, position-find}
 use Rattle.portmap_table.proofs.{First.{NonePass, no_index, none_found}, NameEntry.{had_name, has_name}}
 use Rattle.portmap_table.proofs.NameLaws.{active_names_stay, last_creations_are_remembered, names_outlive_connections, new_active}
 use Rattle.portmap_table.proofs.NameLaws.{others_stay_at_registration, others_stay_at_retirement, retired_names_stand_last}
-use Rattle.portmap_core.specs.{Config.Configuration, Entry.{Closed, Connected, Entry, Faulted, Late, Piece}}
+use Rattle.portmap_core.specs.{Config.Configuration, Entry.{Closed, Entry, Faulted}}
 use Rattle.portmap_core.specs.Laws.{AbsentNamesAreNotFound, EndsRetire, IsReplied, LeaversAreRemembered, NoneRegisters}
-use Rattle.portmap_core.specs.Laws.{RestartsGetAnother, Retires, StopsRetire, registrations}
-use Rattle.portmap_core.specs.{Run.Run, Serving.{Served, ServesReceived, alive_served, closed, registers}}
-use Rattle.portmap_core.specs.{Serving.{replied, served, stops}, State.State}
-use Rattle.portmap_core.specs.Step.{Effect, Says, Step, AnswersPiece, outcome_of}
-use Rattle.portmap_core.specs.declared.connection.{Stage.{Stage, TheVariants.{Done, Holding, Waiting}}}
-use Rattle.portmap_core.specs.declared.event.Fate.{Fate, TheVariants.Stay}
-use Rattle.portmap_core.proofs.{LocalPeers.concluded, Shown.answered, Taken.{retired_at_none, taken_creations_are_new}, Waits.said}
+use Rattle.portmap_core.specs.Laws.{RestartsGetAnother, Retires, StopsRetire, is_registration, registrations}
+use Rattle.portmap_core.specs.{Run.Run, Serving.stops, State.State, Step.{Effect, Step}, declared.event.Fate.TheVariants.Stay}
+use Rattle.portmap_core.proofs.{LocalPeers.concluded, NameSteps.{at_passes, names_lead, none_stays}, Shown.answered}
+use Rattle.portmap_core.proofs.Taken.{taken_creations_are_new}
 
 -- ---- a slot's name retires
 
@@ -51,15 +46,10 @@ found_by_key key p (y ∷ ys) x distinct found = elim (cases_Bool (p y)) [
       rw (key_found (λ k. (key y == k) ≡ false) key p ys x distinct.0 later) (found_by_key key p ys x distinct.1 later)
 ]
 
-found_passes : {X : Type 0} (p : X → Bool) (xs : List X) (x : X) → find p xs ≡ Some x → p x ≡ true
-found_passes p [] x found = absurd cc
-found_passes p (y ∷ ys) x found = elim (cases_Bool (p y)) [
-  | inl passes ↦ subst (λ z. p z ≡ true) (same_Some y x (rw passes at found)) passes
-  | inr fails ↦ found_passes p ys x (rw fails at found)
-]
-
 name_of_found : (name : List ℕ) (names : Names) (row : Row) → active_row name names ≡ Some row → row.reg.name ≡ name
-name_of_found name names row found = same_text row.reg.name name (sym (found_passes (has_name name) names.active row found))
+name_of_found name names row found =
+    let index = position-find (has_name name) names.active row found in
+    same_text row.reg.name name (sym (at_passes (has_name name) names.active _ row index.0 index.1))
 
 module _ (known_max : ℕ) (names : Names) (kept : AreKept known_max names) where
   slot_retires : (name : List ℕ) (row : Row) → active_row name names ≡ Some row → Retires name names (retired_of row.slot names)
@@ -113,89 +103,19 @@ other_registers known_max names row {name} other absent =
     find-push_other (has_name name) (with_room known_max given names).active row differs
     ∙ rw (active_names_stay known_max names given) absent
 
-is_near : (local : Bool) → not local ≡ false → local ≡ true
-is_near local e = search rules
-
--- A result keeps the name inactive, unless it registers the name.
-module _ (name : List ℕ) (cfg : Configuration) (names : Names) (local : Bool) (slot : ℕ) where
-  abbrev Spares : Request → Served → Type 0
-  Spares request o = ((g : Node) → request ≡ Alive g → local ≡ true → o.fate ≡ Stay → g.name ≢ name) → Absent name names
-      → Absent name o.names
-
-  served_spares : (request : Request) (creation : ℕ) → Spares request (served cfg names local slot request creation)
-  served_spares (Alive g) creation =
-      cond_both (not local) (closed names) (alive_served cfg names slot g creation) (Spares (Alive g)) (λ _ _ absent. absent) (λ near.
-      cond_both (is_active g.name names) (replied names (alive_reply g.high 1 0)) _ (Spares (Alive g)) (λ _ _ absent. absent) (λ _.
-      cond_both (is_full_for cfg.known_max g.name names) (replied names (alive_reply g.high 2 0))
-      (registers cfg.known_max names slot g creation) (Spares (Alive g)) (λ _ _ absent. absent) (λ _ spared absent.
-      other_registers cfg.known_max names (record { reg = g; creation = creation; slot = slot })
-      (spared g refl (is_near local near) refl) absent)))
-  served_spares (Port other) creation = λ _ absent. absent
-  served_spares request.Names creation = λ _ absent. absent
-  served_spares Dump creation = λ _ absent. search rules
-  served_spares Kill creation = λ _ absent. search rules
-  served_spares (Stop other) creation = λ _ absent. search (rules, retired_at_none)
-
--- A transition keeps the name inactive, unless it registers the name.
-module _ (name : List ℕ) (cfg : Configuration) (s s' : State) where
-  abbrev NoneTakes : Type 0
-  NoneTakes = (g : Node) (reply : List ℕ) → IsReplied cfg s (Alive g) reply Stay s' → g.name ≢ name
-
-  piece_spares : (slot : ℕ) (piece reply : List ℕ) (fate : Fate) → Says cfg s slot piece reply fate s' → NoneTakes → Absent name s.names
-      → Absent name s'.names
-  piece_spares slot piece reply fate says none absent = by says.connection.stage refl says.response
-    where
-      out : (o : Effect) → said reply fate s' ≡ o → Absent name o.state.names → Absent name s'.names
-      out o is h = subst (λ (o : Effect). Absent name o.state.names) (sym is) h
-
-      by : (stage : Stage) → says.connection.stage ≡ stage → AnswersPiece cfg s slot says.connection piece stage (said reply fate s')
-          → Absent name s'.names
-      by (Waiting received) waits response =
-          out (outcome_of s slot says.connection response.served) response.outcome
-          (sight (first_request (received ++ piece)) refl response.response)
-        where
-          sight : (x : Framing) → first_request (received ++ piece) ≡ x
-              → ServesReceived cfg s.names says.connection.local slot (received ++ piece) x response.served
-              → Absent name response.served.names
-          sight More whole is = rw is absent
-          sight Zero whole is = rw is absent
-          sight (TooLarge n) whole is = rw is absent
-          sight (Whole body) whole (inr p) = rw p.is absent
-          sight (Whole body) whole (inl p) =
-              rw p.serves.is (served_spares name cfg s.names says.connection.local slot p.request p.serves.creation
-              (λ g is local stays. none g reply (record {
-                slot = slot;
-                connection = says.connection;
-                body = body;
-                completes = record {
-                  received = received;
-                  piece = piece;
-                  fate = fate;
-                  is_open = says.is_open;
-                  waits = waits;
-                  whole = whole;
-                  says = says;
-                };
-                fate_is = ap (λ (o : Effect). o.fate) response.outcome ∙ ap (λ (o : Served). o.fate) p.serves.is ∙ stays;
-                local = local;
-                spells = subst (λ (r : Request). Spells body r) is p.spells;
-              })) absent)
-      by Holding waits response = out _ response absent
-      by Done waits response = out _ response absent
-
-  step_spares : (e : Entry) → Step cfg s e s' → NoneTakes → Absent name s.names → Absent name s'.names
-  step_spares (Connected local slot) step none absent = rw step.moves.after absent
-  step_spares (Piece slot piece reply fate) step none absent = piece_spares slot piece reply fate step.moves none absent
-  step_spares (Closed slot) step none absent = rw step.moves.after (retired_at_none name s.names _ absent)
-  step_spares (Faulted slot) step none absent = rw step.moves.after (retired_at_none name s.names _ absent)
-  step_spares (Late slot fate) step none absent = search rules
-
 module _ (name : List ℕ) (cfg : Configuration) where
+  -- A transition keeps the name inactive, unless it registers the name.
+  step_spares : (s s' : State) (e : Entry) → Step cfg s e s'
+      → ((g : Node) (reply : List ℕ) → IsReplied cfg s (Alive g) reply Stay s' → g.name ≢ name) → Absent name s.names → Absent name s'.names
+  step_spares s s' e step none absent =
+      names_lead (Absent name) absent e step (λ slot _. none_stays name s.names slot absent)
+      (λ r. other_registers cfg.known_max s.names (record { reg = r.node; creation = r.creation; slot = r.replied.slot })
+      (none r.node r.reply r.replied) absent)
+
   run_spares : (es : List Entry) (s s' : State) (run : Run cfg s es s') → Absent name s.names → NoneRegisters name cfg es s s' run
       → Absent name s'.names
   run_spares [] s s' run absent none = rw run absent
-  run_spares (e ∷ es) s s' run absent none =
-      run_spares es run.0 s' run.2 (step_spares name cfg s run.0 e run.1 none.0 absent) none.1
+  run_spares (e ∷ es) s s' run absent none = run_spares es run.0 s' run.2 (step_spares s run.0 e run.1 none.0 absent) none.1
 
 pub absent_names_are_not_found : AbsentNamesAreNotFound
 absent_names_are_not_found cfg es s last s' name asker connection body answer run absent none c spells =
@@ -216,6 +136,12 @@ module _ {X : Type 0} (p : X → Bool) where
   first_fails : (xs : List X) → 0 < position_or_len p xs → find p (drop 1 xs) ≡ find p xs
   first_fails [] some = refl
   first_fails (x ∷ xs) some = grind (arith, nat_tests, some)
+
+fewer : {X : Type 0} (b : Bool) (x : X) (xs : List X) → length xs ≤ length (cond b (x ∷ xs) xs)
+fewer b x xs = cond_both b (x ∷ xs) xs (λ ys. length xs ≤ length ys) (λ _. omega arith) (λ _. omega arith)
+
+counted : (e : Entry) (es : List Entry) → is_registration e ≡ true → registrations (e ∷ es) ≡ registrations es + 1
+counted e es is = rw is (omega arith)
 
 module _ (cfg : Configuration) (name : List ℕ) (creation : ℕ) where
   abbrev older : List RetiredName → ℕ
@@ -268,34 +194,16 @@ module _ (cfg : Configuration) (name : List ℕ) (creation : ℕ) where
         let fewer = length-drop 1 names.retired in
         record { found = rw known kept.found; room = omega (arith, many, kept.room, within, left, fewer) }) (λ _. kept)
 
-  -- A result keeps it, if the name is not active after it.
-  module _ (es : List Entry) (names : Names) (slot : ℕ) (piece : List ℕ) where
-    abbrev KeepsBy : Served → Type 0
-    KeepsBy o = Absent name o.names → Keeps (registrations (Piece slot piece o.reply o.fate ∷ es)) names → Keeps (registrations es) o.names
-
-    cond_keeps : (b : Bool) (x y : Served) → KeepsBy x → KeepsBy y → KeepsBy (cond b x y)
-    cond_keeps b x y first second = cond_both b x y KeepsBy (λ _. first) (λ _. second)
-
-    registers_keep : (g : Node) (creation : ℕ) → KeepsBy (registers cfg.known_max names slot g creation)
-    registers_keep g creation absent kept =
-        let counted : registrations (Piece slot piece (alive_reply g.high 0 creation) Stay ∷ es) ≡ registrations es + 1 = search rules in
-        registered_keeps (registrations es) (with_room cfg.known_max g.name names) (record { reg = g; creation = creation; slot = slot })
-        absent (room_keeps (registrations es) names g.name (rw counted at kept))
-
-    stops_keep : (owner : Option ℕ) → KeepsBy (stops names owner)
-    stops_keep None absent kept = kept
-    stops_keep (Some owner) absent kept = retired_at_keeps (registrations es) names _ kept
-
-    serves_keep : (local : Bool) (request : Request) (creation : ℕ) → KeepsBy (served cfg names local slot request creation)
-    serves_keep local (Alive g) creation = search (rules, cond_keeps, registers_keep)
-    serves_keep local request creation = search (rules, cond_keeps, stops_keep)
-
   step_keeps : (es : List Entry) (s s' : State) (e : Entry) → Step cfg s e s' → Absent name s'.names
       → Keeps (registrations (e ∷ es)) s.names → Keeps (registrations es) s'.names
-  step_keeps es s s' (Piece slot piece reply fate) step absent kept = search (rules, serves_keep)
-  step_keeps es s s' (Closed slot) step absent kept = rw step.moves.after (retired_at_keeps (registrations es) s.names _ kept)
-  step_keeps es s s' (Faulted slot) step absent kept = rw step.moves.after (retired_at_keeps (registrations es) s.names _ kept)
-  step_keeps es s s' e step absent kept = search rules
+  step_keeps es s s' e step absent kept =
+      let later : Keeps (registrations es) s.names =
+      record { found = kept.found; room = omega (arith, kept.room, fewer (is_registration e) e (filter is_registration es)) } in
+      names_lead (λ (names : Names). Absent name names → Keeps (registrations es) names) (λ _. later) e step
+      (λ slot _ _. retired_at_keeps (registrations es) s.names _ later)
+      (λ r absent. registered_keeps (registrations es) (with_room cfg.known_max r.node.name s.names)
+      (record { reg = r.node; creation = r.creation; slot = r.replied.slot }) absent
+      (room_keeps (registrations es) s.names r.node.name (rw (counted e es r.counts) at kept))) absent
 
   run_keeps : (es : List Entry) (s s' : State) (run : Run cfg s es s') → Absent name s.names → NoneRegisters name cfg es s s' run
       → Keeps (registrations es) s.names → remembered name s'.names ≡ Some creation

@@ -7,6 +7,7 @@ pub mod Ends
 pub mod Shown
 pub mod Taken
 pub mod Lines
+pub mod NameSteps
 pub mod LocalPeers
 pub mod Owned
 pub mod Served

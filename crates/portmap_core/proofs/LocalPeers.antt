@@ -5,18 +5,30 @@ use Rattle.std.proofs.{lemmas.Bool.{le-leb, ne_eqb, or_parts}, lemmas.List.nil_f
 use Rattle.portmap_wire.specs.declared.request.Request.{Request}
 use Rattle.portmap_table.specs.Rows.{is_active, retired_row}
 use Rattle.portmap_core.specs.{Config.Configuration, Laws.{ActiveNamesAreTaken, IsRefused, IsReplied, KillsAreRefused}}
-use Rattle.portmap_core.specs.{Laws.{KillsEnd, NewNamesWantRoom, refusal}, Serving.{Served, halts, replied, served}}
-use Rattle.portmap_core.specs.{State.State, Step.{Effect, outcome_of}, declared.event.Fate.Fate}
-use Rattle.portmap_core.proofs.{Shown.completed, Waits.said}
+use Rattle.portmap_core.specs.{Laws.{KillsEnd, NewNamesWantRoom, refusal}, Serving.{MayGet, Served, halts, replied, served}}
+use Rattle.portmap_core.specs.{State.State, Step.{Effect, outcome_of}}
+use Rattle.portmap_core.specs.{declared.connection.Stage.TheVariants.Holding, declared.event.Fate.Fate}
+use Rattle.portmap_core.proofs.{Shown.serves_at, Waits.said}
+
+-- The effect of a request, with the creation that a registration gets.
+pub served_at : {cfg : Configuration} {s s' : State} {request : Request} {reply : List ℕ} {fate : Fate}
+    (t : IsReplied cfg s request reply fate s')
+    → (creation : ℕ) × ((served cfg s.names true t.slot request creation).stage ≡ Holding → MayGet s.names request creation)
+    × (said reply fate s' ≡ outcome_of s t.slot t.connection (served cfg s.names true t.slot request creation))
+served_at {cfg} {s} {s'} {request} {reply} {fate} t =
+    let (o, serves, is) = serves_at t.completes request t.spells in
+    let near : o ≡ served cfg s.names true t.slot request serves.creation =
+    serves.is ∙ ap (λ (b : Bool). served cfg s.names b t.slot request serves.creation) t.local in (
+      serves.creation,
+      λ h. serves.legal (ap (λ (x : Served). x.stage) near ∙ h),
+      ap (λ (f : Fate). said reply f s') (sym t.fate_is) ∙ is ∙ ap (outcome_of s t.slot t.connection) near,
+    )
 
 -- The effect of a request whose result does not depend on the creation.
 pub concluded : {cfg : Configuration} {s s' : State} {request : Request} {reply : List ℕ} {fate : Fate}
     (t : IsReplied cfg s request reply fate s') (o : Served) → ((creation : ℕ) → served cfg s.names true t.slot request creation ≡ o)
     → said reply fate s' ≡ outcome_of s t.slot t.connection o
-concluded {cfg} {s} {s'} {request} {reply} {fate} t o is =
-    let by = completed t.completes request t.spells in
-    let local = ap (λ (b : Bool). served cfg s.names b t.slot request by.0) t.local in
-    ap (λ (f : Fate). said reply f s') (sym t.fate_is) ∙ by.1 ∙ ap (outcome_of s t.slot t.connection) (local ∙ is by.0)
+concluded {s = s} t o is = let by = served_at t in by.2 ∙ ap (outcome_of s t.slot t.connection) (is by.0)
 
 refuses : {cfg : Configuration} {s s' : State} {request : Request} {reply : List ℕ} {fate : Fate}
     (t : IsReplied cfg s request reply fate s')

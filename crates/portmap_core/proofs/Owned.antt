@@ -1,6 +1,6 @@
 -- Each transition keeps that every active name belongs to exactly one open connection, which holds it.
 use Rattle.std.specs.{Cmp.nat_cmp_total, Ordering.nat_cmp, Prelude.{is_some, ◌==◌, position}}
-use Rattle.std.proofs.Common.{◌≡◌, ◌≢◌, ℕ, ◌+◌, ◌-◌, ◌<◌, ◌≤◌, Bool, true, false, cond, List, [], ◌++◌, Option, Some}
+use Rattle.std.proofs.Common.{◌≡◌, ◌≢◌, ℕ, ◌+◌, ◌<◌, ◌≤◌, Bool, true, false, cond, List, [], ◌++◌, Option, Some}
 use Rattle.std.proofs.{Common.{None, refl, sym, ap, subst, ◌∙◌, arith, inl, inr, rules}, lemmas.Bool.cases_eq}
 use Rattle.std.specs.FinMap as map
 use Rattle.portmap_wire.specs.Node.{Node}
@@ -22,14 +22,9 @@ use Rattle.portmap_core.specs.declared.connection.Stage.{Stage, TheVariants.{Don
 use Rattle.portmap_core.proofs.Slots.{cut_other, cut_same, ended_open, put_other, put_same}
 use Rattle.portmap_core.proofs.Waits.{WaitsAt, said, response_by}
 
--- ---- one slot
-
-none_free : (b : Bool) (o : Option Connection) → o ≡ None → IsSlotFor b o → b ≡ false
-none_free b o e h = subst (λ (y : Option Connection). IsSlotFor b y) e h
-
 -- ---- every slot
 
-abbrev AreSlotsFor : rows.Names → ConnectionMap → Type 0
+abbrev pub AreSlotsFor : rows.Names → ConnectionMap → Type 0
 AreSlotsFor names connections = (q : ℕ) → IsSlotFor (owns_name q names) (map.get connections q)
 
 -- Only `slot` gains or loses a name.
@@ -71,12 +66,8 @@ pub len_fresh : (connections : ConnectionMap) (slot : ℕ) (connection : Connect
 len_fresh connections slot connection e = map.len-insert nat_cmp_total connections slot connection
     ∙ ap (λ (o : Option Connection). cond (is_some o) (map.len connections) (map.len connections + 1)) e
 
-fewer : (b : Bool) (n : ℕ) → cond b (n - 1) n ≤ n
-fewer b n = search rules
-
-pub len_less : (connections : ConnectionMap) (slot : ℕ) → map.len (map.remove connections slot) ≤ map.len connections
-len_less connections slot = rw (map.len-remove nat_cmp_total connections slot)
-    (fewer (map.contains_key connections slot) (map.len connections))
+len_less : (connections : ConnectionMap) (slot : ℕ) → map.len (map.remove connections slot) ≤ map.len connections
+len_less connections slot = rw (map.len-remove nat_cmp_total connections slot) (search rules)
 
 -- ---- states
 
@@ -225,7 +216,7 @@ open_owned cfg s s' local slot owned opens =
       names = owned.names;
       few = omega arith;
       slots = slots_with (stays s.names slot owned.slots) connection
-          (none_free (owns_name slot s.names) (map.get s.connections slot) opens.free (owned.slots slot), refl);
+          (rw opens.free at (owned.slots slot), refl);
     })
 
 leave_owned : (cfg : Configuration) (s s' : State) (slot : ℕ) → IsOwned cfg s → Leaves s slot s' → IsOwned cfg s'

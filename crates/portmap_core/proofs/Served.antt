@@ -1,10 +1,9 @@
 -- The response that the code computes before any change is a correct result.
 use Rattle.std.specs.Prelude.{IfOk, if◌then◌else◌}
-use Rattle.std.proofs.Common.{◌≡◌, ℕ, Bool, true, false, cond, List, Option, Some, None, sym, ap, subst, ◌∙◌, inl, inr}
-use Rattle.std.proofs.{Common.{Result, rules}, lemmas.Result.IfOk-weaker}
+use Rattle.std.proofs.Common.{◌≡◌, ℕ, Bool, true, false, cond, List, Option, Some, None, sym, ap, subst, ◌∙◌, inl}
+use Rattle.std.proofs.{Common.{Result, rules}, lemmas.{Bool.cond-false, Result.IfOk-weaker}}
 use Rattle.portmap_wire.specs.{Node.Node, Reply.alive_reply, Request.Spells}
 use Rattle.portmap_wire.specs.declared.request.Request.{Request, TheVariants.Alive}
-use Rattle.portmap_wire.proofs.RequestLaws.{one_request}
 use Rattle.portmap_feed.specs.Stream.{Framing, More, Zero, TooLarge, Whole, body_in, first_request, kept}
 use Rattle.portmap_feed.proofs.StreamLaws.{first_request-kept, kept_more}
 use Rattle.portmap_table.specs.Creation.{IsLegalCreation, choice}
@@ -19,12 +18,10 @@ use Rattle.portmap_core.specs.{Responding.{served_by, stopped_by}, declared.aske
 use Rattle.portmap_core.specs.declared.connection.Stage.TheVariants.{Holding}
 use Rattle.portmap_core.specs.{declared.event.Fate.TheVariants.{Close, Stay}, declared.serve.Change.TheVariants.Nothing}
 use Rattle.portmap_core.specs.declared.serve.Response.{Response}
+use Rattle.portmap_core.proofs.Waits.{serves_spelled}
 use Rattle.portmap_core.specs.declared.connection.Phase.TheVariants as phase
 
 -- ---- a registration, by the status of its name
-
-second : {X : Type 0} (b : Bool) (x y : X) → b ≡ false → cond b x y ≡ y
-second b x y e = search rules
 
 abbrev stands : Bool → Bool → Option ℕ → NameStatus
 stands taken full last = if taken then how.Active else if full then how.NoRoom else how.Free last
@@ -37,11 +34,7 @@ module _ (cfg : Configuration) (names : Names) (local : Bool) (slot : ℕ) where
       → IsOnlyResponse (Serves cfg names local slot request) wanted o → IsOnlyResponse (ServesBody cfg names local slot body) wanted o
   all_spelled body request spells all = record {
     response = inl (record { request = request; spells = spells; serves = all.response });
-    only = λ other p e. elim p [
-      | inl q ↦ all.only other (subst (λ (r : Request). Serves cfg names local slot r other)
-          (one_request body q.request request q.spells spells) q.serves) e
-      | inr q ↦ absurd (q.malformed request spells)
-    ];
+    only = λ other p. all.only other (serves_spelled cfg names local slot spells p);
   }
 
 module _ {E : Type 0} (asked : RequestContext) where
@@ -79,7 +72,7 @@ no_room {asked} {g} {response} r bytes =
       stopped = stopped_by (r.change i);
     } in
     let is : (slot creation : ℕ) → alive_served cfg names slot g creation ≡ replied names (alive_reply g.high 2 0) =
-    λ slot creation. second (is_active g.name names) _ _ full.0
+    λ slot creation. cond-false (is_active g.name names) _ _ full.0
     ∙ ap (λ (b : Bool). cond b (replied names (alive_reply g.high 2 0)) (registers cfg.known_max names slot g creation)) full.1 in
     record {
       all = search rules;

@@ -1,49 +1,38 @@
 -- Replies about active names for any host, what is read back of them, and the silence to all other requests of remote peers.
 use Rattle.std.specs.{List.flat_map, Prelude.{All, find, option_map, slice_get, map as list_map}}
 use Rattle.std.proofs.Common.{◌≡◌, ℕ, suc, Bool, true, false, cond, List, [], ◌∷◌, ◌++◌, Option, Some, None, ap, ◌∙◌}
-use Rattle.std.proofs.Common.{append_assoc, arith, inl, inr, rules}
-use Rattle.std.proofs.lemmas.{Bool.cond_both, List.Elements.{All-append, All-drop, All-map, All-nil, All-push, All-take}, Option.same_Some}
-use Rattle.portmap_wire.specs.{List.names_line, ListReading.IsLine, Node.{IsNode, Node}, Reply.{be4, port2_reply}}
-use Rattle.portmap_wire.specs.{Request.{IsRequest, Spells}, declared.request.Request.{Request, TheVariants.{Alive, Port}}}
-use Rattle.portmap_wire.proofs.{LineLemmas.names_read_back, RequestLaws.one_request}
+use Rattle.std.proofs.Common.{append_assoc, arith, rules}
+use Rattle.std.proofs.lemmas.{List.Elements.{All-append, All-drop, All-map, All-nil, All-push, All-take}, Option.same_Some}
+use Rattle.portmap_wire.specs.{List.names_line, ListReading.IsLine, Node.IsNode, Reply.{be4, port2_reply}}
+use Rattle.portmap_wire.specs.{Request.Spells, declared.request.Request.{Request, TheVariants.Port}}
+use Rattle.portmap_wire.proofs.LineLemmas.{names_read_back}
 use Rattle.portmap_wire.specs.declared.request.Request.TheVariants as request
-use Rattle.portmap_feed.specs.Stream.{Framing, Whole}
-use Rattle.portmap_table.specs.{Rows.{Names, retired_at, retired_last, same_name}, declared.row.Row.Row}
+use Rattle.portmap_table.specs.Rows.{Names, registered, retired_at, retired_last, same_name, with_room}
+use Rattle.portmap_table.specs.declared.row.Row.{Row}
 use Rattle.portmap_table.proofs.NameLaws.{active_names_stay}
-use Rattle.portmap_core.specs.{Config.Configuration, Entry.{Closed, Entry, Faulted, Piece}}
+use Rattle.portmap_core.specs.{Config.Configuration, Entry.Entry}
 use Rattle.portmap_core.specs.Laws.{ActiveNamesAreFound, ActiveNamesAreListed, Completes, ListsAreExact, ListsAreReadBack}
 use Rattle.portmap_core.specs.Laws.{RemotePeersMayOnlyLookUp}
-use Rattle.portmap_core.specs.{Run.Run, Serving.{Served, ServesBody, ServesReceived, names_line_of, registers, served, stops}}
+use Rattle.portmap_core.specs.{Run.Run, Serving.{Served, Serves, ServesBody, names_line_of, served}}
 use Rattle.portmap_core.specs.{State.{State, empty_state}, Step.{Effect, Step, outcome_of}, declared.connection.Connection.Connection}
-use Rattle.portmap_core.proofs.Waits.{WaitsAt, said, settles_at}
+use Rattle.portmap_core.proofs.{NameSteps.names_lead, Waits.{WaitsAt, said, serves_spelled, settles_at}}
 
--- ---- results of a complete request
-
-module _ (cfg : Configuration) (names : Names) (local : Bool) (slot : ℕ) where
-  spelled : (body : List ℕ) (request : Request) (o : Served) → Spells body request → ServesBody cfg names local slot body o
-      → (creation : ℕ) × (o ≡ served cfg names local slot request creation)
-  spelled body request o spells (inl p) = (
-    p.serves.creation,
-    p.serves.is ∙ ap (λ (r : Request). served cfg names local slot r p.serves.creation)
-        (one_request body p.request request p.spells spells),
-  )
-  spelled body request o spells (inr p) = absurd (p.malformed request spells)
-
--- The effect of a complete request.
-pub completed : {cfg : Configuration} {s s' : State} {slot : ℕ} {connection : Connection} {body reply : List ℕ}
+-- The result of a complete request.
+pub serves_at : {cfg : Configuration} {s s' : State} {slot : ℕ} {connection : Connection} {body reply : List ℕ}
     (c : Completes cfg s slot connection body reply s') (request : Request) → Spells body request
-    → (creation : ℕ) × (said reply c.fate s' ≡ outcome_of s slot connection (served cfg s.names connection.local slot request creation))
-completed {cfg} {s} {s'} {slot} {connection} {body} {reply} c request spells =
+    → (o : Served) × Serves cfg s.names connection.local slot request o × (said reply c.fate s' ≡ outcome_of s slot connection o)
+serves_at {cfg} {s} {s'} {slot} {connection} {body} {reply} c request spells =
     let waits : WaitsAt = search rules in
     let settles = settles_at waits c.says in
     let whole : ServesBody cfg s.names connection.local slot body settles.served = search rules in
-    let by = spelled cfg s.names connection.local slot body request settles.served spells whole in
-    (by.0, settles.outcome ∙ ap (outcome_of s slot connection) by.1)
+    (settles.served, serves_spelled cfg s.names connection.local slot spells whole, settles.outcome)
 
 pub answered : {cfg : Configuration} {s s' : State} {slot : ℕ} {connection : Connection} {body reply : List ℕ}
     → Completes cfg s slot connection body reply s' → (request : Request) → Spells body request
     → (creation : ℕ) × (reply ≡ (served cfg s.names connection.local slot request creation).reply)
-answered c request spells = let by = completed c request spells in (by.0, ap (λ (x : Effect). x.reply) by.1)
+answered c request spells =
+    let (o, serves, is) = serves_at c request spells in
+    (serves.creation, ap (λ (x : Effect). x.reply) is ∙ ap (λ (x : Served). x.reply) serves.is)
 
 pub active_names_are_found : ActiveNamesAreFound
 active_names_are_found cfg s s' slot connection body reply name row c spells active =
@@ -103,40 +92,16 @@ retired_lines : (names : Names) (o : Option ℕ) → AreLines names → AreLines
 retired_lines names None lines = lines
 retired_lines names (Some at) lines = retired_last_lines names at (slice_get names.active at) lines
 
-module _ (cfg : Configuration) (names : Names) where
-  abbrev LinesBy : Served → Type 0
-  LinesBy o = AreLines names → AreLines o.names
-
-  cond_lines : (b : Bool) (x y : Served) → LinesBy x → LinesBy y → LinesBy (cond b x y)
-  cond_lines b x y first second = cond_both b x y LinesBy (λ _. first) (λ _. second)
-
-  registers_lines : (slot : ℕ) (g : Node) (creation : ℕ) → IsNode g → LinesBy (registers cfg.known_max names slot g creation)
-  registers_lines slot g creation is lines =
-      let before = rw (← active_names_stay cfg.known_max names g.name) at lines.each in
-      let row : Row = record { reg = g; creation = creation; slot = slot } in
-      record { each = All-push IsShown _ row before (record { name = is.name; port = is.port }) }
-
-  stops_lines : (owner : Option ℕ) → LinesBy (stops names owner)
-  stops_lines None lines = lines
-  stops_lines (Some owner) lines = retired_lines names _ lines
-
-  serves_lines : (local : Bool) (slot : ℕ) (request : Request) (creation : ℕ) → IsRequest request
-      → LinesBy (served cfg names local slot request creation)
-  serves_lines local slot (Alive g) creation is = search (rules, cond_lines, registers_lines)
-  serves_lines local slot request creation is = search (rules, cond_lines, stops_lines)
-
-  received_lines : (local : Bool) (slot : ℕ) (received : List ℕ) (sight : Framing) (o : Served)
-      → ServesReceived cfg names local slot received sight o → LinesBy o
-  received_lines local slot received (Whole body) o (inl p) =
-      rw p.serves.is (serves_lines local slot p.request p.serves.creation p.spells.request_is)
-  received_lines local slot received (Whole body) o (inr p) = rw p.is (λ lines. lines)
-  received_lines local slot received sight o is = rw is (λ lines. lines)
+registered_lines : (known_max : ℕ) (names : Names) (row : Row) → IsNode row.reg → AreLines names
+    → AreLines (registered row.reg row.creation row.slot (with_room known_max row.reg.name names))
+registered_lines known_max names row is lines =
+    let before = rw (← active_names_stay known_max names row.reg.name) at lines.each in
+    record { each = All-push IsShown _ row before (record { name = is.name; port = is.port }) }
 
 step_lines : (cfg : Configuration) (s s' : State) (e : Entry) → Step cfg s e s' → AreLines s.names → AreLines s'.names
-step_lines cfg s s' (Piece slot piece reply fate) step lines = search (rules, received_lines)
-step_lines cfg s s' (Closed slot) step lines = rw step.moves.after (retired_lines s.names _ lines)
-step_lines cfg s s' (Faulted slot) step lines = rw step.moves.after (retired_lines s.names _ lines)
-step_lines cfg s s' e step lines = search rules
+step_lines cfg s s' e step lines = names_lead AreLines lines e step (λ slot _. retired_lines s.names _ lines)
+    (λ r. registered_lines cfg.known_max s.names (record { reg = r.node; creation = r.creation; slot = r.replied.slot })
+    r.replied.spells.request_is lines)
 
 run_lines : (cfg : Configuration) (es : List Entry) (s s' : State) → Run cfg s es s' → AreLines s.names → AreLines s'.names
 run_lines cfg [] s s' run lines = rw run lines

@@ -1,10 +1,12 @@
 -- A connection that waits in a slot, and the answer to a chunk there.
-use Rattle.std.proofs.Common.{◌≡◌, ℕ, Bool, List, ◌++◌, Some, rules}
+use Rattle.std.proofs.Common.{◌≡◌, ℕ, Bool, List, ◌++◌, Some, subst, inl, inr, rules}
 use Rattle.std.specs.FinMap as map
-use Rattle.portmap_wire.specs.declared.request.Request.{Request}
+use Rattle.portmap_wire.specs.{Request.Spells, declared.request.Request.Request}
+use Rattle.portmap_wire.proofs.RequestLaws.{one_request}
 use Rattle.portmap_feed.specs.Stream.{Framing, More}
 use Rattle.portmap_table.specs.Rows.{Names}
-use Rattle.portmap_core.specs.{Config.Configuration, Serving.{MayGet, Served, ServesReceived, awaits, closed, served}}
+use Rattle.portmap_core.specs.Config.{Configuration}
+use Rattle.portmap_core.specs.Serving.{MayGet, Served, Serves, ServesBody, ServesReceived, awaits, closed, served}
 use Rattle.portmap_core.specs.{State.State, Step.{Expires, Effect, Says, Settles, settled}}
 use Rattle.portmap_core.specs.declared.connection.Connection.{Connection}
 use Rattle.portmap_core.specs.{declared.connection.Stage.TheVariants.{Waiting, Holding}, declared.event.Fate.Fate}
@@ -21,6 +23,14 @@ pub record WaitsAt : Type 0 where
   pub received : List ℕ
   pub is_open : map.get state.connections slot ≡ Some connection
   pub stage : connection.stage ≡ Waiting received
+
+-- The results of a body that spells a request are the results of the request.
+module _ (cfg : Configuration) (names : Names) (local : Bool) (slot : ℕ) {body : List ℕ} {request : Request} {o : Served}
+    (spells : Spells body request) where
+  pub serves_spelled : ServesBody cfg names local slot body o → Serves cfg names local slot request o
+  serves_spelled (inl p) =
+      subst (λ (r : Request). Serves cfg names local slot r o) (one_request body p.request request p.spells spells) p.serves
+  serves_spelled (inr p) = absurd (p.malformed request spells)
 
 -- The effect of a chunk is that of all bytes received.
 pub settles_at : (w : WaitsAt) {after : State} {piece reply : List ℕ} {fate : Fate}

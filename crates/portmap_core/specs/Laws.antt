@@ -269,13 +269,13 @@ pub record Retires (name : List ℕ) (names after : Names) : Type 0 where
   pub gone : active_row name after ≡ None
   pub others : (other : List ℕ) → same_name name other ≡ false → active_row other after ≡ active_row other names
 
--- A close or a fault of a connection retires its name and no other.
+-- A close or a fault of a connection makes its name inactive and no other.
 abbrev pub EndsRetire : Type 0
 EndsRetire =
     (cfg : Configuration) (s s' : State) (name : List ℕ) (row : Row) (e : Entry) → IsOwned cfg s → Step cfg s e s'
     → (e ≡ Closed row.slot) ⊎ (e ≡ Faulted row.slot) → active_row name s.names ≡ Some row → Retires name s.names s'.names
 
--- If the checks are relaxed, STOP retires the name that it asks for and no other.
+-- If the checks are relaxed, STOP makes the name that it asks for inactive and no other.
 abbrev pub StopsRetire : Type 0
 StopsRetire =
     (cfg : Configuration) (s s' : State) (name : List ℕ) (row : Row) (reply : List ℕ) (fate : Fate) → IsOwned cfg s → cfg.relaxed ≡ true

@@ -103,8 +103,8 @@ pub fn free_names_have_room()
     ensures { FreeNamesHaveRoom }
 {}
 
-/// Law: the end of a connection retires its name and no other, and so does a STOP with relaxed checks. A name that is
-/// not active is not found until it is registered.
+/// Law: the end of a connection makes its name inactive and no other, and so does a STOP with relaxed checks. A name
+/// that is not active is not found until it is registered.
 pub fn names_that_left_are_not_found()
     ensures ends { EndsRetire }
     ensures stops { StopsRetire }

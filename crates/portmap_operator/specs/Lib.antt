@@ -1,5 +1,5 @@
-pub mod Figures
 pub mod Notices
+pub mod Outcome
 pub mod Refused
 pub mod Remote
 pub mod Showing

@@ -21,15 +21,3 @@ notice_line (RecordingAgain path number) = codes "epmd: recording again: " ++ fi
 notice_line (FiguresLost path reason) = codes "epmd: cannot write the counters: " ++ path.now ++ codes ": " ++ reason.now ++ codes "\n"
 notice_line (FewerPlaces places limit) = codes "epmd: at most " ++ decimal places
     ++ codes " connections, since the limit of descriptors is " ++ decimal limit ++ codes "\n"
-
--- The line of a notice if there is no memory for details.
-abbrev pub brief_line : Notice → List ℕ
-brief_line CannotAccept = codes "epmd: cannot accept connections\n"
-brief_line (InUse refused) = codes "epmd: a name is in use\n"
-brief_line (Remote refused) = codes "epmd: a peer of another host was refused\n"
-brief_line (ShortOfMemory count) = codes "epmd: memory is short, requests were refused\n"
-brief_line (Unread count) = codes "epmd: connections that did not read their replies were reset\n"
-brief_line (RecordingFailed path number reason) = codes "epmd: recording failed: there is no memory to say why\n"
-brief_line (RecordingAgain path number) = codes "epmd: recording again\n"
-brief_line (FiguresLost path reason) = codes "epmd: the counters cannot be written\n"
-brief_line (FewerPlaces places limit) = codes "epmd: the limit of descriptors is low\n"

@@ -1,12 +1,9 @@
 -- Requests of remote peers that are refused, and the line that names them: profile.
-use Rattle.std.specs.Prelude.{ℕ, ◌≡◌, List, [], ◌++◌, codes, Bool, true, false, not, Option, Some, None}
-use Rattle.std.specs.Prelude.{slice_index_or, slice_set}
+use Rattle.std.specs.Prelude.{ℕ, ◌≡◌, List, ◌++◌, codes, Option, Some, None}
 use Rattle.portmap_wire.specs.Request.{Spells}
 use Rattle.portmap_wire.specs.declared.request.Request.{Request}
 use Rattle.portmap_wire.specs.declared.request.Request.TheVariants as request
 use Rattle.portmap_feed.specs.Stream.{Whole, first_request}
-use Rattle.portmap_core.specs.Entry.{Entry, Connected, Piece, Closed, Faulted}
-use Rattle.portmap_core.specs.declared.event.Fate.TheVariants as fate
 use Rattle.portmap_operator.specs.Refused.{and_more}
 use Rattle.portmap_operator.specs.declared.remote.LocalRequest.{LocalRequest, TheVariants.{Dump, Kill, Registration, Stop}}
 
@@ -25,19 +22,6 @@ pub record AsksFor (bytes : List ℕ) (asked : LocalRequest) : Type 0 where
   pub whole : first_request bytes ≡ Whole body
   pub spells : Spells body request
   pub is_local : local_of request ≡ Some asked
-
--- The slots of remote peers after an entry.
-abbrev pub remote_after : Entry → List Bool → List Bool
-remote_after (Connected local slot) slots = slice_set slots slot (not local)
-remote_after (Closed slot) slots = slice_set slots slot false
-remote_after (Faulted slot) slots = slice_set slots slot false
-remote_after entry slots = slots
-
--- A chunk on the slot of a remote peer is this request, and its connection is closed without a reply.
-abbrev pub IsRefusedFrom : List Bool → Entry → LocalRequest → Type 0
-IsRefusedFrom slots (Piece slot bytes reply end) asked =
-    (slice_index_or slots slot false ≡ true) × (reply ≡ []) × (end ≡ fate.Close) × AsksFor bytes asked
-IsRefusedFrom slots entry asked = ⊥
 
 -- The first refused request, after one more refusal.
 abbrev pub first_of : Option LocalRequest → LocalRequest → Option LocalRequest

@@ -6,8 +6,9 @@ use crate::activity::Activity;
 use crate::figures::Figures;
 use crate::host::Host;
 use crate::notice::Notice;
+use crate::outcome::Slots;
 use crate::refused::Refused;
-use crate::remote::{RemoteRefused, RemoteSlots};
+use crate::remote::RemoteRefused;
 use crate::write_fault::WORDS_MOST;
 use portmap_core::Entry;
 use portmap_link::NoMemory;
@@ -46,7 +47,7 @@ struct Quiet {
 
 /// The notices of some seconds, and the counters.
 pub struct Operator<'a> {
-    slots: RemoteSlots,
+    slots: Slots,
     in_use: Refused,
     remote: RemoteRefused,
     /// The number of requests that were refused since memory is short.
@@ -77,28 +78,25 @@ impl<'a> Operator<'a> {
         places: u32,
         figures: Option<&'a str>,
     ) -> Result<Operator<'a>, NoMemory> {
-        let figures = match figures {
-            Some(path) => Some((Figures::new(alloc, places)?, path)),
-            None => None,
-        };
         Ok(Operator {
-            slots: RemoteSlots::new(alloc, places)?,
+            slots: Slots::new(alloc, places)?,
             in_use: Refused::new(),
             remote: RemoteRefused::new(),
             short: 0,
             unread: 0,
             quiet: Quiet::default(),
-            figures,
+            figures: figures.map(|path| (Figures::new(), path)),
         })
     }
 
     pub fn note(&mut self, alloc: Global, entry: &Entry) {
-        self.in_use.note(alloc, entry);
-        let before = self.remote.count();
-        self.remote.note(alloc, &self.slots, entry);
-        self.slots.note(entry);
+        let (outcome, asked) = self.slots.note(alloc, entry);
+        self.in_use.note(alloc, outcome, entry);
+        if let Some(asked) = asked {
+            self.remote.note(asked);
+        }
         if let Some((figures, _)) = &mut self.figures {
-            figures.note(entry, self.remote.count() != before);
+            figures.count(outcome);
         }
     }
 

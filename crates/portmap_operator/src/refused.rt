@@ -1,24 +1,14 @@
 //! Registrations that were refused since their names are in use, and the line that names them.
-ghost use Rattle.std.specs.Prelude.{◌≡◌, ◌↔◌, ◌+◌, ◌-◌, ◌^◌, ◌⊎◌, ◌++◌, min, true, Some, None, IfOk, IfSome};
+ghost use Rattle.std.specs.Prelude.{◌≡◌, ◌+◌, ◌-◌, ◌^◌, ◌⊎◌, ◌++◌, min, Some, None, IfSome};
 ghost use Rattle.std.specs.Prelude.{OnOk};
 ghost use Rattle.portmap_core.specs.Entry.{entry_in};
-ghost use Rattle.portmap_operator.specs.Refused.{IsInUse, Refuses, SaysInUse, and_more, in_use_line};
+ghost use Rattle.portmap_operator.specs.Refused.{AsksToRegister, and_more, in_use_line};
 
-use crate::showing::shown;
+use crate::outcome::Outcome;
+use crate::showing::put_shown;
 use itoa::Buffer;
 use portmap_core::{Entry, Name, NoMemory, name_to_register};
 use std::alloc::Global;
-
-/// The reply to a registration of a name in use, by the version that the node speaks.
-const IN_USE: &[u8] = b"v\x01\0\0\0\0";
-
-const IN_USE_SHORT: &[u8] = b"y\x01\0\0";
-
-fn says_in_use(reply: &[u8]) -> bool
-    ensures { (result ≡ true) ↔ SaysInUse reply.now }
-{
-    reply == IN_USE || reply == IN_USE_SHORT
-}
 
 /// The registrations of names in use that were refused since the last notice of them.
 #[derive(Drop)]
@@ -45,42 +35,41 @@ impl Refused {
         self.count
     }
 
-    /// Counts an entry of the log if it refuses a name in use.
-    pub fn note(&mut self, alloc: Global, entry: &Entry)
-        ensures counted { IsInUse (entry_in entry.now) → self.new.count ≡ min (self.old.count + 1) (2 ^ 64 - 1) }
-        ensures passed { (IsInUse (entry_in entry.now) → ⊥) → self.new ≡ self.old }
+    /// Counts an entry of the log with this outcome if that is a name in use.
+    pub fn note(&mut self, alloc: Global, outcome: Outcome, entry: &Entry)
+        ensures counted { outcome ≡ Outcome.InUse → self.new.count ≡ min (self.old.count + 1) (2 ^ 64 - 1) }
+        ensures passed { (outcome ≡ Outcome.InUse → ⊥) → self.new ≡ self.old }
         ensures first { IfSome self.old.name (λ name. self.new.name ≡ Some name) }
         ensures named { IfSome self.new.name (λ name.
-            (self.old.name ≡ Some name) ⊎ Refuses (entry_in entry.now) name) }
+            (self.old.name ≡ Some name) ⊎ AsksToRegister (entry_in entry.now) name) }
     {
-        let Entry::Piece { bytes, reply, .. } = entry else {
-            return;
-        };
-        if !says_in_use(reply.as_slice()) {
+        if outcome != Outcome::InUse {
             return;
         }
         self.count = self.count.saturating_add(1);
-        if self.name.is_none() {
-            self.name = name_to_register(alloc, bytes.as_slice());
+        match entry {
+            Entry::Piece { bytes, .. } if self.name.is_none() => {
+                self.name = name_to_register(alloc, bytes.as_slice());
+            }
+            _ => {}
         }
     }
 
-    /// Returns the line that names the first refused name, and says how many more there were.
-    pub fn line(&self, alloc: Global) -> Result<Vec<u8>, NoMemory>
-        ensures { IfOk result (λ line. line.items ≡ in_use_line self.now.name (self.now.count - 1)) }
+    /// Appends the line that names the first refused name, and says how many more there were.
+    pub fn put(&self, line: &mut Vec<u8>) -> Result<(), NoMemory>
+        ensures { OnOk result (line.new.items ≡ line.old.items ++ in_use_line self.now.name (self.now.count - 1)) }
     {
-        let mut line = Vec::from_slice(alloc, b"epmd: ")?;
+        line.extend_from_slice(b"epmd: ")?;
         match &self.name {
             Some(name) => {
                 line.extend_from_slice(b"name ")?;
-                line.extend_from_slice(&shown(alloc, name.bytes())?)?;
+                put_shown(line, name.bytes())?;
             }
             None => line.extend_from_slice(b"a name")?,
         }
         line.extend_from_slice(b" is in use")?;
-        put_more(&mut line, self.count)?;
-        line.extend_from_slice(b"\n")?;
-        Ok(line)
+        put_more(line, self.count)?;
+        line.extend_from_slice(b"\n")
     }
 }
 

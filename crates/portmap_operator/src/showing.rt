@@ -139,20 +139,28 @@ fn put_front(text: &mut Vec<u8>, bytes: &[u8]) -> Result<usize, NoMemory>
 
 /// Returns `bytes` as they are printed. Characters that a terminal may obey, and bytes that are not UTF-8, are escaped
 /// as epmd-log does it.
-#[tactic(auto, using(crate::proofs::Escaping::steps))]
 pub fn shown(alloc: Global, bytes: &[u8]) -> Result<Vec<u8>, NoMemory>
     ensures { IfOk result (λ text. text.items ≡ shown bytes.now) }
 {
     let mut text = Vec::new(alloc);
+    put_shown(&mut text, bytes)?;
+    Ok(text)
+}
+
+/// Appends `bytes` as they are printed.
+#[tactic(auto, using(crate::proofs::Escaping::steps))]
+pub(crate) fn put_shown(text: &mut Vec<u8>, bytes: &[u8]) -> Result<(), NoMemory>
+    ensures { OnOk result (text.new.items ≡ text.old.items ++ shown bytes.now) }
+{
     let mut more = 0;
     for place in 0..bytes.len() {
         if more > 0 {
             more -= 1;
         } else {
-            more = put_front(&mut text, &bytes[place..])?;
+            more = put_front(text, &bytes[place..])?;
         }
     }
-    Ok(text)
+    Ok(())
 }
 
 /// Printable ASCII and ends of lines are printed unchanged.

@@ -244,14 +244,14 @@ impl Machine {
                 return Ok(false);
             }
         }
-        let state = replay.into_state(alloc)?;
+        let state = replay.state(alloc)?;
         Ok(is_counted && is_at(alloc, core, &state)?)
     }
 
     /// Fails unless the replay, a run, a recording and the tickets agree with the machine. The replay starts again.
     pub fn ended(&mut self, alloc: Global) -> Result<()> {
         let none = Replay::new(alloc, *self.book.core().config())?;
-        let replayed = mem::replace(&mut self.replay, none).into_state(alloc)?;
+        let replayed = mem::replace(&mut self.replay, none).state(alloc)?;
         let is_so = self.stands(alloc)? && is_at(alloc, self.book.core(), &replayed)?;
         ensure!(is_so, "the machine stands otherwise than what followed it");
         self.is_run(alloc)?;
@@ -301,7 +301,7 @@ fn replays(alloc: Global, config: Config, from: &State, entry: &Entry, to: &Stat
         return wrong("no replay goes on from here");
     };
     let moved = replay.step(alloc, entry)?;
-    let state = replay.into_state(alloc)?;
+    let state = replay.state(alloc)?;
     ensure!(state.same(to), "a replay moves otherwise");
     Ok(moved)
 }

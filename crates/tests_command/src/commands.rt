@@ -127,9 +127,9 @@ fn no_terminal_obeys_what_is_printed(rt: HostRuntime) -> Result<(), Fail> {
 #[test]
 fn what_is_not_allowed_is_reported(rt: HostRuntime) -> Result<(), Fail> {
     let table = "
-        kill NO -> 1 err epmd: kill not allowed|
-        kill -> 1 err epmd: kill not allowed|
-        stop -> 1 err epmd: stop not allowed|
+        kill NO -> 1 err epmd: kill not allowed: names are registered, and the port mapper runs without -relaxed_command_check|
+        kill -> 1 err epmd: kill not allowed: names are registered, and the port mapper runs without -relaxed_command_check|
+        stop -> 1 err epmd: stop not allowed: the port mapper runs without -relaxed_command_check|
     ";
     all_come(&rt, &Asks, table)
 }

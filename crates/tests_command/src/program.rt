@@ -210,7 +210,7 @@ fn the_files_of_a_recording_are_found_beside_its_first(rt: HostRuntime) -> Resul
     let table = "
         epmd -audit recorded -> 0 out run of 6 entries in 3 files|
         epmd -audit ./recorded.2 -> 0 out run of 3 entries in 1 files| err epmd: the files before ./recorded.2 are gone|
-        epmd -audit ./recorded.1 -> 3 err epmd: input or output failed|epmd: in ./recorded.1|
+        epmd -audit ./recorded.1 -> 3 err epmd: input or output failed|epmd: ./recorded.1: No such file or directory|
     ";
     assert!(rt; end_so(&rt, &rt, table));
     fs::remove_file(&rt, "recorded")?;

@@ -58,8 +58,15 @@ impl Env for Typed<'_> {
     }
 }
 
+/// Reads a typed line. `words` gets its words.
+pub fn read(alloc: Global, line: &str, words: &mut Vec<String>) -> Result<Command, WordFault>
+    ensures { IfOk result (λ command. CanServe command) }
+{
+    asked(&(Typed(line), alloc), alloc, words)
+}
+
 pub fn command(alloc: Global, line: &str) -> Result<Command, WordFault>
     ensures { IfOk result (λ command. CanServe command) }
 {
-    asked(&(Typed(line), alloc), alloc)
+    read(alloc, line, &mut Vec::new(alloc))
 }

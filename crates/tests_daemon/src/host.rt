@@ -1,7 +1,7 @@
 //! The file of a recording as the host creates it, and the texts that an operator reads.
 use portmap_core::Fate;
 use portmap_operator::{
-    Host, LocalRequest, Notice, RecordFile, Refused, RemoteRefused, RemoteSlots,
+    Host, LocalRequest, Notice, Outcome, RecordFile, Refused, RemoteRefused, Slots,
 };
 use portmap_testing::bytes::{ALIVE_A, ALIVE_B, DUMP, FOURTH, KILL, NOT_FOUND, PORT_A, STOP_A};
 use portmap_testing::entries::{SampleEntry, entry};
@@ -149,11 +149,29 @@ fn an_operator_reads_a_line_of_each_kind(rt: HostRuntime) -> Result<(), Fail> {
             limit: 1024,
         },
     ];
-    for (notice, line) in notices.iter().zip(NOTICE_LINES.lines()) {
-        let read = format!(in alloc; "{line}\n")?;
-        assert_eq!(rt; notice.line(alloc)?.as_slice(), read.as_bytes());
+    let mut lines = Vec::new(alloc);
+    for notice in &notices {
+        notice.put(&mut lines)?;
     }
-    assert_eq!(rt; NOTICE_LINES.lines().count(), notices.len());
+    assert_eq!(rt; lines.as_slice(), NOTICE_LINES.as_bytes());
+    Ok(())
+}
+
+/// The path is the longest that the system takes, and the reason the longest text of a fault.
+#[test]
+fn the_longest_line_needs_no_memory_but_its_room(rt: HostRuntime) -> Result<(), Fail> {
+    let alloc = rt.alloc();
+    let mut line = Vec::with_capacity(alloc, 4261)?;
+    let room = line.capacity();
+    let path = "x".repeat(alloc, 4095)?;
+    let reason = [b'x'; 128];
+    let longest = Notice::RecordingFailed {
+        path: path.as_str(),
+        number: u32::MAX,
+        reason: &reason,
+    };
+    longest.put(&mut line)?;
+    assert_eq!(rt; (line.len(), line.capacity()), (4261, room));
     Ok(())
 }
 
@@ -181,11 +199,16 @@ const REFUSED: &[SampleEntry] = &[
 
 /// Returns true if `count` of these entries are counted, and the text is this line.
 fn prints(alloc: Global, entries: &[SampleEntry], count: u64, line: &[u8]) -> Result<bool, Fail> {
+    let mut slots = Slots::new(alloc, 6)?;
     let mut refused = Refused::new();
     for kept in entries {
-        refused.note(alloc, &entry(alloc, kept)?);
+        let entry = entry(alloc, kept)?;
+        let (outcome, _) = slots.note(alloc, &entry);
+        refused.note(alloc, outcome, &entry);
     }
-    Ok(refused.count() == count && refused.line(alloc)?.as_slice() == line)
+    let mut text = Vec::new(alloc);
+    refused.put(&mut text)?;
+    Ok(refused.count() == count && text.as_slice() == line)
 }
 
 #[test]
@@ -199,28 +222,18 @@ fn an_operator_reads_of_names_that_are_in_use(rt: HostRuntime) -> Result<(), Fai
     Ok(())
 }
 
-/// A remote peer has slots 1 and 3, and a local peer slot 2.
-const ROUNDS: &[SampleEntry] = &[
-    SampleEntry::Connected(false, 1),
-    SampleEntry::Connected(true, 2),
-    SampleEntry::Connected(false, 3),
-];
-
-/// No refused request of a remote peer: requests of a local peer, with a reply, in two chunks, for a lookup, or in a
-/// slot that a local peer has again.
+/// No refused request that only this host may make: a request with a reply, one that the connection outlives, an
+/// incomplete request, a look-up, a timeout, and a chunk on a slot that is not known.
 const UNCOUNTED: &[SampleEntry] = &[
-    SampleEntry::Piece(2, DUMP, b"", Fate::Close),
-    SampleEntry::Piece(1, DUMP, b"dump", Fate::Close),
-    SampleEntry::Piece(1, DUMP, b"", Fate::Stay),
-    SampleEntry::Piece(1, b"\0", b"", Fate::Close),
-    SampleEntry::Piece(1, PORT_A, b"", Fate::Close),
-    SampleEntry::Closed(1),
-    SampleEntry::Connected(true, 1),
-    SampleEntry::Piece(1, DUMP, b"", Fate::Close),
+    SampleEntry::Piece(3, DUMP, b"dump", Fate::Close),
+    SampleEntry::Piece(3, DUMP, b"", Fate::Stay),
+    SampleEntry::Piece(3, b"\0", b"", Fate::Close),
+    SampleEntry::Piece(3, PORT_A, b"", Fate::Close),
+    SampleEntry::Late(3, Fate::Close),
     SampleEntry::Piece(7, DUMP, b"", Fate::Close),
 ];
 
-/// Each of these is a refused request of a remote peer.
+/// Each of these is a refused request if the peer is remote.
 const COUNTED: &[SampleEntry] = &[
     SampleEntry::Piece(3, STOP_A, b"", Fate::Close),
     SampleEntry::Piece(3, KILL, b"", Fate::Close),
@@ -228,36 +241,71 @@ const COUNTED: &[SampleEntry] = &[
     SampleEntry::Piece(3, ALIVE_A, b"", Fate::Close),
 ];
 
-/// Applies these entries of a log with five slots.
+/// A remote peer that has its reply sends more. The chunk after its end has no connection.
+const ANSWERED: &[SampleEntry] = &[
+    SampleEntry::Connected(false, 3),
+    SampleEntry::Piece(3, PORT_A, NOT_FOUND, Fate::Close),
+    SampleEntry::Piece(3, DUMP, b"", Fate::Close),
+    SampleEntry::Closed(3),
+    SampleEntry::Piece(3, DUMP, b"", Fate::Close),
+    SampleEntry::Connected(false, 3),
+    SampleEntry::Faulted(3),
+    SampleEntry::Piece(3, DUMP, b"", Fate::Close),
+];
+
+/// Applies these entries of a log with five slots. Returns the outcome of the last.
 fn note_all(
     alloc: Global,
     refused: &mut RemoteRefused,
-    slots: &mut RemoteSlots,
+    slots: &mut Slots,
     entries: &[SampleEntry],
-) -> Result<(), Fail> {
+) -> Result<Outcome, Fail> {
+    let mut last = Outcome::Nothing;
     for kept in entries {
-        let entry = entry(alloc, kept)?;
-        refused.note(alloc, slots, &entry);
-        slots.note(&entry);
+        let (outcome, asked) = slots.note(alloc, &entry(alloc, kept)?);
+        if let Some(asked) = asked {
+            refused.note(asked);
+        }
+        last = outcome;
     }
-    Ok(())
+    Ok(last)
+}
+
+/// Applies these entries, each with a connection of its own to slot 3. Returns how many were refused to a remote peer.
+fn note_each(
+    alloc: Global,
+    refused: &mut RemoteRefused,
+    is_local: bool,
+    entries: &[SampleEntry],
+) -> Result<usize, Fail> {
+    let mut slots = Slots::new(alloc, 5)?;
+    let mut count = 0usize;
+    for kept in entries {
+        let each = [SampleEntry::Connected(is_local, 3), *kept];
+        if note_all(alloc, refused, &mut slots, &each)? == Outcome::Remote {
+            count = count.saturating_add(1);
+        }
+    }
+    Ok(count)
 }
 
 #[test]
 fn an_operator_reads_of_other_hosts(rt: HostRuntime) -> Result<(), Fail> {
     let alloc = rt.alloc();
-    let mut slots = RemoteSlots::new(alloc, 5)?;
     let mut refused = RemoteRefused::new();
-    note_all(alloc, &mut refused, &mut slots, ROUNDS)?;
-    note_all(alloc, &mut refused, &mut slots, UNCOUNTED)?;
+    assert_eq!(rt; note_each(alloc, &mut refused, false, UNCOUNTED)?, 0);
+    assert_eq!(rt; note_each(alloc, &mut refused, true, COUNTED)?, 0);
+    note_all(alloc, &mut refused, &mut Slots::new(alloc, 5)?, ANSWERED)?;
     assert_eq!(rt; refused.count(), 0);
-    note_all(alloc, &mut refused, &mut slots, COUNTED)?;
+    assert_eq!(rt; note_each(alloc, &mut refused, false, COUNTED)?, 4);
     assert_eq!(rt;
         (refused.count(), refused.first()),
         (4, Some(LocalRequest::Stop))
     );
+    let mut line = Vec::new(alloc);
+    refused.put(&mut line)?;
     assert_eq!(rt;
-        refused.line(alloc)?.as_slice(),
+        line.as_slice(),
         b"epmd: a STOP from another host was refused, and 3 more\n".as_slice()
     );
     Ok(())

@@ -161,7 +161,7 @@ impl Case for Seed {
             counts,
         } = course;
         let many = counts.answered > 4_000 && counts.refused > 1_000;
-        let replayed = replay.into_state(alloc)?;
+        let replayed = replay.state(alloc)?;
         Ok(strange.is_none() && many && replayed.same(book.base()))
     }
 }

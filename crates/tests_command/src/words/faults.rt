@@ -1,16 +1,19 @@
 //! Words that are not a command: their faults, and what is printed of them.
 use super::Asks;
 use crate::printed::ending;
-use portmap_command::words::{WordFault, refuse};
+use crate::typed::read;
+use portmap_command::faults::refuse;
+use portmap_command::words::WordFault;
 use portmap_link::Writing;
-use portmap_testing::cases::{Case, all_come, all_hold, comes};
+use portmap_testing::cases::{Trial, all_come, comes};
 use std::alloc::Global;
 use std::test::Fail;
 
 #[test]
 fn a_word_that_is_not_known_is_reported(rt: HostRuntime) -> Result<(), Fail> {
     let table = "
-        epmd with -foo - names -name -namess -Names --names ~-names '' ? -port=4370 -record=x -> fault Unknown(0)
+        epmd with -foo - names -name -namess -Names --names ~-names '' -port=4370 -record=x -> fault Unknown(0)
+        epmd with ? -port~? -> fault NotUtf8
         epmd -Record x -> fault Unknown(0)
         epmd -records x -> fault Unknown(0)
         epmd -Local x -> fault Unknown(0)
@@ -139,32 +142,57 @@ fn no_action_stands_behind_another(rt: HostRuntime) -> Result<(), Fail> {
     Ok(())
 }
 
-/// A fault, and how it ends the program.
-struct FaultText(WordFault, &'static str);
+/// Returns how a fault of these words ends the program.
+fn refused(alloc: Global, words: &[String], fault: WordFault) -> Result<String, Fail> {
+    let mut errors = Writing::new(Vec::new(alloc));
+    let status = refuse(alloc, &mut errors, words, fault);
+    Ok(ending(alloc, status, b"", &errors.into_inner())?)
+}
 
-const FAULT_TEXTS: &[FaultText] = &[
-    FaultText(WordFault::Unknown(0), "2 err epmd: bad word 0|"),
-    FaultText(WordFault::MissingValue(1), "2 err epmd: bad word 1|"),
-    FaultText(WordFault::BadValue(12), "2 err epmd: bad word 12|"),
-    FaultText(WordFault::TwoCommands(3), "2 err epmd: bad word 3|"),
-    FaultText(
-        WordFault::BadEnvPort,
-        "2 err epmd: bad port in environment|",
-    ),
-    FaultText(WordFault::NoMemory, "3 err epmd: out of memory|"),
-];
+/// A typed line, and how it ends the program.
+struct Refuses;
 
-impl Case for FaultText {
-    fn holds(&self, alloc: Global) -> Result<bool, Fail> {
-        let mut errors = Writing::new(Vec::new(alloc));
-        let status = refuse(&mut errors, self.0);
-        let shown = format!(in alloc; "{status} err epmd: {}|", self.0)?;
-        let printed = ending(alloc, status, b"", &errors.into_inner())?;
-        Ok(printed.as_str() == self.1 && shown.as_str() == self.1)
+impl Trial for Refuses {
+    fn came(&self, alloc: Global, given: &str) -> Result<String, Fail> {
+        let mut words = Vec::new(alloc);
+        match read(alloc, given, &mut words) {
+            Ok(_) => Ok(String::from_str(alloc, "no fault")?),
+            Err(fault) => refused(alloc, words.as_slice(), fault),
+        }
     }
 }
 
 #[test]
 fn each_fault_has_a_status_and_a_line(rt: HostRuntime) -> Result<(), Fail> {
-    all_hold(&rt, FAULT_TEXTS)
+    let table = "
+        epmd -foo -> 2 err epmd: unknown word \"-foo\"; see epmd -help|
+        epmd -port 1 '' -> 2 err epmd: unknown word \"\"; see epmd -help|
+        epmd -d -port -> 2 err epmd: -port lacks its value, a number from 1 to 65535; see epmd -help|
+        epmd -check -> 2 err epmd: -check lacks its value, the path of a file; see epmd -help|
+        epmd -stop -> 2 err epmd: -stop lacks its value, a name of 1 to 1020 bytes without control characters; see epmd -help|
+        epmd -d -port 0 -> 2 err epmd: -port needs a number from 1 to 65535, not \"0\"; see epmd -help|
+        epmd -address ::1 -> 2 err epmd: -address needs IPv4 addresses separated by commas, not \"::1\"; see epmd -help|
+        epmd -packet_timeout '' -> 2 err epmd: -packet_timeout needs a number of seconds from 1 to 86400, not \"\"; see epmd -help|
+        epmd -workers -d -> 2 err epmd: -workers needs a number from 1 to 64, not \"-d\"; see epmd -help|
+        epmd -names -kill -> 2 err epmd: -kill is a second command; see epmd -help|
+        epmd -names ? -> 2 err epmd: a word is not UTF-8; see epmd -help|
+        ERL_EPMD_PORT=x epmd -> 2 err epmd: ERL_EPMD_PORT needs a number from 1 to 65535|
+    ";
+    all_come(&rt, &Refuses, table)
+}
+
+#[test]
+fn no_terminal_obeys_a_word_that_is_reported(rt: HostRuntime) -> Result<(), Fail> {
+    let table = "
+        epmd -\u{9b}31m -> 2 err epmd: unknown word \"-\\x9b31m\"; see epmd -help|
+        epmd -workers \u{202e}4 -> 2 err epmd: -workers needs a number from 1 to 64, not \"\\u202e4\"; see epmd -help|
+    ";
+    all_come(&rt, &Refuses, table)
+}
+
+#[test]
+fn want_of_memory_has_a_status_and_a_line(rt: HostRuntime) -> Result<(), Fail> {
+    let came = refused(rt.alloc(), &[], WordFault::NoMemory)?;
+    assert!(rt; came.as_str() == "3 err epmd: out of memory|");
+    Ok(())
 }
