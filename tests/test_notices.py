@@ -96,7 +96,7 @@ class StandardError(NoticeCase):
         name, file = b"\x80" * 1020, self.path("/".join(["none", *["x" * 250] * 14]))
         daemon, reader = self.piped("-record", file)
         self.hold(daemon, name)
-        until = time.monotonic() + 2 * QUIET + 3
+        until = time.monotonic() + 4 * QUIET  # A line each ten seconds, and there is room for two.
         while time.monotonic() < until:
             self.refused(daemon, name)
             time.sleep(0.5)

@@ -20,7 +20,7 @@ value_of word =
     else if bytes_eq word (codes "-stop") then codes "a name of 1 to 1020 bytes without control characters"
     else codes "the path of a file"
 
--- The word at an index, or an empty word if there is none.
+-- The word at an index. Past the last word it is empty.
 abbrev pub word_at : List (List ℕ) → ℕ → List ℕ
 word_at words index = get_or words index []
 
@@ -32,7 +32,7 @@ abbrev pub status_of_fault : WordFault → ℕ
 status_of_fault NoMemory = status_of Memory
 status_of_fault fault = actions.REFUSED
 
--- The line of a fault of these words. A bad value stands behind its word.
+-- The line of a fault of these words. The word of a bad value is the one before it.
 abbrev pub line_of_fault : List (List ℕ) → WordFault → List ℕ
 line_of_fault words (Unknown index) = concat (codes "epmd: unknown word \"" ∷ shown_at words index ∷ codes "\"" ∷ the.SEE_HELP.now ∷ [])
 line_of_fault words (MissingValue index) = concat (codes "epmd: " ∷ shown_at words index ∷ codes " lacks its value, "
@@ -45,12 +45,17 @@ line_of_fault words NotUtf8 = the.NOT_UTF8.now
 line_of_fault words BadEnvPort = the.BAD_PORT.now
 line_of_fault words NoMemory = line_of Memory
 
--- The status of the fault, whose line errors get. If memory runs out, nothing is printed.
+-- The line is printed for words that are not a command. If memory runs out, nothing is printed.
+abbrev pub IsRefused : {E Want : Type 0} → (E → Option (List ℕ)) → List ℕ → Result ℕ Want → Writing E → Writing E → Type 0
+IsRefused contents line (Ok status) old new = (status ≡ actions.REFUSED) × IsPrinted contents line old new
+IsRefused contents line (Err want) old new = new ≡ old
+
+-- The line and the status are those of the fault. If memory runs out, nothing is printed.
 abbrev pub Reports : {E Want : Type 0} → (E → Option (List ℕ)) → List (List ℕ) → WordFault → Result ℕ Want → Writing E → Writing E → Type 0
 Reports contents words fault (Ok status) old new = (status ≡ status_of_fault fault) × IsPrinted contents (line_of_fault words fault) old new
 Reports contents words fault (Err want) old new = new ≡ old
 
--- The status and the line are those of the fault, or those of want of memory.
+-- The status and the line are those of the fault, or of a failure for lack of memory.
 abbrev pub Refuses : {E : Type 0} → (E → Option (List ℕ)) → List (List ℕ) → WordFault → ℕ → Writing E → Writing E → Type 0
 Refuses contents words fault status old new =
     ((status ≡ status_of_fault fault) × IsPrinted contents (line_of_fault words fault) old new)

@@ -1,6 +1,8 @@
 //! What is printed of words that are not a command.
-ghost use Rattle.std.specs.Prelude.{◌≡◌, map, string_bytes, IfOk};
-ghost use Rattle.portmap_command.specs.Faults.{Refuses, Reports, shown_at, value_of, word_at};
+ghost use Rattle.std.specs.List.{concat};
+ghost use Rattle.std.specs.Prelude.{◌≡◌, ◌∷◌, [], map, string_bytes, IfOk};
+ghost use Rattle.portmap_command.specs.declared.faults.TheConstants.{SEE_HELP};
+ghost use Rattle.portmap_command.specs.Faults.{IsRefused, Refuses, Reports, shown_at, value_of, word_at};
 
 use crate::actions::{Failure, REFUSED, fail};
 use crate::errors::{say, say_all};
@@ -35,7 +37,7 @@ fn value_of(word: &str) -> &'static [u8]
     }
 }
 
-/// Returns the word at an index, or an empty word if there is none.
+/// Returns the word at an index. Past the last word it is empty.
 fn word_at(words: &[String], index: usize) -> &str
     ensures { result.now ≡ word_at (map string_bytes words.now) index }
 {
@@ -51,65 +53,21 @@ fn shown_at(alloc: Global, words: &[String], index: usize) -> Result<Vec<u8>, No
     shown(alloc, word_at(words, index).as_bytes())
 }
 
-fn refuse_unknown<E: Write>(
+/// Prints the word at `index` between two texts, and what its value must be.
+fn refuse_word<E: Write>(
     alloc: Global,
     errors: &mut Writing<E>,
     words: &[String],
     index: usize,
+    before: &[u8],
+    behind: &[u8],
+    value: &[u8],
 ) -> Result<u8, NoMemory>
-    ensures { Reports E.contents (map string_bytes words.now) (WordFault.Unknown index) result errors.old errors.new }
+    ensures { IsRefused E.contents (concat (before.now ∷ shown_at (map string_bytes words.now) index ∷ behind.now
+        ∷ value.now ∷ SEE_HELP.now ∷ [])) result errors.old errors.new }
 {
     let word = shown_at(alloc, words, index)?;
-    let _ = say_all(
-        errors,
-        &[b"epmd: unknown word \"", word.as_slice(), b"\"", SEE_HELP],
-    );
-    Ok(REFUSED)
-}
-
-fn refuse_second<E: Write>(
-    alloc: Global,
-    errors: &mut Writing<E>,
-    words: &[String],
-    index: usize,
-) -> Result<u8, NoMemory>
-    ensures { Reports E.contents (map string_bytes words.now) (WordFault.TwoCommands index) result errors.old
-        errors.new }
-{
-    let word = shown_at(alloc, words, index)?;
-    let _ = say_all(
-        errors,
-        &[
-            b"epmd: ",
-            word.as_slice(),
-            b" is a second command",
-            SEE_HELP,
-        ],
-    );
-    Ok(REFUSED)
-}
-
-fn refuse_missing<E: Write>(
-    alloc: Global,
-    errors: &mut Writing<E>,
-    words: &[String],
-    index: usize,
-) -> Result<u8, NoMemory>
-    ensures { Reports E.contents (map string_bytes words.now) (WordFault.MissingValue index) result errors.old
-        errors.new }
-{
-    let word = shown_at(alloc, words, index)?;
-    let value = value_of(word_at(words, index));
-    let _ = say_all(
-        errors,
-        &[
-            b"epmd: ",
-            word.as_slice(),
-            b" lacks its value, ",
-            value,
-            SEE_HELP,
-        ],
-    );
+    let _ = say_all(errors, &[before, word.as_slice(), behind, value, SEE_HELP]);
     Ok(REFUSED)
 }
 
@@ -152,10 +110,20 @@ fn report<E: Write>(
     ensures { Reports E.contents (map string_bytes words.now) fault result errors.old errors.new }
 {
     match fault {
-        WordFault::Unknown(index) => refuse_unknown(alloc, errors, words, index),
-        WordFault::MissingValue(index) => refuse_missing(alloc, errors, words, index),
+        WordFault::Unknown(index) => {
+            let before = b"epmd: unknown word \"";
+            refuse_word(alloc, errors, words, index, before, b"\"", b"")
+        }
+        WordFault::MissingValue(index) => {
+            let behind = b" lacks its value, ";
+            let value = value_of(word_at(words, index));
+            refuse_word(alloc, errors, words, index, b"epmd: ", behind, value)
+        }
         WordFault::BadValue(index) => refuse_value(alloc, errors, words, index),
-        WordFault::TwoCommands(index) => refuse_second(alloc, errors, words, index),
+        WordFault::TwoCommands(index) => {
+            let behind = b" is a second command";
+            refuse_word(alloc, errors, words, index, b"epmd: ", behind, b"")
+        }
         WordFault::NotUtf8 => {
             let _ = say(errors, NOT_UTF8);
             Ok(REFUSED)
@@ -169,7 +137,7 @@ fn report<E: Write>(
 }
 
 /// Reports why `words` are not a command. Returns the status. Words and values are escaped, as names are. If memory
-/// runs out for that, the line and the status are those of want of memory.
+/// runs out for that, the line and the status say so.
 pub fn refuse<E: Write>(
     alloc: Global,
     errors: &mut Writing<E>,

@@ -142,14 +142,14 @@ impl<'a, L: Ledger, S: System, R: Host + Wait + Clock> SocketSource<'a, L, S, R>
         ensures links { Returns self.old.ready self.new.ready result }
         ensures schedule { self.new.schedule ≡ self.old.schedule }
     {
-        if self.ready.is_empty() {
-            self.state.take_first(self.shared);
-        }
+        let is_first = self.ready.is_empty();
         let fresh = self.hold(newcomer, permit);
         if fresh.is_none() {
             self.tally.news.exhausted = true;
             self.tally.on_unanswered(self.shared);
             self.tally.on_no_memory(self.shared);
+        } else if is_first {
+            self.state.take_first(self.shared);
         }
         fresh
     }
