@@ -45,15 +45,14 @@ line_of_fault words NotUtf8 = the.NOT_UTF8.now
 line_of_fault words BadEnvPort = the.BAD_PORT.now
 line_of_fault words NoMemory = line_of Memory
 
--- The line is printed for words that are not a command. If memory runs out, nothing is printed.
-abbrev pub IsRefused : {E Want : Type 0} → (E → Option (List ℕ)) → List ℕ → Result ℕ Want → Writing E → Writing E → Type 0
-IsRefused contents line (Ok status) old new = (status ≡ actions.REFUSED) × IsPrinted contents line old new
-IsRefused contents line (Err want) old new = new ≡ old
+-- The line is printed, and the status returned. If memory runs out, nothing is printed.
+abbrev pub IsReported : {E Want : Type 0} → (E → Option (List ℕ)) → ℕ → List ℕ → Result ℕ Want → Writing E → Writing E → Type 0
+IsReported contents wanted line (Ok status) old new = (status ≡ wanted) × IsPrinted contents line old new
+IsReported contents wanted line (Err want) old new = new ≡ old
 
--- The line and the status are those of the fault. If memory runs out, nothing is printed.
+-- The line and the status are those of the fault.
 abbrev pub Reports : {E Want : Type 0} → (E → Option (List ℕ)) → List (List ℕ) → WordFault → Result ℕ Want → Writing E → Writing E → Type 0
-Reports contents words fault (Ok status) old new = (status ≡ status_of_fault fault) × IsPrinted contents (line_of_fault words fault) old new
-Reports contents words fault (Err want) old new = new ≡ old
+Reports contents words fault = IsReported contents (status_of_fault fault) (line_of_fault words fault)
 
 -- The status and the line are those of the fault, or of a failure for lack of memory.
 abbrev pub Refuses : {E : Type 0} → (E → Option (List ℕ)) → List (List ℕ) → WordFault → ℕ → Writing E → Writing E → Type 0

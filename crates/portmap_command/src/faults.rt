@@ -1,8 +1,9 @@
 //! What is printed of words that are not a command.
 ghost use Rattle.std.specs.List.{concat};
 ghost use Rattle.std.specs.Prelude.{◌≡◌, ◌∷◌, [], map, string_bytes, IfOk};
+ghost use Rattle.portmap_command.specs.declared.actions.TheConstants.{REFUSED};
 ghost use Rattle.portmap_command.specs.declared.faults.TheConstants.{SEE_HELP};
-ghost use Rattle.portmap_command.specs.Faults.{IsRefused, Refuses, Reports, shown_at, value_of, word_at};
+ghost use Rattle.portmap_command.specs.Faults.{IsReported, Refuses, Reports, shown_at, value_of, word_at};
 
 use crate::actions::{Failure, REFUSED, fail};
 use crate::errors::{say, say_all};
@@ -59,11 +60,11 @@ fn refuse_word<E: Write>(
     errors: &mut Writing<E>,
     words: &[String],
     index: usize,
-    before: &[u8],
-    behind: &[u8],
-    value: &[u8],
+    before: &'static [u8],
+    behind: &'static [u8],
+    value: &'static [u8],
 ) -> Result<u8, NoMemory>
-    ensures { IsRefused E.contents (concat (before.now ∷ shown_at (map string_bytes words.now) index ∷ behind.now
+    ensures { IsReported E.contents REFUSED (concat (before.now ∷ shown_at (map string_bytes words.now) index ∷ behind.now
         ∷ value.now ∷ SEE_HELP.now ∷ [])) result errors.old errors.new }
 {
     let word = shown_at(alloc, words, index)?;
