@@ -165,7 +165,7 @@ bench: build/epmd
 quick:
 	$(toolchain)@tests/quick
 
-# Tries the wrong bodies that the gate leaves out. It takes twenty minutes after all proofs. Run it before a contract of their crate
+# Tries the wrong bodies that the gate leaves out, with the proofs that are kept. Run it before a contract of their crate
 # changes.
 attack:
 	$(toolchain)contrib/attack

@@ -22,7 +22,7 @@ NAMES = [b"%0250d" % i for i in range(40)]
 counts = Counter()  # The cases by whether they were as expected.
 
 # Errors by which no reply is lost: such a call is made again.
-AGAIN = {call: CALLS[call].split() for call in ("accept4", "epoll_ctl")} | {"epoll_wait": ["EINTR"]} | dict.fromkeys(
+AGAIN = {"accept4": CALLS["accept4"].split(), "epoll_wait": ["EINTR"]} | dict.fromkeys(
     ("recv", "send", "write to record", "write to wake"), ["EINTR", "EAGAIN"])
 
 # How a daemon may end by itself if such a call fails as it begins, and while it serves.

@@ -265,6 +265,21 @@ class Unread(Peers):
         for s in slow:
             self.assertEqual(rest(s), whole)
 
+    def test_a_slow_reader_that_the_poll_refuses_is_reset(self):
+        """A prefix of a list never looks like a whole list."""
+        faults, daemon, names, whole = self.small(*NEVER, "-workers", "1")
+        slow = self.dial(daemon, NAMES[:1], room=2048)
+        self.assertEqual(ask(daemon.port, NAMES), whole)  # By then the poll reports the rest of the slow peer's request.
+        faults.refuse("epoll_ctl", 1, "ENOSPC", FOR_EVER)
+        faults.on = 1
+        slow.sendall(NAMES[1:])
+        got, how = ending(slow)
+        self.assertEqual((how, whole.startswith(got)), ("reset", True))
+        self.assertLess(len(got), len(whole))
+        faults.on = 0
+        self.assertGreaterEqual(faults.refused, 1)
+        self.honest(daemon, 3, names)
+
 
 class Crowd(Peers):
     def test_look_ups_do_not_wait_behind_lists(self):

@@ -6,7 +6,7 @@ from case import EPMD, FAR, NEVER, PATIENCE, TOP, OwnNetwork
 from daemon import OUT_OF_MEMORY, ask as ask_leniently, listens
 from recorded import RecordCase
 from shim import FOR_EVER
-from system import connections, eventually, threads
+from system import connections, eventually, stopped, threads
 from wire import (KILL, NAMES, NOT_FOUND, TAKEN, alive, ask, dial, ending, ending_of, found, is_open, is_registered, listed, port_please,
                   register, rest, result)
 
@@ -272,6 +272,32 @@ class DescriptorsOfOtherHosts(Places, OwnNetwork):
         self.hold(daemon, *names[places // 8:])
         self.assertEqual(connections(daemon.pid), places)
         self.assertEqual(len(daemon.lines()), 1)
+
+
+# ---- watches
+
+
+class Watches(Serves):
+    def test_a_connection_that_the_poll_refuses_to_watch(self):
+        """It ends. A registration is watched first, so it has no reply. Other requests that are there at once have theirs, and earlier
+        connections are served."""
+        faults = self.faults("epoll_ctl", 1, "ENOSPC", FOR_EVER, on=False)
+        daemon = self.daemon(*NEVER, "-workers", "1", env=faults.env)
+        own, = self.hold(daemon, b"own")
+        self.assertEqual(ask(daemon.port, NAMES), listed(daemon.port, b"own"))  # The only worker has watched the node by now.
+        with stopped(daemon.pid):
+            faults.on = 1
+            node, asking, part = (self.enterContext(dial(daemon.port)) for _ in range(3))
+            for s, request in (node, alive(b"two")), (asking, port_please(b"own")), (part, NAMES[:1]):
+                s.sendall(request)
+        self.assertEqual(ending(node), (b"", "end"))
+        self.assertEqual(ending(asking), (found(b"own"), "end"))
+        self.assertEqual(ending(part), (b"", "end"))
+        faults.on = 0
+        self.assertGreaterEqual(faults.refused, 2)
+        self.assertEqual(ask(daemon.port, NAMES), listed(daemon.port, b"own"))
+        self.assertTrue(is_open(own))
+        self.registers(daemon, b"two")
 
 
 # ---- threads

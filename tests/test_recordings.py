@@ -7,13 +7,14 @@ from case import beside
 from recorded import FILE_FULL, LONG, RecordCase, content, write
 from records import Mapper, Session, beginning, entries_of, header_of, local_part, transcript, workers_of
 from system import PATIENCE, eventually, listener
-from wire import (DUMP, KILL, NAMES, NOT_FOUND, alive, ask, dial, exactly, framed, found, is_registered, listed, port_please, register, rest,
-                  stop)
+from wire import (DUMP, KILL, NAMES, NOT_FOUND, alive, ask, dial, exactly, framed, found, is_open, is_registered, listed, port_please,
+                  register, rest, stop)
 
 DEVICE = "epmd: input or output failed\n"
 BAD = "epmd: bad record\nepmd: in {}\n"
 FAILED, AGAIN = "epmd: recording failed: ", "epmd: recording again: "
 FILE_MOST = 268_435_456
+UNREAD_MOST = 32 << 20  # Bytes of a connection: more than the system holds unread.
 END = (1 << 64) - 1  # In FILE.times, the position in the row of an end in order.
 WORDS = "-check", "-play", "-local"
 
@@ -154,7 +155,7 @@ class Recorded(RecordCase):
                 file = self.path(f"by{workers}")
                 daemon = self.daemon("-workers", workers, "-relaxed_command_check", "-record", file)
                 said = self.talk(daemon.port, port_please(b"a"), alive(b"a", extra=b"more"), port_please(b"a"), NAMES, DUMP, stop(b"b"),
-                                 alive(b"b"), stop(b"a"), NAMES, framed(b"q"), KILL)
+                                 alive(b"b") + b"more", stop(b"a"), NAMES, framed(b"q"), KILL)
                 self.assertEqual(daemon.ended(PATIENCE), (0, ""))
                 record, played = self.is_played(file)
                 self.assertEqual(header_of(record), b"EPMS" + struct.pack(">BBHIIQBIII", 2, 1, daemon.port, 1024, 4096, 0, 0, 0, 0, 0))
@@ -164,6 +165,21 @@ class Recorded(RecordCase):
                 pieces = [(line[4], line[6], line[7]) for line in lines if line[1] == "piece"]
                 self.assertEqual(pieces, [(got.hex(), reply.hex() or "-", fate) for got, reply, fate in said])
                 self.says("-local", 0, record, path=file)
+
+    def test_bytes_after_a_registration(self):
+        """A node that sends many bytes after its reply keeps its name until its end. No byte of these is in the recording."""
+        daemon = self.daemon("-record", self.file)
+        names = {b"a": 100_000, b"b": UNREAD_MOST}
+        for name, count in names.items():
+            with register(daemon.port, name) as node:
+                node.sendall(b"\xff" * count)
+                self.assertEqual(ask(daemon.port, NAMES), listed(daemon.port, name))
+                self.assertTrue(is_open(node))
+            self.leaves(daemon, name)
+        self.ends(daemon)
+        self.assertLess(os.path.getsize(self.file), 100_000)
+        pieces = {line.split()[4] for line in self.is_played()[1].decode().splitlines() if " piece " in line}
+        self.assertEqual(pieces, {request.hex() for request in (NAMES, KILL, *map(alive, names), *map(port_please, names))})
 
     def test_many_peers_at_once(self):
         daemon = self.daemon("-workers", "2", "-relaxed_command_check", "-record", self.file)

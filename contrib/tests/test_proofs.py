@@ -9,7 +9,7 @@ from programs import TOP, read
 
 ARGUMENTS_MOST = 7
 # How many declarations of these crates take more. The others have no such declaration, and these are to become fewer.
-MANY_MOST = {"portmap_command": 10, "portmap_client": 6, "portmap_client_c": 3, "portmap_link": 9, "portmap_recorder": 3, "portmap_scheduler": 5,
+MANY_MOST = {"portmap_command": 10, "portmap_client": 6, "portmap_client_c": 3, "portmap_link": 9, "portmap_recorder": 3, "portmap_scheduler": 4,
              "portmap_wire": 9, "portmap_worker": 5}
 # Types whose values have memory or a descriptor of their own.
 OWNING = {"Vec", "String", "VecDeque", "BTreeMap", "IndexMap", "Slab", "Box", "Arc", "File", "TcpStream", "TcpListener"}
@@ -17,7 +17,7 @@ OWNING = {"Vec", "String", "VecDeque", "BTreeMap", "IndexMap", "Slab", "Box", "A
 DERIVED = {"Lines", "Reg", "Replica", "Said", "Scheduler", "Segment", "Settings", "StartParts"}
 # Structs of more fields, which are to become fewer.
 FIELDS_MOST = 10
-WIDE = {"Command": 11, "Link": 14, "SocketSource": 12}
+WIDE = {"Command": 11, "Link": 11, "SocketSource": 12}
 STRUCT = re.compile(r"((?:#\[.*\]\n)*)(?:pub(?:\(crate\))? )?struct (\w+)(?:<[^{;]*>)? \{\n((?:.*\n)*?)\}\n")
 OPENING, CLOSING = "({[", ")}]"
 HEAD = re.compile(r"( *)(?:abbrev )?(?:pub )?([^\s(){}:,.]+) : (.*)")

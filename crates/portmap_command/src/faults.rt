@@ -64,8 +64,8 @@ fn refuse_word<E: Write>(
     behind: &'static [u8],
     value: &'static [u8],
 ) -> Result<u8, NoMemory>
-    ensures { IsReported E.contents REFUSED (concat (before.now ∷ shown_at (map string_bytes words.now) index ∷ behind.now
-        ∷ value.now ∷ SEE_HELP.now ∷ [])) result errors.old errors.new }
+    ensures { IsReported E.contents REFUSED (concat (before.now ∷ shown_at (map string_bytes words.now) index
+        ∷ behind.now ∷ value.now ∷ SEE_HELP.now ∷ [])) result errors.old errors.new }
 {
     let word = shown_at(alloc, words, index)?;
     let _ = say_all(errors, &[before, word.as_slice(), behind, value, SEE_HELP]);

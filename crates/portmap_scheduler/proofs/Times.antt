@@ -1,8 +1,8 @@
 -- Lemmas: how often a key is in a list.
 use Rattle.std.specs.{List.{All, IsDistinct, list_any}, Prelude.{drop, slice_get}}
 use Rattle.std.proofs.Common.{◌≡◌, ◌≢◌, ℕ, ◌+◌, ◌<◌, ◌≤◌, Bool, true, false, cond, eqb, List, [], ◌∷◌, length, refl}
-use Rattle.std.proofs.Common.{sym, ap, ◌∙◌, inl, inr, arith, filter, rules, Some}
-use Rattle.std.proofs.{lemmas.Bool.{cases_eq, cases_Bool}, lemmas.Bool.Decides.nat_tests}
+use Rattle.std.proofs.Common.{arith, filter, rules, Some}
+use Rattle.std.proofs.{lemmas.Bool.Decides.nat_tests}
 use Rattle.std.proofs.{lemmas.Grind.common_steps, lemmas.List.Elements.{All-nil, recursion_from_All}}
 use Rattle.std.proofs.{lemmas.List.Sums.{sum_by-append, sum_by-cons}, lemmas.Map.Steps.length-le_from_distinct_below}
 use Rattle.portmap_scheduler.specs.{Tracked.one, Links.{pushed, times, without}}
@@ -13,22 +13,16 @@ times-cons k x xs = sum_by-cons (λ j. cond (eqb j k) 1 0) x xs
 pub times-pushed : (b : Bool) (k : ℕ) (xs : List ℕ) → times k (pushed b k xs) ≡ times k xs + one b
 times-pushed b k xs = search (rules, sum_by-append)
 
-times-pushed_other : (b : Bool) (j k : ℕ) (xs : List ℕ) → j ≢ k → times j (pushed b k xs) ≡ times j xs
+pub times-pushed_other : (b : Bool) (j k : ℕ) (xs : List ℕ) → j ≢ k → times j (pushed b k xs) ≡ times j xs
 times-pushed_other b j k xs d = search (rules, sum_by-append)
-
--- Appending a key adds 1 to its count. Other counts do not change.
-pub joined : (b : Bool) (k : ℕ) (xs : List ℕ) {ys : List ℕ} → ys ≡ pushed b k xs → times k ys ≡ times k xs + one b
-joined b k xs e = ap (times k) e ∙ times-pushed b k xs
-
-pub joined_other : (b : Bool) (k : ℕ) (xs : List ℕ) {ys : List ℕ} → ys ≡ pushed b k xs → (j : ℕ) → j ≢ k → times j ys ≡ times j xs
-joined_other b k xs e j d = ap (times j) e ∙ times-pushed_other b j k xs d
 
 pub times-filter : (p : ℕ → Bool) (k : ℕ) (xs : List ℕ) → times k (filter p xs) ≡ cond (p k) (times k xs) 0
 times-filter p k [] = grind arith
-times-filter p k (x ∷ xs) = elim (cases_Bool (p x)) [
-  | inl passes ↦ grind (arith, nat_tests, passes, times-filter p k xs, times-cons k x xs, times-cons k x (filter p xs))
-  | inr fails ↦ grind (arith, nat_tests, fails, times-filter p k xs, times-cons k x xs)
-]
+times-filter p k (x ∷ xs) = grind (arith, nat_tests, times-filter p k xs, times-cons k x xs, times-cons k x (filter p xs))
+
+pub first_listed : (k : ℕ) (xs : List ℕ) → slice_get xs 0 ≡ Some k → 0 < times k xs
+first_listed k [] first = absurd cc
+first_listed k (x ∷ xs) first = grind (arith, nat_tests, times-cons k x xs, first)
 
 -- ---- distinct keys
 
@@ -46,10 +40,7 @@ distinct_from_times (x ∷ xs) h = (
 
 present : (q : ℕ) (xs : List ℕ) → list_any (eqb q) xs ≡ true → 0 < times q xs
 present q [] h = absurd (cc)
-present q (x ∷ xs) h = elim (cases_eq x q) [
-  | inl same ↦ grind (arith, nat_tests, times-cons q x xs)
-  | inr differs ↦ grind (arith, nat_tests, times-cons q x xs, present q xs)
-]
+present q (x ∷ xs) h = grind (arith, nat_tests, times-cons q x xs, present q xs)
 
 -- Distinct keys below `n` are fewer than `n`, if some `j` below `n` is not among them.
 pub times_fit : (xs : List ℕ) (n j : ℕ) → ((k : ℕ) → times k xs ≤ 1) → ((k : ℕ) → 0 < times k xs → k < n) → times j xs ≡ 0 → j < n

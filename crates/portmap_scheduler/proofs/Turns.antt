@@ -1,7 +1,7 @@
 -- Lemmas: a key that waits in a list is reached in FIFO order.
 use Rattle.std.specs.Prelude.{slice_get, drop}
-use Rattle.std.proofs.Common.{◌≡◌, ◌≢◌, ℕ, ◌+◌, ◌<◌, ◌≤◌, Bool, true, false, not, cond, eqb, List, [], ◌∷◌, length}
-use Rattle.std.proofs.{Common.{refl, ap, ◌∙◌, inl, inr, arith, rules}, lemmas.Bool.cases_eq}
+use Rattle.std.proofs.Common.{◌≡◌, ◌≢◌, ℕ, ◌+◌, ◌<◌, ◌≤◌, Bool, true, false, not, eqb, List, [], ◌∷◌, length}
+use Rattle.std.proofs.{Common.{refl, ap, ◌∙◌, arith, rules}}
 use Rattle.std.proofs.{lemmas.Bool.Decides.nat_tests, lemmas.Grind.common_steps}
 use Rattle.std.proofs.lemmas.List.Sums.{count_by-le-length, length-filter, sum_by-append}
 use Rattle.portmap_scheduler.specs.{Tracked.one, Links.{Links, pushed, times, without}, Runs.{AllSpare, Call, Change}}
@@ -28,20 +28,11 @@ same_before k old new h e = record { there = h; nearer = rw e (omega arith); ord
 before-pushed : (b : Bool) (k j : ℕ) (xs : List ℕ) → 0 < times k xs → before k (pushed b j xs) ≡ before k xs
 before-pushed false k j xs h = refl
 before-pushed true k j [] h = absurd (omega (arith, h))
-before-pushed true k j (y ∷ ys) h = elim (cases_eq y k) [
-  | inl same ↦ grind (arith, nat_tests, same)
-  | inr differs ↦ grind (arith, nat_tests, differs, times-cons k y ys, before-pushed true k j ys)
-]
+before-pushed true k j (y ∷ ys) h = grind (arith, nat_tests, times-cons k y ys, before-pushed true k j ys)
 
 before-without : (k j : ℕ) (xs : List ℕ) → j ≢ k → before k (without j xs) ≡ without j (before k xs)
 before-without k j [] d = refl
-before-without k j (y ∷ ys) d = elim (cases_eq y j) [
-  | inl same ↦ grind (arith, nat_tests, same, d, before-without k j ys d)
-  | inr other ↦ elim (cases_eq y k) [
-    | inl here ↦ grind (arith, nat_tests, other, here)
-    | inr there ↦ grind (arith, nat_tests, other, there, before-without k j ys d)
-  ]
-]
+before-without k j (y ∷ ys) d = grind (arith, nat_tests, d, before-without k j ys d)
 
 one_turn : (k : ℕ) (change : Change) (old new : List ℕ) → Becomes change old new → 0 < times k old → Spares k change
     → Comes k (turn change) (first_taken change) old new
@@ -55,12 +46,8 @@ one_turn k (Leaves j) old new d h s =
       there = rw d (grind (arith, nat_tests, times-filter (λ i. not (eqb i j)) k old, s, h));
       nearer = rw less (omega
           (arith, length-filter (λ i. not (eqb i j)) (before k old), count_by-le-length (λ i. not (eqb i j)) (before k old)));
-      ordered = λ i. rw less (fewer (not (eqb i j)) (times-filter (λ i. not (eqb i j)) i (before k old)));
+      ordered = λ i. rw less (grind (arith, nat_tests, times-filter (λ i. not (eqb i j)) i (before k old)));
     }
-  where
-    fewer : (b : Bool) {x y : ℕ} → x ≡ cond b y 0 → 0 + x ≤ y
-    fewer true e = omega arith
-    fewer false e = omega arith
 
 module _ {T : Type 0} where
   becomes : (line : Line) (call : Call T) (old new : Links T) → Does call old new

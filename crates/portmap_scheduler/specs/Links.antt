@@ -3,7 +3,7 @@ use Rattle.std.specs.{Coded.{Coded, code_by, coded×, coded_list, coded_ℕ, cod
 use Rattle.std.specs.Prelude.{◌≡◌, ◌↔◌, ℕ, Bool, true, false, not, cond, ◌==◌, List, [], ◌∷◌, ◌++◌, filter, count_by}
 use Rattle.std.specs.Prelude.{drop, slice_get, Option, Some, None, option_map, refl}
 use Rattle.std.specs.FinMap as map
-use Rattle.portmap_scheduler.specs.declared.LinkState.{LinkState, TheVariants.{Idle, Pending, Queued, Paused, Current}}
+use Rattle.portmap_scheduler.specs.declared.LinkState.{LinkState, TheVariants.{Idle, Pending, Queued, Current}}
 
 -- The view of a scheduler. `links` has each link with its state. The lists have keys in the order in which they are taken. `current` is the
 -- key of the current link. `has_room` is true if the next insert does not allocate.
@@ -11,17 +11,16 @@ pub record Links (T : Type 0) : Type 0 where
   pub links : map.FinMap nat_cmp (T × LinkState)
   pub queue : List ℕ
   pub pending : List ℕ
-  pub paused : List ℕ
   pub current : Option ℕ
   pub has_room : Bool
 
 abbrev pub links_code : {T : Type 0} → Coded T → Coded LinkState → Coded (Links T)
 links_code {T} item state =
     let keys = coded_list coded_ℕ in
-    code_by (map.FinMap nat_cmp (T × LinkState) × (List ℕ × (List ℕ × (List ℕ × (Option ℕ × Bool)))))
-    (coded× (map.code coded_ℕ (coded× item state)) (coded× keys (coded× keys (coded× keys (coded× (coded_option coded_ℕ) coded_bool)))))
-    (λ r. (r.links, (r.queue, (r.pending, (r.paused, (r.current, r.has_room))))))
-    (λ p. record { links = p.0; queue = p.1.0; pending = p.1.1.0; paused = p.1.1.1.0; current = p.1.1.1.1.0; has_room = p.1.1.1.1.1 })
+    code_by (map.FinMap nat_cmp (T × LinkState) × (List ℕ × (List ℕ × (Option ℕ × Bool))))
+    (coded× (map.code coded_ℕ (coded× item state)) (coded× keys (coded× keys (coded× (coded_option coded_ℕ) coded_bool))))
+    (λ r. (r.links, (r.queue, (r.pending, (r.current, r.has_room)))))
+    (λ p. record { links = p.0; queue = p.1.0; pending = p.1.1.0; current = p.1.1.1.0; has_room = p.1.1.1.1 })
     (λ _. refl)
 
 -- `times k xs` counts the occurrences of `k` in `xs`.
@@ -51,19 +50,14 @@ abbrev pub is_pending : LinkState → Bool
 is_pending Pending = true
 is_pending _ = false
 
-abbrev pub is_paused : LinkState → Bool
-is_paused Paused = true
-is_paused _ = false
-
 abbrev pub is_current : LinkState → Bool
 is_current Current = true
 is_current _ = false
 
--- A link that a report queues: an idle or a paused link.
-abbrev pub is_quiet : Option LinkState → Bool
-is_quiet (Some Idle) = true
-is_quiet (Some Paused) = true
-is_quiet _ = false
+-- There is a link, and it is idle.
+abbrev pub is_idle : Option LinkState → Bool
+is_idle (Some Idle) = true
+is_idle _ = false
 
 module _ {T : Type 0} where
   abbrev pub link_at : Links T → ℕ → Option (T × LinkState)
@@ -81,7 +75,6 @@ module _ {T : Type 0} where
   pub record IsConsistent (r : Links T) : Type 0 where
     pub queue : (k : ℕ) → times k r.queue ≡ one_at is_queued (link_at r k)
     pub pending : (k : ℕ) → times k r.pending ≡ one_at is_pending (link_at r k)
-    pub paused : (k : ℕ) → times k r.paused ≡ one_at is_paused (link_at r k)
     pub current : (k : ℕ) → (state_at r k ≡ Some Current) ↔ (r.current ≡ Some k)
 
   -- ---- changes
@@ -110,19 +103,18 @@ module _ {T : Type 0} where
   abbrev pub inserted : ℕ → T → Links T → Links T
   inserted k value r = record r { links = map.insert r.links k (value, Queued); queue = r.queue ++ k ∷ [] }
 
-  -- Moves an idle, paused or current link to `state`: to the end of the list of that state, or to no list.
+  -- Moves an idle or current link to `state`: to the end of the list of that state, or to no list.
   abbrev pub moved : LinkState → ℕ → Links T → Links T
   moved state k r =
       record r {
         links = with_state state k r.links;
         queue = pushed (is_queued state) k r.queue;
         pending = pushed (is_pending state) k r.pending;
-        paused = pushed (is_paused state) k (without k r.paused);
         current = not_key k r.current;
       }
 
   abbrev pub reported : ℕ → Links T → Links T
-  reported k r = cond (is_quiet (state_at r k)) (moved Queued k r) r
+  reported k r = cond (is_idle (state_at r k)) (moved Queued k r) r
 
   -- The first link of the queue, or of the pending links, becomes current.
   abbrev pub after_next : Links T → Links T
@@ -132,17 +124,12 @@ module _ {T : Type 0} where
   after_next_pending r =
       record r { links = first_at Current (slice_get r.pending 0) r.links; pending = drop 1 r.pending; current = slice_get r.pending 0 }
 
-  -- The first paused link becomes idle.
-  abbrev pub after_resume : Links T → Links T
-  after_resume r = record r { links = first_at Idle (slice_get r.paused 0) r.links; paused = drop 1 r.paused }
-
   abbrev pub removed : ℕ → Links T → Links T
   removed k r =
       record r {
         links = map.remove r.links k;
         queue = without k r.queue;
         pending = without k r.pending;
-        paused = without k r.paused;
         current = not_key k r.current;
       }
 

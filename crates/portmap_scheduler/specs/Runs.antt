@@ -1,10 +1,9 @@
 -- Sequences of calls, and what they do to the keys that wait in a list: profile.
 use Rattle.std.specs.Prelude.{◌≡◌, ◌≢◌, ℕ, ◌+◌, ◌<◌, ◌≤◌, cond, ◌==◌, List, [], ◌∷◌, ◌++◌, length, slice_get, Option}
 use Rattle.std.specs.Prelude.{Some, option_to_list}
-use Rattle.portmap_scheduler.specs.declared.LinkState.TheVariants.{Idle, Paused, Queued, Pending}
-use Rattle.portmap_scheduler.specs.Links.{Links, IsButForRoom, inserted, moved, removed, reported, after_resume}
-use Rattle.portmap_scheduler.specs.Links.{after_next_pending, times}
-use Rattle.portmap_scheduler.specs.Links.{after_next, written}
+use Rattle.portmap_scheduler.specs.declared.LinkState.TheVariants.{Idle, Queued, Pending}
+use Rattle.portmap_scheduler.specs.Links.{Links, IsButForRoom, inserted, moved, removed, reported, after_next, after_next_pending}
+use Rattle.portmap_scheduler.specs.Links.{times, written}
 
 -- A call with its arguments and its key. `Refuse` is an `insert` that is refused.
 pub data Call (T : Type 0) : Type 0 where
@@ -16,8 +15,6 @@ pub data Call (T : Type 0) : Type 0 where
   PutBack : ℕ → Call T
   Leave : ℕ → Call T
   Hold : ℕ → Call T
-  Rest : ℕ → Call T
-  EndRest : Call T
   Remove : ℕ → Call T
   Write : ℕ → T → Call T
 
@@ -63,8 +60,6 @@ module _ {T : Type 0} where
   Does (PutBack k) old new = new ≡ moved Queued k old
   Does (Leave k) old new = new ≡ moved Idle k old
   Does (Hold k) old new = new ≡ moved Pending k old
-  Does (Rest k) old new = new ≡ moved Paused k old
-  Does EndRest old new = new ≡ after_resume old
   Does (Remove k) old new = IsButForRoom new (removed k old)
   Does (Write k value) old new = new ≡ written k old value
 

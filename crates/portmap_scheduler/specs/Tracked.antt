@@ -1,7 +1,7 @@
 -- The entries of a scheduler. No public clause cites this module.
 use Rattle.std.specs.Prelude.{ℕ, Bool, true, false, cond, ◌==◌, Option, Some, None}
 use Rattle.portmap_scheduler.specs.{Links.is_current, declared.Tracked.Tracked}
-use Rattle.portmap_scheduler.specs.declared.LinkState.{LinkState, TheVariants.{Idle, Paused, Current}}
+use Rattle.portmap_scheduler.specs.declared.LinkState.{LinkState, TheVariants.{Idle, Current}}
 
 abbrev pub one : Bool → ℕ
 one b = cond b 1 0
@@ -9,7 +9,6 @@ one b = cond b 1 0
 -- A link that is neither queued nor pending.
 abbrev pub is_free : Option LinkState → Bool
 is_free (Some Idle) = true
-is_free (Some Paused) = true
 is_free (Some Current) = true
 is_free _ = false
 

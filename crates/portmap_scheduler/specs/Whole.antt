@@ -3,7 +3,7 @@ use Rattle.std.specs.{Ordering.nat_cmp, Prelude.{◌≡◌, ℕ, ◌<◌, Bool, 
 use Rattle.std.specs.{Prelude.{map as list_map, Option, IsSome}, VecDeque.deque_capacity}
 use Rattle.std.specs.FinMap as map
 use Rattle.slab.specs.Slab.{get, slab_len, entries_from}
-use Rattle.portmap_scheduler.specs.Links.{Links, is_paused, is_pending, is_queued, one_at, times}
+use Rattle.portmap_scheduler.specs.Links.{Links, is_pending, is_queued, one_at, times}
 use Rattle.portmap_scheduler.specs.Tracked.{is_current_in, is_key, link_of}
 use Rattle.portmap_scheduler.specs.{declared.Tracked.Tracked, declared.LinkState.LinkState, declared.Scheduler.TheInside.Inside}
 
@@ -11,9 +11,9 @@ module _ {T : Type 0} where
   abbrev pub links_of : List (Option (Tracked T)) → map.FinMap nat_cmp (T × LinkState)
   links_of slots = map.from_entries (entries_from 0 (list_map link_of slots))
 
-  -- The least capacity of the three lists: each can hold all keys below this number.
+  -- The lower capacity of the two lists: each can hold all keys below this number.
   abbrev pub room : Inside T → ℕ
-  room r = min (deque_capacity r.queue) (min (deque_capacity r.pending) (deque_capacity r.paused))
+  room r = min (deque_capacity r.queue) (deque_capacity r.pending)
 
   abbrev pub has_room : Inside T → Bool
   has_room r = nat_lt (slab_len r.held) r.held.capacity && nat_le r.held.capacity (room r)
@@ -24,7 +24,6 @@ module _ {T : Type 0} where
         links = links_of r.held.slots;
         queue = r.queue.items;
         pending = r.pending.items;
-        paused = r.paused.items;
         current = r.current;
         has_room = has_room r;
       }
@@ -37,11 +36,9 @@ module _ {T : Type 0} where
   pub record Agrees (v : Links T) : Type 0 where
     pub queue : Lists is_queued v.queue v.links
     pub pending : Lists is_pending v.pending v.links
-    pub paused : Lists is_paused v.paused v.links
     pub current : (q : ℕ) → is_key v.current q ≡ is_current_in (map.get v.links q)
 
   -- Each list can hold all keys in use.
   pub record IsWhole (r : Inside T) : Type 0 where
     pub agrees : Agrees (seen r)
     pub fits : (k : ℕ) → IsSome (get r.held k) → k < room r
-    pub counted : slab_len r.held ≡ map.len (links_of r.held.slots)

@@ -1,9 +1,9 @@
-//! A scheduler for the links of one worker: a run queue, a list of pending links and a list of paused links.
+//! A scheduler for the links of one worker: a run queue and a list of pending links.
 //!
 //! # Guarantees
-//! - No link is lost (`no_link_is_lost`, always): each link is in exactly one state, and is idle, queued, pending,
-//!   paused (`Paused`) or current (`Current`). The queue has each queued link once and no other key. The same holds for
-//!   pending and for paused links. At most one link is current, and `current` names it.
+//! - No link is lost (`no_link_is_lost`, always): each link is in exactly one state, and is idle, queued, pending or
+//!   current (`Current`). The queue has each queued link once and no other key. The same holds for pending links. At
+//!   most one link is current, and `current` names it.
 //! - The wait is bounded (`queue_wait_is_bounded`): a link with `n` others ahead in the queue is returned within
 //!   `n + 1` calls of `next`, whatever is called in between, unless it is removed. `pending_wait_is_bounded` is the law
 //!   of pending links.
@@ -25,9 +25,8 @@ ghost use Rattle.std.specs.Borrow.{sem};
 ghost use Rattle.std.specs.FinMap as map;
 ghost use Rattle.std.specs.VecDeque.{deque_capacity};
 ghost use Rattle.slab.specs.Slab.{Updates, get, slab_len};
-ghost use Rattle.portmap_scheduler.specs.Links.{is_pending, is_queued, is_paused, is_current, not_key, pushed, times};
-ghost use Rattle.portmap_scheduler.specs.Links.{without};
-ghost use Rattle.portmap_scheduler.specs.declared.LinkState.TheVariants.{Idle, Paused, Pending, Queued};
+ghost use Rattle.portmap_scheduler.specs.Links.{is_pending, is_queued, is_current, not_key, pushed, times, without};
+ghost use Rattle.portmap_scheduler.specs.declared.LinkState.TheVariants.{Idle, Pending, Queued};
 ghost use Rattle.portmap_scheduler.specs.Tracked.{link_of, with_link_state};
 
 use slab::Slab;
@@ -44,8 +43,6 @@ pub enum LinkState {
     Queued,
     /// The link waits for something other than a report. The caller asks about pending links in FIFO order.
     Pending,
-    /// The link is not served until its pause ends or it is reported.
-    Paused,
     /// The link was taken last, and is in the caller's hands.
     Current,
 }
@@ -63,7 +60,6 @@ pub struct Scheduler<T> {
     held: Slab<Tracked<T>>,
     queue: VecDeque<usize>,
     pending: VecDeque<usize>,
-    paused: VecDeque<usize>,
     current: Option<usize>,
 }
 
@@ -93,12 +89,6 @@ impl LinkState {
         ensures { result ≡ is_pending self }
     {
         matches!(self, LinkState::Pending)
-    }
-
-    fn is_paused(self) -> bool
-        ensures { result ≡ is_paused self }
-    {
-        matches!(self, LinkState::Paused)
     }
 }
 
@@ -157,21 +147,19 @@ impl<T: Drop> Scheduler<T> {
     ghost use Rattle.portmap_scheduler.specs.Runs.{QueueIsFifo, WaitIsBounded};
     ghost use Rattle.portmap_scheduler.specs.Runs as line;
     ghost use Rattle.portmap_scheduler.specs.Links.{IsButForRoom, IsConsistent, inserted, link_at, moved, state_at};
-    ghost use Rattle.portmap_scheduler.specs.Links.{removed, reported, after_resume, after_next_pending, after_next};
+    ghost use Rattle.portmap_scheduler.specs.Links.{removed, reported, after_next_pending, after_next};
     ghost use Rattle.portmap_scheduler.specs.Tracked.{is_free};
 
     pub fn new(alloc: Global) -> Scheduler<T>
         ensures links { result.links ≡ map.empty }
         ensures queue { result.queue ≡ [] }
         ensures pending { result.pending ≡ [] }
-        ensures paused { result.paused ≡ [] }
         ensures current { result.current ≡ None }
     {
         Scheduler {
             held: Slab::new(alloc),
             queue: VecDeque::new(alloc),
             pending: VecDeque::new(alloc),
-            paused: VecDeque::new(alloc),
             current: None,
         }
     }
@@ -217,13 +205,6 @@ impl<T: Drop> Scheduler<T> {
         self.pending.len()
     }
 
-    /// Returns the number of paused links.
-    pub fn paused(&self) -> usize
-        ensures { result ≡ length self.now.paused }
-    {
-        self.paused.len()
-    }
-
     /// Returns a number above every key in use.
     pub fn keys(&self) -> usize
         ensures { (k : ℕ) → IsSome (link_at self.now k) → k < result }
@@ -236,8 +217,7 @@ impl<T: Drop> Scheduler<T> {
         ensures { result ≡ self.now.has_room }
     {
         let most = self.held.capacity();
-        let others = self.pending.capacity().min(self.paused.capacity());
-        self.held.len() < most && most <= self.queue.capacity().min(others)
+        self.held.len() < most && most <= self.queue.capacity().min(self.pending.capacity())
     }
 
     pub fn state(&self, key: usize) -> Option<LinkState>
@@ -278,7 +258,7 @@ impl<T: Drop> Scheduler<T> {
         &mut self.held[key].value
     }
 
-    /// Reserves space for one link in every list, so that no other call allocates.
+    /// Reserves space for one link in both lists, so that no other call allocates.
     fn take_room(&mut self) -> Result<(), AllocError>
         ensures same { IsButForRoom self.new self.old }
         ensures room { OnOk result (self.new.has_room ≡ true) }
@@ -287,8 +267,7 @@ impl<T: Drop> Scheduler<T> {
         self.held.reserve(1)?;
         let most = self.held.capacity();
         widen(&mut self.queue, most)?;
-        widen(&mut self.pending, most)?;
-        widen(&mut self.paused, most)
+        widen(&mut self.pending, most)
     }
 
     fn insert_reserved(&mut self, value: T) -> usize
@@ -325,18 +304,16 @@ impl<T: Drop> Scheduler<T> {
         ensures { self.new ≡ moved state key self.old }
     {
         set_state(&mut self.held, key, state);
-        cut_if(&mut self.paused, key, true);
         push_if(&mut self.queue, key, state.is_queued());
         push_if(&mut self.pending, key, state.is_pending());
-        push_if(&mut self.paused, key, state.is_paused());
         self.current = forget(self.current, key);
     }
 
-    /// Queues the link under `key` if it is idle or paused. Otherwise changes nothing.
+    /// Queues the link under `key` if it is idle. Otherwise changes nothing.
     pub fn report(&mut self, key: usize)
         ensures { self.new ≡ reported key self.old }
     {
-        if let Some(LinkState::Idle | LinkState::Paused) = self.state(key) {
+        if let Some(LinkState::Idle) = self.state(key) {
             self.put(key, LinkState::Queued);
         }
     }
@@ -393,25 +370,6 @@ impl<T: Drop> Scheduler<T> {
         self.put(key, LinkState::Pending);
     }
 
-    /// Pauses the current link. It is the last of the paused links.
-    pub fn rest(&mut self, key: usize)
-        requires { self.old.current ≡ Some key }
-        ensures { self.new ≡ moved Paused key self.old }
-    {
-        self.no_link_is_lost();
-        self.put(key, LinkState::Paused);
-    }
-
-    /// Ends the pause of the first paused link, which becomes idle.
-    pub fn resume_oldest(&mut self) -> Option<usize>
-        ensures key { result ≡ slice_get self.old.paused 0 }
-        ensures ended { self.new ≡ after_resume self.old }
-    {
-        let key = self.paused.pop_front()?;
-        set_state(&mut self.held, key, LinkState::Idle);
-        Some(key)
-    }
-
     /// Removes the link under `key`, whatever its state, and returns it.
     pub fn remove(&mut self, key: usize) -> Option<T>
         ensures value { result ≡ option_map (λ link. link.0) (link_at self.old key) }
@@ -420,7 +378,6 @@ impl<T: Drop> Scheduler<T> {
         let link = self.held.try_remove(key)?;
         cut_if(&mut self.queue, key, link.state.is_queued());
         cut_if(&mut self.pending, key, link.state.is_pending());
-        cut_if(&mut self.paused, key, link.state.is_paused());
         self.current = forget(self.current, key);
         Some(link.value)
     }

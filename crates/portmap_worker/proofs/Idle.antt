@@ -1,16 +1,16 @@
 -- Lemmas: the effect of each call on the links of a worker.
 use Rattle.std.specs.{Ordering.nat_cmp, Prelude.{drop, fold, IfSome, is_some, option_map, slice_get, unwrap_or}}
 use Rattle.std.specs.FinMap as map
-use Rattle.std.proofs.Common.{◌≡◌, ◌≢◌, ℕ, Bool, true, false, not, ◌&&◌, Option, Some, None, List, [], ◌∷◌, ◌++◌}
-use Rattle.std.proofs.Common.{refl, sym, ap, ◌∙◌, ◌⊎◌, inl, inr, arith, length, take, ◌+◌, ◌-◌, ◌≤◌}
+use Rattle.std.proofs.Common.{◌≡◌, ◌≢◌, ℕ, Bool, true, false, Option, Some, None, List, [], ◌∷◌, ◌++◌}
+use Rattle.std.proofs.Common.{refl, sym, ap, ◌∙◌, ◌⊎◌, inl, inr, arith, length, take, ◌+◌, ◌≤◌}
 use Rattle.std.proofs.{Common.rules, lemmas.Bool.{cases_eq, Decides.nat_tests}, lemmas.Grind.common_steps}
-use Rattle.portmap_scheduler.specs.Links.{IsButForRoom, IsConsistent, Links, first_at, inserted, is_paused, link_at, moved, one_at}
-use Rattle.portmap_scheduler.specs.Links.{state_at, put_at, removed, reported, after_resume, times, after_next, without, write_at, written}
-use Rattle.std.proofs.{Math.Seq.{drop-nil, take_all}, lemmas.List.{drop-drop, Sums.fold_more}}
+use Rattle.portmap_scheduler.specs.Links.{IsButForRoom, Links, first_at, inserted, link_at, moved}
+use Rattle.portmap_scheduler.specs.Links.{state_at, put_at, removed, reported, after_next, write_at, written}
+use Rattle.std.proofs.{Math.Seq.{take_all}, lemmas.List.{Sums.fold_more}}
 use Rattle.std.proofs.lemmas.{Option.{get_or_from_slice_get, slice_get_cases, slice_get_within}}
-use Rattle.portmap_scheduler.{specs.Links.{is_queued, is_quiet as is_quiet_place, pushed}}
+use Rattle.portmap_scheduler.{specs.Links.{is_queued, is_idle, pushed}}
 use Rattle.portmap_scheduler.{specs.Runs.{Queue, PutBack, Remove}, proofs.Turns.wait_is_bounded}
-use Rattle.portmap_scheduler.specs.declared.LinkState.{LinkState, TheVariants.{Idle, Queued, Paused, Current}}
+use Rattle.portmap_scheduler.specs.declared.LinkState.{LinkState, TheVariants.{Idle, Queued, Current}}
 use Rattle.portmap_worker.specs.IdleLinks.{Ahead, AllQuiet, AreNoted, Changes, Fact, Has, Holds, IsReported, Keeps, KeepsLinks}
 use Rattle.portmap_worker.specs.IdleLinks.{Safe, Spares, Returned, Returns, ReturnsLinks, There}
 use Rattle.portmap_worker.specs.IdleLinks.{hears, is_calm, is_safe, noted_at, notes_of, place_reported}
@@ -20,25 +20,8 @@ use Rattle.portmap_worker.specs.declared.source.Turn.{Turn, TheVariants.{Fresh}}
 use Rattle.portmap_worker.specs.declared.system.Report.{Report, TheVariants.{Stream}}
 use Rattle.portmap_worker.specs.{Quiet.is_quiet, declared.{open_link.OpenLink.OpenLink, readiness.Note.{Note, TheVariants.{Reported}}}}
 
-absent_stays : (k : ℕ) (xs : List ℕ) → times k xs ≡ 0 → without k xs ≡ xs
-absent_stays k [] e = refl
-absent_stays k (x ∷ xs) e = grind (arith, common_steps, nat_tests, absent_stays k xs)
-
-no_more : (k : ℕ) (xs : List ℕ) → slice_get xs 0 ≡ Some k → times k xs ≤ 1 → without k (drop 1 xs) ≡ drop 1 xs
-no_more k [] s e = refl
-no_more k (x ∷ xs) s e = absent_stays k xs (grind (arith, common_steps, nat_tests, s, e))
-
-pub all_dropped : (n most : ℕ) (xs : List ℕ) → drop n xs ≡ [] → n ≤ most → drop most xs ≡ []
-all_dropped n most xs e b =
-    let sum : most ≡ n + (most - n) = omega arith in
-    ap (λ k. drop k xs) sum ∙ sym (drop-drop (most - n) n xs) ∙ ap (drop (most - n)) e ∙ drop-nil (most - n)
-
 some_map : {A B : Type 0} (f : A → B) (o : Option A) → is_some (option_map f o) ≡ is_some o
 some_map f o = search rules
-
-awake : (a b : Bool) → not a && b ≡ true → a ≡ false
-awake true b e = absurd (cc)
-awake false b e = refl
 
 module _ {S : Type 0} where
   -- The link gets another state, gets another value, or is reported.
@@ -49,7 +32,7 @@ module _ {S : Type 0} where
   with v l = (v, l.1)
 
   abbrev waked : OpenLink S × LinkState → OpenLink S × LinkState
-  waked l = (l.0, place_reported true l.1)
+  waked l = (l.0, place_reported l.1)
 
   abbrev value : Option (OpenLink S × LinkState) → Option (OpenLink S)
   value = option_map (λ l. l.0)
@@ -158,9 +141,9 @@ module _ {S : Type 0} where
       rw e (still.0, omega (arith, near, less))
 
   pub reports_stay : (k : ℕ) (r : Links (OpenLink S)) → Stays r (reported k r)
-  reports_stay k r = at (is_quiet_place (state_at r k)) refl
+  reports_stay k r = at (is_idle (state_at r k)) refl
     where
-      at : (b : Bool) → is_quiet_place (state_at r k) ≡ b → Stays r (reported k r)
+      at : (b : Bool) → is_idle (state_at r k) ≡ b → Stays r (reported k r)
       at true e = joins true k r (reported k r) (search (rules, e))
       at false e = stays r (reported k r) (search (rules, e))
 
@@ -197,13 +180,6 @@ module _ {S : Type 0} where
   waked_safe (Some (v, Idle)) = refl
   waked_safe o = refl
 
-  both : (v : OpenLink S) → v.link.is_paused ≡ false → is_quiet (notes_of v) ≡ true → is_calm v ≡ true
-  both v r q = rw (r, q) refl
-
-  quiet_safe : (v : OpenLink S) (state : LinkState) → is_calm v ≡ true → is_safe (Some (v, state)) ≡ true
-  quiet_safe v Idle q = q
-  quiet_safe v state q = refl
-
   -- ---- changes
 
   -- The link gets this state. Its key goes to the end of the queue if the state is `Queued`.
@@ -232,22 +208,16 @@ module _ {S : Type 0} where
 
   -- The link gets another value, and is idle.
   pub idles : (k : ℕ) (v : OpenLink S) (old new : Links (OpenLink S)) → new ≡ moved Idle k (written k old v)
-      → v.link.is_paused ≡ false → is_quiet (notes_of v) ≡ true → Keeps old new
-  idles k v old new e rests quiet =
+      → is_quiet (notes_of v) ≡ true → Keeps old new
+  idles k v old new e quiet =
       rw e (keep k old _ (then_moved Idle k old (written k old v) (then_written k v old old (itself k old))) (λ q most h. h)
       (ap is_safe (moved_here Idle k (written k old v) ∙ ap (option_map (to Idle)) (written_here k v old)) ∙ at (link_at old k)))
     where
       at : (o : Option (OpenLink S × LinkState)) → is_safe (option_map (to Idle) (option_map (with v) o)) ≡ true
       at None = refl
-      at (Some l) = both v rests quiet
+      at (Some l) = quiet
 
   module _ (k : ℕ) (v : OpenLink S) (old r : Links (OpenLink S)) where
-    -- The link gets another value, which is quiet.
-    pub calms : Alike k old r → Stays old r → v.link.is_paused ≡ false → is_quiet (notes_of v) ≡ true → Keeps old (written k r v)
-    calms others queue rests quiet =
-        keep k old (written k r v) (then_written k v old r others) queue
-        (ap is_safe (written_here k v r) ∙ all_safe (with v) (link_at r k) (λ l _. quiet_safe v l.1 (both v rests quiet)))
-
     -- The link was reported.
     pub wakes : (new : Links (OpenLink S)) → Alike k old r → Stays old r → new ≡ reported k (written k r v) → Keeps old new
     wakes new others queue e =
@@ -267,36 +237,8 @@ module _ {S : Type 0} where
       at o e s = refl
 
   pub as_calm : (k : ℕ) (r : Links (OpenLink S)) (h v : OpenLink S) → Some h ≡ value (link_at r k)
-      → v.link.is_paused ≡ h.link.is_paused → notes_of v ≡ notes_of h → Keeps r (written k r v)
-  as_calm k r h v is rests notes =
-      kept_so k r h v is (λ calm. ap (λ b. not b && is_quiet (notes_of v)) rests
-      ∙ ap (λ n. not h.link.is_paused && is_quiet n) notes ∙ calm)
-
-  -- The link was scanned, and is not to be served.
-  pub looked : (k : ℕ) (r : Links (OpenLink S)) (h v : OpenLink S) → Some h ≡ value (link_at r k)
-      → v.link.is_paused ≡ h.link.is_paused → (h.link.is_paused ≡ false → is_quiet (notes_of v) ≡ true) → Keeps r (written k r v)
-  looked k r h v is rests quiet = kept_so k r h v is (λ calm.
-      let up : h.link.is_paused ≡ false = awake h.link.is_paused (is_quiet (notes_of h)) calm in
-      both v (rests ∙ up) (quiet up))
-
-  -- The link gets another value while it is paused.
-  pub rests_on : (k : ℕ) (v : OpenLink S) (r : Links (OpenLink S)) → state_at r k ≡ Some Paused → Keeps r (written k r v)
-  rests_on k v r h =
-      keep k r (written k r v) (then_written k v r r (itself k r)) (λ q most h. h)
-      (ap is_safe (written_here k v r) ∙ at (link_at r k) h)
-    where
-      at : (o : Option (OpenLink S × LinkState)) → option_map (λ (l : OpenLink S × LinkState). l.1) o ≡ Some Paused
-          → is_safe (option_map (with v) o) ≡ true
-      at (Some (t, Idle)) e = absurd (cc)
-      at o e = refl
-
-  pub no_link : (o : Option (OpenLink S × LinkState)) → None ≡ value o → o ≡ None
-  no_link None e = refl
-  no_link (Some l) e = absurd (cc)
-
-  pub absent : (k : ℕ) (old new : Links (OpenLink S)) → Alike k old new → Stays old new → link_at new k ≡ None
-      → Keeps old new
-  absent k old new others queue e = keep k old new others queue (ap is_safe e)
+      → notes_of v ≡ notes_of h → Keeps r (written k r v)
+  as_calm k r h v is notes = kept_so k r h v is (λ calm. ap is_quiet notes ∙ calm)
 
   -- The link was reported before it got another value.
   pub lent : (k : ℕ) (v : OpenLink S) (old r : Links (OpenLink S)) → r ≡ reported k old → Keeps old (written k r v)
@@ -379,35 +321,16 @@ module _ {S : Type 0} where
 
   -- ---- the effect of a report on a link
 
-  module _ (closed : Bool) (k : ℕ) (r new : Links (OpenLink S)) (h v : OpenLink S) where
-    pub reported_so : Some h ≡ value (link_at r k) → notes_of v ≡ notes_of h ++ Reported ∷ []
-        → (closed ≡ true) ⊎ (state_at r k ≡ Some Paused → ⊥) → new ≡ reported k (written k r v)
-        → IsReported closed (link_at r k) (link_at new k)
-    reported_so is noted unless e =
-        at (link_at r k) (link_at new k) is unless
+  module _ (k : ℕ) (r new : Links (OpenLink S)) (h v : OpenLink S) where
+    pub reported_so : Some h ≡ value (link_at r k) → notes_of v ≡ notes_of h ++ Reported ∷ [] → new ≡ reported k (written k r v)
+        → IsReported (link_at r k) (link_at new k)
+    reported_so is noted e =
+        at (link_at r k) (link_at new k) is
         (ap (λ r. link_at r k) e ∙ reported_here k (written k r v) ∙ ap (option_map waked) (written_here k v r))
       where
-        same : (closed : Bool) (state : LinkState) → (closed ≡ true) ⊎ (Some state ≡ Some Paused → ⊥)
-            → place_reported true state ≡ place_reported closed state
-        same false Paused unless = absurd (elim unless [ inl e ↦ absurd (cc) | inr n ↦ n refl ])
-        same closed state unless = refl
-
-        at : (o n : Option (OpenLink S × LinkState)) → Some h ≡ value o
-            → (closed ≡ true) ⊎ (option_map (λ (l : OpenLink S × LinkState). l.1) o ≡ Some Paused → ⊥)
-            → n ≡ option_map waked (option_map (with v) o) → IsReported closed o n
-        at None n is unless e = e
-        at (Some (t, state)) n is unless e =
-            rw e (same closed state unless, noted ∙ ap (λ o. notes_of (unwrap_or o h) ++ Reported ∷ []) is)
-
-  pub rests_so : (k : ℕ) (r : Links (OpenLink S)) (h v : OpenLink S) → Some h ≡ value (link_at r k)
-      → notes_of v ≡ notes_of h ++ Reported ∷ [] → state_at r k ≡ Some Paused → IsReported false (link_at r k) (link_at (written k r v) k)
-  rests_so k r h v is noted paused = at (link_at r k) _ is paused (written_here k v r)
-    where
-      at : (o n : Option (OpenLink S × LinkState)) → Some h ≡ value o
-          → option_map (λ (l : OpenLink S × LinkState). l.1) o ≡ Some Paused → n ≡ option_map (with v) o → IsReported false o n
-      at None n is paused e = e
-      at (Some (t, Paused)) n is paused e = rw e (refl, noted ∙ ap (λ o. notes_of (unwrap_or o h) ++ Reported ∷ []) is)
-      at o n is paused e = absurd (cc)
+        at : (o n : Option (OpenLink S × LinkState)) → Some h ≡ value o → n ≡ option_map waked (option_map (with v) o) → IsReported o n
+        at None n is e = e
+        at (Some (t, state)) n is e = rw e (refl, noted ∙ ap (λ o. notes_of (unwrap_or o h) ++ Reported ∷ []) is)
 
   -- ---- links that arrive and end
 
@@ -528,14 +451,14 @@ module _ {S : Type 0} where
 
   -- ---- reports that are noted
 
-  pub one_noted : (key : ℕ) (closed : Bool) (old new : Links (OpenLink S)) → IsReported closed (link_at old key) (link_at new key)
+  pub one_noted : (key : ℕ) (closed : Bool) (old new : Links (OpenLink S)) → IsReported (link_at old key) (link_at new key)
       → ((q : ℕ) → q ≢ key → link_at new q ≡ link_at old q) → (k : ℕ) → noted_at new k ≡ hears k (noted_at old k) (Stream key closed)
   one_noted key closed old new reported others k = elim (cases_eq k key) [
     | inl same ↦ rw same (here (link_at old key) (link_at new key) reported)
     | inr differs ↦ ap noted (others k differs) ∙ there (link_at old k) differs
   ]
     where
-      here : (o n : Option (OpenLink S × LinkState)) → IsReported closed o n → noted n ≡ hears key (noted o) (Stream key closed)
+      here : (o n : Option (OpenLink S × LinkState)) → IsReported o n → noted n ≡ hears key (noted o) (Stream key closed)
       here None n e = rw e (grind (arith, nat_tests))
       here (Some o) None e = absurd (cc)
       here (Some o) (Some n) e = rw e.1 (grind (arith, nat_tests))
@@ -569,23 +492,3 @@ module _ {S : Type 0} where
               | inr past ↦ past.0
             ] in
             take_all most reports (omega arith) ∙ sym (take_all n reports short)
-
-  -- ---- the end of a pause
-
-  one_at_most : (test : LinkState → Bool) (o : Option (OpenLink S × LinkState)) → one_at test o ≤ 1
-  one_at_most test None = omega arith
-  one_at_most test (Some l) = search rules
-
-  still : (k : ℕ) (r : Links (OpenLink S)) → without k r.paused ≡ r.paused → (reported k r).paused ≡ r.paused
-  still k r e = search rules
-
-  module _ (k : ℕ) (v : OpenLink S) (old r new : Links (OpenLink S)) where
-    -- The key of a link that resumes is not in the rest of the paused list.
-    pub rest_over : IsConsistent old → slice_get old.paused 0 ≡ Some k → r ≡ after_resume old → new
-        ≡ reported k (written k r v)
-        → new.paused ≡ drop 1 old.paused
-    rest_over ready s ended e =
-        let rest : r.paused ≡ drop 1 old.paused = ap (λ (r : Links (OpenLink S)). r.paused) ended in
-        let once : times k old.paused ≤ 1 = omega (arith, ready.paused k, one_at_most is_paused (link_at old k)) in
-        ap (λ (r : Links (OpenLink S)). r.paused) e
-        ∙ still k (written k r v) (ap (without k) rest ∙ no_more k old.paused s once ∙ sym rest) ∙ rest

@@ -28,9 +28,8 @@ polled old new e most = elim (cases_Bool old.has_accepted) [
 ]
 
 -- The poll sets the count of turns to 0.
-pub asked : (old first waited new : Schedule) → first ≡ old → waited ≡ record first { turns = 0 } → new ≡ waited
-    → new ≡ record old { turns = 0 }
-asked old first waited new f w n = rw f at (n ∙ w)
+pub asked : (old first waited : Schedule) → first ≡ old → waited ≡ record first { turns = 0 } → waited ≡ record old { turns = 0 }
+asked old first waited f w = rw f at w
 
 -- A counted turn that accepts a connection lowers the patience by at least 1.
 accepted : (old taken new : Schedule) → old.turns < TURNS_MOST → taken ≡ record old { turns = old.turns + 1 } → HasAccepted taken new

@@ -1,19 +1,18 @@
 -- The idle links of a worker, and the effect of a report: profile.
-use Rattle.std.specs.Prelude.{◌≡◌, ◌≢◌, ℕ, ◌==◌, Bool, true, false, not, ◌&&◌, cond}
+use Rattle.std.specs.Prelude.{◌≡◌, ◌≢◌, ℕ, ◌==◌, Bool, true, false, cond}
 use Rattle.std.specs.Prelude.{List, [], ◌∷◌, ◌++◌, fold, Option, Some, None, length, ◌<◌}
 use Rattle.std.specs.Prelude.{option_map, is_some}
 use Rattle.portmap_scheduler.specs.{Links.{Links, link_at, times}, Runs.before}
-use Rattle.portmap_scheduler.specs.declared.LinkState.{LinkState, TheVariants.{Idle, Queued, Paused}}
+use Rattle.portmap_scheduler.specs.declared.LinkState.{LinkState, TheVariants.{Idle, Queued}}
 use Rattle.portmap_worker.specs.{Quiet.is_quiet, declared.open_link.OpenLink.OpenLink}
 use Rattle.portmap_worker.specs.declared.readiness.Note.{Note, TheVariants.{Reported}}
 use Rattle.portmap_worker.specs.declared.source.Turn.{Turn, TheVariants.{Fresh}}
 use Rattle.portmap_worker.specs.declared.system.Report.{Report, TheVariants.{Stream}}
 
--- The state of a link after a report: queued, if it was idle, or paused with a peer that sends no more. Otherwise the state is unchanged.
-abbrev pub place_reported : Bool → LinkState → LinkState
-place_reported closed Idle = Queued
-place_reported true Paused = Queued
-place_reported closed place = place
+-- The state of a link after a report: queued if it was idle, and otherwise unchanged.
+abbrev pub place_reported : LinkState → LinkState
+place_reported Idle = Queued
+place_reported place = place
 
 -- The notes of the link with this key, if there is such a link, after a report.
 abbrev pub hears : ℕ → Option (List Note) → Report → Option (List Note)
@@ -43,9 +42,9 @@ module _ {S : Type 0} where
   abbrev pub notes_of : OpenLink S → List Note
   notes_of held = held.link.readiness.notes
 
-  -- The link is not paused, and no event of it can be missed.
+  -- No event of the link can be missed.
   abbrev pub is_calm : OpenLink S → Bool
-  is_calm held = not held.link.is_paused && is_quiet (notes_of held)
+  is_calm held = is_quiet (notes_of held)
 
   -- No event of the link can be missed in its state. A link that isn't idle is looked at again.
   abbrev pub is_safe : Option (OpenLink S × LinkState) → Bool
@@ -93,10 +92,9 @@ module _ {S : Type 0} where
   ReturnsLinks old new turn = Returned (KeepsLinks old new) old new turn
 
   -- The poll has reported the link.
-  abbrev pub IsReported : Bool → Option (OpenLink S × LinkState) → Option (OpenLink S × LinkState) → Type 0
-  IsReported closed (Some old) (Some new) =
-      (new.1 ≡ place_reported closed old.1) × (notes_of new.0 ≡ notes_of old.0 ++ Reported ∷ [])
-  IsReported closed old new = new ≡ old
+  abbrev pub IsReported : Option (OpenLink S × LinkState) → Option (OpenLink S × LinkState) → Type 0
+  IsReported (Some old) (Some new) = (new.1 ≡ place_reported old.1) × (notes_of new.0 ≡ notes_of old.0 ++ Reported ∷ [])
+  IsReported old new = new ≡ old
 
   abbrev pub noted_at : Links (OpenLink S) → ℕ → Option (List Note)
   noted_at links k = option_map (λ l. notes_of l.0) (link_at links k)

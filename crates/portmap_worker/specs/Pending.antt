@@ -1,15 +1,16 @@
--- Registrations that wait for their names: profile. Times are in milliseconds.
+-- Registrations that wait for their names, and lists that wait for their turn: profile. Times are in milliseconds.
 use Rattle.std.specs.Prelude.{◌≡◌, ℕ, ◌+◌, ◌-◌, ◌<◌, ◌≤◌, ◌^◌, ◌⊎◌, min, Option, Some, None, option_map}
 use Rattle.portmap_worker.specs.declared.limits.TheConstants.{EPOCH_RETRIES_MOST, EPOCH_TIMEOUT_MS, NAME_TIMEOUT_MS}
-use Rattle.portmap_worker.specs.declared.pending.Waiting.{Waiting, TheVariants.{Asked, Come, Epoch, Name}}
+use Rattle.portmap_worker.specs.declared.pending.Waiting.{Waiting, TheVariants.{Asked, Come, Epoch, List, Name}}
 
 -- The earlier of two times, of which the first may be missing.
 abbrev pub earliest : Option ℕ → ℕ → ℕ
 earliest (Some time) other = min time other
 earliest None other = other
 
--- The time until which the poll may wait for a pending registration.
+-- The time until which the poll may wait for a pending link.
 abbrev pub until : Waiting → ℕ → ℕ
+until List now = now
 until Come now = now
 until Asked now = now
 until (Name time) now = time
@@ -22,13 +23,15 @@ StopsWaiting rounds now until = (EPOCH_RETRIES_MOST ≤ rounds) × (min (until +
 
 -- The registration waits for this epoch at `now`: its own unless that was passed, or one that begins. Other functions decide which.
 abbrev pub Awaits : Waiting → ℕ → Option ℕ → Type 0
+Awaits List now epoch = epoch ≡ None
 Awaits Come now epoch = epoch ≡ None
 Awaits Asked now epoch = epoch ≡ None
 Awaits (Name until) now epoch = ((now < until) × (epoch ≡ None)) ⊎ ((until ≤ now) × (begun : ℕ) × (epoch ≡ Some begun))
 Awaits (Epoch until own rounds) now epoch = (epoch ≡ None) ⊎ (epoch ≡ Some own)
 
--- A registration of an active name waits so from `now` on, given this epoch.
+-- A list, or a registration of an active name, waits so from `now` on, given this epoch.
 abbrev pub GoesOn : Waiting → ℕ → Option ℕ → Option Waiting → Type 0
+GoesOn List now epoch next = next ≡ Some List
 GoesOn Come now epoch next = next ≡ Some Asked
 GoesOn Asked now epoch next = next ≡ Some (Name (min (now + NAME_TIMEOUT_MS) (2 ^ 64 - 1)))
 GoesOn (Name until) now epoch next = ((now < until) × (next ≡ Some (Name until)))

@@ -111,15 +111,15 @@ impl<S: System> Sockets<S> {
 
 impl<'a, L: Ledger, S: System, R: Host + Wait + Clock> SocketSource<'a, L, S, R> {
     pub(crate) fn admit(&mut self) -> Option<Turn>
-        ensures current { self.new.ready.current ≡ self.old.ready.current }
-        ensures links { Returns self.old.ready self.new.ready result }
+        ensures current { self.new.links.current ≡ self.old.links.current }
+        ensures links { Returns self.old.links self.new.links result }
         ensures schedule { self.new.schedule ≡ self.old.schedule }
     {
-        let waiting = self.door.newcomer.take();
+        let waiting = self.admission.newcomer.take();
         let has_waited = waiting.is_some();
         let newcomer = match waiting {
             Some(newcomer) => newcomer,
-            None => match self.sockets.accept(self.shared, self.rounds.time) {
+            None => match self.sockets.accept(self.shared, self.loop_state.time) {
                 Some(newcomer) => newcomer,
                 None => return self.free_descriptor(),
             },
@@ -130,7 +130,7 @@ impl<'a, L: Ledger, S: System, R: Host + Wait + Clock> SocketSource<'a, L, S, R>
             None => self.evict_for(newcomer),
         };
         // A peer at another worker that still waits asks again within a millisecond.
-        if has_waited && self.door.accepts() {
+        if has_waited && self.admission.accepts() {
             self.shared.quota.want_none();
         }
         turn
@@ -138,16 +138,16 @@ impl<'a, L: Ledger, S: System, R: Host + Wait + Clock> SocketSource<'a, L, S, R>
 
     fn take(&mut self, newcomer: Incoming<S::Stream>, permit: Permit<'a>) -> Option<Turn>
         ensures fresh { IfSome result (λ turn. IsFreshFrom newcomer.is_local turn) }
-        ensures current { self.new.ready.current ≡ self.old.ready.current }
-        ensures links { Returns self.old.ready self.new.ready result }
+        ensures current { self.new.links.current ≡ self.old.links.current }
+        ensures links { Returns self.old.links self.new.links result }
         ensures schedule { self.new.schedule ≡ self.old.schedule }
     {
-        let is_first = self.ready.is_empty();
+        let is_first = self.links.is_empty();
         let fresh = self.hold(newcomer, permit);
         if fresh.is_none() {
-            self.tally.news.exhausted = true;
-            self.tally.on_unanswered(self.shared);
-            self.tally.on_no_memory(self.shared);
+            self.activity.news.exhausted = true;
+            self.activity.on_unanswered(self.shared);
+            self.activity.on_no_memory(self.shared);
         } else if is_first {
             self.state.take_first(self.shared);
         }
@@ -158,22 +158,22 @@ impl<'a, L: Ledger, S: System, R: Host + Wait + Clock> SocketSource<'a, L, S, R>
     /// holds more links than ever before only while other memory is left.
     fn hold(&mut self, newcomer: Incoming<S::Stream>, permit: Permit<'a>) -> Option<Turn>
         ensures fresh { IfSome result (λ turn. IsFreshFrom newcomer.is_local turn) }
-        ensures current { self.new.ready.current ≡ self.old.ready.current }
-        ensures links { Returns self.old.ready self.new.ready result }
+        ensures current { self.new.links.current ≡ self.old.links.current }
+        ensures links { Returns self.old.links self.new.links result }
         ensures schedule { self.new.schedule ≡ self.old.schedule }
     {
         let local = newcomer.is_local;
         let now = self.time_us() / 1000;
-        if !self.ready.has_room() && !self.rt.has_memory(self.alloc) {
+        if !self.links.has_room() && !self.rt.has_memory(self.alloc) {
             return None;
         }
         let held = OpenLink {
             link: Link::new(self.alloc, newcomer.stream, local, now),
             waiting: Waiting::Come,
             permit,
-            unsent: Unsent::new(&self.shared.unsent, local, self.rounds.time),
+            unsent: Unsent::new(&self.shared.unsent, local, self.loop_state.time),
         };
-        let Ok(key) = self.ready.insert(held) else {
+        let Ok(key) = self.links.insert(held) else {
             return None;
         };
         Some(Turn::Fresh {
@@ -185,46 +185,46 @@ impl<'a, L: Ledger, S: System, R: Host + Wait + Clock> SocketSource<'a, L, S, R>
     /// Evicts a connection for a peer without a permit. A local peer may wait for another worker to do so. If nobody
     /// can, the connection of the peer is closed.
     fn evict_for(&mut self, newcomer: Incoming<S::Stream>) -> Option<Turn>
-        ensures current { self.new.ready.current ≡ self.old.ready.current }
-        ensures links { Returns self.old.ready self.new.ready result }
+        ensures current { self.new.links.current ≡ self.old.links.current }
+        ensures links { Returns self.old.links self.new.links result }
         ensures schedule { self.new.schedule ≡ self.old.schedule }
     {
-        let waited = self.rounds.time.saturating_sub(newcomer.came);
+        let waited = self.loop_state.time.saturating_sub(newcomer.came);
         let remote_first = spares_local(waited, self.shared.quota.remote());
         let with_local = newcomer.is_local && !remote_first;
         let candidate = self
-            .door
-            .candidate(&self.ready, with_local, self.rounds.time);
+            .admission
+            .candidate(&self.links, with_local, self.loop_state.time);
         if let Some(key) = candidate {
-            self.door.newcomer = Some(newcomer);
-            return Some(evict(&mut self.ready, key, self.rounds.time));
+            self.admission.newcomer = Some(newcomer);
+            return Some(evict(&mut self.links, key, self.loop_state.time));
         }
         if newcomer.is_local && waited < PERMIT_TIMEOUT_MS {
             if self.shared.quota.want(remote_first) {
                 self.shared.wake_others(self.sockets.worker);
             }
-            self.door.newcomer = Some(newcomer);
+            self.admission.newcomer = Some(newcomer);
         } else {
-            self.tally.on_unanswered(self.shared);
+            self.activity.on_unanswered(self.shared);
         }
         None
     }
 
     /// Evicts a connection, remote before local, if none can be accepted for lack of descriptors or memory.
     fn free_descriptor(&mut self) -> Option<Turn>
-        ensures current { self.new.ready.current ≡ self.old.ready.current }
-        ensures links { Returns self.old.ready self.new.ready result }
+        ensures current { self.new.links.current ≡ self.old.links.current }
+        ensures links { Returns self.old.links self.new.links result }
         ensures schedule { self.new.schedule ≡ self.old.schedule }
     {
         if !self.sockets.listeners.take_lack() {
             self.end_lack();
             return None;
         }
-        let now = self.rounds.time;
-        let waited = now.saturating_sub(*self.door.lacking.get_or_insert(now));
+        let now = self.loop_state.time;
+        let waited = now.saturating_sub(*self.admission.lacking.get_or_insert(now));
         let remote_first = spares_local(waited, self.shared.quota.remote());
-        if let Some(key) = self.door.candidate(&self.ready, !remote_first, now) {
-            return Some(evict(&mut self.ready, key, now));
+        if let Some(key) = self.admission.candidate(&self.links, !remote_first, now) {
+            return Some(evict(&mut self.links, key, now));
         }
         if self.shared.quota.want(remote_first) {
             self.shared.wake_others(self.sockets.worker);
@@ -234,25 +234,27 @@ impl<'a, L: Ledger, S: System, R: Host + Wait + Clock> SocketSource<'a, L, S, R>
 
     /// Withdraws the demand of `free_descriptor`: connections can be accepted again, or none waits.
     fn end_lack(&mut self)
-        ensures ready { self.new.ready ≡ self.old.ready }
+        ensures links { self.new.links ≡ self.old.links }
         ensures schedule { self.new.schedule ≡ self.old.schedule }
     {
-        if self.door.lacking.take().is_some() {
+        if self.admission.lacking.take().is_some() {
             self.shared.quota.want_none();
         }
     }
 
     pub(crate) fn evict_for_other_worker(&mut self) -> Option<Turn>
-        ensures links { Returns self.old.ready self.new.ready result }
+        ensures links { Returns self.old.links self.new.links result }
         ensures schedule { self.new.schedule ≡ self.old.schedule }
     {
         let (is_wanted, is_any) = self.shared.quota.wanted();
-        if !is_wanted || !self.door.accepts() {
+        if !is_wanted || !self.admission.accepts() {
             return None;
         }
-        let key = self.door.candidate(&self.ready, is_any, self.rounds.time)?;
+        let key = self
+            .admission
+            .candidate(&self.links, is_any, self.loop_state.time)?;
         self.shared.quota.want_none();
-        Some(evict(&mut self.ready, key, self.rounds.time))
+        Some(evict(&mut self.links, key, self.loop_state.time))
     }
 }
 

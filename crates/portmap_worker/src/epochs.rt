@@ -124,12 +124,12 @@ impl Pass {
 
 impl<L: Ledger, S: System, R: Host + Wait + Clock> SocketSource<'_, L, S, R> {
     pub(crate) fn poll_after(&mut self, begun: Begun, timeout: u64) -> Option<Polled>
-        requires { 0 < timeout → self.old.ready.queue ≡ [] }
+        requires { 0 < timeout → self.old.links.queue ≡ [] }
         ensures epoch { IfSome result (λ polled. polled.epoch ≡ begun.epoch) }
-        ensures links { Keeps self.old.ready self.new.ready }
+        ensures links { Keeps self.old.links self.new.links }
         ensures schedule { self.new.schedule ≡ self.old.schedule }
     {
-        let is_well = self.sockets.ask(&mut self.ready, timeout);
+        let is_well = self.sockets.ask(&mut self.links, timeout);
         is_well.then_some(Polled { epoch: begun.epoch })
     }
 }

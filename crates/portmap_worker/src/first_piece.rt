@@ -1,5 +1,5 @@
-//! The first chunk of a connection. It is kept back if it registers a name, or if it asks for a list while many bytes
-//! wait to be written.
+//! The first chunk of a connection. It is kept back if it registers a name or asks for a list, since either may have to
+//! wait.
 ghost use Rattle.std.specs.Prelude.{◌≡◌, ◌↔◌, ◌≤◌, ◌⊎◌, ◌∷◌, [], true, length, take};
 ghost use Rattle.std.specs.Io.{ReadsAtMost};
 
@@ -25,8 +25,8 @@ pub(crate) enum Asks {
     List,
 }
 
-fn asked(alloc: Global, piece: &[u8], is_crowded: bool) -> Option<Asks> {
-    if is_crowded && asks_list(piece) {
+fn asked(alloc: Global, piece: &[u8]) -> Option<Asks> {
+    if asks_list(piece) {
         return Some(Asks::List);
     }
     Some(Asks::Registration(name_to_register(alloc, piece)?))
@@ -48,27 +48,18 @@ impl FirstPiece {
         }
     }
 
-    pub(crate) fn is_kept(&self) -> bool {
-        matches!(self, FirstPiece::Kept(..))
-    }
-
     pub(crate) fn asks_list(&self) -> bool {
         matches!(self, FirstPiece::Kept(Asks::List, _))
     }
 
     /// Reads the stream. If the first chunk is to be kept back and there is memory for it, the read fails with
     /// `Interrupted`, and the next read returns the chunk.
-    pub(crate) fn read<S: Read>(
-        &mut self,
-        stream: &mut S,
-        buffer: &mut [u8],
-        is_crowded: bool,
-    ) -> io::Result<usize>
+    pub(crate) fn read<S: Read>(&mut self, stream: &mut S, buffer: &mut [u8]) -> io::Result<usize>
         ensures bound { ReadsAtMost result buffer.new }
     {
         match mem::replace(self, FirstPiece::Past) {
             FirstPiece::Past => stream.read(buffer),
-            FirstPiece::Expected(alloc) => self.read_first(alloc, stream, buffer, is_crowded),
+            FirstPiece::Expected(alloc) => self.read_first(alloc, stream, buffer),
             FirstPiece::Kept(asks, kept) => Ok(self.give(asks, kept, buffer)),
         }
     }
@@ -79,7 +70,6 @@ impl FirstPiece {
         alloc: Global,
         stream: &mut S,
         buffer: &mut [u8],
-        is_crowded: bool,
     ) -> io::Result<usize>
         ensures bound { ReadsAtMost result buffer.new }
     {
@@ -91,7 +81,7 @@ impl FirstPiece {
         let Some(piece) = buffer.get(..count) else {
             return Ok(count);
         };
-        let Some(asks) = asked(alloc, piece, is_crowded) else {
+        let Some(asks) = asked(alloc, piece) else {
             return Ok(count);
         };
         let Ok(kept) = Vec::from_slice(alloc, piece) else {

@@ -11,7 +11,7 @@
 //! - The states of a worker's links, and FIFO order, are those of `portmap_scheduler`. By clauses of the source, a turn
 //!   serves the first link of the queue (`pop`), the last link gets its state before another one is served, and the
 //!   poll may wait only while nothing is queued (`ask`). Between two polls there is a limited number of turns, but for
-//!   those of a registration that was kept back and of a peer that reads nothing (`take_turn`). The epoch that is
+//!   those of a request that was kept back and of a peer that reads nothing (`take_turn`). The epoch that is
 //!   passed had begun before the poll was asked (`poll_after`).
 //! - A queued link is handed out or ended within a number of turns (`queued_are_served`), and no wake-up of an idle
 //!   link is lost (`AllQuiet`, `Keeps`).
@@ -20,9 +20,9 @@
 //!   therefore counts what links have.
 //! - These decisions are exact functions over values:
 //!   - Which connections are open: `is_free`, `is_evicted_before`, `spares_local`, `may_reset`, `unread_since`,
-//!     `poll_timeout`, `on_poll`, `is_held`, `acceptors_without`, `accept_error`, `starved_for`, `cause_of`.
-//!   - The times of a link: `may_move`, `since_at`, `expire`, `take_late`. How a registration waits: `immediate_turn`,
-//!     `Waiting::next`.
+//!     `poll_timeout`, `is_held`, `acceptors_without`, `accept_error`, `starved_for`, `cause_of`.
+//!   - The times of a link: `may_move`, `since_at`, `expire`, `take_late`. How a request waits: `immediate_turn`,
+//!     `Waiting::next`, `take_list`.
 //!   - When the log is drained, and when a recording that failed is tried again: `is_due`, `is_tried`.
 //! - `System`, `Stream` and `Wake` are what workers ask of the system. Contracts ask of its answers only that `report`
 //!   returns what the last poll reported, that `watch` shows which requests the poll accepted, and that a read or a
@@ -49,6 +49,7 @@ mod laws;
 mod limits;
 mod link;
 mod listener;
+mod loop_state;
 mod memory;
 mod news;
 mod open_link;
@@ -57,7 +58,6 @@ mod pending;
 mod polling;
 mod quota;
 mod readiness;
-mod rounds;
 mod schedule;
 mod serving;
 mod shared;

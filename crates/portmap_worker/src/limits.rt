@@ -27,9 +27,6 @@ pub(crate) const REMOTE_FIRST_MS: u64 = 50;
 /// The time after which a worker that found no candidate looks again.
 pub(crate) const EVICTION_BACKOFF_MS: u64 = 10;
 
-/// The most paused links that resume in a millisecond. Bytes after a reply have no effect, but are logged.
-pub(crate) const RESUMES_MOST: u32 = 4;
-
 // ---- pending registrations
 
 /// The time that a pending registration waits for its name. The wait for an epoch after it is limited in time and
@@ -72,7 +69,7 @@ pub(crate) const UNSENT_HEAVY_SHARE: u64 = 1024;
 /// If the limit is exceeded by more than a quarter, young and local connections are reset too.
 pub(crate) const UNSENT_SPARED_SHARE: u64 = 4;
 
-/// If more than one part in 32 of the limit waits, a local peer that asks for a list is served after a pause.
+/// If more than one part in 32 of the limit waits, local peers that ask for lists are served one in a millisecond.
 pub(crate) const UNSENT_CROWDED_SHARE: u64 = 32;
 
 // ---- which workers accept

@@ -1,18 +1,18 @@
 //! A connection that a worker holds: its stream as a device, and what the source of the worker has to know of it.
-ghost use Rattle.std.specs.Prelude.{◌≡◌, ◌↔◌, ℕ, ◌+◌, ◌-◌, ◌^◌, ◌<◌, [], ◌∷◌, ◌++◌, min, Some, None, true, false};
+ghost use Rattle.std.specs.Prelude.{◌≡◌, ◌↔◌, ◌⊎◌, ℕ, ◌+◌, ◌-◌, ◌^◌, ◌<◌, [], ◌∷◌, ◌++◌, min, true, false};
+ghost use Rattle.std.specs.Prelude.{Some, None, Ok, IsErr};
 ghost use Rattle.portmap_link.specs.Adapters.{pull_of, put_of};
 ghost use Rattle.portmap_link.specs.Device.{pull_is_fault, put_is_fault};
-ghost use Rattle.portmap_worker.specs.Link.{IsBroken, IsOf, is_answered, is_timed, may_move, unsent_after, would_block};
-ghost use Rattle.portmap_worker.specs.Quiet.{AreTaken, asked, is_quiet};
+ghost use Rattle.portmap_worker.specs.Link.{IsBroken, IsOf, is_answered, is_timed, is_unsent, may_move, unsent_after};
+ghost use Rattle.portmap_worker.specs.Link.{would_block};
+ghost use Rattle.portmap_worker.specs.Quiet.{AreTaken, covers, is_quiet};
 ghost use Rattle.portmap_worker.specs.declared.readiness.Note.TheVariants.{Read, Reported, Wrote};
 ghost use Rattle.portmap_worker.specs.declared.limits.TheConstants.{YOUNG_MS};
 
 use crate::Turn;
 use crate::first_piece::FirstPiece;
 use crate::limits::YOUNG_MS;
-use crate::open_link::Fate;
 use crate::readiness::Readiness;
-use crate::rounds::LoopState;
 use crate::system::{Stream, System};
 use crate::timer::Timer;
 use portmap_core::Name;
@@ -59,12 +59,6 @@ pub struct Link<S: Read + Write> {
     pub(crate) is_local: bool,
     /// The time at which the worker took the connection, or last chose it for eviction.
     pub(crate) came: u64,
-    /// The link is not served until a timer fires, for one of three reasons. It has its reply and continues to send
-    /// bytes, which have no effect. It asks for a list while many bytes wait to be written. Or the poll refused it.
-    is_paused: bool,
-    /// The poll has refused to watch the stream, which is tried again after each pause.
-    is_refused: bool,
-    is_crowded: bool,
     unsent_bytes: usize,
     moved_bytes: usize,
     has_written: bool,
@@ -77,8 +71,8 @@ fn would_block(outcome: &io::Result<usize>) -> bool
 }
 
 impl<S: Read + Write> Link<S> {
-    /// Returns the link of a new connection, which may have bytes. If the first chunk of a local peer registers a name,
-    /// the chunk is kept back for one pull.
+    /// Returns the link of a new connection, which may have bytes. If the first chunk of a local peer registers a name
+    /// or asks for a list, the chunk is kept back for one pull.
     pub fn new(alloc: Global, stream: S, is_local: bool, now: u64) -> Link<S>
         ensures pulls { result.history.pulls ≡ [] }
         ensures puts { result.history.puts ≡ [] }
@@ -103,9 +97,6 @@ impl<S: Read + Write> Link<S> {
             timer: Timer::default(),
             is_local,
             came: now,
-            is_paused: false,
-            is_refused: false,
-            is_crowded: false,
             unsent_bytes: 0,
             moved_bytes: 0,
             has_written: false,
@@ -121,6 +112,11 @@ impl<S: Read + Write> Link<S> {
     /// Returns the name that the peer asks to register, while the request is kept back.
     pub fn asked_name(&self) -> Option<&Name> {
         self.first.name()
+    }
+
+    /// Returns whether a request for a list is kept back.
+    pub(crate) fn asks_list(&self) -> bool {
+        self.first.asks_list()
     }
 
     /// Returns whether a call may do more than answer Later.
@@ -140,10 +136,6 @@ impl<S: Read + Write> Link<S> {
         ensures { result ≡ self.now.unsent_bytes }
     {
         self.unsent_bytes
-    }
-
-    pub(crate) fn set_crowded(&mut self, is_crowded: bool) {
-        self.is_crowded = is_crowded;
     }
 
     pub(crate) fn take_moved_bytes(&mut self) -> usize
@@ -185,7 +177,6 @@ impl<S: Read + Write> Link<S> {
     pub(crate) fn evict(&mut self, now: u64)
         ensures came { self.new.came ≡ now }
         ensures timely { self.new.timer.is_late ≡ false }
-        ensures rests { self.new.is_paused ≡ self.old.is_paused }
         ensures notes { self.new.readiness ≡ self.old.readiness }
     {
         self.came = now;
@@ -222,19 +213,6 @@ impl<S: Read + Write> Link<S> {
         }
     }
 
-    /// Ends the pause. Returns whether the link is to be served.
-    pub(crate) fn resume(&mut self) -> bool
-        ensures rests { self.new.is_paused ≡ false }
-        ensures quiet { result ≡ false → is_quiet self.new.readiness.notes ≡ true }
-        ensures asked { asked self.new.readiness.notes ≡ asked self.old.readiness.notes }
-    {
-        self.is_paused = false;
-        if !self.readiness.is_watched() {
-            self.readiness.on_report();
-        }
-        self.may_move()
-    }
-
     /// Returns the turn of this link, and takes its timeout. If the link survives, its time begins again.
     pub(crate) fn turn(&mut self, key: usize) -> Turn
         ensures link { IsOf (Some key) result }
@@ -249,28 +227,14 @@ impl<S: Read + Write> Link<S> {
         }
     }
 
-    /// Scans the link, after the poll has reported all up to `rounds.time`. Returns whether the link is to be served.
-    pub(crate) fn look(&mut self, rounds: &LoopState, timeout: u64) -> bool
-        ensures rests { self.new.is_paused ≡ self.old.is_paused }
-        ensures quiet { result ≡ false → self.old.is_paused ≡ false → is_quiet self.new.readiness.notes ≡ true }
-        ensures asked { asked self.new.readiness.notes ≡ asked self.old.readiness.notes }
+    /// Scans the link, after the poll has reported all up to `now`. Returns whether the link is to be served.
+    pub(crate) fn look(&mut self, now: u64, timeout: u64) -> bool
+        ensures quiet { result ≡ false → is_quiet self.new.readiness.notes ≡ true }
+        ensures notes { self.new.readiness ≡ self.old.readiness }
     {
         let is_timed = self.is_timed();
-        self.timer.begin(is_timed, self.is_local, rounds.time);
-        let is_asked = self.is_refused && !self.is_paused && !self.first.is_kept();
-        if self.may_move() && !is_asked {
-            // A paused link is resumed by the timer alone. All of them at once could be hundreds of lists.
-            return !self.is_paused;
-        }
-        if !is_asked && self.readiness.is_watched() {
-            return self.timer.expire(rounds.time, timeout);
-        }
-        // The poll refused the stream, which was last tried after the previous scan. Events are known up to that scan
-        // only.
-        if !self.timer.expire(rounds.looked, timeout) {
-            self.readiness.on_report();
-        }
-        true
+        self.timer.begin(is_timed, self.is_local, now);
+        self.may_move() || !self.readiness.is_watched() || self.timer.expire(now, timeout)
     }
 
     fn on_moved(&mut self, count: usize)
@@ -281,18 +245,6 @@ impl<S: Read + Write> Link<S> {
     {
         self.timer.has_moved = true;
         self.moved_bytes = self.moved_bytes.saturating_add(count);
-    }
-
-    /// Counts bytes that were read. A link with a reply is then paused.
-    fn on_read(&mut self, count: usize)
-        ensures moved { self.new.timer.has_moved ≡ true }
-        ensures rests { self.new.is_paused ≡ is_answered self.old.progress }
-        ensures written { self.new.has_written ≡ self.old.has_written }
-        ensures history { self.new.history ≡ self.old.history }
-        ensures readiness { self.new.readiness ≡ self.old.readiness }
-    {
-        self.on_moved(count);
-        self.is_paused = self.is_answered();
     }
 
     fn on_written(&mut self, count: usize)
@@ -315,8 +267,7 @@ impl<S: Read + Write> Link<S> {
         ensures pulls { self.new.history.pulls ≡ self.old.history.pulls ++ result ∷ [] }
         ensures puts { self.new.history.puts ≡ self.old.history.puts }
         ensures noted { self.new.readiness.notes ≡ self.old.readiness.notes ++ Read (would_block outcome) ∷ [] }
-        ensures moved { (count : ℕ) → result ≡ Pull.Piece count
-            → (self.new.timer.has_moved ≡ true) × (self.new.is_paused ≡ is_answered self.old.progress) }
+        ensures moved { (count : ℕ) → result ≡ Pull.Piece count → self.new.timer.has_moved ≡ true }
     {
         let is_blocked = would_block(&outcome);
         let answer = pull_from(outcome);
@@ -324,7 +275,7 @@ impl<S: Read + Write> Link<S> {
         self.history.pulls.note(&answer);
         self.readiness.on_pull(&answer, room, is_blocked);
         if let Pull::Piece(count) = answer {
-            self.on_read(count);
+            self.on_moved(count);
         }
         answer
     }
@@ -352,34 +303,49 @@ impl<S: Read + Write> Link<S> {
 }
 
 impl<S: Stream> Link<S> {
-    /// Returns what becomes of the link after its turn. If no call is due, the poll has to watch its stream. If the
-    /// poll refuses, the link is paused, and tried again after the pause.
-    pub(crate) fn fate<P: System<Stream = S>>(&mut self, system: &mut P, key: usize) -> Fate
-        ensures again { result ≡ Fate.Again → may_move self.new.readiness.reading self.new.readiness.writing ≡ true }
-        ensures rests { result ≡ Fate.Rests → self.new.is_paused ≡ true }
-        ensures waits { result ≡ Fate.Waits
-            → (self.new.is_paused ≡ false) × (is_quiet self.new.readiness.notes ≡ true) }
+    /// Has the poll watch the stream, unless it does. Returns false if the poll has refused, which is a failure of the
+    /// stream.
+    pub(crate) fn watch<P: System<Stream = S>>(&mut self, system: &mut P, key: usize) -> bool
+        ensures watched { result ≡ true
+            → covers (is_unsent self.new.readiness.writing) self.new.readiness.watched ≡ true }
+        ensures refused { result ≡ false → self.new.history.failed ≡ true }
+        ensures quiet { is_quiet self.old.readiness.notes ≡ true → is_quiet self.new.readiness.notes ≡ true }
+        ensures reading { self.new.readiness.reading ≡ self.old.readiness.reading }
+        ensures writing { self.new.readiness.writing ≡ self.old.readiness.writing }
         ensures asked { AreTaken key (P.watched system.old) (P.watched system.new)
             self.old.readiness.notes self.new.readiness.notes }
     {
-        let is_asked = !self.is_paused && self.may_move();
-        if !is_asked && !self.readiness.is_watched() {
-            let interest = self.readiness.wanted();
-            let was_watched = self.readiness.is_known();
-            let outcome = system.watch(&mut self.stream, key, interest, was_watched);
-            self.is_refused = !self.readiness.on_watched(outcome);
-            self.is_paused = self.is_paused || self.is_refused;
+        if self.readiness.is_watched() {
+            return true;
         }
-        if self.is_paused {
-            Fate::Rests
-        } else if self.may_move() {
-            Fate::Again
-        } else {
-            Fate::Waits
+        let interest = self.readiness.wanted();
+        let was_watched = self.readiness.is_known();
+        let outcome = system.watch(&mut self.stream, key, interest, was_watched);
+        if self.readiness.on_watched(outcome) {
+            return true;
         }
+        self.history.failed = true;
+        self.reset_unsent();
+        false
     }
 
-    pub(crate) fn reset_unsent(&mut self) {
+    /// Leaves the link to the poll. Returns false if the link is to be served at once: a call is due, or the poll has
+    /// refused to watch its stream.
+    pub(crate) fn await_report<P: System<Stream = S>>(&mut self, system: &mut P, key: usize) -> bool
+        ensures waits { result ≡ true → is_quiet self.new.readiness.notes ≡ true }
+        ensures due { result ≡ false → (may_move self.new.readiness.reading self.new.readiness.writing ≡ true)
+            ⊎ (self.new.history.failed ≡ true) }
+        ensures asked { AreTaken key (P.watched system.old) (P.watched system.new)
+            self.old.readiness.notes self.new.readiness.notes }
+    {
+        !self.may_move() && self.watch(system, key)
+    }
+
+    /// Has the connection end with a reset if bytes wait to be written, so that a part of a reply is not taken for all.
+    pub(crate) fn reset_unsent(&mut self)
+        ensures history { self.new.history ≡ self.old.history }
+        ensures readiness { self.new.readiness ≡ self.old.readiness }
+    {
         if self.readiness.is_unsent() {
             self.stream.reset();
         }
@@ -416,16 +382,27 @@ fn broken() -> io::Result<usize>
     Err(io::Error::from(ErrorKind::BrokenPipe))
 }
 
+/// Reads bytes that have no effect, since their peer has its reply. If there were any, the read counts as interrupted.
+fn discard<S: Read>(stream: &mut S, buffer: &mut [u8]) -> io::Result<usize>
+    ensures { result ≡ Ok 0 ⊎ IsErr result }
+{
+    match stream.read(buffer) {
+        Ok(count) if count > 0 => Err(io::Error::from(ErrorKind::Interrupted)),
+        outcome => outcome,
+    }
+}
+
 impl<S: Read + Write> Input for Link<S> {
     fn pull(&mut self, buffer: &mut [u8]) -> Pull {
         let outcome = if self.history.failed {
             broken()
         } else if self.progress == ReplyProgress::Left {
             Ok(0)
+        } else if self.is_answered() {
+            discard(&mut self.stream, buffer)
         } else {
-            self.first.read(&mut self.stream, buffer, self.is_crowded)
+            self.first.read(&mut self.stream, buffer)
         };
-        self.is_paused = self.is_paused || self.first.asks_list();
         self.on_pull(outcome, buffer.len())
     }
 

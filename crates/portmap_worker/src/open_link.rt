@@ -6,19 +6,9 @@ ghost use Rattle.portmap_worker.specs.IdleLinks.{IsReported, Keeps};
 use crate::link::Link;
 use crate::pending::Waiting;
 use crate::quota::Permit;
-use crate::rounds::LoopState;
 use crate::system::{Stream, System};
 use crate::unsent::Unsent;
-use portmap_scheduler::{LinkState, Scheduler};
-
-/// The next state of a link after its turn.
-#[derive(Clone, Copy, Debug, PartialEq, Eq)]
-pub(crate) enum Fate {
-    Again,
-    Rests,
-    /// The link is idle until the poll reports it.
-    Waits,
-}
+use portmap_scheduler::Scheduler;
 
 /// A link that a worker holds. If it is dropped while bytes wait to be written, its connection ends with a reset.
 pub(crate) struct OpenLink<'a, S: Stream> {
@@ -50,7 +40,7 @@ pub(crate) struct Moved {
     pub(crate) is_unread: bool,
 }
 
-/// Ends the turn of the current link: it is queued, paused, or left to the poll. Returns what it has moved.
+/// Ends the turn of the current link: it is queued, or left to the poll. Returns what it has moved.
 pub(crate) fn finish_turn<S: System>(
     links: &mut Links<'_, S::Stream>,
     system: &mut S,
@@ -72,10 +62,10 @@ pub(crate) fn finish_turn<S: System>(
     let bytes = held.link.take_moved_bytes();
     let has_written = held.link.take_written();
     let is_unread = held.unsent.set(held.link.unsent_bytes() as u64, now);
-    match held.link.fate(system, key) {
-        Fate::Again => links.requeue(key),
-        Fate::Rests => links.rest(key),
-        Fate::Waits => links.leave(key),
+    if held.link.await_report(system, key) {
+        links.leave(key);
+    } else {
+        links.requeue(key);
     }
     Moved {
         bytes,
@@ -84,60 +74,35 @@ pub(crate) fn finish_turn<S: System>(
     }
 }
 
-/// Records a report of the poll. The link is queued, unless it is paused and its peer continues to send.
+/// Has the poll watch the link with this key. Returns false if the poll has refused.
+pub(crate) fn watch<S: System>(links: &mut Links<'_, S::Stream>, system: &mut S, key: usize) -> bool
+    ensures current { links.new.current ≡ links.old.current }
+    ensures links { Keeps links.old links.new }
+{
+    match links.get_mut(key) {
+        Some(held) => held.link.watch(system, key),
+        None => true,
+    }
+}
+
+/// Records a report of the poll. The link is queued if it was idle.
 pub(crate) fn report<S: Stream>(links: &mut Links<'_, S>, key: usize, is_closed: bool)
-    ensures reported { IsReported is_closed (link_at links.old key) (link_at links.new key) }
+    ensures reported { IsReported (link_at links.old key) (link_at links.new key) }
     ensures others { (k : ℕ) → k ≢ key → link_at links.new k ≡ link_at links.old k }
     ensures links { Keeps links.old links.new }
 {
-    let rests = links.state(key) == Some(LinkState::Paused);
     let Some(held) = links.get_mut(key) else {
         return;
     };
     held.link.on_event(is_closed);
-    if is_closed || !rests {
-        links.report(key);
-    }
+    links.report(key);
 }
 
-pub(crate) fn resume_paused<S: Stream>(links: &mut Links<'_, S>, most: u32)
-    ensures ended { links.new.paused ≡ drop most links.old.paused }
-    ensures links { Keeps links.old links.new }
-{
-    for _ in 0..most {
-        if !resume_oldest(links) {
-            return;
-        }
-    }
-}
-
-fn resume_oldest<S: Stream>(links: &mut Links<'_, S>) -> bool
-    ensures ended { links.new.paused ≡ drop 1 links.old.paused }
-    ensures none { result ≡ false → links.old.paused ≡ [] }
-    ensures links { Keeps links.old links.new }
-{
-    links.no_link_is_lost();
-    let Some(key) = links.resume_oldest() else {
-        return false;
-    };
-    if let Some(held) = links.get_mut(key) {
-        if held.link.resume() {
-            links.report(key);
-        }
-    }
-    true
-}
-
-pub(crate) fn look<S: Stream>(
-    links: &mut Links<'_, S>,
-    key: usize,
-    rounds: &LoopState,
-    timeout: u64,
-)
+pub(crate) fn look<S: Stream>(links: &mut Links<'_, S>, key: usize, now: u64, timeout: u64)
     ensures { Keeps links.old links.new }
 {
     if let Some(held) = links.get_mut(key) {
-        if held.link.look(rounds, timeout) {
+        if held.link.look(now, timeout) {
             links.report(key);
         }
     }

@@ -1,7 +1,8 @@
-//! Registrations that wait for their names.
+//! Requests that wait: registrations for their names, and lists for their turn.
 //!
 //! If a name is active when a node asks for it, the connection that owns it may have ended, or may be ending. The name
-//! is then free soon. What the machine answers after the wait is final.
+//! is then free soon. What the machine answers after the wait is final. A list waits while many bytes wait to be
+//! written.
 ghost use Rattle.std.specs.Prelude.{◌≡◌, ◌↔◌, ◌<◌, ◌≤◌, true, false, Some, None, IfSome};
 ghost use Rattle.portmap_scheduler.specs.Links.{link_at};
 ghost use Rattle.portmap_worker.specs.Pending.{Awaits, StopsWaiting, GoesOn, earliest, until};
@@ -10,8 +11,8 @@ ghost use Rattle.portmap_worker.specs.Link.{IsOf};
 
 use crate::Turn;
 use crate::limits::{EPOCH_RETRIES_MOST, EPOCH_TIMEOUT_MS, NAME_TIMEOUT_MS};
-use crate::open_link::Links;
-use crate::rounds::LoopState;
+use crate::loop_state::LoopState;
+use crate::open_link::{Links, watch};
 use crate::shared::Shared;
 use crate::socket_source::SocketSource;
 use crate::system::{Stream, System, Wake};
@@ -21,9 +22,11 @@ use std::sync::Wait;
 use std::sync::atomic::Ordering;
 use std::sync::ledger::Ledger;
 
-/// The wait of a pending registration. Times are in milliseconds since the daemon began.
+/// The wait of a pending link. Times are in milliseconds since the daemon began.
 #[derive(Clone, Copy)]
 pub(crate) enum Waiting {
+    /// A list, of which one is served in a millisecond.
+    List,
     /// It became pending after the last poll began.
     Come,
     /// A poll was begun since then. Its time begins when that poll returns, however long ago the last one did.
@@ -40,7 +43,7 @@ impl Waiting {
         ensures { result ≡ until self now }
     {
         match self {
-            Waiting::Come | Waiting::Asked => now,
+            Waiting::List | Waiting::Come | Waiting::Asked => now,
             Waiting::Name { until } | Waiting::Epoch { until, .. } => until,
         }
     }
@@ -56,11 +59,12 @@ impl Waiting {
         }
     }
 
-    /// Returns how a registration of an active name waits from now on, if it does.
+    /// Returns how a list, or a registration of an active name, waits from now on, if it does.
     fn next(self, now: u64, epoch: Option<u64>) -> Option<Waiting>
         ensures { GoesOn self now epoch result }
     {
         match self {
+            Waiting::List => Some(self),
             Waiting::Come => Some(Waiting::Asked),
             Waiting::Asked => Some(Waiting::Name {
                 until: now.saturating_add(NAME_TIMEOUT_MS),
@@ -81,15 +85,15 @@ impl Waiting {
     }
 }
 
-/// Returns the turn of a link that keeps a registration back, or `None` if it waits. Permits limit how many wait.
-fn immediate_turn(key: u64, is_short: bool, is_active: bool) -> Option<Turn>
+/// Returns the turn of a link that keeps a request back, or `None` if it waits. Permits limit how many wait.
+fn immediate_turn(key: u64, is_short: bool, waits: bool) -> Option<Turn>
     ensures short { is_short ≡ true → result ≡ Some (Turn.Late key) }
-    ensures free { is_short ≡ false → is_active ≡ false → result ≡ Some (Turn.Ready key) }
-    ensures waits { is_short ≡ false → is_active ≡ true → result ≡ None }
+    ensures free { is_short ≡ false → waits ≡ false → result ≡ Some (Turn.Ready key) }
+    ensures waits { is_short ≡ false → waits ≡ true → result ≡ None }
 {
     if is_short {
         Some(Turn::Late(key))
-    } else if is_active {
+    } else if waits {
         None
     } else {
         Some(Turn::Ready(key))
@@ -104,79 +108,112 @@ fn stops_waiting(rounds: u32, now: u64, until: u64) -> bool
 
 impl<L: Ledger, S: System, R: Host + Wait + Clock> SocketSource<'_, L, S, R> {
     fn is_name_active(&self, key: usize) -> Option<bool> {
-        let name = self.ready.get(key)?.link.asked_name()?;
+        let name = self.links.get(key)?.link.asked_name()?;
         Some(self.desk.is_active(self.rt, name))
     }
 
-    /// Returns whether registrations are refused for lack of memory. Counts what this worker alone finds.
-    fn refuses(&mut self) -> bool
-        ensures ready { self.new.ready ≡ self.old.ready }
+    fn asks_list(&self, key: usize) -> bool {
+        self.links
+            .get(key)
+            .is_some_and(|held| held.link.asks_list())
+    }
+
+    /// Returns whether the request that a link keeps back is refused for lack of memory. A list never is. Counts what
+    /// this worker alone finds.
+    fn refuses(&mut self, key: usize) -> bool
+        ensures links { self.new.links ≡ self.old.links }
         ensures schedule { self.new.schedule ≡ self.old.schedule }
     {
+        if self.asks_list(key) {
+            return false;
+        }
         if self.shared.short.load(Ordering::SeqCst) {
             return true;
         }
         let is_short = !self.rt.has_memory(self.alloc);
         if is_short {
-            self.tally.note_refused();
+            self.activity.note_refused();
         }
         is_short
     }
 
-    /// Makes the current link pending if its name is active. Returns a turn at once otherwise, or if memory is short.
-    pub(crate) fn defer_registration(&mut self) -> Option<Turn>
-        ensures links { Returns self.old.ready self.new.ready result }
-        ensures again { IfSome result (λ turn. IsOf self.old.ready.current turn) }
+    /// Makes the current link pending if what it keeps back has to wait: a registration while its name is active, or a
+    /// list while many bytes wait to be written. Otherwise, or if memory is short for a registration, returns its turn.
+    /// The poll watches the link before it is answered, so that no name is registered whose end is not reported.
+    pub(crate) fn defer_request(&mut self) -> Option<Turn>
+        ensures links { Returns self.old.links self.new.links result }
+        ensures again { IfSome result (λ turn. IsOf self.old.links.current turn) }
         ensures schedule { self.new.schedule ≡ self.old.schedule }
     {
-        let key = self.ready.current()?;
-        let is_active = self.is_name_active(key)?;
-        let turn = immediate_turn(key as u64, self.refuses(), is_active);
+        let key = self.links.current()?;
+        let is_list = self.asks_list(key);
+        let waits = if is_list {
+            self.shared.unsent.is_crowded()
+        } else {
+            self.is_name_active(key)?
+        };
+        if !watch(&mut self.links, &mut self.sockets.system, key) {
+            return Some(Turn::Ready(key as u64));
+        }
+        let turn = immediate_turn(key as u64, self.refuses(key), waits);
         if turn.is_some() {
             return turn;
         }
-        self.ready.get_mut(key)?.waiting = Waiting::Come;
-        self.ready.hold(key);
+        self.links.get_mut(key)?.waiting = if is_list {
+            Waiting::List
+        } else {
+            Waiting::Come
+        };
+        self.links.hold(key);
         self.publish_pending();
         None
     }
 
-    /// Queues pending registrations whose names are free, or that have waited long enough. A poll has to follow.
+    /// Queues pending links whose names are free, or that have waited long enough. A poll has to follow.
     pub(crate) fn retry_pending(&mut self)
-        requires { self.old.ready.current ≡ None }
-        ensures links { Keeps self.old.ready self.new.ready }
+        requires { self.old.links.current ≡ None }
+        ensures links { Keeps self.old.links self.new.links }
         ensures schedule { self.new.schedule ≡ self.old.schedule }
     {
-        self.rounds.pending_until = None;
-        if self.ready.pending() == 0 {
+        self.loop_state.pending_until = None;
+        if self.links.pending() == 0 {
             return;
         }
-        for _turn in 0..self.ready.pending() {
-            let Some(key) = self.ready.next_pending() else {
+        for _turn in 0..self.links.pending() {
+            let Some(key) = self.links.next_pending() else {
                 break;
             };
             match self.goes_on(key) {
-                Some(waiting) => wait_on(&mut self.ready, &mut self.rounds, key, waiting),
+                Some(waiting) => wait_on(&mut self.links, &mut self.loop_state, key, waiting),
                 None => {
-                    let is_short = self.refuses();
-                    resume(&mut self.ready, key, is_short);
+                    let is_short = self.refuses(key);
+                    resume(&mut self.links, key, is_short);
                 }
             }
         }
         self.publish_pending();
     }
 
-    fn goes_on(&self, key: usize) -> Option<Waiting> {
-        if self.is_name_active(key) != Some(true) {
+    /// Returns how a pending link waits from now on, if it does. The first list in a millisecond does not.
+    fn goes_on(&mut self, key: usize) -> Option<Waiting>
+        ensures links { self.new.links ≡ self.old.links }
+        ensures schedule { self.new.schedule ≡ self.old.schedule }
+    {
+        let is_over = if self.asks_list(key) {
+            self.loop_state.take_list()
+        } else {
+            self.is_name_active(key) != Some(true)
+        };
+        if is_over {
             return None;
         }
-        let waiting = self.ready.get(key)?.waiting;
-        let now = self.rounds.time;
+        let waiting = self.links.get(key)?.waiting;
+        let now = self.loop_state.time;
         waiting.next(now, waiting.awaited(now, self.shared, self.sockets.worker))
     }
 
     fn publish_pending(&self) {
-        let count = self.ready.pending() as u64;
+        let count = self.links.pending() as u64;
         self.state.pending.store(count, Ordering::SeqCst);
     }
 }

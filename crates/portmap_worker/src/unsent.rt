@@ -2,13 +2,11 @@
 ghost use Rattle.std.specs.Prelude.{◌≡◌, ◌↔◌, ◌-◌, ◌<◌, ◌≤◌, ℕ, true, false, IfSome};
 ghost use Rattle.portmap_worker.specs.IdleLinks.{Returns};
 ghost use Rattle.portmap_worker.specs.Unsent.{AreMany, MayReset};
-ghost use Rattle.portmap_worker.specs.declared.limits.TheConstants.{RESUMES_MOST, YOUNG_MS};
+ghost use Rattle.portmap_worker.specs.declared.limits.TheConstants.{YOUNG_MS};
 
 use crate::Turn;
 use crate::admission::evict;
-use crate::limits::{
-    RESUMES_MOST, UNSENT_CROWDED_SHARE, UNSENT_HEAVY_SHARE, UNSENT_SPARED_SHARE, YOUNG_MS,
-};
+use crate::limits::{UNSENT_CROWDED_SHARE, UNSENT_HEAVY_SHARE, UNSENT_SPARED_SHARE, YOUNG_MS};
 use crate::open_link::Links;
 use crate::quota::{EvictionCandidate, first_of};
 use crate::socket_source::SocketSource;
@@ -24,14 +22,6 @@ fn are_many(most: u64, bytes: u64) -> bool
     ensures { (result ≡ true) ↔ AreMany most bytes }
 {
     bytes > most / UNSENT_HEAVY_SHARE
-}
-
-/// Returns how many paused links may resume in a millisecond. Lists take long, and nothing is accepted meanwhile.
-pub(crate) fn resumes_most(is_crowded: bool) -> u32
-    ensures crowded { is_crowded ≡ true → result ≡ 1 }
-    ensures few { is_crowded ≡ false → result ≡ RESUMES_MOST }
-{
-    if is_crowded { 1 } else { RESUMES_MOST }
 }
 
 /// Returns whether a connection with many unsent bytes may be reset. Its peer `is_young` if it may still read. `remote`
@@ -167,8 +157,8 @@ impl<L: Ledger, S: System, R: Host + Wait + Clock> SocketSource<'_, L, S, R> {
     /// Resets a connection if more bytes wait than may. Remote peers come first, then those that have read nothing for
     /// the longest time. If this worker has no such connection, it wakes the others.
     pub(crate) fn reset_unread(&mut self) -> Option<Turn>
-        ensures current { self.new.ready.current ≡ self.old.ready.current }
-        ensures links { Returns self.old.ready self.new.ready result }
+        ensures current { self.new.links.current ≡ self.old.links.current }
+        ensures links { Returns self.old.links self.new.links result }
         ensures late { IfSome result (λ turn. (k : ℕ) × (turn ≡ Turn.Late k)) }
         ensures schedule { self.new.schedule ≡ self.old.schedule }
     {
@@ -180,15 +170,15 @@ impl<L: Ledger, S: System, R: Host + Wait + Clock> SocketSource<'_, L, S, R> {
             all.is_asked.store(false, Ordering::SeqCst);
             return None;
         }
-        let Some(key) = first_unread(&self.ready, all, self.rounds.time) else {
+        let Some(key) = first_unread(&self.links, all, self.loop_state.time) else {
             if !all.is_asked.swap(true, Ordering::SeqCst) {
                 self.shared.wake_others(self.sockets.worker);
             }
             return None;
         };
         self.looks_for_unread = true;
-        self.tally.note_reset();
-        Some(evict(&mut self.ready, key, self.rounds.time))
+        self.activity.note_reset();
+        Some(evict(&mut self.links, key, self.loop_state.time))
     }
 }
 

@@ -30,11 +30,11 @@ const STOPPED_US: u64 = 500_000;
 /// One of this many permits is reserved for this host.
 const KEPT_SHARE: u32 = 8;
 
-/// The most bytes of the log for each thread, by its own weight: a second of chunks from links that are read slowly.
+/// The most bytes of the log for each worker, by its own weight.
 const LOG_BYTES_MOST: u64 = 600_000;
 
-/// The drain runs before the workers have read this many bytes, and `WEIGH_BYTES` more for each worker. No entry takes
-/// fewer bytes than were read for it.
+/// The drain runs before the workers have read this many bytes for the log, and `WEIGH_BYTES` more for each worker. No
+/// entry takes fewer bytes than were read for it.
 const LOG_BYTES_HEAVY: u64 = 262_144;
 
 const WEIGH_BYTES: u64 = 73_728;
@@ -53,10 +53,6 @@ const STEPS_MOST: u32 = 130;
 
 /// The drain looks at the log once in this time at rest.
 const SECOND_US: u64 = 1_000_000;
-
-/// Two scans pass over a connection that no poll reports if it was due to be read at that moment. A third scan does
-/// not.
-const PASSED_OVER_US: u64 = 460_000;
 
 /// After a trickle of connections, the poll of at most this many workers reports the next connection: one worker, and
 /// one that it called for help.
@@ -106,7 +102,7 @@ impl Person {
             Owed::IfPrompt => self.asked_after < PROMPT_US,
             Owed::Always => true,
         };
-        let is_closed = heard.bytes == 0 && !heard.is_reset;
+        let is_closed = heard.bytes == 0 && !heard.is_reset && !heard.is_refused;
         let is_wrong = is_closed && is_owed && self.is_local && !self.is_lenient;
         is_wrong.then_some("closed without an answer")
     }
@@ -117,7 +113,7 @@ impl Person {
         } else {
             self.holds().then_some("a registered connection was closed")
         };
-        wrong.filter(|_| !heard.is_reset && !self.is_lenient)
+        wrong.filter(|_| !heard.is_reset && !heard.is_refused && !self.is_lenient)
     }
 
     pub(crate) fn judge_refused(&self, now: u64) -> Option<Wrong> {
@@ -196,14 +192,16 @@ impl<'a> Scene<'a> {
     /// Returns whether a peer waits for too long, or a connection is kept for too long.
     fn complaint(&self, world: &World, slack: u64) -> Option<Wrong> {
         let is_late = |person: &Person| person.is_late(world, slack);
-        let is_unreported = world.weather.has_happened(Fault::Unreported);
-        let more = if is_unreported { PASSED_OVER_US } else { slack };
-        let is_kept = |person: &Person| person.overdue(world).is_some_and(|time| time > more);
+        let is_kept = |person: &Person| person.overdue(world).is_some_and(|time| time > slack);
         if self.people.iter().any(is_late) {
-            return Some("an answer took too long");
+            Some("an answer took too long")
+        } else if self.people.iter().any(is_kept) {
+            Some("a connection of no use is kept for too long")
+        } else if world.keeps_unwatched(slack) {
+            Some("a connection that no poll reports is kept")
+        } else {
+            None
         }
-        let are_kept = self.people.iter().any(is_kept);
-        are_kept.then_some("a connection of no use is kept for too long")
     }
 
     /// Returns what is wrong with the world, if the log has this weight.

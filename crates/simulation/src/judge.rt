@@ -13,11 +13,18 @@ const BEHIND_BYTES: u64 = 36_000;
 /// The beginning of a reply that refuses a name in use.
 const IN_USE: &[u8] = b"v\x01";
 
-/// The replies in the log, by connection.
+/// What the log has of a connection: the number of the bytes that were read, and the replies.
+#[derive(Drop)]
+struct Logged {
+    asked: usize,
+    replies: Vec<u8>,
+}
+
+/// The chunks and replies in the log, by connection.
 struct Replies {
     alloc: Global,
     slots: Vec<Option<usize>>,
-    by_connection: Vec<Vec<u8>>,
+    by_connection: Vec<Logged>,
     opened: usize,
     /// The number of registrations of names in use.
     in_use: u64,
@@ -73,12 +80,17 @@ impl Replies {
         Some(())
     }
 
-    fn add(&mut self, number: usize, reply: &[u8]) -> Option<()> {
+    fn add(&mut self, number: usize, bytes: &[u8], reply: &[u8]) -> Option<()> {
         for _ in self.by_connection.len()..number.saturating_add(1) {
-            self.by_connection.push(Vec::new(self.alloc)).ok()?;
+            let logged = Logged {
+                asked: 0,
+                replies: Vec::new(self.alloc),
+            };
+            self.by_connection.push(logged).ok()?;
         }
-        let delivered = self.by_connection.get_mut(number)?;
-        delivered.extend_from_slice(reply).ok()
+        let logged = self.by_connection.get_mut(number)?;
+        logged.asked = logged.asked.saturating_add(bytes.len());
+        logged.replies.extend_from_slice(reply).ok()
     }
 
     /// Notes a connection that was closed without a reply because of a request that only this host may send.
@@ -113,7 +125,7 @@ impl Replies {
                 if reply.is_empty() && *fate == Fate::Close {
                     self.on_refused(world, number, bytes)?;
                 }
-                self.add(number, reply)
+                self.add(number, bytes, reply)
             }
             Entry::Closed { slot } | Entry::Faulted { slot } => self.assign(*slot, None),
             Entry::Late { .. } => Some(()),
@@ -141,13 +153,18 @@ impl Replies {
     }
 
     /// Fails unless each peer received a prefix of its replies, and all of them if the daemon closed the connection
-    /// well.
+    /// well. The log has no byte that was read after a reply.
     fn judge_peers(&self, world: &World, opened: &[usize]) -> Result<(), Wrong> {
         let are_opened = self.opened == opened.len();
         expect(are_opened, "connections are missing in the recording")?;
         for (number, wire) in world.network.wires.iter().enumerate() {
-            let delivered = self.by_connection.get(number);
-            let delivered: &[u8] = delivered.map_or(&[], |delivered| delivered.as_slice());
+            let logged = self.by_connection.get(number);
+            let asked = logged.map_or(0, |logged| logged.asked);
+            expect(
+                asked <= wire.daemon.asked,
+                "bytes behind a reply are recorded",
+            )?;
+            let delivered: &[u8] = logged.map_or(&[], |logged| logged.replies.as_slice());
             let is_prefix = delivered.starts_with(&wire.received);
             expect(is_prefix, "a peer has what it was not told")?;
             let has = wire.received.len().saturating_add(wire.down.len());

@@ -45,7 +45,7 @@ pub struct Network {
     pub remote: u32,
     /// The number of connections that arrived while no permit was free.
     pub wanting: u32,
-    /// The bytes that the daemon has read since the last drain.
+    /// The bytes that the daemon has read since the last drain, on connections without a reply.
     pub read_bytes: u64,
     /// For each node, when the last stop was requested, and when the reply to it arrived.
     pub(crate) stopped: [(u64, u64); NODES_MOST],
@@ -227,7 +227,10 @@ impl World {
             return Err(ErrorKind::WouldBlock);
         }
         let count = wire.take(buffer);
-        self.network.read_bytes = self.network.read_bytes.saturating_add(count as u64);
+        if !wire.daemon.is_answered {
+            wire.daemon.asked = wire.daemon.asked.saturating_add(count);
+            self.network.read_bytes = self.network.read_bytes.saturating_add(count as u64);
+        }
         Ok(count)
     }
 
@@ -252,6 +255,7 @@ impl World {
             return Err(ErrorKind::WouldBlock);
         }
         wire.peer.has_news = true;
+        wire.daemon.is_answered = true;
         wire.is_reset = wire.peer.ended == Some(Ending::Gone);
         let sent = wire.down.extend(bytes[..count].iter().copied());
         self.memory.note(sent.is_ok());

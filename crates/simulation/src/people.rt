@@ -293,10 +293,15 @@ impl Person {
         let (waits, registers) = (self.stage == Waiting, self.role.registers());
         let is_whole = (registers && heard.bytes >= 6)
             || (!registers && heard.bytes > 0 && heard.is_over);
+        let has_ended = heard.is_over || heard.is_reset;
         if waits && is_whole {
+            // A node hears of an end that follows its reply.
+            if let Some(wire) = world.network.wires.get_mut(number) {
+                wire.peer.has_news = has_ended;
+            }
             return self.take(world);
         }
-        if heard.is_over || heard.is_reset {
+        if has_ended {
             let mut wrong = self.judge_lost(heard);
             if waits {
                 count(&mut world.network.tally.unanswered);

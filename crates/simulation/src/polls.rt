@@ -307,14 +307,32 @@ impl World {
     }
 
     pub fn watch(&mut self, number: usize, watch: Watch) -> Result<(), ErrorKind> {
-        self.fail_by(Fault::Unwatched, ErrorKind::OutOfMemory)?;
-        self.fail_by(Fault::Unreported, ErrorKind::OutOfMemory)?;
+        let is_refused = self.happens(Fault::Unwatched) || self.happens(Fault::Unreported);
         let wire = self.network.wires.get_mut(number).ok_or(ErrorKind::Other)?;
+        if is_refused {
+            wire.daemon.refused_at = wire.daemon.refused_at.or(Some(self.now));
+            return Err(ErrorKind::OutOfMemory);
+        }
         let is_new = wire.begin_watch(watch, self.now);
         let thread = self.threads.get_mut(watch.thread);
         let watched = &mut thread.ok_or(ErrorKind::Other)?.watched;
         self.memory.note(!is_new || watched.push(number).is_ok());
         Ok(())
+    }
+
+    /// Returns whether a connection stays open for longer than `limit` after the poll refused to watch it, not counting
+    /// the time in which its worker is held.
+    pub fn keeps_unwatched(&self, limit: u64) -> bool {
+        let is_kept = |wire: &Wire| {
+            let refused_at = wire.daemon.refused_at.unwrap_or(u64::MAX);
+            let since = refused_at.max(self.held_until(wire.worker()));
+            !wire.is_down_ended && self.now > since.saturating_add(limit)
+        };
+        let happens = [Fault::Unwatched, Fault::Unreported];
+        let may_be = happens
+            .iter()
+            .any(|fault| self.weather.has_happened(*fault));
+        may_be && self.network.wires.iter().any(is_kept)
     }
 
     fn listener(&mut self, number: usize, place: usize) -> Option<&mut Listening> {

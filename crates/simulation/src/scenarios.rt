@@ -120,9 +120,9 @@ pub const ENDS: &[Scenario] = scenarios! {
         [] conn_max: 512, hold_us: 60_000_000, unsent_bytes_most: 20_000;
     "penned" (56, 42, 156, 0) [Local SILENT 40, Remote SILENT 10, Local NODE 4, Local SEEKER 4]
         [] conn_max: 256, descriptors: 24, limit_ms: 3000, timeout_us: 60_000_000;
-    "unheeded" (130, 110, 2100, 0) [Local SILENT 6, Remote SILENT 3, Remote DRIPPER 3, Local NODE 3, Local SEEKER 3]
+    "unheeded" (0, 690, 180, 0) [Local SILENT 6, Remote SILENT 3, Remote DRIPPER 3, Local NODE 3, Local SEEKER 3]
         [Unreported 1000] limit_ms: 10;
-    "few" (0, 0, 72, 0) [Local SILENT 2, Remote SILENT 1, Local SEEKER 1]
+    "few" (0, 0, 280, 0) [Local SILENT 2, Remote SILENT 1, Local SEEKER 1]
         [Unreported 1000] hold_us: 60_000_000, limit_ms: 10;
     "floods" (654, 577, 14512, 0) [Local TARDY 750, Local NODE 30]
         [Stopped 20, Late 300] conn_max: 1024, burst_us: 1_000_000, hold_us: 300_000, limit_ms: 200_000;

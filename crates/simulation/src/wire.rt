@@ -20,6 +20,8 @@ pub struct Received {
     pub bytes: usize,
     pub is_over: bool,
     pub is_reset: bool,
+    /// The poll refused to watch the daemon's end, which ends the connection.
+    pub is_refused: bool,
 }
 
 /// The peer's end of a connection.
@@ -45,6 +47,11 @@ pub struct DaemonEnd {
     /// The bytes that the last write left unsent, and since when the peer has read none of them.
     pub unsent: usize,
     pub unread_since: u64,
+    /// The bytes that were read before the first byte of a reply was written. No other byte reaches the log.
+    pub asked: usize,
+    pub is_answered: bool,
+    /// When the poll refused to watch the stream.
+    pub refused_at: Option<u64>,
 }
 
 /// What the poll reports of a connection.
@@ -175,6 +182,7 @@ impl Wire {
             bytes: self.received.len(),
             is_over: self.is_down_ended && self.down.is_empty(),
             is_reset: self.is_reset,
+            is_refused: self.daemon.refused_at.is_some(),
         }
     }
 

@@ -2,7 +2,7 @@
 use mio::net;
 use portmap_daemon::MioStream;
 use portmap_link::{Input, Output, Pull, Put};
-use portmap_testing::bytes::{ALIVE_A, NAMES, PORT_A};
+use portmap_testing::bytes::{ALIVE_A, DUMP, NAMES, PORT_A};
 use portmap_testing::streams::{CallOutcome, Giving, Script, scripted};
 use portmap_worker::{Link, Stream};
 use std::alloc::Global;
@@ -25,12 +25,14 @@ const WAITS: CallOutcome = CallOutcome::Error(ErrorKind::WouldBlock);
 
 /// A call that a signal interrupted says nothing about the stream. A call that would block does, and so does a pull
 /// that returned less than it had room for. A put that succeeds does not change that. While a put waits for a report,
-/// nothing else is tried.
+/// nothing else is tried. Bytes that are read after the first put are dropped, as if a signal had interrupted the pull.
 const STEPS: &[Step] = &[
     Step(Call::Pull, CUT_SHORT, true, true),
     Step(Call::Pull, CallOutcome::Count(8), false, true),
     Step(Call::Pull, CallOutcome::Count(3), false, false),
     Step(Call::Put, CallOutcome::Count(2), false, false),
+    Step(Call::Pull, CallOutcome::Count(8), true, true),
+    Step(Call::Pull, CallOutcome::Count(3), true, true),
     Step(Call::Pull, WAITS, true, false),
     Step(Call::Put, CUT_SHORT, true, true),
     Step(Call::Pull, WAITS, true, true),
@@ -67,14 +69,28 @@ fn only_a_call_that_would_have_waited_ends_the_asking(rt: HostRuntime) -> Result
     Ok(())
 }
 
-/// The first chunk, whether its peer is local, and whether the link holds the chunk back because it registers a name.
-const FIRST: &[(&[u8], bool, bool)] = &[
-    (ALIVE_A, true, true),
-    (ALIVE_A, false, false),
-    (PORT_A, true, false),
-    (NAMES, true, false),
-    (&[0x00, 0x0E, 0x78, 0x13], true, false),
-    (&[0x00], true, false),
+/// What a link does with its first chunk.
+#[derive(Clone, Copy, PartialEq, Eq)]
+enum First {
+    Gives,
+    /// Holds it back, since it asks for a list.
+    HoldsList,
+    /// Holds it back, since it registers `a`.
+    HoldsName,
+}
+
+/// The first chunk, whether its peer is local, and what the link does.
+const FIRST: &[(&[u8], bool, First)] = &[
+    (ALIVE_A, true, First::HoldsName),
+    (ALIVE_A, false, First::Gives),
+    (PORT_A, true, First::Gives),
+    (NAMES, true, First::HoldsList),
+    (NAMES, false, First::Gives),
+    (DUMP, true, First::HoldsList),
+    (DUMP, false, First::Gives),
+    (&[0x00, 0x01], true, First::Gives),
+    (&[0x00, 0x0E, 0x78, 0x13], true, First::Gives),
+    (&[0x00], true, First::Gives),
 ];
 
 /// How often a stream fails before its first chunk, and with which error.
@@ -84,12 +100,12 @@ const FIRST_FAULTS: [(u32, ErrorKind); 3] = [
     (1, ErrorKind::Interrupted),
 ];
 
-/// Returns true if a link returns Later for every fault of its stream, and then this chunk. If the chunk registers `a`
-/// and is held back, one more pull returns Later.
+/// Returns true if a link returns Later for every fault of its stream, and then this chunk. If the chunk is held back,
+/// one more pull returns Later.
 fn gives(
     alloc: Global,
     (failing, kind): (u32, ErrorKind),
-    (bytes, is_local, is_kept): (&[u8], bool, bool),
+    (bytes, is_local, first): (&[u8], bool, First),
 ) -> bool {
     let stream = Giving {
         failing,
@@ -101,7 +117,10 @@ fn gives(
     if failing > 0 && (link.pull(&mut buffer) != Pull::Later || link.asked_name().is_some()) {
         return false;
     }
-    if is_kept && (link.pull(&mut buffer) != Pull::Later || !asks(&link, b"a")) {
+    if first != First::Gives && link.pull(&mut buffer) != Pull::Later {
+        return false;
+    }
+    if asks(&link, b"a") != (first == First::HoldsName) {
         return false;
     }
     let is_given = link.pull(&mut buffer) == Pull::Piece(bytes.len()) && buffer.starts_with(bytes);
@@ -113,7 +132,7 @@ fn asks(link: &Link<Giving<'_>>, name: &[u8]) -> bool {
 }
 
 #[test]
-fn a_first_piece_that_registers_a_name_is_kept_back(rt: HostRuntime) -> Result<(), Fail> {
+fn a_first_piece_that_registers_or_lists_is_kept_back(rt: HostRuntime) -> Result<(), Fail> {
     for case in FIRST {
         for first in FIRST_FAULTS {
             assert!(rt; gives(rt.alloc(), first, *case));

@@ -8,7 +8,6 @@ use std::rt::HostRuntime;
 enum AfterTurn {
     Left,
     Again,
-    Pauses,
     Deferred,
 }
 
@@ -21,7 +20,6 @@ fn settle(ready: &mut Scheduler<u64>, fate: AfterTurn)
     match fate {
         AfterTurn::Left => ready.leave(key),
         AfterTurn::Again => ready.requeue(key),
-        AfterTurn::Pauses => ready.rest(key),
         AfterTurn::Deferred => ready.hold(key),
     }
 }
@@ -44,22 +42,19 @@ fn a_link_is_served_in_fifo_order_from_any_state(rt: HostRuntime) {
     let second = ready.insert(20).expect(&rt, "memory");
     let third = ready.insert(30).expect(&rt, "memory");
     assert!(rt; ready.len() == 3 && ready.backlog() == 3);
-    // The first is idle, the second paused, the third pending.
+    // The first is idle, the second current, the third pending.
     assert!(rt; next(&mut ready, AfterTurn::Left) == Some(first));
     assert!(rt; next(&mut ready, AfterTurn::Left) == Some(second));
-    assert!(rt; next(&mut ready, AfterTurn::Pauses) == Some(third));
-    assert!(rt; next(&mut ready, AfterTurn::Deferred) == None);
+    assert!(rt; next(&mut ready, AfterTurn::Again) == Some(third));
+    assert!(rt; next(&mut ready, AfterTurn::Deferred) == Some(second));
     assert!(rt;
         ready.state(first) == Some(LinkState::Idle)
-            && ready.state(second) == Some(LinkState::Paused)
+            && ready.state(second) == Some(LinkState::Current)
     );
-    assert!(rt;
-        ready.state(third) == Some(LinkState::Pending)
-            && ready.pending() == 1
-            && ready.paused() == 1
-    );
-    // A report queues the first at once, but no pending link.
+    assert!(rt; ready.state(third) == Some(LinkState::Pending) && ready.pending() == 1);
+    // A report queues the first at once, but neither a pending nor the current link.
     ready.report(third);
+    ready.report(second);
     ready.report(first);
     ready.report(first);
     assert!(rt; ready.backlog() == 1);
@@ -69,8 +64,7 @@ fn a_link_is_served_in_fifo_order_from_any_state(rt: HostRuntime) {
     assert!(rt; next_pending(&mut ready, AfterTurn::Deferred) == Some(first));
     assert!(rt; next_pending(&mut ready, AfterTurn::Again) == Some(third));
     settle(&mut ready, AfterTurn::Again);
-    // Neither is pending now, and the pause of the second ends.
-    assert!(rt; ready.resume_oldest() == Some(second) && ready.resume_oldest() == None);
+    // Neither is pending now, and the second is queued behind both.
     ready.report(second);
     assert!(rt; next(&mut ready, AfterTurn::Left) == Some(first));
     assert!(rt; next(&mut ready, AfterTurn::Left) == Some(third));
@@ -87,19 +81,19 @@ fn a_link_that_is_removed_is_in_no_list(rt: HostRuntime) {
     let third = ready.insert(30).expect(&rt, "memory");
     assert!(rt; next(&mut ready, AfterTurn::Left) == Some(first));
     assert!(rt; next(&mut ready, AfterTurn::Deferred) == Some(second));
-    settle(&mut ready, AfterTurn::Pauses);
+    settle(&mut ready, AfterTurn::Left);
     if let Some(value) = ready.get_mut(second) {
         *value = value.wrapping_add(1);
     }
-    // The first is pending, the second paused, the third queued.
-    assert!(rt; ready.pending() == 1 && ready.paused() == 1 && ready.backlog() == 1);
+    // The first is pending, the second idle, the third queued.
+    assert!(rt; ready.pending() == 1 && ready.backlog() == 1);
     assert!(rt; ready.remove(first) == Some(10) && ready.remove(second) == Some(21));
     assert!(rt; ready.remove(third) == Some(30) && ready.remove(third) == None);
-    assert!(rt; ready.pending() == 0 && ready.paused() == 0 && ready.backlog() == 0);
+    assert!(rt; ready.pending() == 0 && ready.backlog() == 0);
     assert!(rt; ready.get(first).is_none() && ready.is_empty());
     // A key that is used again is only in the queue.
     let fourth = ready.insert(40).expect(&rt, "memory");
-    assert!(rt; next_pending(&mut ready, AfterTurn::Left) == None && ready.resume_oldest() == None);
+    assert!(rt; next_pending(&mut ready, AfterTurn::Left) == None);
     assert!(rt; next(&mut ready, AfterTurn::Left) == Some(fourth) && ready.len() == 1);
 }
 

@@ -1,12 +1,12 @@
-use Rattle.std.proofs.Common.{Some, ap, rules, ◌∙◌}
+use Rattle.std.proofs.Common.{Some, ap, refl, rules, ◌∙◌}
 use Rattle.portmap_scheduler.proofs.Calls.{next_pending_seen, next_pending_whole}
 use Rattle.portmap_scheduler.proofs.Scheduler.next_pending.Goals as goal
 
 pub invariant_of-self-2 : goal.invariant_of-self-2
-invariant_of-self-2 g c = next_pending_whole {k = c.in_ok-key.key} (search rules) c.self.invariant
+invariant_of-self-2 g c = next_pending_whole {k = c.in_ok-key.key} (search rules) (search rules) c.self.invariant
     (ap (λ v. v.current) c.self.view_is ∙ c.requires)
 
 pub returns-clause-current : goal.returns-clause-current
 returns-clause-current g c =
     let new = record c.self.inside { held = c.set_state.new.held; pending = c.pop_front.new.self; current = Some c.in_ok-key.key } in
-    rw (← c.self.view_is) (next_pending_seen {k = c.in_ok-key.key} {old = c.self.inside} {new = new} (search rules))
+    rw (← c.self.view_is) (next_pending_seen {k = c.in_ok-key.key} {old = c.self.inside} {new = new} (search rules) refl)

@@ -1,7 +1,6 @@
 use Rattle.std.specs.Prelude.{option_map}
-use Rattle.std.proofs.Common.{◌≡◌, Some, None, ap, sym, ◌∙◌, rules}
-use Rattle.slab.specs.Slab.{get}
-use Rattle.portmap_scheduler.specs.{Links.{is_paused, is_pending, is_queued}, Tracked.link_of}
+use Rattle.std.proofs.Common.{ap, sym, ◌∙◌, rules}
+use Rattle.portmap_scheduler.specs.{Links.{is_pending, is_queued}, Tracked.link_of}
 use Rattle.portmap_scheduler.proofs.Calls.{absent_from, absent_seen, remove_seen, remove_whole, seen_link}
 use Rattle.portmap_scheduler.proofs.Scheduler.remove.Goals as goal
 
@@ -22,12 +21,6 @@ cut_if-requires-2 g c e =
     c.self.invariant.agrees.pending (sym c.in_ok-link.ensures.value)
     (sym c.is_pending.ensures ∙ e)
 
-pub cut_if-requires-3 : goal.cut_if-requires-3
-cut_if-requires-3 g c e =
-    absent_from is_paused c.self.inside.paused.items c.self.inside.held c.args.key c.in_ok-link.link
-    c.self.invariant.agrees.paused (sym c.in_ok-link.ensures.value)
-    (sym c.is_paused.ensures ∙ e)
-
 pub invariant_of-self-2 : goal.invariant_of-self-2
 invariant_of-self-2 g c = remove_whole {k = c.args.key} (search rules) c.self.invariant
 
@@ -42,7 +35,6 @@ returns-clause-removed g c =
       held = c.try_remove.new.self;
       queue = c.cut_if.new.keys;
       pending = c.cut_if-2.new.keys;
-      paused = c.cut_if-3.new.keys;
       current = c.forget-self-inside.result;
     } in
     rw (← c.self.view_is) (remove_seen {k = c.args.key} {old = c.self.inside} {new = new} (search rules))

@@ -6,4 +6,4 @@ use Rattle.portmap_worker.proofs.admission.evict.Goals as goal
 pub returns-in-Some-clause-links : goal.returns-in-Some-clause-links
 returns-in-Some-clause-links g c =
     as_calm c.args.key c.args.links.now c.in-Some.held.now _ (sym (ap option_copied_mut c.in-Some.is) ∙ c.get_mut.ensures.value)
-    c.evict.ensures.rests (ap (λ r. r.notes) c.evict.ensures.notes)
+    (ap (λ r. r.notes) c.evict.ensures.notes)

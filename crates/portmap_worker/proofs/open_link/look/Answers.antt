@@ -1,6 +1,6 @@
 use Rattle.std.proofs.Common.{sym, ap, ◌∙◌}
 use Rattle.std.specs.Option.{option_copied_mut}
-use Rattle.portmap_worker.proofs.Idle.{itself, looked, wakes}
+use Rattle.portmap_worker.proofs.Idle.{itself, kept_so, wakes}
 use Rattle.portmap_worker.proofs.open_link.look.Goals as goal
 
 pub returns-then-look : goal.returns-then-look
@@ -10,5 +10,5 @@ returns-then-look g c =
 
 pub returns-else-look : goal.returns-else-look
 returns-else-look g c =
-    looked c.args.key c.args.links.now c.in-Some.held.now _ (sym (ap option_copied_mut c.in-Some.is) ∙ c.get_mut.ensures.value)
-    c.look.ensures.rests (c.look.ensures.quiet c.if-look.false)
+    kept_so c.args.key c.args.links.now c.in-Some.held.now _ (sym (ap option_copied_mut c.in-Some.is) ∙ c.get_mut.ensures.value)
+    (λ _. c.look.ensures.quiet c.if-look.false)

@@ -18,6 +18,6 @@ returns g c =
       none = search rules;
       most = search rules;
       links = then_returns_links _ _ _ _ before c.pop.ensures.links;
-      nears = passes_so _ c.accept-accepted.new.self.ready c.pop.new.self.ready _ _ _ (stays_of _ _ before) c.pop.ensures.passes;
-      spent = spent_so _ c.accept-accepted.new.self.ready c.pop.new.self.ready _ _ _ _ (stays_of _ _ before) c.pop.ensures.none;
+      nears = passes_so _ c.accept-accepted.new.self.links c.pop.new.self.links _ _ _ (stays_of _ _ before) c.pop.ensures.passes;
+      spent = spent_so _ c.accept-accepted.new.self.links c.pop.new.self.links _ _ _ _ (stays_of _ _ before) c.pop.ensures.none;
     }

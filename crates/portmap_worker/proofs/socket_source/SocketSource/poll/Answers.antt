@@ -1,35 +1,35 @@
 use Rattle.std.proofs.Common.{◌≡◌, ◌∙◌}
 use Rattle.portmap_worker.specs.IdleLinks.{Keeps}
 use Rattle.portmap_worker.proofs.{Idle.then_returns, Turns.{asked}, socket_source.SocketSource.poll.Given.Over}
-use Rattle.portmap_worker.proofs.socket_source.SocketSource.poll.Goals.{After-on_polled, After-scan_links}
+use Rattle.portmap_worker.proofs.socket_source.SocketSource.poll.Goals.{After-wait-is_well, After-scan_links}
 use Rattle.portmap_worker.proofs.socket_source.SocketSource.poll.Goals as goal
 
-kept : (g : Over) (c : After-on_polled g) → Keeps c.args.self.now.ready c.on_polled.new.self.ready
-kept g c = λ fact h. c.on_polled.ensures.links fact (c.wait-is_well.ensures.links fact (c.retry_pending.ensures.links fact h))
+kept : (g : Over) (c : After-wait-is_well g) → Keeps c.args.self.now.links c.wait-is_well.new.self.links
+kept g c = λ fact h. c.wait-is_well.ensures.links fact (c.retry_pending.ensures.links fact h)
 
-waited : (g : Over) (c : After-on_polled g) → c.on_polled.new.self.schedule ≡ record c.args.self.now.schedule { turns = 0 }
+waited : (g : Over) (c : After-wait-is_well g) → c.wait-is_well.new.self.schedule ≡ record c.args.self.now.schedule { turns = 0 }
 waited g c =
-    asked c.args.self.now.schedule c.retry_pending.new.self.schedule c.wait-is_well.new.self.schedule _
-    c.retry_pending.ensures.schedule c.wait-is_well.ensures.schedule c.on_polled.ensures.schedule
+    asked c.args.self.now.schedule c.retry_pending.new.self.schedule c.wait-is_well.new.self.schedule
+    c.retry_pending.ensures.schedule c.wait-is_well.ensures.schedule
 
-scanned : (g : Over) (c : After-scan_links g) → Keeps c.args.self.now.ready c.scan_links.new.self.ready
-scanned g c = λ fact h. c.scan_links.ensures.links fact (rw c.pass_listeners.ensures.ready
-    (c.on_polled.ensures.links fact (c.wait-is_well.ensures.links fact (c.retry_pending.ensures.links fact h))))
+scanned : (g : Over) (c : After-scan_links g) → Keeps c.args.self.now.links c.scan_links.new.self.links
+scanned g c = λ fact h. c.scan_links.ensures.links fact (rw c.pass_listeners.ensures.links
+    (c.wait-is_well.ensures.links fact (c.retry_pending.ensures.links fact h)))
 
 polled : (g : Over) (c : After-scan_links g) → c.scan_links.new.self.schedule ≡ record c.args.self.now.schedule { turns = 0 }
 polled g c =
     c.scan_links.ensures.schedule ∙ c.pass_listeners.ensures.schedule
-    ∙ asked c.args.self.now.schedule c.retry_pending.new.self.schedule c.wait-is_well.new.self.schedule _
-    c.retry_pending.ensures.schedule c.wait-is_well.ensures.schedule c.on_polled.ensures.schedule
+    ∙ asked c.args.self.now.schedule c.retry_pending.new.self.schedule c.wait-is_well.new.self.schedule
+    c.retry_pending.ensures.schedule c.wait-is_well.ensures.schedule
 
 pub returns-then-not-is_well : goal.returns-then-not-is_well
 returns-then-not-is_well g c =
-    let at = (goal.at.returns-then-not-is_well g c).After-on_polled in
+    let at = (goal.at.returns-then-not-is_well g c).After-wait-is_well in
     record { links = rw c.fail.ensures (kept g at); schedule = waited g at }
 
 pub returns-then-is_stopping : goal.returns-then-is_stopping
 returns-then-is_stopping g c =
-    let at = (goal.at.returns-then-is_stopping g c).After-on_polled in
+    let at = (goal.at.returns-then-is_stopping g c).After-wait-is_well in
     record { links = kept g at; schedule = waited g at }
 
 pub returns-then-not-scan_links : goal.returns-then-not-scan_links

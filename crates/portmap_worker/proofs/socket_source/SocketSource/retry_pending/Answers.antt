@@ -10,12 +10,13 @@ loop-turn-preserved g c = record {
   current = search rules;
   schedule = search rules;
   links = λ fact h.
-      let taken = taken Current _ c.loop-turn.self.ready c.next_pending.new.self
+      let taken = taken Current _ c.loop-turn.self.links c.next_pending.new.self
       (ap seen c.next_pending.ensures.current) (λ v. refl) fact (c.loop-turn.invariant.links fact h) in
+      let asked : Holds fact c.goes_on.new.self.links = rw c.goes_on.ensures.links taken in
       elim c.match-goes_on.branch [
-        | in-Some-goes_on w ↦ rw w.self-is (w.wait_on.ensures.links fact taken)
+        | in-Some-goes_on w ↦ rw w.self-is (w.wait_on.ensures.links fact asked)
         | in-None w ↦
-            let before : Holds fact w.refuses-is_short.new.self.ready = rw w.refuses-is_short.ensures.ready taken in
+            let before : Holds fact w.refuses-is_short.new.self.links = rw w.refuses-is_short.ensures.links asked in
             rw w.self-is (w.resume.ensures.links fact before)
       ];
 }

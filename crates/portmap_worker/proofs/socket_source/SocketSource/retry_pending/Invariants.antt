@@ -5,7 +5,7 @@ use Rattle.portmap_worker.proofs.socket_source.SocketSource.retry_pending.Given 
 -- No link is current, all facts stay true, and no turn is counted.
 abbrev pub invariant-loop-turn : goal.invariant-loop-turn
 invariant-loop-turn g l = record {
-  current : l.self.ready.current ≡ None;
-  links : Keeps l.fn.self.ready l.self.ready;
+  current : l.self.links.current ≡ None;
+  links : Keeps l.fn.self.links l.self.links;
   schedule : l.self.schedule ≡ l.fn.self.schedule;
 }

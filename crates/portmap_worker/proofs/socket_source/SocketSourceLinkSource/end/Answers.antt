@@ -5,11 +5,11 @@ use Rattle.portmap_worker.proofs.socket_source.SocketSourceLinkSource.end.Goals 
 
 pub returns-in-Some : goal.returns-in-Some
 returns-in-Some g c =
-    let change : Changes c.args.key false c.args.self.now.ready c.on_end.new.self.ready =
-    rw c.on_end.ensures.ready (after_remove _ c.args.self.now.ready c.remove.new.self c.remove.ensures.removed) in
+    let change : Changes c.args.key false c.args.self.now.links c.on_end.new.self.links =
+    rw c.on_end.ensures.links (after_remove _ c.args.self.now.links c.remove.new.self c.remove.ensures.removed) in
     record { links = change; waits = leaves c.args.key _ _ change c.on_end.ensures.schedule; ends = ends _ _ _ change }
 
 pub returns-in_default : goal.returns-in_default
 returns-in_default g c =
-    let change = after_remove _ c.args.self.now.ready c.remove.new.self c.remove.ensures.removed in
+    let change = after_remove _ c.args.self.now.links c.remove.new.self c.remove.ensures.removed in
     record { links = change; waits = leaves c.args.key _ _ change refl; ends = ends _ _ _ change }

@@ -11,16 +11,16 @@ loop-preserved g c = record {
 }
 
 pub returns-clause-comes : goal.returns-clause-comes
-returns-clause-comes g c = comes Idle c.args.self.now.ready c.loop.self.ready (λ fact _. c.loop.invariant.links fact)
+returns-clause-comes g c = comes Idle c.args.self.now.links c.loop.self.links (λ fact _. c.loop.invariant.links fact)
 
 pub returns-in-Some : goal.returns-in-Some
 returns-in-Some g c =
-    let links = then_returns_links _ c.loop.self.ready _ (Some c.in-Some.turn) c.loop.invariant.links
+    let links = then_returns_links _ c.loop.self.links _ (Some c.in-Some.turn) c.loop.invariant.links
     (rw c.in-Some.is at c.step.ensures.links) in
     record {
       links = links;
       nears = turn_again c.loop.counter c.in-Some.turn _ _ _ c.loop.invariant.nears (rw c.in-Some.is at c.step.ensures.nears);
-      comes = comes c.in-Some.turn c.args.self.now.ready c.step.new.self.ready links;
+      comes = comes c.in-Some.turn c.args.self.now.links c.step.new.self.links links;
     }
 
 pub returns-clause-nears : goal.returns-clause-nears

@@ -33,7 +33,8 @@ pub(crate) struct LoopState {
     pub(crate) pass: Pass,
     pub(crate) pending_until: Option<u64>,
     look_due: u64,
-    pub(crate) looked: u64,
+    /// The time from which on a list that waits may be served.
+    list_due: u64,
 }
 
 impl LoopState {
@@ -43,18 +44,22 @@ impl LoopState {
             pass: Pass::default(),
             pending_until: None,
             look_due: SCAN_INTERVAL_MS,
-            looked: 0,
+            list_due: 0,
         }
     }
 
-    /// Records that the poll returned at `after`, in microseconds. Returns whether a new millisecond began since then.
-    pub(crate) fn on_polled(&mut self, after: u64) -> bool
-        ensures over { (result ≡ true) ↔ (self.old.time < after / 1000) }
-        ensures time { self.new ≡ record self.old { time = after / 1000 } }
+    /// Takes the turn of a list that waits. There is one in a millisecond.
+    pub(crate) fn take_list(&mut self) -> bool
+        ensures due { (result ≡ true) ↔ (self.old.list_due ≤ self.old.time) }
+        ensures taken { result ≡ true
+            → self.new ≡ record self.old { list_due = min (self.old.time + 1) (2 ^ 64 - 1) } }
+        ensures none { result ≡ false → self.new ≡ self.old }
     {
-        let before = self.time;
-        self.time = after / 1000;
-        before < self.time
+        let is_due = self.time >= self.list_due;
+        if is_due {
+            self.list_due = self.time.saturating_add(1);
+        }
+        is_due
     }
 
     pub(crate) fn set_deadline(&mut self, until: u64)
@@ -83,13 +88,8 @@ impl LoopState {
     }
 
     pub(crate) fn on_scan(&mut self)
-        ensures { self.new ≡ record self.old {
-          looked = self.old.time;
-          look_due = min (self.old.time + SCAN_INTERVAL_MS)
-              (2 ^ 64 - 1);
-        } }
+        ensures { self.new ≡ record self.old { look_due = min (self.old.time + SCAN_INTERVAL_MS) (2 ^ 64 - 1) } }
     {
-        self.looked = self.time;
         self.look_due = self.time.saturating_add(SCAN_INTERVAL_MS);
     }
 }
